@@ -1,4 +1,7 @@
-ghost use Rattle.std.specs.Prelude.{◌≡◌, ◌↔◌, ◌∷◌, ◌++◌, [], length, IsTrue, OnOk, OnErr};
+ghost use Rattle.std.specs.Prelude.{◌≡◌, ◌↔◌, ◌∷◌, ◌++◌, [], length, IsTrue, IfOk, OnOk, OnErr};
+ghost use Rattle.std.specs.Borrow.{Lends, sem, Array, i32 as signed_32};
+ghost use Rattle.wa_base.specs.Lists.{overwritten};
+ghost use Rattle.wa_base.specs.contracts.items.Items.{the_row as the_samples};
 
 use crate::memory::NoMemory;
 use crate::numbers::Fix;
@@ -57,11 +60,39 @@ impl<T> Items<T> {
     }
 }
 
+impl<T: Copy> Items<T> {
+    /// An equal list with memory of its own.
+    pub fn copy(&self) -> Result<Items<T>, NoMemory>
+        ensures { IfOk result (λ copy. copy ≡ self.now) }
+    {
+        let items = Vec::from_slice(*self.items.allocator(), self.items.as_slice())?;
+        Ok(Items { items })
+    }
+}
+
+impl Items<Fix> {
+    /// Lends the values for writing. Their number stays.
+    pub fn as_mut_slice(&mut self) -> &mut [Fix]
+        ensures* writes_back { sem 𝓛 (Lends (the_samples signed_32) (Array signed_32 0) self.entry result (overwritten self.old)) }
+        ensures value { result.now ≡ self.old }
+    {
+        self.items.as_mut_slice()
+    }
+}
+
 impl<T> From<Vec<T>> for Items<T> {
     ghost from_gives = { λ v items. items ≡ v.items };
 
     fn from(items: Vec<T>) -> Items<T> {
         Items { items }
+    }
+}
+
+impl<T> From<Items<T>> for Vec<T> {
+    ghost from_gives = { λ list v. v.items ≡ list };
+
+    fn from(list: Items<T>) -> Vec<T> {
+        list.items
     }
 }
 

@@ -1,0 +1,2 @@
+mod FileMaps
+pub mod Pieces

@@ -1,0 +1,203 @@
+ghost use Rattle.std.specs.Prelude.{◌≡◌, ◌≤◌, ◌<◌, None, false, length, take, is_err, IsErr, IsErrOf, IfErr, IfOk, IfSome};
+ghost use Rattle.std.specs.Io.KnownBytes.{Appends, ReadConsumes};
+ghost use Rattle.io_edge.specs.Faults.{Rose};
+ghost use Rattle.io_edge.specs.Plan.{count_faults};
+
+use crate::errors::{EdgeErr, Failed};
+use crate::files::Files;
+use crate::sink::Sink;
+use crate::source::Source;
+use std::fs::{File, OpenOptions};
+use std::io::{Read, Write};
+use std::marker::Model;
+use std::rt;
+
+/// A reader of the system. As a `Source` it tells nothing of the bytes. Contracts see it as the reader
+/// and the number of the system's errors so far, which stops at `u64::MAX`.
+#[derive(Drop)]
+pub struct ReadSource<R> {
+    reader: R,
+    faults: u64,
+}
+
+impl<R> Model for ReadSource<R> {
+    ghost use Rattle.io_edge.specs.Counted.{Counted};
+
+    ghost Value = { Counted R };
+
+    ghost view = { λ s. record { inner = s.reader; faults = s.faults } };
+}
+
+impl<R: Read> ReadSource<R> {
+    /// A source that reads from `reader`.
+    pub fn new(reader: R) -> ReadSource<R>
+        ensures { result ≡ record { inner = reader; faults = 0 } }
+    {
+        ReadSource { reader, faults: 0 }
+    }
+}
+
+impl<R: Read> Source for ReadSource<R> {
+    ghost left = { λ _. None };
+
+    ghost faults = { λ s. s.faults };
+
+    fn read(&mut self, buf: &mut [u8]) -> Result<usize, Failed>
+        ensures within { IfOk result (λ n. n ≤ length buf.new) }
+        ensures bytes { ReadConsumes (R.remaining self.old.inner) (R.remaining self.new.inner) result buf.new }
+        ensures later { self.old.faults ≤ self.new.faults }
+        ensures cause { IsErr result → Rose self.old.faults self.new.faults }
+        ensures counted { self.new.faults ≡ count_faults self.old.faults (is_err result) }
+    {
+        match self.reader.read(buf) {
+            Ok(count) => Ok(count),
+            Err(_) => {
+                self.faults = self.faults.saturating_add(1);
+                Err(Failed)
+            }
+        }
+    }
+}
+
+/// A writer of the system. Each write is flushed, so that an error comes at the write that it belongs to
+/// and not later. As a `Sink` it tells nothing of the bytes. Contracts see it as the writer and the number
+/// of faults so far, which stops at `u64::MAX`: an error of the system is one, and so is a write that
+/// takes no byte where there are some.
+#[derive(Drop)]
+pub struct WriteSink<W> {
+    writer: W,
+    faults: u64,
+}
+
+impl<W> Model for WriteSink<W> {
+    ghost use Rattle.io_edge.specs.Counted.{Counted};
+
+    ghost Value = { Counted W };
+
+    ghost view = { λ s. record { inner = s.writer; faults = s.faults } };
+}
+
+impl<W: Write> WriteSink<W> {
+    /// A sink that writes to `writer`.
+    pub fn new(writer: W) -> WriteSink<W>
+        ensures { result ≡ record { inner = writer; faults = 0 } }
+    {
+        WriteSink { writer, faults: 0 }
+    }
+}
+
+impl<W: Write> Sink for WriteSink<W> {
+    ghost written = { λ _. None };
+
+    ghost faults = { λ s. s.faults };
+
+    /// Where the flush fails, some of the piece may be written all the same.
+    fn write(&mut self, piece: &[u8]) -> Result<usize, EdgeErr>
+        ensures within { IfOk result (λ n. n ≤ length piece.now) }
+        ensures some { IfOk result (λ n. 0 < length piece.now → 0 < n) }
+        ensures bytes { IfOk result (λ n. Appends (W.contents self.old.inner) (W.contents self.new.inner) (take n piece.now)) }
+        ensures later { self.old.faults ≤ self.new.faults }
+        ensures cause { IsErrOf result EdgeErr.Failed → Rose self.old.faults self.new.faults }
+        ensures failed { IfErr result (λ e. e ≡ EdgeErr.Failed) }
+        ensures counted { self.new.faults ≡ count_faults self.old.faults (is_err result) }
+    {
+        if let Some(count) = write_through(&mut self.writer, piece) {
+            return Ok(count);
+        }
+        self.faults = self.faults.saturating_add(1);
+        Err(EdgeErr::Failed)
+    }
+}
+
+/// The files of a folder of the system. It tells nothing of what the files hold. Contracts see it as the
+/// number of faults at writes so far, as those of a `WriteSink` are.
+#[derive(Drop)]
+pub struct DirFiles<R> {
+    system: R,
+    write_faults: u64,
+}
+
+impl<R> Model for DirFiles<R> {
+    ghost use Rattle.std.specs.Prelude.{ℕ};
+
+    ghost Value = { ℕ };
+
+    ghost view = { λ s. s.write_faults };
+}
+
+impl<R: rt::Files> DirFiles<R> {
+    /// The files that `system` has. A path that is not absolute begins in the folder that the program
+    /// runs in.
+    pub fn new(system: R) -> DirFiles<R>
+        ensures { result ≡ 0 }
+    {
+        DirFiles {
+            system,
+            write_faults: 0,
+        }
+    }
+}
+
+impl<R: rt::Files> Files for DirFiles<R> {
+    ghost tells = { λ _. false };
+
+    ghost paths = { λ _ _. None };
+
+    ghost write_faults = { λ faults. faults };
+
+    fn create(&mut self, path: &str) -> Result<(), EdgeErr>
+        ensures later { self.old ≤ self.new }
+        ensures cause { IsErrOf result EdgeErr.Failed → Rose self.old self.new }
+        ensures failed { IfErr result (λ e. e ≡ EdgeErr.Failed) }
+        ensures counted { self.new ≡ count_faults self.old (is_err result) }
+    {
+        if File::create(&self.system, path).is_ok() {
+            return Ok(());
+        }
+        self.write_faults = self.write_faults.saturating_add(1);
+        Err(EdgeErr::Failed)
+    }
+
+    fn append(&mut self, path: &str, piece: &[u8]) -> Result<usize, EdgeErr>
+        ensures within { IfOk result (λ n. n ≤ length piece.now) }
+        ensures some { IfOk result (λ n. 0 < length piece.now → 0 < n) }
+        ensures later { self.old ≤ self.new }
+        ensures cause { IsErrOf result EdgeErr.Failed → Rose self.old self.new }
+        ensures failed { IfErr result (λ e. e ≡ EdgeErr.Failed) }
+        ensures counted { self.new ≡ count_faults self.old (is_err result) }
+    {
+        if let Some(count) = append_through(&self.system, path, piece) {
+            return Ok(count);
+        }
+        self.write_faults = self.write_faults.saturating_add(1);
+        Err(EdgeErr::Failed)
+    }
+}
+
+// Writes some bytes of the piece at the end of the file at `path`, which is made where there is none.
+fn append_through<R: rt::Files>(system: &R, path: &str, piece: &[u8]) -> Option<usize>
+    ensures within { IfSome result (λ n. n ≤ length piece.now) }
+    ensures some { IfSome result (λ n. 0 < length piece.now → 0 < n) }
+{
+    let mut file = OpenOptions::new()
+        .create(true)
+        .append(true)
+        .open(system, path)
+        .ok()?;
+    write_through(&mut file, piece)
+}
+
+// Writes some bytes of the piece and flushes them, and gives their number. `None` where the system
+// fails, and where it takes none of a piece that is not empty.
+fn write_through<W: Write>(writer: &mut W, piece: &[u8]) -> Option<usize>
+    ensures within { IfSome result (λ n. n ≤ length piece.now) }
+    ensures some { IfSome result (λ n. 0 < length piece.now → 0 < n) }
+    ensures bytes { IfSome result (λ n. Appends (W.contents writer.old) (W.contents writer.new) (take n piece.now)) }
+{
+    let count = writer.write(piece).ok()?;
+    writer.flush().ok()?;
+    if count == 0 && !piece.is_empty() {
+        return None;
+    }
+    Some(count)
+}

@@ -1,0 +1,42 @@
+ghost use Rattle.std.specs.Prelude.{◌≡◌};
+
+/// How a run ended.
+#[derive(Clone, Copy, Debug, PartialEq, Eq)]
+pub enum Status {
+    /// The session completed; its transcript and its WAV file are written.
+    Rendered,
+    /// The words of the command line have no reading; the usage line is written.
+    BadWords,
+    /// The script has a fault; its line is written.
+    BadScript,
+    /// The script has more than 16,777,216 bytes; nothing is written.
+    ScriptTooLong,
+    /// Reading the script failed; nothing is written.
+    ScriptFault,
+    /// Writing the transcript failed.
+    TranscriptFault,
+    /// Writing the WAV file failed.
+    WavFault,
+    /// Memory ran out.
+    NoMemory,
+}
+
+impl Status {
+    ghost use Rattle.replay_top.specs.ExitStatus.{exit_status};
+
+    /// The number that the process ends with.
+    pub fn number(self) -> u8
+        ensures { result ≡ exit_status self }
+    {
+        match self {
+            Status::Rendered => 0,
+            Status::BadWords => 2,
+            Status::BadScript => 4,
+            Status::ScriptTooLong => 5,
+            Status::ScriptFault => 6,
+            Status::TranscriptFault => 8,
+            Status::WavFault => 9,
+            Status::NoMemory => 10,
+        }
+    }
+}

@@ -1,0 +1,3 @@
+pub mod WavLemmas
+mod Rounding
+mod Steps
