@@ -6,7 +6,7 @@ use thiserror::Error;
 #[error("the outside failed")]
 pub struct Failed;
 
-/// Why a write to the outside, or a look at its files, gave nothing.
+/// Why a write to the outside was not done, or not to its end.
 #[derive(Clone, Copy, Debug, PartialEq, Eq, Error)]
 pub enum EdgeErr {
     #[error("the outside failed")]

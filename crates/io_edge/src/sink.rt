@@ -13,7 +13,7 @@ pub trait Sink {
     ghost faults: { Self → ℕ };
 
     /// Writes some bytes from the front of `piece`, at least one where there is one, and gives their
-    /// number. After an error nothing of the piece is written.
+    /// number. After an error nothing of the piece is written, as far as the sink tells.
     fn write(&mut self, piece: &[u8]) -> Result<usize, EdgeErr>
         ensures within { IfOk result (λ n. n ≤ length piece.now) }
         ensures some { IfOk result (λ n. 0 < length piece.now → 0 < n) }

@@ -1,5 +1,5 @@
 ghost use Rattle.std.specs.Prelude.{◌≡◌, ◌<◌, ◌≤◌, ◌^◌, ℕ, List, IsTrue, length, IfOk, OnOk, OnErr, IsErrOf};
-ghost use Rattle.std.specs.Io.KnownBytes.{Appends};
+ghost use Rattle.std.specs.Io.KnownBytes.{Appends, IsAtEnd};
 ghost use Rattle.io_edge.specs.Faults.{Rose};
 ghost use Rattle.io_edge.specs.Paths.{AppendsWhole, AppendsPart};
 ghost use Rattle.io_edge.specs.Told.{IsToldAs, AppendsProperFront};
@@ -18,6 +18,7 @@ const PIECE: usize = 65_536;
 pub fn read_all<S: Source>(alloc: Global, source: &mut S, limit: usize) -> Result<Bytes, ReadErr>
     requires { limit < 2 ^ 62 }
     ensures all { IfOk result (λ bytes. IsToldAs (S.left source.old) bytes × (length bytes ≤ limit)) }
+    ensures at_end { OnOk result (IsAtEnd (S.left source.new)) }
     ensures too_long { IsErrOf result ReadErr.TooLong → (bytes : List ℕ) × IsToldAs (S.left source.old) bytes × (limit < length bytes) }
     ensures later { S.faults source.old ≤ S.faults source.new }
     ensures cause { IsErrOf result ReadErr.Failed → Rose (S.faults source.old) (S.faults source.new) }

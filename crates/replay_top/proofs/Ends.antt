@@ -1,14 +1,15 @@
 -- How the ends of a run meet the answer.
-use Rattle.std.proofs.Common.{◌≡◌, ◌≤◌, ◌⊎◌, ℕ, zero, suc, ℤ, pos, List, [], ◌∷◌, length, map, replicate, Option, Some, None, Bool, true, false, if◌then◌else◌, Result, Ok, Err, nat_lt, arith, refl, ap, inl, inr}
+use Rattle.std.proofs.Common.{◌≡◌, ◌≤◌, ◌⊎◌, ℕ, zero, suc, ℤ, pos, List, [], ◌∷◌, length, map, replicate, Option, Some, None, Bool, true, false, if◌then◌else◌, Result, Ok, Err, nat_lt, arith, refl, sym, ap, inl, inr}
 use Rattle.std.specs.Prelude.{unwrap_or}
-use Rattle.std.specs.Io.KnownBytes.{Appends}
+use Rattle.std.specs.Io.KnownBytes.{Appends, IsAtEnd}
+use Rattle.std.proofs.KnownBytes.{Keeps-refl}
 use Rattle.std.proofs.lemmas.Bool.Decides.{nat_tests}
 use Rattle.io_edge.specs.Faults.{Rose}
 use Rattle.io_edge.specs.Paths.{Paths}
 use Rattle.io_edge.specs.Told.{IsToldAs, AppendsProperFront}
 use Rattle.replay_top.specs.Answer.{Answer, rows_of, without_file, answer_to_bytes, answer_to_script}
 use Rattle.replay_top.specs.Script.{script_of}
-use Rattle.replay_top.specs.Run.{Outside, outside, IsWhole, Answers, Ran}
+use Rattle.replay_top.specs.Run.{Outside, outside, IsWhole, Answers, Ran, IsRead}
 use Rattle.replay_top.specs.declared.first_form.FirstForm.{FirstForm}
 use Rattle.replay_top.specs.declared.script.ScriptErr.{ScriptErr}
 use Rattle.replay_top.specs.declared.status.Status.{Status}
@@ -65,3 +66,21 @@ reads_at false out bytes is = reads_script out (script_of bytes) is
 -- where the words name OUT, the answer is never that they have no reading
 pub answer_to_bytes-reads : (out bytes : List ℕ) → (answer_to_bytes out bytes).status ≡ BadWords → ⊥
 answer_to_bytes-reads out bytes = reads_at (nat_lt 16777216 (length bytes)) out bytes
+
+-- where the script's bytes were read to their end, the source is at its end
+pub IsRead-answered : (status : Status) (out path : List ℕ) (script : Result FirstForm ScriptErr) (old new : Outside) (left now : Option (List ℕ))
+    → Answers status (answer_to_script out script) old new → IsAtEnd now → IsRead status (Some path) left now
+IsRead-answered Rendered out path script old new left now ends end = end
+IsRead-answered BadWords out path script old new left now ends end = absurd (reads_script out script (sym ends.0))
+IsRead-answered BadScript out path script old new left now ends end = end
+IsRead-answered ScriptTooLong out path script old new left now ends end = tt
+IsRead-answered ScriptFault out path script old new left now ends end = tt
+IsRead-answered TranscriptFault out path script old new left now ends end = end
+IsRead-answered WavFault out path script old new left now ends end = end
+IsRead-answered NoMemory out path script old new left now ends end = tt
+
+-- words without a reading leave the source as it was
+pub IsRead-line : (result : Status) (line : List ℕ) (old new : Option (List ℕ)) (faults now : ℕ) (left : Option (List ℕ)) → LineEnds result BadWords line old new faults now → IsRead result None left left
+IsRead-line result line old new faults now left (inl (is, text)) = rw is (Keeps-refl left)
+IsRead-line result line old new faults now left (inr (inl (is, cause, text))) = rw is (Keeps-refl left)
+IsRead-line result line old new faults now left (inr (inr (is, front))) = rw is tt

@@ -1,12 +1,12 @@
 -- What a run leaves outside, against the answer of the program.
 use Rattle.std.specs.Prelude.{ℕ, ◌≡◌, ◌⊎◌, List, Bool, IsTrue, IsSome, take, Option, Some, None}
-use Rattle.std.specs.Io.KnownBytes.{Appends, Keeps}
+use Rattle.std.specs.Io.KnownBytes.{Appends, Keeps, IsAtEnd}
 use Rattle.io_edge.specs.Faults.{Rose}
 use Rattle.io_edge.specs.Paths.{Paths, SamePaths, Sets}
 use Rattle.io_edge.specs.Told.{AppendsFront, AppendsProperFront}
 use Rattle.replay_top.specs.Answer.{Answer, File}
 use Rattle.replay_top.specs.declared.status.Status.{Status}
-use Rattle.replay_top.specs.declared.status.Status.TheVariants.{BadWords, ScriptFault, TranscriptFault, WavFault, NoMemory}
+use Rattle.replay_top.specs.declared.status.Status.TheVariants.{Rendered, BadWords, BadScript, ScriptTooLong, ScriptFault, TranscriptFault, WavFault, NoMemory}
 
 -- the sink and the file store at one moment: what they tell and how often they failed
 pub record Outside : Type 0 where
@@ -76,3 +76,15 @@ pub record IsScriptFault (answer : Answer) (faults now : ℕ) (old new : Outside
 abbrev pub Ran : Status → Answer → ℕ → ℕ → Outside → Outside → Type 0
 Ran ScriptFault answer faults now old new = IsScriptFault answer faults now old new
 Ran status answer faults now old new = Answers status answer old new
+
+-- which ends come only after the source was read to its end, and which leave it as it was
+abbrev pub IsRead : Status → Option (List ℕ) → Option (List ℕ) → Option (List ℕ) → Type 0
+IsRead Rendered out left now = IsAtEnd now
+IsRead BadScript out left now = IsAtEnd now
+IsRead WavFault out left now = IsAtEnd now
+IsRead BadWords out left now = Keeps left now
+IsRead TranscriptFault None left now = Keeps left now
+IsRead TranscriptFault (Some path) left now = IsAtEnd now
+IsRead ScriptTooLong out left now = Unit {0}
+IsRead ScriptFault out left now = Unit {0}
+IsRead NoMemory out left now = Unit {0}

@@ -3,9 +3,10 @@ ghost use Rattle.std.specs.Io.KnownBytes.{Appends};
 ghost use Rattle.io_edge.specs.Faults.{Rose};
 ghost use Rattle.io_edge.specs.Told.{IsToldAs, AppendsProperFront};
 ghost use Rattle.replay_top.specs.Answer as answers;
-ghost use Rattle.replay_top.specs.Run.{outside, Ran, Answers};
+ghost use Rattle.replay_top.specs.Run.{outside, Ran, Answers, IsRead};
 ghost use Rattle.replay_top.specs.FirstForm.{IsInRange};
 ghost use Rattle.replay_top.specs.Script.{script_of};
+ghost use Rattle.replay_top.specs.Words.{out_of as path_of};
 
 use crate::first_form::FirstForm;
 use crate::script::{ScriptErr, read};
@@ -35,10 +36,11 @@ pub fn run<S: Source, F: Files, T: Sink>(
     files: &mut F,
     transcript: &mut T,
 ) -> Status
-    ensures { let before = outside (T.written transcript.old) (T.faults transcript.old) (F.tells files.old) (F.paths files.old) (F.write_faults files.old) in
+    ensures ran { let before = outside (T.written transcript.old) (T.faults transcript.old) (F.tells files.old) (F.paths files.old) (F.write_faults files.old) in
         let after = outside (T.written transcript.new) (T.faults transcript.new) (F.tells files.new) (F.paths files.new) (F.write_faults files.new) in
         (bytes : List ℕ) × IsToldAs (S.left script.old) bytes
         × Ran result (answers.answer (map string_bytes words.now) bytes) (S.faults script.old) (S.faults script.new) before after }
+    ensures read { IsRead result (path_of (map string_bytes words.now)) (S.left script.old) (S.left script.new) }
 {
     let Some(out) = out_of(words) else {
         return answer_line(transcript, USAGE, Status::BadWords);

@@ -13,9 +13,9 @@ pub enum Status {
     ScriptTooLong,
     /// Reading the script failed; nothing is written.
     ScriptFault,
-    /// Writing the transcript failed.
+    /// Writing the transcript, the usage line or a fault's line failed; no file is touched.
     TranscriptFault,
-    /// Writing the WAV file failed.
+    /// Writing the WAV file failed; the transcript is written.
     WavFault,
     /// Memory ran out.
     NoMemory,
