@@ -1,13 +1,22 @@
 //! What every crate of the replayer stands on: fixed-point numbers with their rounding, the answer
-//! for want of memory, and lists that contracts see as lists.
+//! for want of memory, lists that contracts see as lists, and the names of nodes, parameters,
+//! features and exceptions.
 #![tactic(auto)]
 
+mod contexts;
+mod exceptions;
+mod features;
+mod graph_names;
 mod items;
 mod memory;
 mod numbers;
 #[cfg(test)]
 mod tests;
 
+pub use contexts::{ContextSpec, State};
+pub use exceptions::{Exc, Refusal};
+pub use features::Feature;
+pub use graph_names::{BufId, End, Interp, Mode, Name, NodeId, ParamId, ParamName, Rate, Tie};
 pub use items::{Bytes, Items, Samples};
 pub use memory::NoMemory;
 pub use numbers::{Fix, ONE, rnd_div, sat, scale};

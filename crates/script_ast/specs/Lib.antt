@@ -1,0 +1,4 @@
+pub mod Fields
+pub mod OpNames
+pub mod Ranges
+pub mod WellFormed

@@ -1,0 +1,97 @@
+-- The operations of a script: their names, and the fields of their calls.
+use Rattle.std.specs.Prelude.{ℕ, List, [], codes, bytes_eq, Bool, true, false, find, Option}
+use Rattle.std.specs.List.{list_any}
+use Rattle.wa_base.specs.declared.features.Feature.{Feature}
+use Rattle.wa_base.specs.declared.features.Feature.TheVariants as feature
+use Rattle.script_ast.specs.declared.entries.Kind.{Kind}
+use Rattle.script_ast.specs.declared.entries.Kind.TheVariants as kind
+use Rattle.script_ast.specs.declared.entries.Row.{Row}
+use Rattle.script_ast.specs.declared.entries.TheConstants.{CREATE_CONSTANT_SOURCE, CONNECT, START, STOP, START_RENDERING}
+use Rattle.script_ast.specs.declared.op_names.TheConstants.{OP_NAMES}
+use Rattle.script_ast.specs.declared.op_names.LeftOutName.{LeftOutName}
+use Rattle.script_ast.specs.declared.op_names.LeftOutName.TheVariants as left_out
+use Rattle.script_ast.specs.declared.op_names.OpName.{OpName}
+use Rattle.script_ast.specs.declared.op_names.OpName.TheVariants.{CreateConstantSource, Connect, Start, Stop, StartRendering, Resume, ReadState, ReadTime, LeftOut}
+
+-- the `op` of an operation that the profile leaves out
+abbrev pub left_out_word : LeftOutName → List ℕ
+left_out_word left_out.CreateOscillator = codes "createOscillator"
+left_out_word left_out.CreatePeriodicWave = codes "createPeriodicWave"
+left_out_word left_out.CreateBiquadFilter = codes "createBiquadFilter"
+left_out_word left_out.CreateStereoPanner = codes "createStereoPanner"
+left_out_word left_out.CreatePanner = codes "createPanner"
+left_out_word left_out.CreateDynamicsCompressor = codes "createDynamicsCompressor"
+left_out_word left_out.CreateAnalyser = codes "createAnalyser"
+left_out_word left_out.SetListener = codes "setListener"
+left_out_word left_out.CreateMediaElementSource = codes "createMediaElementSource"
+left_out_word left_out.CreateMediaStreamSource = codes "createMediaStreamSource"
+left_out_word left_out.CreateMediaStreamTrackSource = codes "createMediaStreamTrackSource"
+left_out_word left_out.CreateMediaStreamDestination = codes "createMediaStreamDestination"
+left_out_word left_out.CreateScriptProcessor = codes "createScriptProcessor"
+left_out_word left_out.CreateAudioWorkletNode = codes "createAudioWorkletNode"
+left_out_word left_out.CreateConvolver = codes "createConvolver"
+
+-- the feature for which it is refused
+abbrev pub left_out_feature : LeftOutName → Feature
+left_out_feature left_out.CreateOscillator = feature.Oscillator
+left_out_feature left_out.CreatePeriodicWave = feature.PeriodicWave
+left_out_feature left_out.CreateBiquadFilter = feature.Biquad
+left_out_feature left_out.CreateStereoPanner = feature.StereoPanner
+left_out_feature left_out.CreatePanner = feature.Panner
+left_out_feature left_out.CreateDynamicsCompressor = feature.Compressor
+left_out_feature left_out.CreateAnalyser = feature.Analyser
+left_out_feature left_out.SetListener = feature.Listener
+left_out_feature left_out.CreateMediaElementSource = feature.MediaElementSource
+left_out_feature left_out.CreateMediaStreamSource = feature.MediaStreamSource
+left_out_feature left_out.CreateMediaStreamTrackSource = feature.MediaStreamTrackSource
+left_out_feature left_out.CreateMediaStreamDestination = feature.MediaStreamDestination
+left_out_feature left_out.CreateScriptProcessor = feature.ScriptProcessor
+left_out_feature left_out.CreateAudioWorkletNode = feature.AudioWorklet
+left_out_feature left_out.CreateConvolver = feature.Convolver
+
+-- the `op` of an operation
+abbrev pub op_word : OpName → List ℕ
+op_word CreateConstantSource = codes "createConstantSource"
+op_word Connect = codes "connect"
+op_word Start = codes "start"
+op_word Stop = codes "stop"
+op_word StartRendering = codes "startRendering"
+op_word Resume = codes "resume"
+op_word ReadState = codes "readState"
+op_word ReadTime = codes "readTime"
+op_word (LeftOut name) = left_out_word name
+
+-- the first of the operations that the text names
+abbrev pub first_named : List ℕ → List OpName → Option OpName
+first_named word names = find (λ name. bytes_eq (op_word name) word) names
+
+-- the operation that a text names
+unfoldable pub op_named : List ℕ → Option OpName
+op_named word = first_named word OP_NAMES
+
+-- the fields of an operation, in the order in which they are read
+abbrev pub fields_of : OpName → List Row
+fields_of CreateConstantSource = CREATE_CONSTANT_SOURCE
+fields_of Connect = CONNECT
+fields_of Start = START
+fields_of Stop = STOP
+fields_of StartRendering = START_RENDERING
+fields_of Resume = []
+fields_of ReadState = []
+fields_of ReadTime = []
+fields_of (LeftOut name) = []
+
+-- the kind of a field that holds calls
+abbrev pub is_calls : Kind → Bool
+is_calls kind.Fix = false
+is_calls kind.Time = false
+is_calls kind.Count = false
+is_calls kind.Version = false
+is_calls kind.Name = false
+is_calls kind.NewName = false
+is_calls kind.Calls = true
+is_calls kind.Object = false
+
+-- whether a call of the operation may hold further calls
+abbrev pub has_calls : OpName → Bool
+has_calls name = list_any (λ row. is_calls row.kind) (fields_of name)

@@ -1,0 +1,107 @@
+-- The ranges of a call's fields, and the names that a script may give.
+use Rattle.std.specs.Prelude.{ℕ, ◌≤◌, ◌==◌, ◌&&◌, ◌||◌, List, [], ◌∷◌, length, codes, bytes_eq, Bool, not, nat_le, IsTrue, ℤ, pos, neg_ℤ, ◌≤ℤ◌, Option, Some, None}
+use Rattle.std.specs.List.{list_all}
+use Rattle.std.specs.Char.{is_ascii_alphanumeric}
+use Rattle.script_ast.specs.declared.operations.Op.{Op}
+use Rattle.script_ast.specs.declared.operations.Op.TheVariants as op
+
+-- a value in units of 2^-24
+abbrev pub IsFix : ℤ → Type 0
+IsFix z = (neg_ℤ (pos 2147483648) ≤ℤ z) × (z ≤ℤ pos 2147483647)
+
+-- a number of frames, from -2^40 to 2^40
+abbrev pub IsTime : ℤ → Type 0
+IsTime z = (neg_ℤ (pos 1099511627776) ≤ℤ z) × (z ≤ℤ pos 1099511627776)
+
+-- a number of frames, where there is one
+abbrev pub IsTimeIfSome : Option ℤ → Type 0
+IsTimeIfSome None = Unit {0}
+IsTimeIfSome (Some z) = IsTime z
+
+-- a count, of 32 bits
+abbrev pub IsCount : ℕ → Type 0
+IsCount n = n ≤ 4294967295
+
+-- a count, where there is one
+abbrev pub IsCountIfSome : Option ℕ → Type 0
+IsCountIfSome None = Unit {0}
+IsCountIfSome (Some n) = IsCount n
+
+-- values in units of 2^-24
+abbrev pub AreFixes : List ℤ → Type 0
+AreFixes [] = Unit {0}
+AreFixes (z ∷ zs) = IsFix z × AreFixes zs
+
+-- such values, where there are any
+abbrev pub AreFixesIfSome : Option (List ℤ) → Type 0
+AreFixesIfSome None = Unit {0}
+AreFixesIfSome (Some zs) = AreFixes zs
+
+-- a letter, a digit, `_` or `-`
+abbrev pub is_name_byte : ℕ → Bool
+is_name_byte c = is_ascii_alphanumeric c || c == 95 || c == 45
+
+-- 1 to 64 bytes
+abbrev pub has_name_length : List ℕ → Bool
+has_name_length name = nat_le 1 (length name) && nat_le (length name) 64
+
+-- no byte that a name may not have
+abbrev pub has_name_bytes : List ℕ → Bool
+has_name_bytes name = list_all is_name_byte name
+
+-- a name that an object may be given: 1 to 64 ASCII letters, digits, `_` or `-`, and not `destination`
+unfoldable pub is_new_name : List ℕ → Bool
+is_new_name name = has_name_length name && has_name_bytes name && not (bytes_eq name (codes "destination"))
+
+-- an object may be given the name
+abbrev pub IsNewName : List ℕ → Type 0
+IsNewName name = IsTrue (is_new_name name)
+
+-- a path has 1 to 255 bytes
+abbrev pub IsPath : List ℕ → Type 0
+IsPath path = (1 ≤ length path) × (length path ≤ 255)
+
+-- each field of an operation is in its range
+abbrev pub IsInRange : Op → Type 0
+IsInRange (op.CreateConstantSource name offset) = IsNewName name × IsFix offset
+IsInRange (op.CreateGain name gain) = IsNewName name × IsFix gain
+IsInRange (op.CreateDelay name max_delay_time delay_time) = IsNewName name × IsFix max_delay_time × IsFix delay_time
+IsInRange (op.CreateChannelSplitter name number_of_outputs) = IsNewName name × IsCount number_of_outputs
+IsInRange (op.CreateChannelMerger name number_of_inputs) = IsNewName name × IsCount number_of_inputs
+IsInRange (op.CreateWaveShaper name curve oversample) = IsNewName name × AreFixesIfSome curve
+IsInRange (op.CreateIIRFilter name feedforward feedback) = IsNewName name × AreFixes feedforward × AreFixes feedback
+IsInRange (op.CreateBufferSource name buffer looping loop_start loop_end playback_rate) = IsNewName name × IsTime loop_start × IsTime loop_end × IsFix playback_rate
+IsInRange (op.CreateBuffer name channels frames rate) = IsNewName name × IsCount channels × IsCount frames × IsCount rate
+IsInRange (op.LeftOut feature) = Unit {0}
+IsInRange (op.Connect from output to input) = IsCount output × IsCount input
+IsInRange (op.ConnectParam from output to param) = IsCount output
+IsInRange (op.Disconnect from output to input) = IsCountIfSome output × IsCountIfSome input
+IsInRange (op.DisconnectParam from to param output) = IsCountIfSome output
+IsInRange (op.SetChannelCount node value) = IsCount value
+IsInRange (op.SetChannelCountMode node value) = Unit {0}
+IsInRange (op.SetChannelInterpretation node value) = Unit {0}
+IsInRange (op.SetCurve node curve) = AreFixesIfSome curve
+IsInRange (op.SetOversample node value) = Unit {0}
+IsInRange (op.SetBuffer node buffer) = Unit {0}
+IsInRange (op.SetLoop node value) = Unit {0}
+IsInRange (op.SetLoopStart node value) = IsTime value
+IsInRange (op.SetLoopEnd node value) = IsTime value
+IsInRange (op.CopyToChannel buffer channel samples at) = IsCount channel × AreFixes samples × IsCount at
+IsInRange (op.Start node when offset duration) = IsTime when × IsTime offset × IsTimeIfSome duration
+IsInRange (op.Stop node when) = IsTime when
+IsInRange (op.SetValue node param value) = IsFix value
+IsInRange (op.SetValueAtTime node param value time) = IsFix value × IsTime time
+IsInRange (op.LinearRampToValueAtTime node param value time) = IsFix value × IsTime time
+IsInRange (op.SetValueCurveAtTime node param values time duration) = AreFixes values × IsTime time × IsTime duration
+IsInRange (op.CancelScheduledValues node param time) = IsTime time
+IsInRange (op.CancelAndHoldAtTime node param time) = IsTime time
+IsInRange (op.SetAutomationRate node param value) = Unit {0}
+IsInRange (op.ExponentialRampToValueAtTime node param) = Unit {0}
+IsInRange (op.SetTargetAtTime node param) = Unit {0}
+IsInRange (op.ReadValue node param) = Unit {0}
+IsInRange (op.Suspend time) = IsTime time
+IsInRange op.StartRendering = Unit {0}
+IsInRange op.Resume = Unit {0}
+IsInRange (op.DecodeAudioData name path) = IsNewName name × IsPath path
+IsInRange op.ReadState = Unit {0}
+IsInRange op.ReadTime = Unit {0}

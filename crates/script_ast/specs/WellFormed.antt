@@ -1,0 +1,21 @@
+-- What holds of every script that was read.
+use Rattle.std.specs.Prelude.{ℕ, ◌≡◌, ◌+◌, ◌≤◌, List, [], ◌∷◌}
+use Rattle.script_ast.specs.Ranges.{IsCount, IsInRange}
+use Rattle.script_ast.specs.declared.call_list.Call.{Call}
+use Rattle.script_ast.specs.declared.call_list.Script.{Script}
+
+-- the call has the ordinal n, stands in the main list or in that of an earlier call, and its fields are in range
+abbrev pub IsCallAt : ℕ → Call → Type 0
+IsCallAt n call = (call.ordinal ≡ n) × (call.holder + 1 ≤ n) × IsInRange call.op
+
+-- the calls have the ordinals from n + 1 on, in their order
+abbrev pub AreCallsAfter : ℕ → List Call → Type 0
+AreCallsAfter n [] = Unit {0}
+AreCallsAfter n (call ∷ calls) = IsCallAt (n + 1) call × AreCallsAfter (n + 1) calls
+
+-- the context's numbers are counts, and every call has its place in the list, counted from 1, as its ordinal
+pub record IsWellFormed (script : Script) : Type 0 where
+  pub channels : IsCount script.context.channels
+  pub frames : IsCount script.context.length
+  pub rate : IsCount script.context.rate
+  pub calls : AreCallsAfter 0 script.calls

@@ -1,0 +1,184 @@
+ghost use Rattle.std.specs.Prelude.{◌≡◌, IsTrue, ◌↔◌, IsSome, bytes_eq, option_map};
+ghost use Rattle.script_ast.specs.OpNames.{left_out_word, left_out_feature, op_word, op_named, first_named, fields_of, has_calls};
+
+use crate::entries::{CONNECT, CREATE_CONSTANT_SOURCE, Kind, Row, START, START_RENDERING, STOP};
+use wa_base::Feature;
+
+/// The name of an operation that the profile leaves out.
+#[derive(Clone, Copy, Debug, PartialEq, Eq)]
+pub enum LeftOutName {
+    CreateOscillator,
+    CreatePeriodicWave,
+    CreateBiquadFilter,
+    CreateStereoPanner,
+    CreatePanner,
+    CreateDynamicsCompressor,
+    CreateAnalyser,
+    SetListener,
+    CreateMediaElementSource,
+    CreateMediaStreamSource,
+    CreateMediaStreamTrackSource,
+    CreateMediaStreamDestination,
+    CreateScriptProcessor,
+    CreateAudioWorkletNode,
+    CreateConvolver,
+}
+
+impl LeftOutName {
+    /// The value of a call's `op` that names the operation.
+    pub fn word(self) -> &'static str
+        ensures { result.now ≡ left_out_word self }
+    {
+        match self {
+            LeftOutName::CreateOscillator => "createOscillator",
+            LeftOutName::CreatePeriodicWave => "createPeriodicWave",
+            LeftOutName::CreateBiquadFilter => "createBiquadFilter",
+            LeftOutName::CreateStereoPanner => "createStereoPanner",
+            LeftOutName::CreatePanner => "createPanner",
+            LeftOutName::CreateDynamicsCompressor => "createDynamicsCompressor",
+            LeftOutName::CreateAnalyser => "createAnalyser",
+            LeftOutName::SetListener => "setListener",
+            LeftOutName::CreateMediaElementSource => "createMediaElementSource",
+            LeftOutName::CreateMediaStreamSource => "createMediaStreamSource",
+            LeftOutName::CreateMediaStreamTrackSource => "createMediaStreamTrackSource",
+            LeftOutName::CreateMediaStreamDestination => "createMediaStreamDestination",
+            LeftOutName::CreateScriptProcessor => "createScriptProcessor",
+            LeftOutName::CreateAudioWorkletNode => "createAudioWorkletNode",
+            LeftOutName::CreateConvolver => "createConvolver",
+        }
+    }
+
+    /// The feature for which the operation is always refused.
+    pub fn feature(self) -> Feature
+        ensures { result ≡ left_out_feature self }
+    {
+        match self {
+            LeftOutName::CreateOscillator => Feature::Oscillator,
+            LeftOutName::CreatePeriodicWave => Feature::PeriodicWave,
+            LeftOutName::CreateBiquadFilter => Feature::Biquad,
+            LeftOutName::CreateStereoPanner => Feature::StereoPanner,
+            LeftOutName::CreatePanner => Feature::Panner,
+            LeftOutName::CreateDynamicsCompressor => Feature::Compressor,
+            LeftOutName::CreateAnalyser => Feature::Analyser,
+            LeftOutName::SetListener => Feature::Listener,
+            LeftOutName::CreateMediaElementSource => Feature::MediaElementSource,
+            LeftOutName::CreateMediaStreamSource => Feature::MediaStreamSource,
+            LeftOutName::CreateMediaStreamTrackSource => Feature::MediaStreamTrackSource,
+            LeftOutName::CreateMediaStreamDestination => Feature::MediaStreamDestination,
+            LeftOutName::CreateScriptProcessor => Feature::ScriptProcessor,
+            LeftOutName::CreateAudioWorkletNode => Feature::AudioWorklet,
+            LeftOutName::CreateConvolver => Feature::Convolver,
+        }
+    }
+}
+
+/// The name of an operation that a script may have.
+#[derive(Clone, Copy, Debug, PartialEq, Eq)]
+pub enum OpName {
+    CreateConstantSource,
+    Connect,
+    Start,
+    Stop,
+    StartRendering,
+    Resume,
+    ReadState,
+    ReadTime,
+    LeftOut(LeftOutName),
+}
+
+/// Every operation.
+pub const OP_NAMES: [OpName; 23] = [
+    OpName::CreateConstantSource,
+    OpName::Connect,
+    OpName::Start,
+    OpName::Stop,
+    OpName::StartRendering,
+    OpName::Resume,
+    OpName::ReadState,
+    OpName::ReadTime,
+    OpName::LeftOut(LeftOutName::CreateOscillator),
+    OpName::LeftOut(LeftOutName::CreatePeriodicWave),
+    OpName::LeftOut(LeftOutName::CreateBiquadFilter),
+    OpName::LeftOut(LeftOutName::CreateStereoPanner),
+    OpName::LeftOut(LeftOutName::CreatePanner),
+    OpName::LeftOut(LeftOutName::CreateDynamicsCompressor),
+    OpName::LeftOut(LeftOutName::CreateAnalyser),
+    OpName::LeftOut(LeftOutName::SetListener),
+    OpName::LeftOut(LeftOutName::CreateMediaElementSource),
+    OpName::LeftOut(LeftOutName::CreateMediaStreamSource),
+    OpName::LeftOut(LeftOutName::CreateMediaStreamTrackSource),
+    OpName::LeftOut(LeftOutName::CreateMediaStreamDestination),
+    OpName::LeftOut(LeftOutName::CreateScriptProcessor),
+    OpName::LeftOut(LeftOutName::CreateAudioWorkletNode),
+    OpName::LeftOut(LeftOutName::CreateConvolver),
+];
+
+impl OpName {
+    /// The value of a call's `op` that names the operation.
+    pub fn word(self) -> &'static str
+        ensures { result.now ≡ op_word self }
+    {
+        match self {
+            OpName::CreateConstantSource => "createConstantSource",
+            OpName::Connect => "connect",
+            OpName::Start => "start",
+            OpName::Stop => "stop",
+            OpName::StartRendering => "startRendering",
+            OpName::Resume => "resume",
+            OpName::ReadState => "readState",
+            OpName::ReadTime => "readTime",
+            OpName::LeftOut(name) => name.word(),
+        }
+    }
+
+    fn is_named(self, word: &str) -> bool
+        ensures { result ≡ bytes_eq (op_word self) word.now }
+    {
+        self.word() == word
+    }
+
+    /// The operation that a call's `op` names.
+    #[tactic(auto, unfolding(crate::specs::OpNames::op_named))]
+    pub fn from_word(word: &str) -> Option<OpName>
+        ensures { result ≡ op_named word.now }
+    {
+        find_named(&OP_NAMES, word).copied()
+    }
+
+    /// The fields of the operation, in the order in which they are read.
+    pub fn fields(self) -> &'static [Row]
+        ensures { result.now ≡ fields_of self }
+    {
+        match self {
+            OpName::CreateConstantSource => &CREATE_CONSTANT_SOURCE,
+            OpName::Connect => &CONNECT,
+            OpName::Start => &START,
+            OpName::Stop => &STOP,
+            OpName::StartRendering => &START_RENDERING,
+            OpName::Resume | OpName::ReadState | OpName::ReadTime | OpName::LeftOut(_) => &[],
+        }
+    }
+
+    /// Whether a call of the operation may hold further calls.
+    pub fn has_calls(self) -> bool
+        ensures { result ≡ has_calls self }
+    {
+        self.fields()
+            .iter()
+            .any(|row| matches!(row.kind, Kind::Calls))
+    }
+}
+
+// The first of the operations that the text names.
+fn find_named<'a>(names: &'a [OpName], word: &str) -> Option<&'a OpName>
+    ensures { option_map (λ name. name.now) result ≡ first_named word.now names.now }
+{
+    names.iter().find(|name| name.is_named(word))
+}
+
+/// Whether scripts with this `op` are read: whether it names an operation.
+pub fn is_built(op: &str) -> bool
+    ensures { IsTrue result ↔ IsSome (op_named op.now) }
+{
+    OpName::from_word(op).is_some()
+}

@@ -1,0 +1,245 @@
+use crate::paths::Path;
+use wa_base::{Feature, Fix, Interp, Mode, Name, Rate, Samples};
+
+/// How often a shaper samples its curve (OverSampleType).
+#[derive(Clone, Copy, Debug, PartialEq, Eq)]
+pub enum Oversample {
+    Off,
+    Two,
+    Four,
+}
+
+/// An operation of a script with its fields. Values and curves are in units of 2^-24, and times are
+/// whole frames; `max_delay_time` and `delay_time` alone are seconds, in units of 2^-24. Each
+/// operation is described in the named section of the Web Audio recommendation of 17 June 2021.
+#[derive(Debug, Drop)]
+pub enum Op {
+    /// The ConstantSourceNode Interface.
+    CreateConstantSource {
+        name: Name,
+        offset: Fix,
+    },
+    /// The GainNode Interface.
+    CreateGain {
+        name: Name,
+        gain: Fix,
+    },
+    /// The DelayNode Interface.
+    CreateDelay {
+        name: Name,
+        max_delay_time: Fix,
+        delay_time: Fix,
+    },
+    /// The ChannelSplitterNode Interface.
+    CreateChannelSplitter {
+        name: Name,
+        number_of_outputs: u32,
+    },
+    /// The ChannelMergerNode Interface.
+    CreateChannelMerger {
+        name: Name,
+        number_of_inputs: u32,
+    },
+    /// The WaveShaperNode Interface.
+    CreateWaveShaper {
+        name: Name,
+        curve: Option<Samples>,
+        oversample: Oversample,
+    },
+    /// The IIRFilterNode Interface.
+    CreateIIRFilter {
+        name: Name,
+        feedforward: Samples,
+        feedback: Samples,
+    },
+    /// The AudioBufferSourceNode Interface.
+    CreateBufferSource {
+        name: Name,
+        buffer: Option<Name>,
+        looping: bool,
+        loop_start: i64,
+        loop_end: i64,
+        playback_rate: Fix,
+    },
+    /// The AudioBuffer Interface.
+    CreateBuffer {
+        name: Name,
+        channels: u32,
+        length: u32,
+        rate: u32,
+    },
+    /// An operation that the profile leaves out; none of its fields is read.
+    LeftOut {
+        feature: Feature,
+    },
+    /// The AudioNode Interface, connect to a node.
+    Connect {
+        from: Name,
+        output: u32,
+        to: Name,
+        input: u32,
+    },
+    /// The AudioNode Interface, connect to a parameter.
+    ConnectParam {
+        from: Name,
+        output: u32,
+        to: Name,
+        param: Name,
+    },
+    /// The AudioNode Interface, disconnect; the fields that are there choose its form.
+    Disconnect {
+        from: Name,
+        output: Option<u32>,
+        to: Option<Name>,
+        input: Option<u32>,
+    },
+    /// The AudioNode Interface, disconnect from a parameter.
+    DisconnectParam {
+        from: Name,
+        to: Name,
+        param: Name,
+        output: Option<u32>,
+    },
+    /// The AudioNode Interface, channelCount.
+    SetChannelCount {
+        node: Name,
+        value: u32,
+    },
+    /// The AudioNode Interface, channelCountMode.
+    SetChannelCountMode {
+        node: Name,
+        value: Mode,
+    },
+    /// The AudioNode Interface, channelInterpretation.
+    SetChannelInterpretation {
+        node: Name,
+        value: Interp,
+    },
+    /// The WaveShaperNode Interface, curve; `None` takes it away.
+    SetCurve {
+        node: Name,
+        curve: Option<Samples>,
+    },
+    /// The WaveShaperNode Interface, oversample.
+    SetOversample {
+        node: Name,
+        value: Oversample,
+    },
+    /// The AudioBufferSourceNode Interface, buffer; `None` takes it away.
+    SetBuffer {
+        node: Name,
+        buffer: Option<Name>,
+    },
+    /// The AudioBufferSourceNode Interface, loop.
+    SetLoop {
+        node: Name,
+        value: bool,
+    },
+    /// The AudioBufferSourceNode Interface, loopStart.
+    SetLoopStart {
+        node: Name,
+        value: i64,
+    },
+    /// The AudioBufferSourceNode Interface, loopEnd.
+    SetLoopEnd {
+        node: Name,
+        value: i64,
+    },
+    /// The AudioBuffer Interface, copyToChannel; `at` is the first frame that is written.
+    CopyToChannel {
+        buffer: Name,
+        channel: u32,
+        samples: Samples,
+        at: u32,
+    },
+    /// The AudioScheduledSourceNode and AudioBufferSourceNode Interfaces, start.
+    Start {
+        node: Name,
+        when: i64,
+        offset: i64,
+        duration: Option<i64>,
+    },
+    /// The AudioScheduledSourceNode Interface, stop.
+    Stop {
+        node: Name,
+        when: i64,
+    },
+    /// The AudioParam Interface, value.
+    SetValue {
+        node: Name,
+        param: Name,
+        value: Fix,
+    },
+    /// The AudioParam Interface, setValueAtTime.
+    SetValueAtTime {
+        node: Name,
+        param: Name,
+        value: Fix,
+        time: i64,
+    },
+    /// The AudioParam Interface, linearRampToValueAtTime.
+    LinearRampToValueAtTime {
+        node: Name,
+        param: Name,
+        value: Fix,
+        time: i64,
+    },
+    /// The AudioParam Interface, setValueCurveAtTime.
+    SetValueCurveAtTime {
+        node: Name,
+        param: Name,
+        values: Samples,
+        time: i64,
+        duration: i64,
+    },
+    /// The AudioParam Interface, cancelScheduledValues.
+    CancelScheduledValues {
+        node: Name,
+        param: Name,
+        time: i64,
+    },
+    /// The AudioParam Interface, cancelAndHoldAtTime.
+    CancelAndHoldAtTime {
+        node: Name,
+        param: Name,
+        time: i64,
+    },
+    /// The AudioParam Interface, automationRate.
+    SetAutomationRate {
+        node: Name,
+        param: Name,
+        value: Rate,
+    },
+    /// The AudioParam Interface, exponentialRampToValueAtTime.
+    ExponentialRampToValueAtTime {
+        node: Name,
+        param: Name,
+    },
+    /// The AudioParam Interface, setTargetAtTime.
+    SetTargetAtTime {
+        node: Name,
+        param: Name,
+    },
+    /// The AudioParam Interface, value.
+    ReadValue {
+        node: Name,
+        param: Name,
+    },
+    /// The OfflineAudioContext Interface, suspend.
+    Suspend {
+        time: i64,
+    },
+    /// The OfflineAudioContext Interface, startRendering.
+    StartRendering,
+    /// The OfflineAudioContext Interface, resume.
+    Resume,
+    /// The BaseAudioContext Interface, decodeAudioData.
+    DecodeAudioData {
+        name: Name,
+        path: Path,
+    },
+    /// The BaseAudioContext Interface, state.
+    ReadState,
+    /// The BaseAudioContext Interface, currentTime, in frames.
+    ReadTime,
+}

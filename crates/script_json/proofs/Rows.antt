@@ -1,0 +1,33 @@
+-- Texts that are written out, and what reading them gives.
+use Rattle.std.specs.Prelude.{◌≡◌, codes, Ok, Err, None, pos, refl, [], ◌∷◌}
+use Rattle.serde_json.proofs.OnLiterals.{serde_json_on_literals}
+use Rattle.serde_json.specs.Read.{read}
+use Rattle.script_ast.specs.OpNames.{op_named}
+use Rattle.script_ast.specs.declared.fields.Field.TheVariants as field
+use Rattle.script_ast.specs.declared.operations.Op.TheVariants as op
+use Rattle.script_json.specs.Calls.{placed, call_faults, call_of}
+use Rattle.script_json.specs.Fields.{number_in, count_in, text_in, time_or_null_in}
+use Rattle.script_json.specs.Script.{context_in, main_list, calls_of, head_faults, script_faults, script_in, script_or_fault}
+use Rattle.script_json.specs.declared.faults.ScriptErr.TheVariants.{BadJson, MissingField, WrongKind, UnknownOp}
+
+no_bytes : script_or_fault (read []) ≡ Err BadJson
+unfolding serde_json_on_literals
+no_bytes = refl
+
+no_object : script_or_fault (read (codes "[]")) ≡ Err (WrongKind 0 field.Script)
+unfolding serde_json_on_literals context_in main_list calls_of head_faults script_faults placed
+no_object = refl
+
+no_node : script_or_fault (read (codes "{\"version\":1,\"context\":{\"channels\":1,\"length\":1,\"rate\":1},\"calls\":[{\"op\":\"start\"}]}")) ≡ Err (MissingField 1 field.Node)
+unfolding serde_json_on_literals context_in main_list calls_of head_faults script_faults placed call_faults op_named
+no_node = refl
+
+-- the call that startRendering holds is read before the one after it
+held_first : script_or_fault (read (codes "{\"version\":1,\"context\":{\"channels\":1,\"length\":1,\"rate\":1},\"calls\":[{\"op\":\"startRendering\",\"then\":[{}]},7]}")) ≡ Err (UnknownOp 2)
+unfolding serde_json_on_literals context_in main_list calls_of head_faults script_faults placed call_faults op_named
+held_first = refl
+
+started : script_or_fault (read (codes "{\"version\":1,\"context\":{\"channels\":1,\"length\":128,\"rate\":48000},\"calls\":[{\"op\":\"start\",\"node\":\"c\",\"when\":5}]}"))
+    ≡ Ok (record { context = record { channels = 1; length = 128; rate = 48000 }; calls = record { ordinal = 1; holder = 0; op = op.Start (codes "c") (pos 5) (pos 0) None } ∷ [] })
+unfolding serde_json_on_literals context_in main_list calls_of head_faults script_faults script_in placed call_faults call_of op_named number_in count_in text_in time_or_null_in
+started = refl

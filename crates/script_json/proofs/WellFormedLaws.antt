@@ -1,0 +1,217 @@
+-- A script that is read is well-formed.
+use Rattle.std.proofs.Common.{◌≡◌, ◌≤◌, ◌+◌, ℕ, suc, List, [], ◌∷◌, ◌++◌, length, refl, Ok, Option, Some, None, Bool, true, false, arith, ℤ, pos, neg_ℤ, T}
+use Rattle.std.specs.Prelude.{◌≤ℤ◌, flat_map, filter_map, is_some, option_map, option_and_then, unwrap_or, int_le, ◌&&◌, if◌then◌else◌, nat_le, bytes_eq}
+use Rattle.std.specs.List.{cons_option}
+use Rattle.std.specs.Int.Signed.{le_z_yes}
+use Rattle.std.proofs.lemmas.Grind.{flat_map-append}
+use Rattle.std.proofs.lemmas.List.Elements.{filter_map-append}
+use Rattle.std.proofs.lemmas.Bool.{leb-true}
+use Rattle.serde_json.specs.Data.{Data, null, boolean, number, string, array, object, Items, no_items, item, Members, no_members, member}
+use Rattle.serde_json.specs.Find.{as_object, as_str}
+use Rattle.wa_base.specs.declared.contexts.ContextSpec.{ContextSpec}
+use Rattle.script_ast.specs.Fields.{field_word}
+use Rattle.script_ast.specs.OpNames.{fields_of}
+use Rattle.script_ast.specs.Ranges.{IsFix, IsTime, IsTimeIfSome, IsCount, IsNewName, IsInRange, is_new_name}
+use Rattle.script_ast.specs.WellFormed.{IsCallAt, AreCallsAfter, IsWellFormed}
+use Rattle.script_ast.specs.declared.call_list.Call.{Call}
+use Rattle.script_ast.specs.declared.entries.Row.{Row}
+use Rattle.script_ast.specs.declared.entries.TheConstants.{AS, CHANNELS, LENGTH, RATE}
+use Rattle.script_ast.specs.declared.fields.Field.TheVariants as field
+use Rattle.script_ast.specs.declared.op_names.OpName.{OpName}
+use Rattle.script_ast.specs.declared.op_names.OpName.TheVariants.{CreateConstantSource, Connect, Start, Stop, StartRendering, Resume, ReadState, ReadTime, LeftOut}
+use Rattle.script_json.proofs.CallSteps.{both_none, length-calls, outcome_ok}
+use Rattle.script_json.specs.Calls.{Placed, placed, held_by, then_calls, list_calls, has_then, call_faults, call_of, name_in, name_faults, op_in}
+use Rattle.script_json.specs.Fields.{fields_faults, field_faults, cause_faults, member_faults, member_at, number_in, number_within, given_number, time_or_null_in, count_in, count_within, given_count, text_in}
+use Rattle.script_json.specs.Outcome.{outcome}
+use Rattle.script_json.specs.Reading.{placed_at, calls_read}
+use Rattle.script_json.specs.Script.{context_in, context_of, head_faults}
+use Rattle.script_json.specs.Values.{whole, is_within, new_name_cause}
+use Rattle.script_json.specs.declared.values.Cause.TheVariants.{OutOfRange}
+use Rattle.script_json.specs.declared.faults.ScriptErr.TheVariants.{WrongKind}
+
+-- ---- the fields of a call
+
+both_true : (a b : Bool) → a && b ≡ true → (a ≡ true) × (b ≡ true)
+both_true true b h = (refl, h)
+both_true false b h = cc
+
+to_T : (b : Bool) → b ≡ true → T b
+to_T true h = tt
+to_T false h = cc
+
+int_le-true : (x y : ℤ) → int_le x y ≡ true → x ≤ℤ y
+int_le-true x y h = le_z_yes (to_T _ h)
+
+IsBetween : ℤ → ℤ → ℤ → Type 0
+IsBetween low high z = (low ≤ℤ z) × (z ≤ℤ high)
+
+within_test : (low high z : ℤ) (b : Bool) → is_within low high z ≡ b → low ≤ℤ pos 0 → pos 0 ≤ℤ high
+    → (low ≤ℤ unwrap_or (if b then Some z else None) (pos 0)) × (unwrap_or (if b then Some z else None) (pos 0) ≤ℤ high)
+within_test low high z true h below above = let e = both_true _ _ h in (int_le-true low z e.0, int_le-true z high e.1)
+within_test low high z false h below above = (below, above)
+
+within_or_zero : (low high : ℤ) (o : Option ℤ) → low ≤ℤ pos 0 → pos 0 ≤ℤ high
+    → (low ≤ℤ unwrap_or (number_within low high o) (pos 0)) × (unwrap_or (number_within low high o) (pos 0) ≤ℤ high)
+within_or_zero low high None below above = (below, above)
+within_or_zero low high (Some z) below above = within_test low high z (is_within low high z) refl below above
+
+pub fix_in-range : (row : Row) (d : Data) → IsFix (number_in (neg_ℤ (pos 2147483648)) (pos 2147483647) row d)
+unfolding number_in
+fix_in-range row d = within_or_zero _ _ (given_number row (member_at row d)) (le_z_yes tt) (le_z_yes tt)
+
+pub time_in-range : (row : Row) (d : Data) → IsTime (number_in (neg_ℤ (pos 1099511627776)) (pos 1099511627776) row d)
+unfolding number_in
+time_in-range row d = within_or_zero _ _ (given_number row (member_at row d)) (le_z_yes tt) (le_z_yes tt)
+
+time_test : (z : ℤ) (b : Bool) → is_within (neg_ℤ (pos 1099511627776)) (pos 1099511627776) z ≡ b → IsTimeIfSome (if b then Some z else None)
+time_test z true h = let e = both_true _ _ h in (int_le-true _ z e.0, int_le-true z _ e.1)
+time_test z false h = tt
+
+time_within : (o : Option ℤ) → IsTimeIfSome (number_within (neg_ℤ (pos 1099511627776)) (pos 1099511627776) o)
+time_within None = tt
+time_within (Some z) = time_test z _ refl
+
+pub time_or_null_in-range : (row : Row) (d : Data) → IsTimeIfSome (time_or_null_in row d)
+unfolding time_or_null_in
+time_or_null_in-range row d = time_within (option_and_then whole (member_at row d))
+
+count_test : (n : ℕ) (b : Bool) → nat_le n 4294967295 ≡ b → unwrap_or (if b then Some n else None) 0 ≤ 4294967295
+count_test n true h = leb-true n 4294967295 h
+count_test n false h = omega arith
+
+count_or_zero : (o : Option ℕ) → unwrap_or (count_within 4294967295 o) 0 ≤ 4294967295
+count_or_zero None = omega arith
+count_or_zero (Some n) = count_test n _ refl
+
+pub count_in-range : (row : Row) (d : Data) → IsCount (count_in row d)
+unfolding count_in
+count_in-range row d = count_or_zero (given_count row (member_at row d))
+
+new_name_test : (n : ℕ) (name : List ℕ) (b : Bool) → is_new_name name ≡ b → cause_faults n field.As (if b then None else Some OutOfRange) ≡ [] → is_new_name name ≡ true
+new_name_test n name true h none = h
+new_name_test n name false h none = cc
+
+new_name_text : (n : ℕ) (o : Option (List ℕ)) → cause_faults n field.As (new_name_cause o) ≡ [] → IsNewName (unwrap_or o [])
+new_name_text n None h = cc
+new_name_text n (Some name) h = new_name_test n name _ refl h
+
+new_name_member : (n : ℕ) (o : Option Data) → member_faults n AS o ≡ [] → IsNewName (unwrap_or (option_and_then as_str o) [])
+new_name_member n None h = cc
+new_name_member n (Some d) h = new_name_text n (as_str d) h
+
+pub text_in-new_name : (n : ℕ) (d : Data) → field_faults n d AS ≡ [] → IsNewName (text_in AS d)
+unfolding text_in
+text_in-new_name n d h = new_name_member n (member_at AS d) h
+
+pub op_in-range : (n : ℕ) (d : Data) (name : OpName) → fields_faults n d (fields_of name) ≡ [] → IsInRange (op_in name d)
+op_in-range n d CreateConstantSource h = (text_in-new_name n d (both_none _ _ h).0, fix_in-range _ d)
+op_in-range n d Connect h = (count_in-range _ d, count_in-range _ d)
+op_in-range n d Start h = (time_in-range _ d, time_in-range _ d, time_or_null_in-range _ d)
+op_in-range n d Stop h = time_in-range _ d
+op_in-range n d StartRendering h = tt
+op_in-range n d Resume h = tt
+op_in-range n d ReadState h = tt
+op_in-range n d ReadTime h = tt
+op_in-range n d (LeftOut name) h = tt
+
+-- ---- the calls of a script
+
+-- what is said of a call without a fault: what it means is a call with its ordinal, in range
+abbrev IsGood : Placed → Option Call → Type 0
+IsGood call None = ⊥
+IsGood call (Some c) = IsCallAt call.ordinal c
+
+good_named : (call : Placed) (o : Option OpName) → call.holder + 1 ≤ call.ordinal → name_faults call.ordinal call.value o ≡ []
+    → IsGood call (option_map (λ name. record { ordinal = call.ordinal; holder = call.holder; op = op_in name call.value }) o)
+good_named call None early h = cc
+good_named call (Some name) early h = (refl, early, op_in-range _ _ name h)
+
+good_object : (call : Placed) (b : Bool) → call.holder + 1 ≤ call.ordinal
+    → (if b then name_faults call.ordinal call.value (name_in call.value) else WrongKind call.ordinal field.Call ∷ []) ≡ []
+    → IsGood call (option_map (λ name. record { ordinal = call.ordinal; holder = call.holder; op = op_in name call.value }) (name_in call.value))
+good_object call true early h = good_named call (name_in call.value) early h
+good_object call false early h = cc
+
+good_call : (call : Placed) → call.holder + 1 ≤ call.ordinal → call_faults call ≡ [] → IsGood call (call_of call)
+unfolding call_faults call_of
+good_call call early h = good_object call (is_some (as_object call.value)) early h
+
+AreCallsAfter-append : (n : ℕ) (xs ys : List Call) → AreCallsAfter n xs → AreCallsAfter (n + length xs) ys → AreCallsAfter n (xs ++ ys)
+AreCallsAfter-append n [] ys first second = let e : n + 0 ≡ n = omega arith in rw e at second
+AreCallsAfter-append n (x ∷ xs) ys first second =
+    let e : n + suc (length xs) ≡ n + 1 + length xs = omega arith in
+    (first.0, AreCallsAfter-append (n + 1) xs ys first.1 (rw e at second))
+
+append_at : (n m : ℕ) (xs ys : List Call) → length xs ≡ m → AreCallsAfter n xs → AreCallsAfter (n + m) ys → AreCallsAfter n (xs ++ ys)
+append_at n m xs ys e first second = AreCallsAfter-append n xs ys first (rw e second)
+
+after_good : (n : ℕ) (call : Placed) (o : Option Call) (calls : List Call) → call.ordinal ≡ n + 1 → IsGood call o → AreCallsAfter (n + 1) calls
+    → AreCallsAfter n (cons_option o calls)
+after_good n call None calls place good rest = absurd good
+after_good n call (Some c) calls place good rest = (rw place at good, rest)
+
+-- what is said of the calls that are placed after n calls: where none has a fault, they have the ordinals from n + 1 on
+abbrev AreGoodAfter : ℕ → List Placed → Type 0
+AreGoodAfter n calls = flat_map call_faults calls ≡ [] → AreCallsAfter n (filter_map call_of calls)
+
+item_good : (d : Data) (n holder : ℕ) (held rest : List Placed) → holder ≤ n → AreGoodAfter (n + 1) held → AreGoodAfter (n + 1 + length held) rest
+    → AreGoodAfter n (placed_at (n + 1) holder d ∷ held ++ rest)
+item_good d n holder held rest early held_good rest_good none =
+    let this = both_none (call_faults (placed_at (n + 1) holder d)) (flat_map call_faults (held ++ rest)) none in
+    let others = both_none (flat_map call_faults held) (flat_map call_faults rest) (rw (flat_map-append call_faults held rest) at this.1) in
+    let count = length-calls held others.0 in
+    let both = append_at (n + 1) (length held) (filter_map call_of held) (filter_map call_of rest) count (held_good others.0) (rest_good others.1) in
+    let near : holder + 1 ≤ n + 1 = omega arith in
+    after_good n (placed_at (n + 1) holder d) (call_of (placed_at (n + 1) holder d)) _ refl (good_call (placed_at (n + 1) holder d) near this.0)
+    (rw (filter_map-append call_of held rest) both)
+
+held_good_if : (b : Bool) (n : ℕ) (calls : List Placed) → AreGoodAfter n calls → AreGoodAfter n (if b then calls else [])
+held_good_if true n calls h = h
+held_good_if false n calls h = λ none. tt
+
+then_good_if : (b : Bool) (d : Data) (ms : Members) (n : ℕ) → AreGoodAfter n (list_calls d n) → AreGoodAfter n (then_calls ms n)
+    → AreGoodAfter n (if b then list_calls d n else then_calls ms n)
+then_good_if true d ms n first second = first
+then_good_if false d ms n first second = second
+
+mutual
+  unfolding placed
+
+  pub placed_good : (ds : Items) (n holder : ℕ) → holder ≤ n → AreGoodAfter n (placed ds n holder)
+  placed_good no_items n holder early = λ none. tt
+  placed_good (item d ds) n holder early =
+      let later : holder ≤ n + 1 + length (held_by d (n + 1)) = omega arith in
+      item_good d n holder (held_by d (n + 1)) (placed ds (n + 1 + length (held_by d (n + 1))) holder) early (held_good d (n + 1)) (placed_good ds (n + 1 + length (held_by d (n + 1))) holder later)
+
+  held_good : (d : Data) (n : ℕ) → AreGoodAfter n (held_by d n)
+  held_good null n = λ none. tt
+  held_good (boolean b) n = λ none. tt
+  held_good (number x) n = λ none. tt
+  held_good (string s) n = λ none. tt
+  held_good (array ds) n = λ none. tt
+  held_good (object ms) n = held_good_if (has_then (name_in (object ms))) n (then_calls ms n) (then_good ms n)
+
+  then_good : (ms : Members) (n : ℕ) → AreGoodAfter n (then_calls ms n)
+  then_good no_members n = λ none. tt
+  then_good (member key d ms) n = then_good_if (bytes_eq (field_word field.Then) key) d ms n (list_good d n) (then_good ms n)
+
+  list_good : (d : Data) (n : ℕ) → AreGoodAfter n (list_calls d n)
+  list_good null n = λ none. tt
+  list_good (boolean b) n = λ none. tt
+  list_good (number x) n = λ none. tt
+  list_good (string s) n = λ none. tt
+  list_good (array ds) n = let here : n ≤ n = omega arith in placed_good ds n n here
+  list_good (object ms) n = λ none. tt
+
+pub read_well_formed : (d : Data) (context : ContextSpec) (ds : Items) (calls : List Call) → outcome (head_faults d) (context_of (context_in d)) ≡ Ok context
+    → calls_read [] (placed ds 0 0) ≡ Ok calls → IsWellFormed (record { context = context; calls = calls })
+unfolding calls_read
+read_well_formed d context ds calls head read =
+    let e = outcome_ok _ _ _ head in
+    let f = outcome_ok _ _ _ read in
+    record {
+      channels = rw (← e.1) (count_in-range CHANNELS (context_in d));
+      frames = rw (← e.1) (count_in-range LENGTH (context_in d));
+      rate = rw (← e.1) (count_in-range RATE (context_in d));
+      calls = rw (← f.1) (placed_good ds 0 0 (omega arith) f.0);
+    }

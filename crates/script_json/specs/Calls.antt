@@ -1,0 +1,87 @@
+-- The calls of a script in document order: their places, their faults and what they mean.
+use Rattle.std.specs.Prelude.{ℕ, ◌+◌, List, [], ◌∷◌, ◌++◌, length, bytes_eq, Bool, false, if◌then◌else◌, Option, Some, None, option_and_then, option_map, is_some}
+use Rattle.serde_json.specs.Data.{Data, null, boolean, number, string, array, object, Items, no_items, item, Members, no_members, member}
+use Rattle.serde_json.specs.Find.{get, as_object, as_str}
+use Rattle.script_ast.specs.Fields.{field_word}
+use Rattle.script_ast.specs.OpNames.{op_named, fields_of, has_calls, left_out_feature}
+use Rattle.script_ast.specs.declared.call_list.Call.{Call}
+use Rattle.script_ast.specs.declared.entries.TheConstants.{AS, OFFSET, FROM, OUTPUT, TO, INPUT, NODE, WHEN, START_OFFSET, DURATION}
+use Rattle.script_ast.specs.declared.fields.Field.TheVariants as field
+use Rattle.script_ast.specs.declared.op_names.OpName.{OpName}
+use Rattle.script_ast.specs.declared.op_names.OpName.TheVariants.{CreateConstantSource, Connect, Start, Stop, StartRendering, Resume, ReadState, ReadTime, LeftOut}
+use Rattle.script_ast.specs.declared.operations.Op.{Op}
+use Rattle.script_ast.specs.declared.operations.Op.TheVariants as op
+use Rattle.script_json.specs.Fields.{fields_faults, text_in, fix_in, time_in, time_or_null_in, count_in}
+use Rattle.script_json.specs.declared.faults.ScriptErr.{ScriptErr}
+use Rattle.script_json.specs.declared.faults.ScriptErr.TheVariants.{WrongKind, UnknownOp}
+
+-- a call of the document: its ordinal, the ordinal of the call whose `then` list it stands in (0 in the main list), and its JSON value
+pub record Placed : Type 0 where
+  pub ordinal : ℕ
+  pub holder : ℕ
+  pub value : Data
+
+-- the operation that a call names
+abbrev pub name_in : Data → Option OpName
+name_in d = option_and_then op_named (option_and_then as_str (get (field_word field.Op) d))
+
+-- whether a call has the field `then`, as its operation says
+abbrev pub has_then : Option OpName → Bool
+has_then None = false
+has_then (Some name) = has_calls name
+
+unfoldable mutual
+  -- the calls of a list that stands after n calls, each followed by those that it holds
+  pub placed : Items → ℕ → ℕ → List Placed
+  placed no_items n holder = []
+  placed (item d ds) n holder =
+      let held = held_by d (n + 1) in
+      record { ordinal = n + 1; holder = holder; value = d } ∷ held ++ placed ds (n + 1 + length held) holder
+
+  -- the calls that the call n holds: those of its `then` list, where it has that field
+  pub held_by : Data → ℕ → List Placed
+  held_by null n = []
+  held_by (boolean b) n = []
+  held_by (number x) n = []
+  held_by (string s) n = []
+  held_by (array ds) n = []
+  held_by (object ms) n = if has_then (name_in (object ms)) then then_calls ms n else []
+
+  -- those of the member `then` among the members
+  pub then_calls : Members → ℕ → List Placed
+  then_calls no_members n = []
+  then_calls (member key d ms) n = if bytes_eq (field_word field.Then) key then list_calls d n else then_calls ms n
+
+  -- those of a value that is a list
+  pub list_calls : Data → ℕ → List Placed
+  list_calls null n = []
+  list_calls (boolean b) n = []
+  list_calls (number x) n = []
+  list_calls (string s) n = []
+  list_calls (array ds) n = placed ds n n
+  list_calls (object ms) n = []
+
+-- the faults of a call n that names this operation, or none
+abbrev pub name_faults : ℕ → Data → Option OpName → List ScriptErr
+name_faults n d None = UnknownOp n ∷ []
+name_faults n d (Some name) = fields_faults n d (fields_of name)
+
+-- the faults of a call: it is an object, its `op` names an operation, and the operation's fields are good, in this order
+unfoldable pub call_faults : Placed → List ScriptErr
+call_faults call = if is_some (as_object call.value) then name_faults call.ordinal call.value (name_in call.value) else WrongKind call.ordinal field.Call ∷ []
+
+-- a call of an operation with its fields
+abbrev pub op_in : OpName → Data → Op
+op_in CreateConstantSource d = op.CreateConstantSource (text_in AS d) (fix_in OFFSET d)
+op_in Connect d = op.Connect (text_in FROM d) (count_in OUTPUT d) (text_in TO d) (count_in INPUT d)
+op_in Start d = op.Start (text_in NODE d) (time_in WHEN d) (time_in START_OFFSET d) (time_or_null_in DURATION d)
+op_in Stop d = op.Stop (text_in NODE d) (time_in WHEN d)
+op_in StartRendering d = op.StartRendering
+op_in Resume d = op.Resume
+op_in ReadState d = op.ReadState
+op_in ReadTime d = op.ReadTime
+op_in (LeftOut name) d = op.LeftOut (left_out_feature name)
+
+-- what a call means; none where its operation is unknown
+unfoldable pub call_of : Placed → Option Call
+call_of call = option_map (λ name. record { ordinal = call.ordinal; holder = call.holder; op = op_in name call.value }) (name_in call.value)

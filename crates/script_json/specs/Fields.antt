@@ -1,0 +1,121 @@
+-- The members of a call, or of a script, by the rows of its table: their faults, and their values.
+use Rattle.std.specs.Prelude.{ℕ, List, [], ◌∷◌, flat_map, Bool, true, false, ◌&&◌, nat_le, if◌then◌else◌, ℤ, pos, neg_ℤ, Option, Some, None, option_and_then, unwrap_or, is_some}
+use Rattle.serde_json.specs.Data.{Data, Items, no_items}
+use Rattle.serde_json.specs.Find.{get, as_array, as_null, as_number, as_str, as_u64}
+use Rattle.script_ast.specs.declared.entries.Row.{Row}
+use Rattle.script_ast.specs.declared.entries.Fallback.{Fallback}
+use Rattle.script_ast.specs.declared.entries.Fallback.TheVariants.{Needed, Null, Number, Count, NoCalls}
+use Rattle.script_ast.specs.declared.fields.Field.{Field}
+use Rattle.script_ast.specs.Fields.{field_word}
+use Rattle.script_json.specs.Values.{whole, is_within, cause_of}
+use Rattle.script_json.specs.declared.faults.ScriptErr.{ScriptErr}
+use Rattle.script_json.specs.declared.faults.ScriptErr.TheVariants as fault
+use Rattle.script_json.specs.declared.values.Cause.{Cause}
+use Rattle.script_json.specs.declared.values.Cause.TheVariants.{WrongKind, OutOfRange}
+
+-- the member that a row names
+abbrev pub member_at : Row → Data → Option Data
+member_at row d = get (field_word row.field) d
+
+-- ---- faults
+
+-- a field that has no default has to be there
+abbrev pub is_needed : Fallback → Bool
+is_needed Needed = true
+is_needed Null = false
+is_needed (Number z) = false
+is_needed (Count n) = false
+is_needed NoCalls = false
+
+-- a field whose default is null may hold null
+abbrev pub takes_null : Fallback → Bool
+takes_null Needed = false
+takes_null Null = true
+takes_null (Number z) = false
+takes_null (Count n) = false
+takes_null NoCalls = false
+
+-- the fault of a field whose value may not stand in it
+abbrev pub cause_faults : ℕ → Field → Option Cause → List ScriptErr
+cause_faults n field None = []
+cause_faults n field (Some WrongKind) = fault.WrongKind n field ∷ []
+cause_faults n field (Some OutOfRange) = fault.OutOfRange n field ∷ []
+
+-- the faults of a field that holds this value, or is absent
+abbrev pub member_faults : ℕ → Row → Option Data → List ScriptErr
+member_faults n row None = if is_needed row.fallback then fault.MissingField n row.field ∷ [] else []
+member_faults n row (Some d) = if takes_null row.fallback && is_some (as_null d) then [] else cause_faults n row.field (cause_of row.kind d)
+
+-- the faults of one field of the call n
+abbrev pub field_faults : ℕ → Data → Row → List ScriptErr
+field_faults n d row = member_faults n row (member_at row d)
+
+-- the faults of the fields of the call n, in the order of the rows
+abbrev pub fields_faults : ℕ → Data → List Row → List ScriptErr
+fields_faults n d rows = flat_map (field_faults n d) rows
+
+-- ---- values: of a field without a fault. Where it has one they are 0, empty or none, and nothing stands on them
+
+-- the default that is a number of frames or of units of 2^-24
+abbrev pub default_number : Fallback → Option ℤ
+default_number Needed = None
+default_number Null = None
+default_number (Number z) = Some z
+default_number (Count n) = None
+default_number NoCalls = None
+
+-- the default that is a count
+abbrev pub default_count : Fallback → Option ℕ
+default_count Needed = None
+default_count Null = None
+default_count (Number z) = None
+default_count (Count n) = Some n
+default_count NoCalls = None
+
+-- a number from low to high
+abbrev pub number_within : ℤ → ℤ → Option ℤ → Option ℤ
+number_within low high None = None
+number_within low high (Some z) = if is_within low high z then Some z else None
+
+-- a count up to high
+abbrev pub count_within : ℕ → Option ℕ → Option ℕ
+count_within high None = None
+count_within high (Some n) = if nat_le n high then Some n else None
+
+-- the whole number of the member, or the default where it is absent
+abbrev pub given_number : Row → Option Data → Option ℤ
+given_number row None = default_number row.fallback
+given_number row (Some d) = whole d
+
+-- the count of the member, or the default where it is absent
+abbrev pub given_count : Row → Option Data → Option ℕ
+given_count row None = default_count row.fallback
+given_count row (Some d) = option_and_then as_u64 (as_number d)
+
+-- the whole number of a field from low to high
+unfoldable pub number_in : ℤ → ℤ → Row → Data → ℤ
+number_in low high row d = unwrap_or (number_within low high (given_number row (member_at row d))) (pos 0)
+
+-- the value of a field, in units of 2^-24
+abbrev pub fix_in : Row → Data → ℤ
+fix_in row d = number_in (neg_ℤ (pos 2147483648)) (pos 2147483647) row d
+
+-- the number of frames of a field
+abbrev pub time_in : Row → Data → ℤ
+time_in row d = number_in (neg_ℤ (pos 1099511627776)) (pos 1099511627776) row d
+
+-- the number of frames of a field that may be null; none where it is null or absent
+unfoldable pub time_or_null_in : Row → Data → Option ℤ
+time_or_null_in row d = number_within (neg_ℤ (pos 1099511627776)) (pos 1099511627776) (option_and_then whole (member_at row d))
+
+-- the count of a field
+unfoldable pub count_in : Row → Data → ℕ
+count_in row d = unwrap_or (count_within 4294967295 (given_count row (member_at row d))) 0
+
+-- the list of a field
+abbrev pub list_in : Row → Data → Items
+list_in row d = unwrap_or (option_and_then as_array (member_at row d)) no_items
+
+-- the text of a field
+unfoldable pub text_in : Row → Data → List ℕ
+text_in row d = unwrap_or (option_and_then as_str (member_at row d)) []

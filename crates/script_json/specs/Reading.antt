@@ -1,0 +1,25 @@
+-- The reading of calls one after another.
+use Rattle.std.specs.Prelude.{ℕ, List, ◌++◌, flat_map, filter_map, if◌then◌else◌, Option, Result}
+use Rattle.serde_json.specs.Data.{Data, Items, no_items}
+use Rattle.script_ast.specs.declared.call_list.Call.{Call}
+use Rattle.script_ast.specs.declared.entries.TheConstants.{THEN}
+use Rattle.script_json.specs.Calls.{Placed, call_faults, call_of, has_then, name_in}
+use Rattle.script_json.specs.Fields.{list_in}
+use Rattle.script_json.specs.Outcome.{outcome}
+use Rattle.script_json.specs.declared.faults.ScriptErr.{ScriptErr}
+
+-- the list of the calls that a call holds
+unfoldable pub held_list : Data → Items
+held_list d = if has_then (name_in d) then list_in THEN d else no_items
+
+-- the call with this ordinal, holder and value
+abbrev pub placed_at : ℕ → ℕ → Data → Placed
+placed_at n holder d = record { ordinal = n; holder = holder; value = d }
+
+-- one call, or its first fault
+unfoldable pub call_read : Placed → Result (Option Call) ScriptErr
+call_read call = outcome (call_faults call) (call_of call)
+
+-- the calls read so far and then the next ones, or the first fault of these
+unfoldable pub calls_read : List Call → List Placed → Result (List Call) ScriptErr
+calls_read before calls = outcome (flat_map call_faults calls) (before ++ filter_map call_of calls)

@@ -1,0 +1,124 @@
+ghost use Rattle.std.specs.Prelude.{◌≡◌, ◌≢◌, ◌+◌, ◌<◌, Ok, Err, Some, IfOk, IfErr, OnOk, length, option_map};
+ghost use Rattle.serde_json.specs.View.{view, items_view};
+ghost use Rattle.serde_json.specs.Data.{items_depth};
+ghost use Rattle.script_json.specs.Calls.{name_in, placed, op_in};
+ghost use Rattle.script_json.specs.Reading.{held_list, placed_at, call_read, calls_read};
+
+use crate::faults::ScriptErr;
+use crate::members::{check_fields, count, fix, list, text, time, time_or_null};
+use script_ast::{
+    AS, Call, Calls, DURATION, FROM, Field, INPUT, NODE, OFFSET, OUTPUT, Op, OpName, START_OFFSET,
+    THEN, TO, WHEN,
+};
+use serde_json::Value;
+use std::alloc::Global;
+use wa_base::NoMemory;
+
+/// Adds the calls of a list, each followed by those that it holds. Arrays and objects nest less than
+/// `depth` deep in the list. After an error the calls before the fault may have been added.
+pub fn add_calls(
+    alloc: Global,
+    list: &[Value],
+    depth: u32,
+    holder: u32,
+    calls: &mut Calls,
+) -> Result<(), ScriptErr>
+    requires { items_depth (items_view list.now) < depth }
+    ensures ok { OnOk result (calls_read calls.old
+        (placed (items_view list.now) (length calls.old) holder) ≡ Ok calls.new) }
+    ensures fault { IfErr result (λ e. e ≢ ScriptErr.NoMemory → calls_read calls.old
+        (placed (items_view list.now) (length calls.old) holder) ≡ Err e) }
+{
+    for value in list {
+        let ordinal = next_ordinal(calls)?;
+        let call = read_call(alloc, ordinal, holder, value)?;
+        calls.push(call)?;
+        add_calls(alloc, held_list(value), depth - 1, ordinal, calls)?;
+    }
+    Ok(())
+}
+
+// The ordinal of the next call. Ordinals that have no room in 32 bits count as want of memory.
+fn next_ordinal(calls: &Calls) -> Result<u32, NoMemory>
+    ensures { IfOk result (λ ordinal. ordinal ≡ length calls.now + 1) }
+{
+    match u32::try_from(calls.len()) {
+        Ok(count) if count < u32::MAX => Ok(count + 1),
+        _ => Err(NoMemory),
+    }
+}
+
+// The call that a value is, or its first fault.
+fn read_call(alloc: Global, ordinal: u32, holder: u32, value: &Value) -> Result<Call, ScriptErr>
+    ensures ok { IfOk result (λ call. call_read (placed_at ordinal holder (view value.now)) ≡ Ok (Some call)) }
+    ensures fault { IfErr result (λ e. e ≢ ScriptErr.NoMemory
+        → call_read (placed_at ordinal holder (view value.now)) ≡ Err e) }
+{
+    if !value.is_object() {
+        return Err(ScriptErr::WrongKind(ordinal, Field::Call));
+    }
+    let Some(name) = name_in(value) else {
+        return Err(ScriptErr::UnknownOp(ordinal));
+    };
+    check_fields(ordinal, value, name.fields())?;
+    let op = build(alloc, name, value)?;
+    Ok(Call {
+        ordinal,
+        holder,
+        op,
+    })
+}
+
+// The operation that a call names.
+fn name_in(call: &Value) -> Option<OpName>
+    ensures { result ≡ name_in (view call.now) }
+{
+    let word = call.get(Field::Op.word()).and_then(Value::as_str)?;
+    OpName::from_word(word)
+}
+
+// The calls that a call holds.
+#[tactic(auto, unfolding(crate::specs::Reading::held_list))]
+fn held_list(call: &Value) -> &[Value]
+    ensures { items_view result.now ≡ held_list (view call.now) }
+{
+    match name_in(call) {
+        Some(name) if name.has_calls() => list(call, THEN),
+        _ => &[],
+    }
+}
+
+// The operation with its fields, which have no fault.
+fn build(alloc: Global, name: OpName, call: &Value) -> Result<Op, NoMemory>
+    ensures { IfOk result (λ op. op ≡ op_in name (view call.now)) }
+{
+    match name {
+        OpName::CreateConstantSource => Ok(Op::CreateConstantSource {
+            name: text(alloc, call, AS)?,
+            offset: fix(call, OFFSET),
+        }),
+        OpName::Connect => Ok(Op::Connect {
+            from: text(alloc, call, FROM)?,
+            output: count(call, OUTPUT),
+            to: text(alloc, call, TO)?,
+            input: count(call, INPUT),
+        }),
+        OpName::Start => Ok(Op::Start {
+            node: text(alloc, call, NODE)?,
+            when: time(call, WHEN),
+            offset: time(call, START_OFFSET),
+            duration: time_or_null(call, DURATION),
+        }),
+        OpName::Stop => Ok(Op::Stop {
+            node: text(alloc, call, NODE)?,
+            when: time(call, WHEN),
+        }),
+        OpName::StartRendering => Ok(Op::StartRendering),
+        OpName::Resume => Ok(Op::Resume),
+        OpName::ReadState => Ok(Op::ReadState),
+        OpName::ReadTime => Ok(Op::ReadTime),
+        OpName::LeftOut(name) => Ok(Op::LeftOut {
+            feature: name.feature(),
+        }),
+    }
+}

@@ -1,0 +1,14 @@
+//! Reading a script: from its bytes to typed calls, or to its first fault.
+#![tactic(auto)]
+
+mod calls;
+mod faults;
+mod members;
+mod scripts;
+#[cfg(test)]
+mod tests;
+mod tree;
+mod values;
+
+pub use faults::ScriptErr;
+pub use scripts::read;

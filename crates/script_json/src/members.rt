@@ -1,0 +1,173 @@
+ghost use Rattle.std.specs.Prelude.{◌≡◌, Some, IfOk, option_map};
+ghost use Rattle.serde_json.specs.View.{view, items_view};
+ghost use Rattle.script_json.specs.Fields.{member_at, member_faults, field_faults, fields_faults, default_number, default_count, number_in, fix_in, time_in, time_or_null_in, count_in, list_in, text_in, is_needed, takes_null, given_number, given_count, number_within, count_within};
+ghost use Rattle.script_json.specs.Outcome.{outcome};
+ghost use Rattle.script_json.specs.Values.{whole};
+
+use crate::faults::ScriptErr;
+use crate::values::{Cause, MAX_COUNT, MAX_FIX, MAX_TIME, MIN_FIX, MIN_TIME, cause_of, whole};
+use script_ast::{Fallback, Row};
+use serde_json::Value;
+use std::alloc::Global;
+use wa_base::{Fix, Name, NoMemory};
+
+/// The member that the row names.
+pub fn member<'a>(object: &'a Value, row: Row) -> Option<&'a Value>
+    ensures { option_map (λ value. view value.now) result ≡ member_at row (view object.now) }
+{
+    object.get(row.field.word())
+}
+
+/// The first fault of the members of an object that the rows name, in their order.
+pub fn check_fields(ordinal: u32, object: &Value, rows: &[Row]) -> Result<(), ScriptErr>
+    ensures { result ≡ outcome (fields_faults ordinal (view object.now) rows.now) tt }
+{
+    for row in rows {
+        check_field(ordinal, object, *row)?;
+    }
+    Ok(())
+}
+
+fn check_field(ordinal: u32, object: &Value, row: Row) -> Result<(), ScriptErr>
+    ensures { result ≡ outcome (field_faults ordinal (view object.now) row) tt }
+{
+    match member(object, row) {
+        None => {
+            if is_needed(row.fallback) {
+                return Err(ScriptErr::MissingField(ordinal, row.field));
+            }
+            Ok(())
+        }
+        Some(value) => check_value(ordinal, value, row),
+    }
+}
+
+fn check_value(ordinal: u32, value: &Value, row: Row) -> Result<(), ScriptErr>
+    ensures { result ≡ outcome (member_faults ordinal row (Some (view value.now))) tt }
+{
+    if takes_null(row.fallback) && value.is_null() {
+        return Ok(());
+    }
+    match cause_of(row.kind, value) {
+        None => Ok(()),
+        Some(Cause::WrongKind) => Err(ScriptErr::WrongKind(ordinal, row.field)),
+        Some(Cause::OutOfRange) => Err(ScriptErr::OutOfRange(ordinal, row.field)),
+    }
+}
+
+fn is_needed(fallback: Fallback) -> bool
+    ensures { result ≡ is_needed fallback }
+{
+    matches!(fallback, Fallback::Needed)
+}
+
+fn takes_null(fallback: Fallback) -> bool
+    ensures { result ≡ takes_null fallback }
+{
+    matches!(fallback, Fallback::Null)
+}
+
+fn default_number(fallback: Fallback) -> Option<i128>
+    ensures { result ≡ default_number fallback }
+{
+    match fallback {
+        Fallback::Number(number) => Some(i128::from(number)),
+        _ => None,
+    }
+}
+
+fn default_count(fallback: Fallback) -> Option<u64>
+    ensures { result ≡ default_count fallback }
+{
+    match fallback {
+        Fallback::Count(count) => Some(u64::from(count)),
+        _ => None,
+    }
+}
+
+fn given_number(object: &Value, row: Row) -> Option<i128>
+    ensures { result ≡ given_number row (member_at row (view object.now)) }
+{
+    match member(object, row) {
+        None => default_number(row.fallback),
+        Some(value) => whole(value),
+    }
+}
+
+fn given_count(object: &Value, row: Row) -> Option<u64>
+    ensures { result ≡ given_count row (member_at row (view object.now)) }
+{
+    match member(object, row) {
+        None => default_count(row.fallback),
+        Some(value) => value.as_u64(),
+    }
+}
+
+fn number_within(number: Option<i128>, low: i64, high: i64) -> Option<i64>
+    ensures { result ≡ number_within low high number }
+{
+    match number {
+        Some(number) if i128::from(low) <= number && number <= i128::from(high) => Some(
+            number as i64,
+        ),
+        _ => None,
+    }
+}
+
+/// The value of a field, in units of 2^-24.
+#[tactic(auto, unfolding(crate::specs::Fields::number_in))]
+pub fn fix(object: &Value, row: Row) -> Fix
+    ensures { result ≡ fix_in row (view object.now) }
+{
+    match number_within(given_number(object, row), MIN_FIX, MAX_FIX) {
+        Some(number) => number as Fix,
+        None => 0,
+    }
+}
+
+/// The number of frames of a field.
+#[tactic(auto, unfolding(crate::specs::Fields::number_in))]
+pub fn time(object: &Value, row: Row) -> i64
+    ensures { result ≡ time_in row (view object.now) }
+{
+    number_within(given_number(object, row), MIN_TIME, MAX_TIME).unwrap_or(0)
+}
+
+/// The number of frames of a field that may be null or absent.
+#[tactic(auto, unfolding(crate::specs::Fields::time_or_null_in))]
+pub fn time_or_null(object: &Value, row: Row) -> Option<i64>
+    ensures { result ≡ time_or_null_in row (view object.now) }
+{
+    number_within(member(object, row).and_then(whole), MIN_TIME, MAX_TIME)
+}
+
+/// The count of a field.
+#[tactic(auto, unfolding(crate::specs::Fields::count_in))]
+pub fn count(object: &Value, row: Row) -> u32
+    ensures { result ≡ count_in row (view object.now) }
+{
+    match given_count(object, row) {
+        Some(count) if count <= u64::from(u32::MAX) => count as u32,
+        _ => 0,
+    }
+}
+
+/// The list of a field.
+pub fn list(object: &Value, row: Row) -> &[Value]
+    ensures { items_view result.now ≡ list_in row (view object.now) }
+{
+    match member(object, row).and_then(Value::as_array) {
+        Some(list) => list.as_slice(),
+        None => &[],
+    }
+}
+
+/// The text of a field.
+#[tactic(auto, unfolding(crate::specs::Fields::text_in))]
+pub fn text(alloc: Global, object: &Value, row: Row) -> Result<Name, NoMemory>
+    ensures { IfOk result (λ name. name ≡ text_in row (view object.now)) }
+{
+    let text = member(object, row).and_then(Value::as_str).unwrap_or("");
+    let bytes = text.as_bytes().to_vec(alloc)?;
+    Ok(Name::from(bytes))
+}

@@ -1,0 +1,113 @@
+ghost use Rattle.std.specs.Prelude.{◌≡◌, option_and_then, is_some};
+ghost use Rattle.serde_json.specs.Find.{as_str};
+ghost use Rattle.serde_json.specs.View.{view};
+ghost use Rattle.script_ast.specs.Ranges.{is_name_byte, has_name_length, has_name_bytes, is_new_name};
+ghost use Rattle.script_json.specs.Values.{whole, cause_of, number_cause, new_name_cause, kind_cause};
+
+use script_ast::Kind;
+use serde_json::{Number, Value};
+
+/// Why a value is not taken for a field.
+#[derive(Clone, Copy, Debug, PartialEq, Eq)]
+pub enum Cause {
+    WrongKind,
+    OutOfRange,
+}
+
+/// The least Fix.
+pub const MIN_FIX: i64 = -2_147_483_648;
+/// The greatest Fix.
+pub const MAX_FIX: i64 = 2_147_483_647;
+/// The least number of frames.
+pub const MIN_TIME: i64 = -1_099_511_627_776;
+/// The greatest number of frames.
+pub const MAX_TIME: i64 = 1_099_511_627_776;
+/// The greatest count.
+pub const MAX_COUNT: i64 = 4_294_967_295;
+
+const MAX_NAME: usize = 64;
+
+/// The whole number that a value is: none with a fraction or an exponent, past 64 bits, or `-0`.
+pub fn whole(value: &Value) -> Option<i128>
+    ensures { result ≡ whole (view value.now) }
+{
+    value.as_number().and_then(Number::as_i128)
+}
+
+/// Why a value may not stand in a field of this kind; `None` where it may.
+pub fn cause_of(kind: Kind, value: &Value) -> Option<Cause>
+    ensures { result ≡ cause_of kind (view value.now) }
+{
+    match kind {
+        Kind::Fix => number_cause(value, MIN_FIX, MAX_FIX),
+        Kind::Time => number_cause(value, MIN_TIME, MAX_TIME),
+        Kind::Count => number_cause(value, 0, MAX_COUNT),
+        Kind::Version => number_cause(value, 1, 1),
+        Kind::Name => kind_cause(value.as_str().is_some()),
+        Kind::NewName => new_name_cause(value),
+        Kind::Calls => kind_cause(value.is_array()),
+        Kind::Object => kind_cause(value.is_object()),
+    }
+}
+
+fn kind_cause(holds: bool) -> Option<Cause>
+    ensures { result ≡ kind_cause holds }
+{
+    if holds { None } else { Some(Cause::WrongKind) }
+}
+
+fn number_cause(value: &Value, low: i64, high: i64) -> Option<Cause>
+    ensures { result ≡ number_cause low high (whole (view value.now)) }
+{
+    match whole(value) {
+        None => Some(Cause::WrongKind),
+        Some(number) => {
+            if i128::from(low) <= number && number <= i128::from(high) {
+                None
+            } else {
+                Some(Cause::OutOfRange)
+            }
+        }
+    }
+}
+
+fn new_name_cause(value: &Value) -> Option<Cause>
+    ensures { result ≡ new_name_cause (as_str (view value.now)) }
+{
+    match value.as_str() {
+        None => Some(Cause::WrongKind),
+        Some(name) => {
+            if is_new_name(name) {
+                None
+            } else {
+                Some(Cause::OutOfRange)
+            }
+        }
+    }
+}
+
+// Whether an object may be given the name.
+#[tactic(auto, unfolding(script_ast::specs::Ranges::is_new_name))]
+fn is_new_name(name: &str) -> bool
+    ensures { result ≡ is_new_name name.now }
+{
+    has_name_length(name) && has_name_bytes(name) && name != "destination"
+}
+
+fn has_name_length(name: &str) -> bool
+    ensures { result ≡ has_name_length name.now }
+{
+    1 <= name.len() && name.len() <= MAX_NAME
+}
+
+fn has_name_bytes(name: &str) -> bool
+    ensures { result ≡ has_name_bytes name.now }
+{
+    name.as_bytes().iter().all(|c| is_name_byte(*c))
+}
+
+fn is_name_byte(c: u8) -> bool
+    ensures { result ≡ is_name_byte c }
+{
+    c.is_ascii_alphanumeric() || c == b'_' || c == b'-'
+}
