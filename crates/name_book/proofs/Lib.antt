@@ -1,0 +1,3 @@
+pub mod FirstNames
+pub mod Laws
+pub mod Maps

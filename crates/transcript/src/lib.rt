@@ -1,0 +1,10 @@
+//! What a session tells: its lines, its end and their text.
+#![tactic(auto)]
+
+mod lines;
+mod printed;
+#[cfg(test)]
+mod tests;
+
+pub use lines::{Answer, EndWord, Line, Lines};
+pub use printed::text;
