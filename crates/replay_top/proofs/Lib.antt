@@ -1,4 +1,4 @@
-mod Counts
 mod Ends
-mod Trees
+mod FaultLines
+mod Outcomes
 mod WavParts

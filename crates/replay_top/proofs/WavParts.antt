@@ -1,23 +1,52 @@
--- A WAV file of one channel, as its header, its samples and its padding.
-use Rattle.std.proofs.Common.{◌≡◌, ◌+◌, ◌-◌, ◌*◌, ℕ, ℤ, List, [], ◌∷◌, ◌++◌, length, map, take, drop, refl, sym, ap, arith}
-use Rattle.std.specs.List.{flat_map}
-use Rattle.std.proofs.lemmas.List.{length-map}
+-- A WAV file as its header, its samples and its padding, and its samples in pieces.
+use Rattle.std.proofs.Common.{◌≡◌, ◌≤◌, ◌+◌, ◌*◌, ℕ, ℤ, List, ◌++◌, length, take, drop, refl, sym, arith}
+use Rattle.std.proofs.Math.Nat.{mul_comm, add-mul, mul-le-mul_right}
+use Rattle.std.proofs.lemmas.List.{length-take-le, take_all}
+use Rattle.std.proofs.lemmas.List.FromFn.{length-map-range_with_len}
 use Rattle.std.proofs.Math.Seq.{take-add}
-use Rattle.wav_io.specs.WavText.{wav_bytes, header_bytes, samples_bytes, padding, data_size}
+use Rattle.wa_base.specs.declared.contexts.ContextSpec.{ContextSpec}
+use Rattle.session.specs.Rows.{interleaved_sample, interleaved}
+use Rattle.wav_io.specs.WavText.{header_bytes, samples_bytes, padding, data_size}
 use Rattle.wav_io.proofs.WavLemmas.{samples_bytes-append}
+use Rattle.replay_top.specs.WavFile.{wav_of}
 
-flat_map-singletons : (vs : List ℤ) → flat_map (λ (row : List ℤ). row) (map (λ v. v ∷ []) vs) ≡ vs
-flat_map-singletons [] = refl
-flat_map-singletons (v ∷ vs) = ap (λ (rest : List ℤ). v ∷ rest) (flat_map-singletons vs)
+pub data_size-24 : (channels frames size : ℕ) → size ≡ channels * frames → data_size channels 24 frames ≡ size * 3
+data_size-24 channels frames size is = let turned : frames * channels ≡ channels * frames = mul_comm frames channels in omega (arith, turned, is)
 
-data_size-mono : (frames : ℕ) → data_size 1 24 frames ≡ frames * 3
-data_size-mono frames = omega arith
+pub wav_of-parts : (spec : ContextSpec) (samples : List ℤ) (size : ℕ) → size ≡ spec.channels * spec.length
+    → wav_of spec samples ≡ (header_bytes spec.rate spec.channels 24 spec.length ++ samples_bytes 24 samples) ++ padding (size * 3)
+unfolding wav_of
+wav_of-parts spec samples size is = let bytes = data_size-24 spec.channels spec.length size is in rw bytes refl
 
-pub wav_bytes-mono : (rate : ℕ) (vs : List ℤ) → wav_bytes rate 1 24 (map (λ v. v ∷ []) vs) ≡ (header_bytes rate 1 24 (length vs) ++ samples_bytes 24 vs) ++ padding (length vs * 3)
-wav_bytes-mono rate vs = rw (length-map, flat_map-singletons, data_size-mono) refl
+-- the samples of the frames from `at` on follow those before them
+pub samples_bytes-next : (at next channels count : ℕ) (vs : List ℤ) → count ≡ next * channels
+    → samples_bytes 24 (take (at * channels) vs) ++ samples_bytes 24 (take count (drop (at * channels) vs)) ≡ samples_bytes 24 (take ((at + next) * channels) vs)
+samples_bytes-next at next channels count vs is =
+    rw (add-mul, ← is, take-add) (sym (samples_bytes-append 24 (take (at * channels) vs) (take count (drop (at * channels) vs))))
 
--- the samples from `at` up to `end` follow those before `at`
-pub samples_bytes-next : (at n : ℕ) (vs : List ℤ) → samples_bytes 24 (take at vs) ++ samples_bytes 24 (take ((at + n) - at) (drop at vs)) ≡ samples_bytes 24 (take (at + n) vs)
-samples_bytes-next at n vs =
-    let count : (at + n) - at ≡ n = omega arith in
-    rw (count, take-add) (sym (samples_bytes-append 24 (take at vs) (take n (drop at vs))))
+-- a piece of whole frames has room in the buffer
+piece_within : (next most channels : ℕ) → next ≤ most → most * channels ≤ 21845 → next * channels ≤ 21845
+piece_within next most channels some room = let more = mul-le-mul_right channels some in omega (arith, more, room)
+
+-- so many frames more are no more than there are
+pub frames_within : (at next frames channels : ℕ) → at + next ≤ frames → at * channels + next * channels ≤ channels * frames
+frames_within at next frames channels within =
+    let more : (at + next) * channels ≤ frames * channels = mul-le-mul_right channels within in
+    let both : (at + next) * channels ≡ at * channels + next * channels = add-mul at next channels in
+    let turned : frames * channels ≡ channels * frames = mul_comm frames channels in
+    omega (arith, more, both, turned)
+
+-- all samples are taken where all frames are
+pub all_frames : (at : ℕ) (spec : ContextSpec) (samples : List ℤ) → spec.length ≤ at → take (at * spec.channels) (interleaved spec samples) ≡ interleaved spec samples
+unfolding interleaved
+all_frames at spec samples done =
+    let long : length (interleaved spec samples) ≡ spec.channels * spec.length = length-map-range_with_len (interleaved_sample spec samples) 0 (spec.channels * spec.length) in
+    let more : spec.length * spec.channels ≤ at * spec.channels = mul-le-mul_right spec.channels done in
+    let turned : spec.length * spec.channels ≡ spec.channels * spec.length = mul_comm spec.length spec.channels in
+    take_all (at * spec.channels) (interleaved spec samples) (omega (arith, long, more, turned))
+
+-- the piece holds the samples of the next frames
+pub piece_count : (next most channels : ℕ) (samples : List ℤ) → next ≤ most → most * channels ≤ 21845 → length samples ≡ 21845 → length (take (next * channels) samples) ≡ next * channels
+piece_count next most channels samples some room long =
+    let within = piece_within next most channels some room in
+    length-take-le (next * channels) samples (omega (arith, within, long))

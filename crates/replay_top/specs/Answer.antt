@@ -1,14 +1,20 @@
 -- The answer of the program to a command line and a script.
-use Rattle.std.specs.Prelude.{ℕ, ◌++◌, ℤ, pos, List, [], ◌∷◌, length, replicate, codes, nat_lt, if◌then◌else◌, Option, Some, None, Result, Ok, Err}
-use Rattle.std.specs.Fmt.{decimal}
-use Rattle.wav_io.specs.WavText.{wav_bytes}
+use Rattle.std.specs.Prelude.{ℕ, List, [], length, nat_lt, if◌then◌else◌, Option, Some, None, Result, Ok, Err}
+use Rattle.wa_base.specs.declared.contexts.ContextSpec.{ContextSpec}
+use Rattle.script_ast.specs.declared.call_list.Script.{Script}
+use Rattle.script_json.specs.Script.{script_of}
+use Rattle.script_json.specs.declared.faults.ScriptErr.{ScriptErr}
+use Rattle.transcript.specs.Text.{text_of}
+use Rattle.transcript.specs.declared.lines.EndWord.{EndWord}
+use Rattle.transcript.specs.declared.lines.EndWord.TheVariants.{Completed, Stalled, Idle, Refused}
+use Rattle.session.specs.Rows.{frames_of}
+use Rattle.session.specs.Session.{Played, session_of}
+use Rattle.session.specs.World.{World}
+use Rattle.replay_top.specs.FaultLine.{fault_line}
+use Rattle.replay_top.specs.WavFile.{wav_of}
 use Rattle.replay_top.specs.Words.{usage, out_of}
-use Rattle.replay_top.specs.Script.{script_of}
-use Rattle.replay_top.specs.declared.first_form.FirstForm.{FirstForm}
-use Rattle.replay_top.specs.declared.script.ScriptErr.{ScriptErr}
-use Rattle.replay_top.specs.declared.script.ScriptErr.TheVariants.{BadJson, UnknownOp, NoMemory}
 use Rattle.replay_top.specs.declared.status.Status.{Status}
-use Rattle.replay_top.specs.declared.status.Status.TheVariants.{Rendered, BadWords, BadScript, ScriptTooLong}
+use Rattle.replay_top.specs.declared.status.Status.TheVariants.{Rendered, Unrendered, BadWords, BadScript, ScriptTooLong}
 
 -- a file to be written
 pub record File : Type 0 where
@@ -25,32 +31,25 @@ pub record Answer : Type 0 where
 abbrev pub max_script : ℕ
 max_script = 16777216
 
--- the transcript of a constant source that plays to the end of its context
-unfoldable pub transcript_of : ℕ → List ℕ
-transcript_of length = codes "1 ok\n2 ok\n3 ok\n4 pending\n4 resolved\ncomplete " ++ decimal length ++ codes "\nend completed\n"
-
--- the rendered frames of that source: one channel, at 1.0
-abbrev pub rows_of : ℕ → List (List ℤ)
-rows_of length = replicate length (pos 16777216 ∷ [])
-
--- the line that tells a script's fault
-abbrev pub fault_line : ScriptErr → List ℕ
-fault_line BadJson = codes "script: BadJson\n"
-fault_line UnknownOp = codes "script: 0 op UnknownOp\n"
-fault_line NoMemory = []
-
 abbrev pub without_file : Status → List ℕ → Answer
 without_file status text = record { status = status; text = text; file = None }
 
-abbrev pub rendered : List ℕ → FirstForm → Answer
-rendered out form = record {
-  status = Rendered;
-  text = transcript_of form.length;
-  file = Some (record { path = out; bytes = wav_bytes form.rate 1 24 (rows_of form.length) });
-}
+abbrev pub with_wav : List ℕ → List ℕ → List ℕ → Answer
+with_wav out text wav = record { status = Rendered; text = text; file = Some (record { path = out; bytes = wav }) }
 
-abbrev pub answer_to_script : List ℕ → Result FirstForm ScriptErr → Answer
-answer_to_script out (Ok form) = rendered out form
+-- a session that completed has a WAV file with every frame of its tape; one that ended otherwise has none
+abbrev pub answer_to_end : EndWord → List ℕ → List ℕ → ContextSpec → List World → Answer
+answer_to_end Completed out text spec tape = with_wav out text (wav_of spec (frames_of tape spec))
+answer_to_end (Stalled frame) out text spec tape = without_file Unrendered text
+answer_to_end Idle out text spec tape = without_file Unrendered text
+answer_to_end (Refused exception) out text spec tape = without_file Unrendered text
+
+-- the text of a session's lines and of its end, and its WAV file
+abbrev pub answer_to_session : List ℕ → ContextSpec → Played → Answer
+answer_to_session out spec session = answer_to_end session.end out (text_of session.lines session.end) spec session.tape
+
+abbrev pub answer_to_script : List ℕ → Result Script ScriptErr → Answer
+answer_to_script out (Ok script) = answer_to_session out script.context (session_of script)
 answer_to_script out (Err fault) = without_file BadScript (fault_line fault)
 
 abbrev pub answer_to_bytes : List ℕ → List ℕ → Answer

@@ -1,12 +1,13 @@
 -- The exit status of the program.
 use Rattle.std.specs.Prelude.{ℕ}
 use Rattle.replay_top.specs.declared.status.Status.{Status}
-use Rattle.replay_top.specs.declared.status.Status.TheVariants.{Rendered, BadWords, BadScript, ScriptTooLong, ScriptFault, TranscriptFault, WavFault, NoMemory}
+use Rattle.replay_top.specs.declared.status.Status.TheVariants.{Rendered, Unrendered, BadWords, BadScript, ScriptTooLong, ScriptFault, TranscriptFault, WavFault, NoMemory}
 
 -- the number that the process ends with; 1 is never one of them
 abbrev pub exit_status : Status → ℕ
 exit_status Rendered = 0
 exit_status BadWords = 2
+exit_status Unrendered = 3
 exit_status BadScript = 4
 exit_status ScriptTooLong = 5
 exit_status ScriptFault = 6

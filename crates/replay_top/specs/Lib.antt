@@ -1,6 +1,7 @@
 pub mod Answer
 pub mod ExitStatus
-pub mod FirstForm
+pub mod FaultLine
+pub mod Outcome
 pub mod Run
-pub mod Script
+pub mod WavFile
 pub mod Words

@@ -6,7 +6,7 @@ use Rattle.io_edge.specs.Paths.{Paths, SamePaths, Sets}
 use Rattle.io_edge.specs.Told.{AppendsFront, AppendsProperFront}
 use Rattle.replay_top.specs.Answer.{Answer, File}
 use Rattle.replay_top.specs.declared.status.Status.{Status}
-use Rattle.replay_top.specs.declared.status.Status.TheVariants.{Rendered, BadWords, BadScript, ScriptTooLong, ScriptFault, TranscriptFault, WavFault, NoMemory}
+use Rattle.replay_top.specs.declared.status.Status.TheVariants.{Rendered, Unrendered, BadWords, BadScript, ScriptTooLong, ScriptFault, TranscriptFault, WavFault, NoMemory}
 
 -- the sink and the file store at one moment: what they tell and how often they failed
 pub record Outside : Type 0 where
@@ -80,6 +80,7 @@ Ran status answer faults now old new = Answers status answer old new
 -- which ends come only after the source was read to its end, and which leave it as it was
 abbrev pub IsRead : Status → Option (List ℕ) → Option (List ℕ) → Option (List ℕ) → Type 0
 IsRead Rendered out left now = IsAtEnd now
+IsRead Unrendered out left now = IsAtEnd now
 IsRead BadScript out left now = IsAtEnd now
 IsRead WavFault out left now = IsAtEnd now
 IsRead BadWords out left now = Keeps left now
@@ -88,3 +89,10 @@ IsRead TranscriptFault (Some path) left now = IsAtEnd now
 IsRead ScriptTooLong out left now = Unit {0}
 IsRead ScriptFault out left now = Unit {0}
 IsRead NoMemory out left now = Unit {0}
+
+-- how a text ends that is the whole answer, where a sink's count of faults went from `faults` to `now`
+abbrev pub TextEnds : Status → Status → List ℕ → Option (List ℕ) → Option (List ℕ) → ℕ → ℕ → Type 0
+TextEnds result status text old new faults now =
+    ((result ≡ status) × Appends old new text)
+    ⊎ ((result ≡ TranscriptFault) × Rose faults now × AppendsProperFront old new text)
+    ⊎ ((result ≡ NoMemory) × AppendsFront old new text)

@@ -1,10 +1,9 @@
-//! The top call of the replayer: from the words of a command line, a script and the files at hand to
-//! a transcript and a WAV file.
+//! The top call of the replayer: from the words of a command line and a script to a transcript and
+//! a WAV file.
 #![tactic(auto)]
 
-mod first_form;
+mod fault_line;
 mod replay;
-mod script;
 mod status;
 #[cfg(test)]
 mod tests;

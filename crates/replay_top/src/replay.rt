@@ -1,27 +1,35 @@
-ghost use Rattle.std.specs.Prelude.{◌≡◌, ◌<◌, ◌^◌, ◌⊎◌, ◌∷◌, [], ℕ, List, map, string_bytes, pos, replicate, IfOk, Ok};
-ghost use Rattle.std.specs.Io.KnownBytes.{Appends};
-ghost use Rattle.io_edge.specs.Faults.{Rose};
-ghost use Rattle.io_edge.specs.Told.{IsToldAs, AppendsProperFront};
+ghost use Rattle.std.specs.Prelude.{ℕ, List, map, string_bytes, IfSome};
+ghost use Rattle.io_edge.specs.Told.{IsToldAs};
+ghost use Rattle.script_ast.specs.WellFormed.{IsWellFormed};
+ghost use Rattle.script_json.specs.Script.{script_of};
+ghost use Rattle.session.specs.Rows.{interleaved};
+ghost use Rattle.session.specs.Session.{session_of};
+ghost use Rattle.transcript.specs.Text.{text_of};
 ghost use Rattle.replay_top.specs.Answer as answers;
-ghost use Rattle.replay_top.specs.Run.{outside, Ran, Answers, IsRead};
-ghost use Rattle.replay_top.specs.FirstForm.{IsInRange};
-ghost use Rattle.replay_top.specs.Script.{script_of};
+ghost use Rattle.replay_top.specs.FaultLine as faults;
+ghost use Rattle.replay_top.specs.Outcome.{answer_to_rendering};
+ghost use Rattle.replay_top.specs.Run.{outside, Ran, Answers, IsRead, TextEnds};
+ghost use Rattle.replay_top.specs.WavFile.{IsWritable, wav_of};
 ghost use Rattle.replay_top.specs.Words.{out_of as path_of};
 
-use crate::first_form::FirstForm;
-use crate::script::{ScriptErr, read};
+use crate::fault_line::fault_line;
 use crate::status::Status;
 use crate::wav_file::write_wav;
 use crate::words::{USAGE, out_of};
 use io_edge::{EdgeErr, Files, ReadErr, Sink, Source, read_all, write_all};
-use std::alloc::{AllocError, Global};
-use wa_base::{NoMemory, ONE, Samples};
+use script_ast::Script;
+use script_json::{ScriptErr, read};
+use session::{Options, Outcome, Rendered};
+use std::alloc::Global;
+use transcript::text;
+use wa_base::Tie;
 
 const MAX_SCRIPT: usize = 16_777_216;
 
-const BAD_JSON: &[u8] = b"script: BadJson\n";
-
-const UNKNOWN_OP: &[u8] = b"script: 0 op UnknownOp\n";
+const OPTIONS: Options = Options {
+    tie: Tie::Up,
+    audio: true,
+};
 
 /// Replays a session: reads the words of a command line and a script, writes the transcript into the
 /// sink and, where the session completes, a WAV file at the path that the words name.
@@ -43,7 +51,7 @@ pub fn run<S: Source, F: Files, T: Sink>(
     ensures read { IsRead result (path_of (map string_bytes words.now)) (S.left script.old) (S.left script.new) }
 {
     let Some(out) = out_of(words) else {
-        return answer_line(transcript, USAGE, Status::BadWords);
+        return answer_text(transcript, USAGE, Status::BadWords);
     };
     match read_all(alloc, script, MAX_SCRIPT) {
         Ok(bytes) => replay_bytes(alloc, out, bytes.as_slice(), files, transcript),
@@ -66,70 +74,95 @@ fn replay_bytes<F: Files, T: Sink>(
         Answers result (answers.answer_to_script out.now (script_of bytes.now)) before after }
 {
     match read(alloc, bytes) {
-        Ok(form) => render(alloc, out, form, files, transcript),
-        Err(ScriptErr::BadJson) => answer_line(transcript, BAD_JSON, Status::BadScript),
-        Err(ScriptErr::UnknownOp) => answer_line(transcript, UNKNOWN_OP, Status::BadScript),
+        Ok(script) => replay_script(alloc, out, &script, files, transcript),
         Err(ScriptErr::NoMemory) => Status::NoMemory,
+        Err(fault) => answer_fault(alloc, fault, transcript),
     }
 }
 
-// Renders the constant source, and writes the transcript and then the WAV file.
-fn render<F: Files, T: Sink>(
+// Runs the session of a script and answers with what it told and rendered.
+fn replay_script<F: Files, T: Sink>(
     alloc: Global,
     out: &str,
-    form: FirstForm,
+    script: &Script,
     files: &mut F,
     transcript: &mut T,
 ) -> Status
-    requires { IsInRange form }
+    requires { IsWellFormed script.now }
     ensures { let before = outside (T.written transcript.old) (T.faults transcript.old) (F.tells files.old) (F.paths files.old) (F.write_faults files.old) in
         let after = outside (T.written transcript.new) (T.faults transcript.new) (F.tells files.new) (F.paths files.new) (F.write_faults files.new) in
-        Answers result (answers.rendered out.now form) before after }
+        Answers result (answers.answer_to_session out.now script.now.context (session_of script.now)) before after }
 {
-    let Ok(text) = transcript_text(alloc, form.length) else {
+    match session::run(alloc, script, OPTIONS, files) {
+        Ok(outcome) => answer_outcome(alloc, out, &outcome, files, transcript),
+        Err(_) => Status::NoMemory,
+    }
+}
+
+// Writes the transcript of a session and then, where something was rendered, the WAV file.
+fn answer_outcome<F: Files, T: Sink>(
+    alloc: Global,
+    out: &str,
+    outcome: &Outcome,
+    files: &mut F,
+    transcript: &mut T,
+) -> Status
+    requires { IfSome outcome.now.rendered IsWritable }
+    ensures { let before = outside (T.written transcript.old) (T.faults transcript.old) (F.tells files.old) (F.paths files.old) (F.write_faults files.old) in
+        let after = outside (T.written transcript.new) (T.faults transcript.new) (F.tells files.new) (F.paths files.new) (F.write_faults files.new) in
+        Answers result (answer_to_rendering out.now (text_of outcome.now.lines.items outcome.now.end) outcome.now.rendered) before after }
+{
+    let Ok(text) = text(alloc, &outcome.lines, &outcome.end) else {
         return Status::NoMemory;
     };
-    let Ok(samples) = constant(alloc, form.length) else {
-        return Status::NoMemory;
-    };
-    match write_all(transcript, text.as_bytes()) {
+    match &outcome.rendered {
+        Some(rendered) => answer_rendered(out, text.as_slice(), rendered, files, transcript),
+        None => answer_text(transcript, text.as_slice(), Status::Unrendered),
+    }
+}
+
+// Writes a transcript and then the WAV file.
+fn answer_rendered<F: Files, T: Sink>(
+    out: &str,
+    text: &[u8],
+    rendered: &Rendered,
+    files: &mut F,
+    transcript: &mut T,
+) -> Status
+    requires { IsWritable rendered.now }
+    ensures { let before = outside (T.written transcript.old) (T.faults transcript.old) (F.tells files.old) (F.paths files.old) (F.write_faults files.old) in
+        let after = outside (T.written transcript.new) (T.faults transcript.new) (F.tells files.new) (F.paths files.new) (F.write_faults files.new) in
+        Answers result (answers.with_wav out.now text.now (wav_of rendered.now.spec (interleaved rendered.now.spec rendered.now.samples))) before after }
+{
+    match write_all(transcript, text) {
         Ok(()) => {}
         Err(EdgeErr::Failed) => return Status::TranscriptFault,
         Err(EdgeErr::NoMemory) => return Status::NoMemory,
     }
-    match write_wav(files, out, form.rate, samples.as_slice()) {
+    match write_wav(files, out, rendered) {
         Ok(()) => Status::Rendered,
         Err(EdgeErr::Failed) => Status::WavFault,
         Err(EdgeErr::NoMemory) => Status::NoMemory,
     }
 }
 
-// Writes a line that is the whole answer, whose status this is.
-fn answer_line<T: Sink>(transcript: &mut T, line: &[u8], status: Status) -> Status
-    ensures { ((result ≡ status) × Appends (T.written transcript.old) (T.written transcript.new) line.now)
-        ⊎ ((result ≡ Status.TranscriptFault) × Rose (T.faults transcript.old) (T.faults transcript.new)
-        × AppendsProperFront (T.written transcript.old) (T.written transcript.new) line.now)
-        ⊎ ((result ≡ Status.NoMemory) × AppendsProperFront (T.written transcript.old) (T.written transcript.new) line.now) }
+// Writes the line of a script's fault.
+fn answer_fault<T: Sink>(alloc: Global, fault: ScriptErr, transcript: &mut T) -> Status
+    ensures { TextEnds result Status.BadScript (faults.fault_line fault) (T.written transcript.old) (T.written transcript.new) (T.faults transcript.old) (T.faults transcript.new) }
 {
-    match write_all(transcript, line) {
+    match fault_line(alloc, fault) {
+        Ok(line) => answer_text(transcript, line.as_bytes(), Status::BadScript),
+        Err(_) => Status::NoMemory,
+    }
+}
+
+// Writes a text that is the whole answer, whose status this is.
+fn answer_text<T: Sink>(transcript: &mut T, text: &[u8], status: Status) -> Status
+    ensures { TextEnds result status text.now (T.written transcript.old) (T.written transcript.new) (T.faults transcript.old) (T.faults transcript.new) }
+{
+    match write_all(transcript, text) {
         Ok(()) => status,
         Err(EdgeErr::Failed) => Status::TranscriptFault,
         Err(EdgeErr::NoMemory) => Status::NoMemory,
     }
-}
-
-// The lines of a constant source that plays to the end of its context.
-#[tactic(auto, unfolding(crate::specs::Answer::transcript_of))]
-fn transcript_text(alloc: Global, length: u64) -> Result<String, AllocError>
-    ensures { IfOk result (λ text. string_bytes text ≡ answers.transcript_of length) }
-{
-    format!(in alloc; "1 ok\n2 ok\n3 ok\n4 pending\n4 resolved\ncomplete {length}\nend completed\n")
-}
-
-// So many frames at 1.0.
-fn constant(alloc: Global, length: u64) -> Result<Samples, NoMemory>
-    requires { length < 2 ^ 32 }
-    ensures { IfOk result (λ samples. samples ≡ replicate length (pos 16777216)) }
-{
-    Ok(Samples::from(vec![in alloc; ONE; length as usize]?))
 }

@@ -5,6 +5,8 @@ ghost use Rattle.std.specs.Prelude.{◌≡◌};
 pub enum Status {
     /// The session completed; its transcript and its WAV file are written.
     Rendered,
+    /// The session did not complete; its transcript is written, and no file is touched.
+    Unrendered,
     /// The words of the command line have no reading; the usage line is written.
     BadWords,
     /// The script has a fault; its line is written.
@@ -31,6 +33,7 @@ impl Status {
         match self {
             Status::Rendered => 0,
             Status::BadWords => 2,
+            Status::Unrendered => 3,
             Status::BadScript => 4,
             Status::ScriptTooLong => 5,
             Status::ScriptFault => 6,

@@ -1,13 +1,14 @@
-ghost use Rattle.std.specs.Prelude.{◌≡◌, ◌≤◌, ◌*◌, ◌⊎◌, ℕ, ◌∷◌, [], IsTrue, length, map, take, OnOk, OnErr, IsErrOf};
+ghost use Rattle.std.specs.Prelude.{◌≡◌, ◌≤◌, ◌+◌, ◌*◌, ◌%◌, ◌⊎◌, ℕ, IsTrue, length, take, drop, OnOk, OnErr, IsErrOf};
 ghost use Rattle.io_edge.specs.Faults.{Rose};
 ghost use Rattle.io_edge.specs.Paths.{SamePaths, Sets, AppendsWhole, AppendsPart};
+ghost use Rattle.session.specs.Rows.{interleaved};
 ghost use Rattle.wav_io.specs.WavText as text;
+ghost use Rattle.replay_top.specs.WavFile.{IsWritable, wav_of};
 
 use io_edge::{EdgeErr, Files, append_all};
+use session::Rendered;
 use wa_base::Fix;
 use wav_io::{frames_into, header};
-
-const CHANNELS: u32 = 1;
 
 const BITS: u32 = 24;
 
@@ -17,54 +18,38 @@ const PIECE: usize = 21_845;
 
 const PIECE_BYTES: usize = PIECE * SAMPLE_BYTES;
 
-/// Makes `path` a WAV file of one channel and 24 bits with these samples, in pieces of at most 65,536
-/// bytes.
-pub fn write_wav<F: Files>(
-    files: &mut F,
-    path: &str,
-    rate: u32,
-    samples: &[Fix],
-) -> Result<(), EdgeErr>
-    requires rate_low { 8000 ≤ rate }
-    requires rate_high { rate ≤ 96000 }
-    requires some { 1 ≤ length samples.now }
-    requires short { length samples.now ≤ 33554432 }
+/// Makes `path` a WAV file of 24 bits with what was rendered, in pieces of at most 65,536 bytes.
+pub fn write_wav<F: Files>(files: &mut F, path: &str, rendered: &Rendered) -> Result<(), EdgeErr>
+    requires { IsWritable rendered.now }
     ensures all { OnOk result (IsTrue (F.tells files.old)
-        → Sets (F.paths files.old) (F.paths files.new) path.now (text.wav_bytes rate 1 24 (map (λ v. v ∷ []) samples.now))) }
+        → Sets (F.paths files.old) (F.paths files.new) path.now (wav_of rendered.now.spec (interleaved rendered.now.spec rendered.now.samples))) }
     ensures part { OnErr result (IsTrue (F.tells files.old) → SamePaths (F.paths files.old) (F.paths files.new)
-        ⊎ ((n : ℕ) × Sets (F.paths files.old) (F.paths files.new) path.now (take n (text.wav_bytes rate 1 24 (map (λ v. v ∷ []) samples.now))))) }
+        ⊎ ((n : ℕ) × Sets (F.paths files.old) (F.paths files.new) path.now (take n (wav_of rendered.now.spec (interleaved rendered.now.spec rendered.now.samples))))) }
     ensures later { F.write_faults files.old ≤ F.write_faults files.new }
     ensures cause { IsErrOf result EdgeErr.Failed → Rose (F.write_faults files.old) (F.write_faults files.new) }
 {
     files.create(path)?;
-    append_wav(files, path, rate, samples)
+    append_wav(files, path, rendered)
 }
 
-// Adds the header, the samples and the padding to the end of the file.
-fn append_wav<F: Files>(
-    files: &mut F,
-    path: &str,
-    rate: u32,
-    samples: &[Fix],
-) -> Result<(), EdgeErr>
-    requires rate_low { 8000 ≤ rate }
-    requires rate_high { rate ≤ 96000 }
-    requires some { 1 ≤ length samples.now }
-    requires short { length samples.now ≤ 33554432 }
+// Adds the header, the frames and the padding to the end of the file.
+fn append_wav<F: Files>(files: &mut F, path: &str, rendered: &Rendered) -> Result<(), EdgeErr>
+    requires { IsWritable rendered.now }
     ensures all { OnOk result (IsTrue (F.tells files.old)
-        → AppendsWhole (F.paths files.old) (F.paths files.new) path.now (text.wav_bytes rate 1 24 (map (λ v. v ∷ []) samples.now))) }
+        → AppendsWhole (F.paths files.old) (F.paths files.new) path.now (wav_of rendered.now.spec (interleaved rendered.now.spec rendered.now.samples))) }
     ensures part { OnErr result (IsTrue (F.tells files.old)
-        → AppendsPart (F.paths files.old) (F.paths files.new) path.now (text.wav_bytes rate 1 24 (map (λ v. v ∷ []) samples.now))) }
+        → AppendsPart (F.paths files.old) (F.paths files.new) path.now (wav_of rendered.now.spec (interleaved rendered.now.spec rendered.now.samples))) }
     ensures later { F.write_faults files.old ≤ F.write_faults files.new }
     ensures cause { IsErrOf result EdgeErr.Failed → Rose (F.write_faults files.old) (F.write_faults files.new) }
 {
+    let spec = rendered.spec;
     append_all(
         files,
         path,
-        &header(rate, CHANNELS, BITS, samples.len() as u64),
+        &header(spec.rate, spec.channels, BITS, spec.length),
     )?;
-    append_samples(files, path, samples)?;
-    append_all(files, path, padding(samples.len() * SAMPLE_BYTES))
+    append_frames(files, path, rendered)?;
+    append_all(files, path, padding(rendered.samples.len() * SAMPLE_BYTES))
 }
 
 // What follows so many bytes of samples.
@@ -74,23 +59,71 @@ fn padding(size: usize) -> &'static [u8]
     if size % 2 == 0 { &[] } else { &[0] }
 }
 
-// Adds samples of 24 bits to the end of the file.
-fn append_samples<F: Files>(files: &mut F, path: &str, samples: &[Fix]) -> Result<(), EdgeErr>
-    requires { length samples.now ≤ 33554432 }
+// Adds all frames, in samples of 24 bits, to the end of the file.
+fn append_frames<F: Files>(files: &mut F, path: &str, rendered: &Rendered) -> Result<(), EdgeErr>
+    requires { IsWritable rendered.now }
     ensures tells { F.tells files.new ≡ F.tells files.old }
-    ensures all { OnOk result (IsTrue (F.tells files.old) → AppendsWhole (F.paths files.old) (F.paths files.new) path.now (text.samples_bytes 24 samples.now)) }
-    ensures part { OnErr result (IsTrue (F.tells files.old) → AppendsPart (F.paths files.old) (F.paths files.new) path.now (text.samples_bytes 24 samples.now)) }
+    ensures all { OnOk result (IsTrue (F.tells files.old)
+        → AppendsWhole (F.paths files.old) (F.paths files.new) path.now (text.samples_bytes 24 (interleaved rendered.now.spec rendered.now.samples))) }
+    ensures part { OnErr result (IsTrue (F.tells files.old)
+        → AppendsPart (F.paths files.old) (F.paths files.new) path.now (text.samples_bytes 24 (interleaved rendered.now.spec rendered.now.samples))) }
     ensures later { F.write_faults files.old ≤ F.write_faults files.new }
     ensures cause { IsErrOf result EdgeErr.Failed → Rose (F.write_faults files.old) (F.write_faults files.new) }
 {
-    let mut buffer = [0u8; PIECE_BYTES];
+    let channels = rendered.spec.channels as usize;
+    let frames = rendered.spec.length;
+    let most = frames_in_a_piece(channels);
+    let mut samples = [0; PIECE];
+    let mut bytes = [0u8; PIECE_BYTES];
     let mut at = 0;
-    while at < samples.len() {
-        let count = (samples.len() - at).min(PIECE);
-        let bytes = &mut buffer[..count * SAMPLE_BYTES];
-        frames_into(bytes, &samples[at..at + count], BITS);
-        append_all(files, path, bytes)?;
-        at += count;
+    while at < frames {
+        let next = (frames - at).min(most);
+        let count = next as usize * channels;
+        append_piece(
+            files,
+            path,
+            rendered,
+            at,
+            &mut samples[..count],
+            &mut bytes[..count * SAMPLE_BYTES],
+        )?;
+        at += next;
     }
     Ok(())
+}
+
+// How many whole frames a piece has room for.
+fn frames_in_a_piece(channels: usize) -> u64
+    requires low { 1 ≤ channels }
+    requires high { channels ≤ 32 }
+    ensures some { 1 ≤ result }
+    ensures room { result * channels ≤ 21845 }
+{
+    (PIECE / channels) as u64
+}
+
+// Adds as many samples as there is room for, from the frame `first` on.
+fn append_piece<F: Files>(
+    files: &mut F,
+    path: &str,
+    rendered: &Rendered,
+    first: u64,
+    samples: &mut [Fix],
+    bytes: &mut [u8],
+) -> Result<(), EdgeErr>
+    requires writable { IsWritable rendered.now }
+    requires whole { length samples.old % rendered.now.spec.channels ≡ 0 }
+    requires within { first * rendered.now.spec.channels + length samples.old ≤ rendered.now.spec.channels * rendered.now.spec.length }
+    requires room { length bytes.old ≡ length samples.old * 3 }
+    ensures tells { F.tells files.new ≡ F.tells files.old }
+    ensures all { OnOk result (IsTrue (F.tells files.old) → AppendsWhole (F.paths files.old) (F.paths files.new) path.now
+        (text.samples_bytes 24 (take (length samples.old) (drop (first * rendered.now.spec.channels) (interleaved rendered.now.spec rendered.now.samples))))) }
+    ensures part { OnErr result (IsTrue (F.tells files.old) → AppendsPart (F.paths files.old) (F.paths files.new) path.now
+        (text.samples_bytes 24 (take (length samples.old) (drop (first * rendered.now.spec.channels) (interleaved rendered.now.spec rendered.now.samples))))) }
+    ensures later { F.write_faults files.old ≤ F.write_faults files.new }
+    ensures cause { IsErrOf result EdgeErr.Failed → Rose (F.write_faults files.old) (F.write_faults files.new) }
+{
+    rendered.interleave(first, samples);
+    frames_into(bytes, samples, BITS);
+    append_all(files, path, bytes)
 }

@@ -2,13 +2,13 @@ use Rattle.std.proofs.Common.{[], Err, refl, ap, inl}
 use Rattle.std.specs.Prelude.{unwrap_or}
 use Rattle.std.proofs.KnownBytes.{Appends-nil, Keeps-refl}
 use Rattle.replay_top.specs.declared.status.Status.TheVariants.{BadWords}
-use Rattle.replay_top.proofs.Ends.{line_answered, ran, told_bytes, answer_to_bytes-within, answer_to_bytes-reads, IsRead-answered, IsRead-line}
+use Rattle.replay_top.proofs.Ends.{text_answered, ran, told_bytes, answer_to_bytes-within, answer_to_bytes-reads, IsRead-answered, IsRead-text}
 use Rattle.replay_top.proofs.replay.run.Goals as goal
 
 pub returns-in_default-clause-ran : goal.returns-in_default-clause-ran
 returns-in_default-clause-ran g c =
     let bytes = unwrap_or (g.S.Source.left c.args.script.now) [] in
-    (bytes, told_bytes _, rw (← c.out_of.ensures, c.in_default.is) (ran _ _ _ _ _ _ (line_answered _ BadWords _ _ _ _ _ _ _ _ (λ whole. whole) c.answer_line.ensures)))
+    (bytes, told_bytes _, rw (← c.out_of.ensures, c.in_default.is) (ran _ _ _ _ _ _ (text_answered _ BadWords _ _ _ _ _ _ _ _ (λ whole. whole) c.answer_text.ensures)))
 
 pub returns-in-Ok-clause-ran : goal.returns-in-Ok-clause-ran
 returns-in-Ok-clause-ran g c =
@@ -19,7 +19,7 @@ returns-in-Ok-clause-read g c =
     rw (← c.out_of.ensures, c.in-Some.is) (IsRead-answered _ _ _ _ _ _ _ _ c.replay_bytes.ensures c.in-Ok.ensures.at_end)
 
 pub returns-in_default-clause-read : goal.returns-in_default-clause-read
-returns-in_default-clause-read g c = rw (← c.out_of.ensures, c.in_default.is) (IsRead-line _ _ _ _ _ _ _ c.answer_line.ensures)
+returns-in_default-clause-read g c = rw (← c.out_of.ensures, c.in_default.is) (IsRead-text _ _ _ _ _ _ _ c.answer_text.ensures)
 
 pub returns-in-Err-Failed-clause-ran : goal.returns-in-Err-Failed-clause-ran
 returns-in-Err-Failed-clause-ran g c =

@@ -1,0 +1,83 @@
+-- What a session hands over can be written, and the answer to it is the session's.
+use Rattle.std.proofs.Common.{◌≡◌, ◌≤◌, ◌*◌, ℕ, List, length, Some, None, true, if◌then◌else◌, arith, refl, inl, inr}
+use Rattle.std.specs.Prelude.{IfSome}
+use Rattle.std.proofs.lemmas.Bool.{cases_Bool}
+use Rattle.std.proofs.lemmas.Bool.Decides.{nat_tests}
+use Rattle.std.proofs.lemmas.List.FromFn.{length-map-range_with_len}
+use Rattle.wa_base.specs.declared.contexts.ContextSpec.{ContextSpec}
+use Rattle.script_ast.specs.declared.call_list.Script.{Script}
+use Rattle.transcript.specs.Text.{text_of}
+use Rattle.transcript.specs.declared.lines.EndWord.{EndWord}
+use Rattle.transcript.specs.declared.lines.EndWord.TheVariants.{Completed, Stalled, Idle, Refused}
+use Rattle.session.specs.Machine.{IsSupported}
+use Rattle.session.specs.Rendering.{completes, rendering_of}
+use Rattle.session.specs.Rows.{sample_in, samples_of}
+use Rattle.session.specs.Session.{is_supported, session_of}
+use Rattle.session.specs.World.{World}
+use Rattle.session.proofs.Interleaving.{interleaved_rendered}
+use Rattle.replay_top.specs.Answer.{answer_to_end, answer_to_session}
+use Rattle.replay_top.specs.Outcome.{answer_to_rendering}
+use Rattle.replay_top.specs.WavFile.{IsWritable}
+
+pub length-samples_of : (tape : List World) (spec : ContextSpec) → length (samples_of tape spec) ≡ spec.channels * spec.length
+unfolding samples_of
+length-samples_of tape spec = length-map-range_with_len (sample_in tape spec) 0 (spec.channels * spec.length)
+
+-- the ranges that a context has that can be rendered
+pub record HasRanges (spec : ContextSpec) : Type 0 where
+  pub supported : IsSupported spec
+  pub rate_low : 8000 ≤ spec.rate
+  pub rate_high : spec.rate ≤ 96000
+
+ranges_of : (spec : ContextSpec) → is_supported spec ≡ true → HasRanges spec
+unfolding is_supported
+ranges_of spec holds = record {
+  supported = record {
+    channels_low = grind (arith, nat_tests);
+    channels_high = grind (arith, nat_tests);
+    length_low = grind (arith, nat_tests);
+    length_high = grind (arith, nat_tests);
+    samples_high = grind (arith, nat_tests);
+  };
+  rate_low = grind (arith, nat_tests);
+  rate_high = grind (arith, nat_tests);
+}
+
+writable_at : (end : EndWord) (spec : ContextSpec) (tape : List World) → HasRanges spec
+    → IfSome (if completes end then Some (record { spec = spec; samples = samples_of tape spec }) else None) IsWritable
+writable_at Completed spec tape ranges = record {
+  supported = ranges.supported;
+  rate_low = ranges.rate_low;
+  rate_high = ranges.rate_high;
+  long = length-samples_of tape spec;
+}
+writable_at (Stalled frame) spec tape ranges = tt
+writable_at Idle spec tape ranges = tt
+writable_at (Refused exception) spec tape ranges = tt
+
+answer_at : (end : EndWord) (out text : List ℕ) (spec : ContextSpec) (tape : List World) → HasRanges spec
+    → answer_to_rendering out text (if completes end then Some (record { spec = spec; samples = samples_of tape spec }) else None) ≡ answer_to_end end out text spec tape
+answer_at Completed out text spec tape ranges =
+    let frames = interleaved_rendered tape spec ranges.supported.channels_low ranges.supported.length_low in
+    rw frames refl
+answer_at (Stalled frame) out text spec tape ranges = refl
+answer_at Idle out text spec tape ranges = refl
+answer_at (Refused exception) out text spec tape ranges = refl
+
+-- what a session of a script hands over can be written
+pub writable : (script : Script) → IfSome (rendering_of true script.context (session_of script)) IsWritable
+unfolding session_of rendering_of
+writable script = elim (cases_Bool (is_supported script.context)) [
+  | inl holds ↦ writable_at (session_of script).end script.context (session_of script).tape (ranges_of script.context holds)
+  | inr fails ↦ rw fails tt
+]
+
+-- the answer to what it hands over is the session's
+pub rendering_answered : (out : List ℕ) (script : Script)
+    → answer_to_rendering out (text_of (session_of script).lines (session_of script).end) (rendering_of true script.context (session_of script))
+    ≡ answer_to_session out script.context (session_of script)
+unfolding session_of rendering_of
+rendering_answered out script = elim (cases_Bool (is_supported script.context)) [
+  | inl holds ↦ answer_at (session_of script).end out _ script.context (session_of script).tape (ranges_of script.context holds)
+  | inr fails ↦ rw fails refl
+]

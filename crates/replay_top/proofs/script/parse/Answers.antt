@@ -1,8 +1,0 @@
-use Rattle.replay_top.proofs.Trees.{json_of-text, json_of-none}
-use Rattle.replay_top.proofs.script.parse.Goals as goal
-
-pub returns-in-Ok-clause-ok : goal.returns-in-Ok-clause-ok
-returns-in-Ok-clause-ok c = json_of-text _ _ c.in-Ok.ensures.ok.0 c.in-Ok.ensures.ok.1
-
-pub returns-else-is_memory-clause-bad_json : goal.returns-else-is_memory-clause-bad_json
-returns-else-is_memory-clause-bad_json c = λ _. json_of-none _ (c.in-Err.ensures.err (λ memory. let bad = c.if-is_memory.ensures.1 memory in cc))

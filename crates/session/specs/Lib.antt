@@ -1,0 +1,9 @@
+pub mod Frames
+pub mod Machine
+pub mod Rendering
+pub mod Rows
+pub mod Session
+pub mod Steady
+pub mod Step
+pub mod View
+pub mod World

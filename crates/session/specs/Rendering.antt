@@ -1,0 +1,17 @@
+-- The samples that a session leaves.
+use Rattle.std.specs.Prelude.{◌&&◌, Bool, true, false, if◌then◌else◌, Option, Some, None}
+use Rattle.wa_base.specs.declared.contexts.ContextSpec.{ContextSpec}
+use Rattle.transcript.specs.declared.lines.EndWord.{EndWord}
+use Rattle.transcript.specs.declared.lines.EndWord.TheVariants.{Completed}
+use Rattle.session.specs.declared.rendered.Rendered.{Rendered}
+use Rattle.session.specs.Rows.{samples_of}
+use Rattle.session.specs.Session.{Played}
+
+abbrev pub completes : EndWord → Bool
+completes Completed = true
+completes other = false
+
+-- with audio, a session that completed leaves the samples of its tape
+unfoldable pub rendering_of : Bool → ContextSpec → Played → Option Rendered
+rendering_of audio spec played =
+    if audio && completes played.end then Some (record { spec = spec; samples = samples_of played.tape spec }) else None

@@ -1,0 +1,161 @@
+-- A whole session, without a sample in it.
+use Rattle.std.specs.Prelude.{ℕ, zero, suc, ◌+◌, ◌-◌, ◌*◌, ◌/◌, ◌==◌, ◌&&◌, nat_le, List, [], ◌∷◌, ◌++◌, map, filter, Bool, true, false, not, if◌then◌else◌, unwrap_or, Option, Some, None}
+use Rattle.std.specs.Option.{option_map_or}
+use Rattle.wa_base.specs.declared.contexts.ContextSpec.{ContextSpec}
+use Rattle.wa_base.specs.declared.contexts.State.TheVariants as state
+use Rattle.wa_base.specs.declared.exceptions.Exc.TheVariants.{NotSupported}
+use Rattle.script_ast.specs.declared.call_list.Call.{Call}
+use Rattle.script_ast.specs.declared.call_list.Script.{Script}
+use Rattle.transcript.specs.declared.lines.Answer.TheVariants.{Resolved}
+use Rattle.transcript.specs.declared.lines.Line.{Line}
+use Rattle.transcript.specs.declared.lines.Line.TheVariants as line
+use Rattle.transcript.specs.declared.lines.EndWord.{EndWord}
+use Rattle.transcript.specs.declared.lines.EndWord.TheVariants.{Completed, Idle, Refused}
+use Rattle.name_book.specs.Book.{first_name_of}
+use Rattle.session.specs.declared.world.Constant.{Constant}
+use Rattle.session.specs.World.{World, end_frame}
+use Rattle.session.specs.Machine.{Machine}
+use Rattle.session.specs.Step.{step}
+
+-- the size of a render quantum, in frames
+abbrev pub quantum : ℕ
+quantum = 128
+
+-- a machine, and the lines so far
+pub record Told : Type 0 where
+  pub machine : Machine
+  pub lines : List Line
+
+-- ---- calls
+
+abbrev pub after_call : Told → Call → Told
+after_call told call = record {
+  machine = (step told.machine call).machine;
+  lines = told.lines ++ line.Call call.ordinal (step told.machine call).answer ∷ [];
+}
+
+abbrev pub after_calls : Told → List Call → Told
+after_calls told [] = told
+after_calls told (call ∷ calls) = after_calls (after_call told call) calls
+
+-- the calls of the list that a call holds; 0 holds the main list
+abbrev pub held_by : ℕ → List Call → List Call
+held_by holder calls = filter (λ call. call.holder == holder) calls
+
+-- ---- quanta
+
+-- a source ends in a quantum where its end frame is no later than the next quantum's first frame
+abbrev pub ends_by : ℕ → Constant → Bool
+ends_by now source = not source.ended && option_map_or (λ end. nat_le end now) (end_frame source) false
+
+abbrev pub marked : ℕ → Constant → Constant
+marked now source = if ends_by now source then record source { ended = true } else source
+
+-- a line for each source that ends, in order of node number, with the name under which the node was created
+abbrev pub ended_lines : List (ℕ × List ℕ) → ℕ → ℕ → List Constant → List Line
+ended_lines names now node [] = []
+ended_lines names now node (source ∷ sources) =
+    if ends_by now source
+    then line.Ended (record { 0 = node }) (unwrap_or (first_name_of names node) []) ∷ ended_lines names now (node + 1) sources
+    else ended_lines names now (node + 1) sources
+
+-- the lines that a quantum adds
+abbrev pub lines_after : Machine → List Line
+lines_after machine = ended_lines machine.first_names (machine.now + quantum) 1 machine.world.sources
+
+-- the machine after one render quantum
+abbrev pub machine_after : Machine → Machine
+machine_after machine = record machine {
+  now = machine.now + quantum;
+  world = record machine.world { sources = map (marked (machine.now + quantum)) machine.world.sources };
+}
+
+abbrev pub after_quantum : Told → Told
+after_quantum told = record { machine = machine_after told.machine; lines = told.lines ++ lines_after told.machine }
+
+-- ---- the session
+
+-- a session's lines, its end, and the world of each of its quanta
+pub record Played : Type 0 where
+  pub lines : List Line
+  pub end : EndWord
+  pub tape : List World
+
+-- the machine and the lines after so many quanta
+abbrev pub after_quanta : ℕ → Told → Told
+after_quanta zero told = told
+after_quanta (suc n) told = after_quanta n (after_quantum told)
+
+-- the world of each of so many quanta
+abbrev pub worlds_of : ℕ → Told → List World
+worlds_of zero told = []
+worlds_of (suc n) told = told.machine.world ∷ worlds_of n (after_quantum told)
+
+-- the context closes, and the promise of startRendering resolves
+abbrev pub closed_machine : Machine → Machine
+closed_machine machine = record machine { state = state.Closed }
+
+abbrev pub closing : Told → ℕ → Told
+closing told ordinal = record { machine = closed_machine told.machine; lines = told.lines ++ line.Call ordinal Resolved ∷ [] }
+
+-- as many quanta as reach the length from a frame on
+abbrev pub quanta_from : ℕ → ContextSpec → ℕ
+quanta_from frame spec = (spec.length - frame + (quantum - 1)) / quantum
+
+-- as many quanta as are left
+abbrev pub quanta_left : Machine → ℕ
+quanta_left machine = quanta_from machine.now machine.spec
+
+-- the complete event comes last
+abbrev pub finished : Told → List World → Played
+finished told tape = record { lines = told.lines ++ line.Complete told.machine.spec.length ∷ []; end = Completed; tape = tape }
+
+-- all quanta are rendered, the context closes, and the list of startRendering runs
+abbrev pub completed : List Call → Told → ℕ → Played
+completed calls told ordinal = finished
+    (after_calls (closing (after_quanta (quanta_left told.machine) told) ordinal) (held_by ordinal calls))
+    (worlds_of (quanta_left told.machine) told)
+
+abbrev pub rendered : List Call → Told → Option ℕ → Played
+rendered calls told None = record { lines = told.lines; end = Idle; tape = [] }
+rendered calls told (Some ordinal) = completed calls told ordinal
+
+abbrev pub has_channels : ContextSpec → Bool
+has_channels spec = nat_le 1 spec.channels && nat_le spec.channels 32
+
+abbrev pub has_length : ContextSpec → Bool
+has_length spec = nat_le 1 spec.length && nat_le spec.length 33554432
+
+abbrev pub has_rate : ContextSpec → Bool
+has_rate spec = nat_le 8000 spec.rate && nat_le spec.rate 96000
+
+-- a context that can be rendered
+unfoldable pub is_supported : ContextSpec → Bool
+is_supported spec = has_channels spec && has_length spec && has_rate spec && nat_le (spec.channels * spec.length) 67108864
+
+-- the machine before the first call: the destination is there, and its name needs no binding
+abbrev pub first_machine : ContextSpec → Machine
+first_machine spec = record {
+  spec = spec;
+  state = state.Suspended;
+  now = 0;
+  started = None;
+  world = record { sources = []; edges = [] };
+  bindings = [];
+  first_names = [];
+}
+
+abbrev pub first_told : ContextSpec → Told
+first_told spec = record { machine = first_machine spec; lines = [] }
+
+-- the main list runs, and then rendering goes on to its end if it was started
+abbrev pub main_list : List Call → Told → Told
+main_list calls told = after_calls told (held_by 0 calls)
+
+abbrev pub replayed : List Call → Told → Played
+replayed calls told = rendered calls (main_list calls told) (main_list calls told).machine.started
+
+unfoldable pub session_of : Script → Played
+session_of script =
+    if is_supported script.context then replayed script.calls (first_told script.context)
+    else record { lines = []; end = Refused (NotSupported None); tape = [] }

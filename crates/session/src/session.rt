@@ -1,0 +1,264 @@
+ghost use Rattle.std.specs.Prelude.{◌≡◌, ◌↔◌, ◌≤◌, ◌<◌, ◌*◌, ℕ, Some, ◌⊎◌, nat_le, ◌∷◌, ◌++◌, [], List, true, false, length, replicate, pos, IsTrue, IsSome, IsNone, IfOk, IfSome, IfErr, IsErrOf, OnOk, OnErr, Ok, if◌then◌else◌};
+ghost use Rattle.script_ast.specs.Ranges.{IsInRange};
+ghost use Rattle.session.specs.Machine.{IsSupported, IsInState};
+ghost use Rattle.session.specs.Session.{after_call, after_quantum, closing, is_supported as supports};
+ghost use Rattle.session.specs.Session as session_spec;
+ghost use Rattle.session.specs.Step.{is_start, KeepsTime};
+ghost use Rattle.session.specs.View.{first_view, Stands};
+ghost use Rattle.session.specs.World.{World};
+
+use crate::control::Control;
+use crate::rendered::Rendered;
+use crate::replay::Outcome;
+use io_edge::Files;
+use script_ast::{Call, Op};
+use std::alloc::Global;
+use std::marker::Model;
+use thiserror::Error;
+use transcript::{Answer, EndWord, Line, Lines};
+use wa_base::{ContextSpec, Exc, Fix, NoMemory, Refusal, Samples, State, Tie};
+
+const MAX_LENGTH: u64 = 33_554_432;
+
+const MAX_SAMPLES: u128 = 67_108_864;
+
+/// How a session is run.
+#[derive(Clone, Copy, Debug, PartialEq, Eq)]
+pub struct Options {
+    /// Which of two nodes is rendered first where either may be. The samples do not depend on it.
+    pub tie: Tie,
+    /// Whether samples are rendered.
+    pub audio: bool,
+}
+
+/// Why a session stopped short.
+#[derive(Clone, Copy, Debug, Error, PartialEq, Eq)]
+pub enum Stop {
+    #[error("reading an asset failed")]
+    AssetFault,
+    #[error("memory ran out")]
+    NoMemory,
+}
+
+impl From<NoMemory> for Stop {
+    ghost use Rattle.std.specs.Prelude.{◌≡◌};
+    ghost use Rattle.session.specs.declared.session.Stop.TheVariants.{NoMemory as no_memory};
+
+    ghost from_gives = { λ _ stop. stop ≡ no_memory };
+
+    fn from(_: NoMemory) -> Stop {
+        Stop::NoMemory
+    }
+}
+
+/// What a quantum led to.
+#[derive(Clone, Copy, Debug, PartialEq, Eq)]
+pub enum Turn {
+    /// Rendering goes on.
+    Went,
+    /// The length is reached. The ordinal is that of the accepted startRendering.
+    Done(u32),
+}
+
+/// A session while it runs. Contracts see it as its machine, its lines and its samples.
+#[derive(Drop)]
+pub struct Session {
+    alloc: Global,
+    options: Options,
+    control: Control,
+    lines: Lines,
+    samples: Vec<Fix>,
+}
+
+impl Model for Session {
+    ghost use Rattle.session.specs.View.{SessionView, IsSound};
+
+    ghost Value = { SessionView };
+
+    ghost view = { λ s. record { told = record { machine = s.control; lines = s.lines.items }; audio = s.options.audio; samples = s.samples.items } };
+
+    ghost invariant = { λ s. IsSound s.options.audio s.control s.lines.room s.samples.items };
+}
+
+impl Session {
+    /// A session in which no call came yet.
+    pub fn new(alloc: Global, spec: ContextSpec, options: Options) -> Result<Session, Refusal>
+        ensures ok { IfOk result (λ session. session ≡ first_view spec options.audio) }
+        ensures refused { IsErrOf result (Refusal.Exc (Exc.NotSupported None)) ↔ (supports spec ≡ false) }
+        ensures others { IfErr result (λ e. (e ≡ Refusal.Exc (Exc.NotSupported None)) ⊎ (e ≡ Refusal.NoMemory)) }
+    {
+        if !is_supported(spec) {
+            return Err(Refusal::Exc(Exc::NotSupported(None)));
+        }
+        let mut lines = Lines::new(alloc);
+        lines.reserve(1)?;
+        Ok(Session {
+            alloc,
+            options,
+            control: Control::new(alloc, spec),
+            lines,
+            samples: Vec::new(alloc),
+        })
+    }
+
+    /// Does one control call at the time of the context. A refusal is a line. After a `Stop` the
+    /// session stands as before, and the call can be made again.
+    pub fn call<F: Files>(&mut self, call: &Call, _files: &mut F) -> Result<(), Stop>
+        requires { IsInRange call.now.op }
+        ensures told { OnOk result (self.new.told ≡ after_call self.old.told call.now) }
+        ensures audio { self.new.audio ≡ self.old.audio }
+        ensures kept { KeepsTime self.old.told.machine self.new.told.machine }
+        ensures started { IsSome self.old.told.machine.started → IsSome self.new.told.machine.started }
+        ensures stands { (tape : List World) → Stands self.old tape → Stands self.new tape }
+        ensures err { OnErr result (self.new ≡ self.old) }
+        ensures tells { F.tells _files.new ≡ F.tells _files.old }
+        ensures paths { F.paths _files.new ≡ F.paths _files.old }
+        ensures write_faults { F.write_faults _files.new ≡ F.write_faults _files.old }
+        ensures cause { IsErrOf result Stop.AssetFault → ⊥ }
+    {
+        self.lines.reserve(2)?;
+        let samples = self.samples_for(&call.op)?;
+        let answer = self.control.step(call)?;
+        if let Some(samples) = samples {
+            self.samples = samples;
+        }
+        self.lines.push_reserved(Line::Call(call.ordinal, answer));
+        Ok(())
+    }
+
+    /// Renders one quantum, and closes the context where its length is reached.
+    pub fn advance(&mut self) -> Result<Turn, NoMemory>
+        requires { self.old.told.machine.state ≡ State.Running }
+        ensures left { IfOk result (λ _. self.old.told.machine.now < self.old.told.machine.spec.length) }
+        ensures went { IfOk result (λ turn. turn ≡ Turn.Went
+            → (self.new.told ≡ after_quantum self.old.told) × (self.new.told.machine.state ≡ State.Running)
+            × (self.new.told.machine.now < self.new.told.machine.spec.length)) }
+        ensures done { IfOk result (λ turn. (ordinal : ℕ) → turn ≡ Turn.Done ordinal
+            → (self.old.told.machine.started ≡ Some ordinal) × (self.new.told ≡ closing (after_quantum self.old.told) ordinal)
+            × (self.old.told.machine.spec.length ≤ self.new.told.machine.now)) }
+        ensures audio { self.new.audio ≡ self.old.audio }
+        ensures stands { (tape : List World) → Stands self.old tape → OnOk result (Stands self.new (tape ++ self.old.told.machine.world ∷ [])) }
+        ensures err { OnErr result (self.new ≡ self.old) }
+    {
+        let ordinal = self.control.started().unwrap_or(0);
+        let ended = self.control.lines_of_quantum(self.alloc)?;
+        self.lines.reserve(ended.len() + 2)?;
+        if self.options.audio {
+            self.control.render(self.samples.as_mut_slice());
+        }
+        let closed = self.control.end_quantum();
+        self.lines.append_reserved(ended);
+        if !closed {
+            return Ok(Turn::Went);
+        }
+        self.lines
+            .push_reserved(Line::Call(ordinal, Answer::Resolved));
+        Ok(Turn::Done(ordinal))
+    }
+
+    // The samples that an operation starts to render, all zeros.
+    fn samples_for(&self, op: &Op) -> Result<Option<Vec<Fix>>, NoMemory>
+        ensures some { IfOk result (λ samples. IsSome samples ↔ (IsTrue self.now.audio × IsNone self.now.told.machine.started × (is_start op.now ≡ true))) }
+        ensures at_start { IfOk result (λ samples. IsSome samples → self.now.told.machine.now ≡ 0) }
+        ensures zeros { IfOk result (λ samples. IfSome samples (λ v. v.items ≡ replicate (self.now.told.machine.spec.channels * self.now.told.machine.spec.length) (pos 0))) }
+    {
+        if !self.options.audio
+            || !matches!(op, Op::StartRendering)
+            || self.control.started().is_some()
+        {
+            return Ok(None);
+        }
+        let spec = self.control.spec();
+        let count = u64::from(spec.channels) * spec.length;
+        Ok(Some(vec![in self.alloc; 0; count as usize]?))
+    }
+
+    /// The ordinal of the accepted startRendering.
+    pub fn started(&self) -> Option<u32>
+        ensures started { result ≡ self.now.told.machine.started }
+        ensures state { IsInState self.now.told.machine.state self.now.told.machine.started self.now.told.machine.now self.now.told.machine.spec.length }
+        ensures supported { IsSupported self.now.told.machine.spec }
+    {
+        self.control.started()
+    }
+
+    // The outcome of a session in which rendering was not started.
+    pub(crate) fn idle(self) -> Outcome
+        ensures { result ≡ record { lines = record { items = self.told.lines; room = result.lines.room }; end = EndWord.Idle; rendered = None } }
+    {
+        Outcome {
+            lines: self.lines,
+            end: EndWord::Idle,
+            rendered: None,
+        }
+    }
+
+    // The outcome of a session whose context closed.
+    pub(crate) fn completed(self) -> Outcome
+        ensures lines { result.lines.items ≡ self.told.lines ++ Line.Complete self.told.machine.spec.length ∷ [] }
+        ensures end { result.end ≡ EndWord.Completed }
+        ensures rendered { result.rendered ≡ (if self.audio then Some (record { spec = self.told.machine.spec; samples = self.samples }) else None) }
+    {
+        let Session {
+            options,
+            control,
+            mut lines,
+            samples,
+            ..
+        } = self;
+        let spec = control.spec();
+        lines.push_reserved(Line::Complete(spec.length));
+        let rendered = options.audio.then(|| Rendered {
+            spec,
+            samples: Samples::from(samples),
+        });
+        Outcome {
+            lines,
+            end: EndWord::Completed,
+            rendered,
+        }
+    }
+
+    /// The state of the context.
+    pub fn state(&self) -> State
+        ensures { result ≡ self.now.told.machine.state }
+    {
+        self.control.state()
+    }
+}
+
+// Whether a context can be rendered.
+#[tactic(auto, unfolding(crate::specs::Session::is_supported))]
+fn is_supported(spec: ContextSpec) -> bool
+    ensures value { result ≡ supports spec }
+    ensures ranges { result ≡ true → IsSupported spec }
+{
+    has_channels(spec) && has_length(spec) && has_rate(spec) && has_few_samples(spec)
+}
+
+fn has_channels(spec: ContextSpec) -> bool
+    ensures value { result ≡ session_spec.has_channels spec }
+    ensures range { result ≡ true → (1 ≤ spec.channels) × (spec.channels ≤ 32) }
+{
+    1 <= spec.channels && spec.channels <= 32
+}
+
+fn has_length(spec: ContextSpec) -> bool
+    ensures value { result ≡ session_spec.has_length spec }
+    ensures range { result ≡ true → (1 ≤ spec.length) × (spec.length ≤ 33554432) }
+{
+    1 <= spec.length && spec.length <= MAX_LENGTH
+}
+
+fn has_rate(spec: ContextSpec) -> bool
+    ensures value { result ≡ session_spec.has_rate spec }
+{
+    8_000 <= spec.rate && spec.rate <= 96_000
+}
+
+fn has_few_samples(spec: ContextSpec) -> bool
+    ensures value { result ≡ nat_le (spec.channels * spec.length) 67108864 }
+    ensures range { result ≡ true → spec.channels * spec.length ≤ 67108864 }
+{
+    u128::from(spec.channels) * u128::from(spec.length) <= MAX_SAMPLES
+}
