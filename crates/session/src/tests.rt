@@ -70,3 +70,23 @@ fn contexts_out_of_range_are_refused(rt: HostRuntime) {
         );
     }
 }
+
+// Where one growth is refused, the call or the quantum that asked for it can be made again.
+#[test]
+fn what_was_refused_memory_can_be_done_again(rt: HostRuntime) -> Result<(), Fail> {
+    let mut session = match begin(rt.alloc(), 2, 100) {
+        Err(Refusal::NoMemory) => begin(rt.alloc(), 2, 100)?,
+        begun => begun?,
+    };
+    if start_rendering(rt.alloc(), &mut session, 7).is_err() {
+        assert_eq!(rt; session.state(), State::Suspended);
+        start_rendering(rt.alloc(), &mut session, 7)?;
+    }
+    assert_eq!(rt; session.state(), State::Running);
+    let turn = match advance(&mut session) {
+        Err(NoMemory) => advance(&mut session)?,
+        Ok(turn) => turn,
+    };
+    assert_eq!(rt; turn, Some(Turn::Done(7)));
+    Ok(())
+}
