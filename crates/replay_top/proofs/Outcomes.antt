@@ -5,14 +5,14 @@ use Rattle.std.proofs.lemmas.Bool.{cases_Bool}
 use Rattle.std.proofs.lemmas.Bool.Decides.{nat_tests}
 use Rattle.std.proofs.lemmas.List.FromFn.{length-map-range_with_len}
 use Rattle.wa_base.specs.declared.contexts.ContextSpec.{ContextSpec}
+use Rattle.wa_base.specs.Contexts.{is_supported, IsSupported}
 use Rattle.script_ast.specs.declared.call_list.Script.{Script}
 use Rattle.transcript.specs.Text.{text_of}
 use Rattle.transcript.specs.declared.lines.EndWord.{EndWord}
 use Rattle.transcript.specs.declared.lines.EndWord.TheVariants.{Completed, Stalled, Idle, Refused}
-use Rattle.session.specs.Machine.{IsSupported}
 use Rattle.session.specs.Rendering.{completes, rendering_of}
 use Rattle.session.specs.Rows.{sample_in, samples_of}
-use Rattle.session.specs.Session.{is_supported, session_of}
+use Rattle.session.specs.Session.{session_of}
 use Rattle.session.specs.World.{World}
 use Rattle.session.proofs.Interleaving.{interleaved_rendered}
 use Rattle.replay_top.specs.Answer.{answer_to_end, answer_to_session}
@@ -23,42 +23,32 @@ pub length-samples_of : (tape : List World) (spec : ContextSpec) → length (sam
 unfolding samples_of
 length-samples_of tape spec = length-map-range_with_len (sample_in tape spec) 0 (spec.channels * spec.length)
 
--- the ranges that a context has that can be rendered
-pub record HasRanges (spec : ContextSpec) : Type 0 where
-  pub supported : IsSupported spec
-  pub rate_low : 8000 ≤ spec.rate
-  pub rate_high : spec.rate ≤ 96000
-
-ranges_of : (spec : ContextSpec) → is_supported spec ≡ true → HasRanges spec
+ranges_of : (spec : ContextSpec) → is_supported spec ≡ true → IsSupported spec
 unfolding is_supported
 ranges_of spec holds = record {
-  supported = record {
-    channels_low = grind (arith, nat_tests);
-    channels_high = grind (arith, nat_tests);
-    length_low = grind (arith, nat_tests);
-    length_high = grind (arith, nat_tests);
-    samples_high = grind (arith, nat_tests);
-  };
+  channels_low = grind (arith, nat_tests);
+  channels_high = grind (arith, nat_tests);
+  length_low = grind (arith, nat_tests);
+  length_high = grind (arith, nat_tests);
   rate_low = grind (arith, nat_tests);
   rate_high = grind (arith, nat_tests);
+  samples_high = grind (arith, nat_tests);
 }
 
-writable_at : (end : EndWord) (spec : ContextSpec) (tape : List World) → HasRanges spec
+writable_at : (end : EndWord) (spec : ContextSpec) (tape : List World) → IsSupported spec
     → IfSome (if completes end then Some (record { spec = spec; samples = samples_of tape spec }) else None) IsWritable
 writable_at Completed spec tape ranges = record {
-  supported = ranges.supported;
-  rate_low = ranges.rate_low;
-  rate_high = ranges.rate_high;
+  supported = ranges;
   long = length-samples_of tape spec;
 }
 writable_at (Stalled frame) spec tape ranges = tt
 writable_at Idle spec tape ranges = tt
 writable_at (Refused exception) spec tape ranges = tt
 
-answer_at : (end : EndWord) (out text : List ℕ) (spec : ContextSpec) (tape : List World) → HasRanges spec
+answer_at : (end : EndWord) (out text : List ℕ) (spec : ContextSpec) (tape : List World) → IsSupported spec
     → answer_to_rendering out text (if completes end then Some (record { spec = spec; samples = samples_of tape spec }) else None) ≡ answer_to_end end out text spec tape
 answer_at Completed out text spec tape ranges =
-    let frames = interleaved_rendered tape spec ranges.supported.channels_low ranges.supported.length_low in
+    let frames = interleaved_rendered tape spec ranges.channels_low ranges.length_low in
     rw frames refl
 answer_at (Stalled frame) out text spec tape ranges = refl
 answer_at Idle out text spec tape ranges = refl

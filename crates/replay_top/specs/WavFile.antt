@@ -1,7 +1,7 @@
 -- The WAV file of a session.
-use Rattle.std.specs.Prelude.{ℕ, ◌≡◌, ◌≤◌, ◌*◌, ◌++◌, ℤ, List, length}
+use Rattle.std.specs.Prelude.{ℕ, ◌≡◌, ◌*◌, ◌++◌, ℤ, List, length}
 use Rattle.wa_base.specs.declared.contexts.ContextSpec.{ContextSpec}
-use Rattle.session.specs.Machine.{IsSupported}
+use Rattle.wa_base.specs.Contexts.{IsSupported}
 use Rattle.session.specs.declared.rendered.Rendered.{Rendered}
 use Rattle.wav_io.specs.WavText.{header_bytes, samples_bytes, padding, data_size}
 
@@ -19,6 +19,4 @@ wav_of spec samples =
 -- what was rendered can be written: its context is in its ranges, and it has all samples
 pub record IsWritable (rendered : Rendered) : Type 0 where
   pub supported : IsSupported rendered.spec
-  pub rate_low : 8000 ≤ rendered.spec.rate
-  pub rate_high : rendered.spec.rate ≤ 96000
   pub long : length rendered.samples ≡ rendered.spec.channels * rendered.spec.length

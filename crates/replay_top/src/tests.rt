@@ -2,7 +2,8 @@ use crate::{Status, run};
 use io_edge::{MemFiles, MemSink, MemSource};
 use std::alloc::{AllocError, Global};
 use std::test::Fail;
-use wa_base::{Bytes, NoMemory};
+use transcript::{Answer, EndWord, Line, Lines, text};
+use wa_base::{Bytes, Exc, Feature, Name, NoMemory, NodeId, State};
 
 const CONSTANT: &str =
     "{\"version\":1,\"context\":{\"channels\":1,\"length\":128,\"rate\":48000},\"calls\":[{\"op\":\"createConstantSource\",\"as\":\"c\"},{\"op\":\"connect\",\"from\":\"c\",\"to\":\"destination\"},{\"op\":\"start\",\"node\":\"c\"},{\"op\":\"startRendering\"}]}";
@@ -347,33 +348,164 @@ fn faults_leave_what_came_before_them(rt: HostRuntime) -> Result<(), Fail> {
     Ok(())
 }
 
+// What stands behind the ordinal of a call, for each answer, each exception and each state.
+const ANSWERS: [(Answer, &str); 17] = [
+    (Answer::Ok, "ok"),
+    (
+        Answer::Throw(Exc::NotSupported(None)),
+        "throw NotSupportedError",
+    ),
+    (Answer::Throw(Exc::InvalidState), "throw InvalidStateError"),
+    (
+        Answer::Throw(Exc::InvalidAccess),
+        "throw InvalidAccessError",
+    ),
+    (Answer::Throw(Exc::IndexSize), "throw IndexSizeError"),
+    (Answer::Throw(Exc::Range), "throw RangeError"),
+    (Answer::Throw(Exc::WrongType), "throw TypeError"),
+    (Answer::Throw(Exc::NotFound), "throw NotFoundError"),
+    (Answer::Throw(Exc::Encoding), "throw EncodingError"),
+    (Answer::Pending, "pending"),
+    (Answer::Resolved, "resolved"),
+    (
+        Answer::Rejected(Exc::InvalidState),
+        "rejected InvalidStateError",
+    ),
+    (Answer::Value(-2_147_483_648), "value -2147483648"),
+    (Answer::State(State::Suspended), "state suspended"),
+    (Answer::State(State::Running), "state running"),
+    (Answer::State(State::Closed), "state closed"),
+    (Answer::Time(1_280), "time 1280"),
+];
+
+const FEATURES: [(Feature, &str); 32] = [
+    (Feature::Oscillator, "oscillator"),
+    (Feature::PeriodicWave, "periodic-wave"),
+    (Feature::Biquad, "biquad"),
+    (Feature::StereoPanner, "stereo-panner"),
+    (Feature::Panner, "panner"),
+    (Feature::Listener, "listener"),
+    (Feature::Compressor, "compressor"),
+    (Feature::Analyser, "analyser"),
+    (Feature::MediaElementSource, "media-element-source"),
+    (Feature::MediaStreamSource, "media-stream-source"),
+    (Feature::MediaStreamTrackSource, "media-stream-track-source"),
+    (Feature::MediaStreamDestination, "media-stream-destination"),
+    (Feature::ScriptProcessor, "script-processor"),
+    (Feature::AudioWorklet, "audio-worklet"),
+    (Feature::Convolver, "convolver"),
+    (Feature::ExponentialRamp, "exponential-ramp"),
+    (Feature::SetTarget, "set-target"),
+    (Feature::Oversample, "oversample"),
+    (Feature::Resampling, "resampling"),
+    (Feature::PlaybackRate, "playback-rate"),
+    (Feature::PlaybackRateAutomation, "playback-rate-automation"),
+    (Feature::Detune, "detune"),
+    (Feature::LoopChange, "loop-change"),
+    (Feature::LateBuffer, "late-buffer"),
+    (Feature::BufferAcquired, "buffer-acquired"),
+    (Feature::DestinationOutput, "destination-output"),
+    (Feature::LongDelay, "long-delay"),
+    (Feature::AssetSize, "asset-size"),
+    (Feature::NodeLimit, "node-limit"),
+    (Feature::ConnectionLimit, "connection-limit"),
+    (Feature::BufferLimit, "buffer-limit"),
+    (Feature::DelayLimit, "delay-limit"),
+];
+
+const ENDS: [(EndWord, &str); 5] = [
+    (EndWord::Completed, "end completed\n"),
+    (EndWord::Idle, "end idle\n"),
+    (EndWord::Stalled(1_280), "end stalled 1280\n"),
+    (
+        EndWord::Refused(Exc::NotSupported(None)),
+        "end refused NotSupportedError\n",
+    ),
+    (
+        EndWord::Refused(Exc::NotSupported(Some(Feature::NodeLimit))),
+        "end refused NotSupportedError profile:node-limit\n",
+    ),
+];
+
+// The operations that are left out, with their features.
+const LEFT_OUT_OPS: [(&str, &str); 15] = [
+    ("createOscillator", "oscillator"),
+    ("createPeriodicWave", "periodic-wave"),
+    ("createBiquadFilter", "biquad"),
+    ("createStereoPanner", "stereo-panner"),
+    ("createPanner", "panner"),
+    ("createDynamicsCompressor", "compressor"),
+    ("createAnalyser", "analyser"),
+    ("setListener", "listener"),
+    ("createMediaElementSource", "media-element-source"),
+    ("createMediaStreamSource", "media-stream-source"),
+    ("createMediaStreamTrackSource", "media-stream-track-source"),
+    ("createMediaStreamDestination", "media-stream-destination"),
+    ("createScriptProcessor", "script-processor"),
+    ("createAudioWorkletNode", "audio-worklet"),
+    ("createConvolver", "convolver"),
+];
+
+// The text of a transcript with one line.
+fn text_of(alloc: Global, line: Line) -> Result<Bytes, NoMemory> {
+    let mut lines = Lines::new(alloc);
+    lines.push(line)?;
+    text(alloc, &lines, &EndWord::Idle)
+}
+
+// The transcript of a script with one call that has no field.
+fn transcript_of(alloc: Global, op: &str) -> Result<Vec<u8>, NoMemory> {
+    let script = format!(in alloc;
+        "{{\"version\":1,\"context\":{{\"channels\":1,\"length\":128,\"rate\":48000}},\"calls\":[{{\"op\":\"{op}\"}}]}}"
+    )?;
+    Ok(replay(alloc, &["out.wav"], script.as_bytes(), NONE)?.text)
+}
+
+// Every word of a transcript, as docs/FORMATS.md writes it.
 #[test]
-fn what_is_left_out_is_refused_by_its_feature(rt: HostRuntime) -> Result<(), Fail> {
-    for (op, feature) in [
-        ("createOscillator", "oscillator"),
-        ("createPeriodicWave", "periodic-wave"),
-        ("createBiquadFilter", "biquad"),
-        ("createStereoPanner", "stereo-panner"),
-        ("createPanner", "panner"),
-        ("createDynamicsCompressor", "compressor"),
-        ("createAnalyser", "analyser"),
-        ("createMediaElementSource", "media-element-source"),
-        ("createMediaStreamSource", "media-stream-source"),
-        ("createMediaStreamTrackSource", "media-stream-track-source"),
-        ("createMediaStreamDestination", "media-stream-destination"),
-        ("createScriptProcessor", "script-processor"),
-        ("createAudioWorkletNode", "audio-worklet"),
-        ("createConvolver", "convolver"),
-        ("setListener", "listener"),
-    ] {
-        let script = format!(in rt.alloc();
-            "{{\"version\":1,\"context\":{{\"channels\":1,\"length\":128,\"rate\":48000}},\"calls\":[{{\"op\":\"{op}\"}}]}}"
-        )?;
-        let want = format!(in rt.alloc();
-            "1 throw NotSupportedError profile:{feature}\nend idle\n"
-        )?;
-        let left = replay(rt.alloc(), &["out.wav"], script.as_bytes(), NONE)?;
-        assert!(rt; left.text.as_slice() == want.as_bytes());
+fn transcripts_are_spelled_as_their_format_says(rt: HostRuntime) -> Result<(), Fail> {
+    let alloc = rt.alloc();
+    for (answer, words) in ANSWERS {
+        let want = format!(in alloc; "7 {words}\nend idle\n")?;
+        assert!(rt;
+            text_of(alloc, Line::Call(7, answer))?.as_slice() == want.as_bytes(),
+            "{words}"
+        );
+    }
+    for (feature, word) in FEATURES {
+        let exc = Exc::NotSupported(Some(feature));
+        let want = format!(in alloc; "7 throw NotSupportedError profile:{word}\nend idle\n")?;
+        assert!(rt;
+            text_of(alloc, Line::Call(7, Answer::Throw(exc)))?.as_slice() == want.as_bytes(),
+            "{word}"
+        );
+        let want = format!(in alloc; "8 rejected NotSupportedError profile:{word}\nend idle\n")?;
+        assert!(rt;
+            text_of(alloc, Line::Call(8, Answer::Rejected(exc)))?.as_slice() == want.as_bytes(),
+            "{word}"
+        );
+    }
+    let name = Name::from(b"tone_2".as_slice().to_vec(alloc)?);
+    assert!(rt;
+        text_of(alloc, Line::Ended(NodeId(31), name))?.as_slice()
+            == b"ended 31 tone_2\nend idle\n".as_slice()
+    );
+    assert!(rt;
+        text_of(alloc, Line::Complete(48_000))?.as_slice()
+            == b"complete 48000\nend idle\n".as_slice()
+    );
+    for (end, line) in ENDS {
+        assert!(rt;
+            text(alloc, &Lines::new(alloc), &end)?.as_slice() == line.as_bytes(),
+            "{line}"
+        );
+    }
+    for (op, word) in LEFT_OUT_OPS {
+        let want = format!(in alloc; "1 throw NotSupportedError profile:{word}\nend idle\n")?;
+        assert!(rt;
+            transcript_of(alloc, op)?.as_slice() == want.as_bytes(),
+            "{op}"
+        );
     }
     Ok(())
 }

@@ -1,5 +1,5 @@
 -- The state of the machine between two steps.
-use Rattle.std.specs.Prelude.{ℕ, ◌≡◌, ◌≤◌, ◌<◌, ◌*◌, List, Option, None, IsSome}
+use Rattle.std.specs.Prelude.{ℕ, ◌≡◌, ◌≤◌, ◌<◌, List, Option, None, IsSome}
 use Rattle.wa_base.specs.declared.contexts.ContextSpec.{ContextSpec}
 use Rattle.wa_base.specs.declared.contexts.State.{State}
 use Rattle.wa_base.specs.declared.contexts.State.TheVariants.{Suspended, Running, Closed}
@@ -19,14 +19,6 @@ pub record Machine : Type 0 where
   pub first_names : List (ℕ × List ℕ)
 
 -- ---- what holds of every machine between two steps
-
--- the ranges of a context that can be rendered, but for its rate, on which no sample depends
-pub record IsSupported (spec : ContextSpec) : Type 0 where
-  pub channels_low : 1 ≤ spec.channels
-  pub channels_high : spec.channels ≤ 32
-  pub length_low : 1 ≤ spec.length
-  pub length_high : spec.length ≤ 33554432
-  pub samples_high : spec.channels * spec.length ≤ 67108864
 
 -- a context that was not started stands at frame 0; a running one was started and has frames left
 abbrev pub IsInState : State → Option ℕ → ℕ → ℕ → Type 0

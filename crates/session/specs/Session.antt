@@ -2,6 +2,7 @@
 use Rattle.std.specs.Prelude.{ℕ, zero, suc, ◌+◌, ◌-◌, ◌*◌, ◌/◌, ◌==◌, ◌&&◌, nat_le, List, [], ◌∷◌, ◌++◌, map, filter, Bool, true, false, not, if◌then◌else◌, unwrap_or, Option, Some, None}
 use Rattle.std.specs.Option.{option_map_or}
 use Rattle.wa_base.specs.declared.contexts.ContextSpec.{ContextSpec}
+use Rattle.wa_base.specs.Contexts.{is_supported}
 use Rattle.wa_base.specs.declared.contexts.State.TheVariants as state
 use Rattle.wa_base.specs.declared.exceptions.Exc.TheVariants.{NotSupported}
 use Rattle.script_ast.specs.declared.call_list.Call.{Call}
@@ -119,19 +120,6 @@ completed calls told ordinal = finished
 abbrev pub rendered : List Call → Told → Option ℕ → Played
 rendered calls told None = record { lines = told.lines; end = Idle; tape = [] }
 rendered calls told (Some ordinal) = completed calls told ordinal
-
-abbrev pub has_channels : ContextSpec → Bool
-has_channels spec = nat_le 1 spec.channels && nat_le spec.channels 32
-
-abbrev pub has_length : ContextSpec → Bool
-has_length spec = nat_le 1 spec.length && nat_le spec.length 33554432
-
-abbrev pub has_rate : ContextSpec → Bool
-has_rate spec = nat_le 8000 spec.rate && nat_le spec.rate 96000
-
--- a context that can be rendered
-unfoldable pub is_supported : ContextSpec → Bool
-is_supported spec = has_channels spec && has_length spec && has_rate spec && nat_le (spec.channels * spec.length) 67108864
 
 -- the machine before the first call: the destination is there, and its name needs no binding
 abbrev pub first_machine : ContextSpec → Machine

@@ -2,9 +2,10 @@
 use Rattle.std.specs.Prelude.{ℕ, ◌≤◌, List, length, Option}
 use Rattle.wa_base.specs.declared.contexts.ContextSpec.{ContextSpec}
 use Rattle.wa_base.specs.declared.contexts.State.{State}
+use Rattle.wa_base.specs.Contexts.{IsSupported}
 use Rattle.session.specs.declared.world.Constant.{Constant}
 use Rattle.session.specs.declared.world.Edge.{Edge}
-use Rattle.session.specs.Machine.{IsSupported, IsInState}
+use Rattle.session.specs.Machine.{IsInState}
 
 pub record IsSteady (spec : ContextSpec) (state : State) (started : Option ℕ) (now : ℕ) (sources : List Constant) (edges : List Edge) : Type 0 where
   pub supported : IsSupported spec

@@ -2,7 +2,8 @@ ghost use Rattle.std.specs.Prelude.{◌≡◌, ◌<◌, ◌+◌, ◌*◌, nat_le
 ghost use Rattle.std.specs.List.{list_any};
 ghost use Rattle.script_ast.specs.Ranges.{IsInRange, IsNewName};
 ghost use Rattle.session.specs.Rows.{samples_of};
-ghost use Rattle.session.specs.Machine.{IsSupported, IsInState};
+ghost use Rattle.session.specs.Machine.{IsInState};
+ghost use Rattle.wa_base.specs.Contexts.{IsSupported};
 ghost use Rattle.session.specs.Session.{first_machine, lines_after, machine_after, closed_machine, quantum};
 ghost use Rattle.session.specs.World.{World};
 ghost use Rattle.session.specs.Step as spec;

@@ -1,6 +1,6 @@
 ghost use Rattle.std.specs.Prelude.{◌≡◌, ◌++◌, List, [], IsSome, IfOk, IfSome, IsErrOf, OnOk, Some};
 ghost use Rattle.script_ast.specs.WellFormed.{IsWellFormed, AreCallsAfter};
-ghost use Rattle.session.specs.Machine.{IsSupported};
+ghost use Rattle.wa_base.specs.Contexts.{IsSupported};
 ghost use Rattle.session.specs.Rendering.{rendering_of};
 ghost use Rattle.session.specs.Session.{after_calls, after_quanta, closing, held_by, quanta_left, replayed as replayed_of, session_of, worlds_of};
 ghost use Rattle.session.specs.Step.{KeepsTime};

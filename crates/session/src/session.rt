@@ -1,8 +1,9 @@
 ghost use Rattle.std.specs.Prelude.{◌≡◌, ◌↔◌, ◌≤◌, ◌<◌, ◌*◌, ℕ, Some, ◌⊎◌, nat_le, ◌∷◌, ◌++◌, [], List, true, false, length, replicate, pos, IsTrue, IsSome, IsNone, IfOk, IfSome, IfErr, IsErrOf, OnOk, OnErr, Ok, if◌then◌else◌};
 ghost use Rattle.script_ast.specs.Ranges.{IsInRange};
-ghost use Rattle.session.specs.Machine.{IsSupported, IsInState};
-ghost use Rattle.session.specs.Session.{after_call, after_quantum, closing, is_supported as supports};
-ghost use Rattle.session.specs.Session as session_spec;
+ghost use Rattle.session.specs.Machine.{IsInState};
+ghost use Rattle.wa_base.specs.Contexts.{IsSupported};
+ghost use Rattle.session.specs.Session.{after_call, after_quantum, closing};
+ghost use Rattle.wa_base.specs.Contexts.{is_supported as supports};
 ghost use Rattle.session.specs.Step.{is_start, KeepsTime};
 ghost use Rattle.session.specs.View.{first_view, Stands};
 ghost use Rattle.session.specs.World.{World};
@@ -17,10 +18,6 @@ use std::marker::Model;
 use thiserror::Error;
 use transcript::{Answer, EndWord, Line, Lines};
 use wa_base::{ContextSpec, Exc, Fix, NoMemory, Refusal, Samples, State, Tie};
-
-const MAX_LENGTH: u64 = 33_554_432;
-
-const MAX_SAMPLES: u128 = 67_108_864;
 
 /// How a session is run.
 #[derive(Clone, Copy, Debug, PartialEq, Eq)]
@@ -87,7 +84,7 @@ impl Session {
         ensures refused { IsErrOf result (Refusal.Exc (Exc.NotSupported None)) ↔ (supports spec ≡ false) }
         ensures others { IfErr result (λ e. (e ≡ Refusal.Exc (Exc.NotSupported None)) ⊎ (e ≡ Refusal.NoMemory)) }
     {
-        if !is_supported(spec) {
+        if !spec.is_supported() {
             return Err(Refusal::Exc(Exc::NotSupported(None)));
         }
         let mut lines = Lines::new(alloc);
@@ -225,40 +222,4 @@ impl Session {
     {
         self.control.state()
     }
-}
-
-// Whether a context can be rendered.
-#[tactic(auto, unfolding(crate::specs::Session::is_supported))]
-fn is_supported(spec: ContextSpec) -> bool
-    ensures value { result ≡ supports spec }
-    ensures ranges { result ≡ true → IsSupported spec }
-{
-    has_channels(spec) && has_length(spec) && has_rate(spec) && has_few_samples(spec)
-}
-
-fn has_channels(spec: ContextSpec) -> bool
-    ensures value { result ≡ session_spec.has_channels spec }
-    ensures range { result ≡ true → (1 ≤ spec.channels) × (spec.channels ≤ 32) }
-{
-    1 <= spec.channels && spec.channels <= 32
-}
-
-fn has_length(spec: ContextSpec) -> bool
-    ensures value { result ≡ session_spec.has_length spec }
-    ensures range { result ≡ true → (1 ≤ spec.length) × (spec.length ≤ 33554432) }
-{
-    1 <= spec.length && spec.length <= MAX_LENGTH
-}
-
-fn has_rate(spec: ContextSpec) -> bool
-    ensures value { result ≡ session_spec.has_rate spec }
-{
-    8_000 <= spec.rate && spec.rate <= 96_000
-}
-
-fn has_few_samples(spec: ContextSpec) -> bool
-    ensures value { result ≡ nat_le (spec.channels * spec.length) 67108864 }
-    ensures range { result ≡ true → spec.channels * spec.length ≤ 67108864 }
-{
-    u128::from(spec.channels) * u128::from(spec.length) <= MAX_SAMPLES
 }

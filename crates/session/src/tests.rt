@@ -1,9 +1,13 @@
+ghost use Rattle.std.specs.Prelude.{◌≡◌, IfOk};
+ghost use Rattle.script_ast.specs.Ranges.{IsInRange};
+
 use crate::{Options, Session, Stop, Turn};
 use io_edge::MemFiles;
 use script_ast::{Call, Op};
 use std::alloc::Global;
 use std::test::Fail;
-use wa_base::{ContextSpec, NoMemory, Refusal, State, Tie};
+use transcript::{EndWord, Lines, text};
+use wa_base::{Bytes, ContextSpec, Name, NoMemory, ONE, Refusal, State, Tie};
 
 const WITH_AUDIO: Options = Options {
     tie: Tie::Up,
@@ -71,22 +75,91 @@ fn contexts_out_of_range_are_refused(rt: HostRuntime) {
     }
 }
 
-// Where one growth is refused, the call or the quantum that asked for it can be made again.
+// A name, asked for a second time where memory for it was refused.
+fn name_of(alloc: Global, text: &str) -> Result<Name, NoMemory>
+    ensures { IfOk result (λ name. name ≡ text.now) }
+{
+    let bytes = match Vec::from_slice(alloc, text.as_bytes()) {
+        Err(_) => Vec::from_slice(alloc, text.as_bytes())?,
+        Ok(bytes) => bytes,
+    };
+    Ok(Name::from(bytes))
+}
+
+// A source that sounds for one frame, and the start of rendering.
+#[tactic(auto, unfolding(script_ast::specs::Ranges::is_new_name))]
+fn op_of(alloc: Global, ordinal: u32) -> Result<Op, NoMemory>
+    ensures { IfOk result (λ op. IsInRange op) }
+{
+    let node = name_of(alloc, "c")?;
+    match ordinal {
+        1 => Ok(Op::CreateConstantSource {
+            name: node,
+            offset: ONE,
+        }),
+        2 => Ok(Op::Connect {
+            from: node,
+            output: 0,
+            to: name_of(alloc, "destination")?,
+            input: 0,
+        }),
+        3 => Ok(Op::Start {
+            node,
+            when: 0,
+            offset: 0,
+            duration: None,
+        }),
+        4 => Ok(Op::Stop { node, when: 1 }),
+        _ => Ok(Op::StartRendering),
+    }
+}
+
+// A call that is made a second time where memory for it was refused.
+fn call_again(alloc: Global, session: &mut Session, ordinal: u32) -> Result<(), Stop> {
+    let call = Call {
+        ordinal,
+        holder: 0,
+        op: op_of(alloc, ordinal)?,
+    };
+    let mut files = MemFiles::new(alloc);
+    match session.call(&call, &mut files) {
+        Err(Stop::NoMemory) => session.call(&call, &mut files),
+        called => called,
+    }
+}
+
+fn text_again(alloc: Global, lines: &Lines, end: EndWord) -> Result<Bytes, NoMemory> {
+    match text(alloc, lines, &end) {
+        Err(NoMemory) => text(alloc, lines, &end),
+        Ok(bytes) => Ok(bytes),
+    }
+}
+
+// Where one growth is refused, the call or the quantum that asked for it can be made again, and all
+// is as if nothing had been refused.
 #[test]
 fn what_was_refused_memory_can_be_done_again(rt: HostRuntime) -> Result<(), Fail> {
-    let mut session = match begin(rt.alloc(), 2, 100) {
-        Err(Refusal::NoMemory) => begin(rt.alloc(), 2, 100)?,
+    let mut session = match begin(rt.alloc(), 1, 100) {
+        Err(Refusal::NoMemory) => begin(rt.alloc(), 1, 100)?,
         begun => begun?,
     };
-    if start_rendering(rt.alloc(), &mut session, 7).is_err() {
-        assert_eq!(rt; session.state(), State::Suspended);
-        start_rendering(rt.alloc(), &mut session, 7)?;
+    for ordinal in 1..6 {
+        call_again(rt.alloc(), &mut session, ordinal)?;
     }
-    assert_eq!(rt; session.state(), State::Running);
     let turn = match advance(&mut session) {
         Err(NoMemory) => advance(&mut session)?,
         Ok(turn) => turn,
     };
-    assert_eq!(rt; turn, Some(Turn::Done(7)));
+    assert_eq!(rt; turn, Some(Turn::Done(5)));
+    let outcome = session.completed();
+    let lines = text_again(rt.alloc(), &outcome.lines, outcome.end)?;
+    let want =
+        b"1 ok\n2 ok\n3 ok\n4 ok\n5 pending\nended 1 c\n5 resolved\ncomplete 100\nend completed\n";
+    assert!(rt; lines.as_slice() == want.as_slice());
+    let mut samples = [0; 100];
+    samples[0] = ONE;
+    assert!(rt;
+        outcome.rendered.is_some_and(|rendered| rendered.samples.as_slice() == samples.as_slice())
+    );
     Ok(())
 }

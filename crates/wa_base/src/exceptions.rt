@@ -7,7 +7,7 @@ use crate::memory::NoMemory;
 /// An exception of the Web Audio recommendation, of WebIDL or of ECMAScript.
 #[derive(Clone, Copy, Debug, PartialEq, Eq)]
 pub enum Exc {
-    /// NotSupportedError, with the feature where the profile alone refuses.
+    /// NotSupportedError, with a feature where what is left out or limited has a word of its own.
     NotSupported(Option<Feature>),
     InvalidState,
     InvalidAccess,

@@ -1,6 +1,6 @@
 //! What every crate of the replayer stands on: fixed-point numbers with their rounding, the answer
-//! for want of memory, lists that contracts see as lists, and the names of nodes, parameters,
-//! features and exceptions.
+//! for want of memory, lists that contracts see as lists, a counter of steps, and the names of nodes,
+//! parameters, features and exceptions.
 #![tactic(auto)]
 
 mod contexts;
@@ -10,6 +10,7 @@ mod graph_names;
 mod items;
 mod memory;
 mod numbers;
+mod steps;
 #[cfg(test)]
 mod tests;
 
@@ -20,3 +21,4 @@ pub use graph_names::{BufId, End, Interp, Mode, Name, NodeId, ParamId, ParamName
 pub use items::{Bytes, Items, Samples};
 pub use memory::NoMemory;
 pub use numbers::{Fix, ONE, rnd_div, sat, scale};
+pub use steps::Steps;

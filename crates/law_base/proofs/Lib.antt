@@ -1,0 +1,5 @@
+pub mod Members
+pub mod Tests
+pub mod Reaching
+pub mod HeightLaws
+pub mod SchemeLaws
