@@ -1,0 +1,97 @@
+-- The value of an output channel is that of its linear form.
+use Rattle.std.proofs.Common.{◌≡◌, ◌<◌, ◌≤◌, ◌+◌, ◌/◌, ℕ, zero, suc, ℤ, pos, negsuc, ◌+ℤ◌, ◌*ℤ◌, List, [], ◌∷◌, map, refl, sym, ap, ap₂, ◌∙◌, arith, inl, inr, nat_eq, cond}
+use Rattle.std.specs.Int.{int_div_euclid}
+use Rattle.std.specs.List.{range_with_len}
+use Rattle.std.proofs.lemmas.Bool.Decides.{eqb_tells}
+use Rattle.std.proofs.lemmas.Int.{ints}
+use Rattle.std.proofs.Math.IntN.{pred_ℤ, suc_ℤ-*ℤ, pred_ℤ-*ℤ, suc_ℤ-+ℤ, pred_ℤ-+ℤ, +ℤ_idl, zero-*ℤ}
+use Rattle.wa_base.specs.Numbers.{rnd}
+use Rattle.wa_base.specs.declared.graph_names.Interp.{Interp}
+use Rattle.channel_mix.specs.declared.outputs.Output.{Output}
+use Rattle.channel_mix.specs.declared.outputs.Output.TheVariants.{Silence, Channel, HalfOfTwo, QuarterOfFour, Weighed}
+use Rattle.channel_mix.specs.Mixing.{Form, ◌⊕◌, channel, only, form, weighed, applied, mix}
+use Rattle.channel_mix.specs.Outputs.{value_of, form_of, needed}
+
+rnd_by_one : (z : ℤ) → rnd z (pos 1) ≡ z
+rnd_by_one (pos n) = omega (arith, ints)
+rnd_by_one (negsuc n) =
+    let doubled : pos 2 *ℤ negsuc n +ℤ pos 1 ≡ negsuc (n + n) = omega (arith, ints) in
+    let halved : (n + n) / 2 ≡ n = omega arith in
+    ap (λ (v : ℤ). int_div_euclid v (pos 2)) doubled ∙ ap negsuc halved
+
+-- a product with a sum is the sum of the products
+times_sum : (f g x : ℤ) → (f +ℤ g) *ℤ x ≡ f *ℤ x +ℤ g *ℤ x
+times_sum (pos zero) g x = rw (+ℤ_idl g, zero-*ℤ x, +ℤ_idl (g *ℤ x)) refl
+times_sum (pos (suc n)) g x =
+    let before = times_sum (pos n) g x in
+    let right = suc_ℤ-*ℤ (pos n) x in
+    ap (λ (z : ℤ). z *ℤ x) (suc_ℤ-+ℤ (pos n) g) ∙ suc_ℤ-*ℤ (pos n +ℤ g) x ∙ omega (arith, ints, before, right)
+times_sum (negsuc zero) g x =
+    let right = pred_ℤ-*ℤ (pos zero) x in
+    let none = zero-*ℤ x in
+    ap (λ (z : ℤ). z *ℤ x) (pred_ℤ-+ℤ (pos zero) g) ∙ ap (λ (z : ℤ). pred_ℤ z *ℤ x) (+ℤ_idl g) ∙ pred_ℤ-*ℤ g x ∙ omega (arith, ints, right, none)
+times_sum (negsuc (suc n)) g x =
+    let before = times_sum (negsuc n) g x in
+    let right = pred_ℤ-*ℤ (negsuc n) x in
+    ap (λ (z : ℤ). z *ℤ x) (pred_ℤ-+ℤ (negsuc n) g) ∙ pred_ℤ-*ℤ (negsuc n +ℤ g) x ∙ omega (arith, ints, before, right)
+
+weighed_of_sum : (fs gs : List ℤ) (i : ℕ) (frame : ℕ → ℤ) → weighed (fs ⊕ gs) i frame ≡ weighed fs i frame +ℤ weighed gs i frame
+weighed_of_sum [] gs i frame = omega (arith, ints)
+weighed_of_sum (f ∷ fs) [] i frame = omega (arith, ints)
+weighed_of_sum (f ∷ fs) (g ∷ gs) i frame =
+    let here = times_sum f g (frame i) in
+    let rest = weighed_of_sum fs gs (i + 1) frame in
+    omega (arith, ints, here, rest)
+
+-- the factors of channel i among n channels from `first` on
+one_of : ℕ → ℕ → ℕ → List ℤ
+one_of i first n = map (λ c. cond (nat_eq c i) (pos 1) (pos 0)) (range_with_len first n)
+
+weighed_before : (i first n : ℕ) (frame : ℕ → ℤ) → i < first → weighed (one_of i first n) first frame ≡ pos 0
+unfolding one_of
+weighed_before i first zero frame before = refl
+weighed_before i first (suc n) frame before = elim (eqb_tells first i) [
+  | inl same ↦ absurd (let e = same.1 in omega arith)
+  | inr other ↦ rw (other.0) (let rest = weighed_before i (first + 1) n frame (omega arith) in omega (arith, ints, rest))
+]
+
+weighed_among : (i first n : ℕ) (frame : ℕ → ℤ) → first ≤ i → i < first + n → weighed (one_of i first n) first frame ≡ frame i
+unfolding one_of
+weighed_among i first zero frame low high = absurd (omega arith)
+weighed_among i first (suc n) frame low high = elim (eqb_tells first i) [
+  | inl same ↦ rw (same.0) (
+      let here = ap frame same.1 in
+      let rest = weighed_before i (first + 1) n frame (let e = same.1 in omega arith) in
+      omega (arith, ints, here, rest)
+      )
+  | inr other ↦ rw (other.0) (
+      let apart = other.1 in
+      let rest = weighed_among i (first + 1) n frame (omega arith) (omega arith) in
+      omega (arith, ints, rest)
+      )
+]
+
+-- the sum of channel i alone
+weighed_channel : (from i : ℕ) (frame : ℕ → ℤ) → i < from → weighed (channel from i) 0 frame ≡ frame i
+unfolding one_of
+weighed_channel from i frame there = weighed_among i 0 from frame (omega arith) (omega arith)
+
+pub applied_channel : (from i : ℕ) (frame : ℕ → ℤ) → i < from → applied (only (channel from i)) frame ≡ frame i
+applied_channel from i frame there = ap (λ (z : ℤ). rnd z (pos 1)) (weighed_channel from i frame there) ∙ rnd_by_one (frame i)
+
+value_of-form : (from : ℕ) (output : Output) (frame : ℕ → ℤ) → needed output ≤ from → value_of output frame ≡ applied (form_of from output) frame
+value_of-form from Silence frame there = refl
+value_of-form from (Channel i) frame there = sym (applied_channel from i frame there)
+value_of-form from (HalfOfTwo i j) frame there =
+    let left = weighed_channel from i frame (omega arith) in
+    let right = weighed_channel from j frame (omega arith) in
+    ap (λ (z : ℤ). rnd z (pos 2)) (sym (weighed_of_sum (channel from i) (channel from j) 0 frame ∙ ap₂ (λ (x y : ℤ). x +ℤ y) left right))
+value_of-form from QuarterOfFour frame there =
+    let same : (frame 0 +ℤ frame 1) +ℤ (frame 2 +ℤ frame 3) ≡ weighed (form_of from QuarterOfFour).factors 0 frame = omega (arith, ints) in
+    ap (λ (z : ℤ). rnd z (pos 4)) same
+value_of-form from (Weighed factors) frame there = refl
+
+pub value_of-mix : (interp : Interp) (from to c : ℕ) (output : Output) (frame : ℕ → ℤ) → form_of from output ≡ form interp from to c → needed output ≤ from
+    → value_of output frame ≡ mix interp from to frame c
+unfolding mix
+value_of-mix interp from to c output frame same there = value_of-form from output frame there ∙ ap (λ (f : Form). applied f frame) same

@@ -1,0 +1,8 @@
+use Rattle.std.proofs.Common.{pos, ◌+ℤ◌}
+use Rattle.wa_base.specs.Numbers.{rnd}
+use Rattle.channel_mix.specs.Blocks.{at}
+use Rattle.channel_mix.proofs.Sums.{AddsBelow}
+use Rattle.channel_mix.proofs.kernels.add_halves.Given as goal
+
+abbrev pub invariant-loop-k : goal.invariant-loop-k
+invariant-loop-k l = AddsBelow (λ k. rnd (at l.left k +ℤ at l.right k) (pos 2)) l.k l.initial.sums l.sums

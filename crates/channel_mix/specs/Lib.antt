@@ -1,0 +1,4 @@
+pub mod Blocks
+pub mod Counts
+pub mod Mixing
+pub mod Outputs

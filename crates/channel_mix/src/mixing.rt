@@ -1,0 +1,66 @@
+ghost use Rattle.std.specs.Prelude.{◌≡◌, ◌<◌, ◌≤◌, ◌+◌, ◌-◌, ◌*◌, ◌^◌, ◌+ℤ◌, ℕ, length, take, drop, IsTrue, All};
+ghost use Rattle.channel_mix.specs.Blocks.{sample, frame_at, IsWithin, Adds};
+ghost use Rattle.channel_mix.specs.Mixing.{mix};
+ghost use Rattle.channel_mix.specs.Outputs.{value_of, needed, has_small_factors};
+
+use crate::kernels::{add_channel, add_halves, add_quarters, add_weighed};
+use crate::outputs::Output;
+use wa_base::Interp;
+
+/// Adds a connection's samples to the sums of an input, mixed to the input's number of channels.
+///
+/// `acc` has `to` channels and `src` has `from`, both 1 to 32. They stand one after the other, and
+/// each has equally many frames. Samples are in units of 2^-24. An output channel's value at a frame
+/// is rounded once, and a half goes up. It is not saturated: the sum over all connections is, once.
+///
+/// A call moves a sum by at most 2^34, so sums have room for 8,191 connections from zero.
+///
+/// From the section on channel up-mixing and down-mixing.
+pub fn mix_add(acc: &mut [i64], to: usize, src: &[i32], from: usize, interp: Interp)
+    requires to { 1 ≤ to }
+    requires lengths { (frames : ℕ) × (length acc.old ≡ to * frames) × (length src.now ≡ from * frames) }
+    requires room { All (IsWithin (2 ^ 47 - 2 ^ 34)) acc.old }
+    ensures sums { (frames c k : ℕ) → length acc.old ≡ to * frames → c < to → k < frames →
+        sample frames acc.new c k ≡ sample frames acc.old c k +ℤ mix interp from to (frame_at frames src.now k) c }
+    ensures room { (bound : ℕ) → All (IsWithin bound) acc.old → All (IsWithin (bound + 2 ^ 34)) acc.new }
+{
+    let frames = acc.len() / to;
+    for channel in 0..to {
+        let first = channel * frames;
+        let output = Output::new(interp, from, to, channel);
+        add_output(&mut acc[first..first + frames], output, src);
+    }
+}
+
+// Adds an output channel to its sums.
+fn add_output(sums: &mut [i64], output: Output, src: &[i32])
+    requires src { needed output * length sums.old ≤ length src.now }
+    requires small { IsTrue (has_small_factors output) }
+    requires room { All (IsWithin (2 ^ 47)) sums.old }
+    ensures { Adds (λ k. value_of output (frame_at (length sums.old) src.now k)) sums.old sums.new }
+{
+    let frames = sums.len();
+    match output {
+        Output::Silence => {}
+        Output::Channel(i) => add_channel(sums, channel_of(src, frames, i)),
+        Output::HalfOfTwo(i, j) => {
+            add_halves(sums, channel_of(src, frames, i), channel_of(src, frames, j));
+        }
+        Output::QuarterOfFour => {
+            let (l, r) = (channel_of(src, frames, 0), channel_of(src, frames, 1));
+            let (sl, sr) = (channel_of(src, frames, 2), channel_of(src, frames, 3));
+            add_quarters(sums, l, r, sl, sr);
+        }
+        Output::Weighed(factors) => add_weighed(sums, &factors, src),
+    }
+}
+
+// The frames of one channel.
+fn channel_of(src: &[i32], frames: usize, channel: usize) -> &[i32]
+    requires { channel * frames + frames ≤ length src.now }
+    ensures value { result.now ≡ take frames (drop (channel * frames) src.now) }
+    ensures length { length result.now ≡ frames }
+{
+    let first = channel * frames;
+    &src[first..first + frames]
+}

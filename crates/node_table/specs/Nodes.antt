@@ -1,0 +1,64 @@
+-- The nodes of a graph, in order of creation.
+use Rattle.std.specs.Prelude.{ℕ, ◌≡◌, ◌≤◌, List, length, drop, slice_get, nat_lt, All, Bool, false, if◌then◌else◌, Option, Some, None, IfSome, option_map}
+use Rattle.wa_base.specs.declared.contexts.ContextSpec.{ContextSpec}
+use Rattle.wa_base.specs.declared.exceptions.Exc.{Exc}
+use Rattle.wa_base.specs.declared.exceptions.Exc.TheVariants.{NotSupported}
+use Rattle.wa_base.specs.declared.features.Feature.TheVariants.{NodeLimit}
+use Rattle.wa_base.specs.declared.graph_names.Mode.TheVariants.{Max, Explicit}
+use Rattle.wa_base.specs.declared.graph_names.Interp.TheVariants.{Speakers}
+use Rattle.node_table.specs.declared.kinds.Kind.{Kind}
+use Rattle.node_table.specs.declared.kinds.Kind.TheVariants.{Destination}
+use Rattle.node_table.specs.declared.nodes.Attrs.{Attrs}
+use Rattle.node_table.specs.declared.nodes.Node.{Node}
+use Rattle.node_table.specs.Kinds.{is_destination}
+
+-- the destination of a context
+abbrev pub destination_of : ContextSpec → Node
+destination_of spec = record { kind = Destination; attrs = record { count = spec.channels; mode = Explicit; interp = Speakers; birth = 0 } }
+
+-- the attributes with which a node is created at a frame
+abbrev pub first_attrs : ℕ → Attrs
+first_attrs birth = record { count = 2; mode = Max; interp = Speakers; birth = birth }
+
+-- a node that is created at a frame
+abbrev pub node_of : Kind → ℕ → Node
+node_of kind birth = record { kind = kind; attrs = first_attrs birth }
+
+-- a graph has at most 1,024 nodes, the destination among them
+abbrev pub has_room : List Node → Bool
+has_room nodes = nat_lt (length nodes) 1024
+
+-- the exception with which the creation of a node is refused, if it is
+abbrev pub creation_refusal : List Node → Kind → Option Exc
+creation_refusal nodes kind = if has_room nodes then None else Some (NotSupported (Some NodeLimit))
+
+-- what a node is, if it is there
+abbrev pub kind_at : List Node → ℕ → Option Kind
+kind_at nodes node = option_map (λ n. n.kind) (slice_get nodes node)
+
+-- the attributes of a node, if it is there
+abbrev pub attrs_at : List Node → ℕ → Option Attrs
+attrs_at nodes node = option_map (λ n. n.attrs) (slice_get nodes node)
+
+-- ---- what holds of every list of nodes
+
+-- the destination of some context
+pub record IsFirst (node : Node) : Type 0 where
+  pub kind : node.kind ≡ Destination
+  pub count_low : 1 ≤ node.attrs.count
+  pub count_high : node.attrs.count ≤ 32
+  pub mode : node.attrs.mode ≡ Explicit
+  pub interp : node.attrs.interp ≡ Speakers
+  pub birth : node.attrs.birth ≡ 0
+
+-- a node that was created, with the attributes of its creation
+pub record IsCreated (node : Node) : Type 0 where
+  pub kind : is_destination node.kind ≡ false
+  pub attrs : node.attrs ≡ first_attrs node.attrs.birth
+
+-- the destination, and then the nodes that were created
+pub record AreNodes (nodes : List Node) : Type 0 where
+  pub some : 1 ≤ length nodes
+  pub few : length nodes ≤ 1024
+  pub first : IfSome (slice_get nodes 0) IsFirst
+  pub others : All IsCreated (drop 1 nodes)

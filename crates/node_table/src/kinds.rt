@@ -1,0 +1,75 @@
+ghost use Rattle.std.specs.Prelude.{◌≡◌, IfOk};
+ghost use Rattle.node_table.specs.Kinds as spec;
+
+use wa_base::{Fix, NoMemory, ParamName};
+
+/// What a node is, with what it was created with.
+#[derive(Debug, Drop, PartialEq)]
+pub enum Kind {
+    /// The node whose input the context renders (AudioDestinationNode).
+    Destination,
+    /// A source of one value (ConstantSourceNode).
+    Constant {
+        /// The value that the parameter `offset` was created with.
+        offset: Fix,
+    },
+    /// A node that multiplies its input by a gain (GainNode).
+    Gain {
+        /// The value that the parameter `gain` was created with.
+        gain: Fix,
+    },
+}
+
+impl Kind {
+    /// The number of inputs (numberOfInputs).
+    pub fn inputs(&self) -> u32
+        ensures { result ≡ spec.inputs self.now }
+    {
+        match self {
+            Kind::Destination | Kind::Gain { .. } => 1,
+            Kind::Constant { .. } => 0,
+        }
+    }
+
+    /// The number of outputs (numberOfOutputs). The destination has one, although the profile lets
+    /// no connection leave it.
+    pub fn outputs(&self) -> u32
+        ensures { result ≡ spec.outputs self.now }
+    {
+        match self {
+            Kind::Destination | Kind::Constant { .. } | Kind::Gain { .. } => 1,
+        }
+    }
+
+    /// Whether the node is a delay (DelayNode). No kind that is built is one.
+    pub fn is_delay(&self) -> bool
+        ensures { result ≡ spec.is_delay_kind self.now }
+    {
+        match self {
+            Kind::Destination | Kind::Constant { .. } | Kind::Gain { .. } => false,
+        }
+    }
+
+    /// The value that a parameter was created with, or `None` where the kind has no such parameter
+    /// that can be automated.
+    pub fn param_base(&self, name: ParamName) -> Option<Fix>
+        ensures { result ≡ spec.param_base self.now name }
+    {
+        match (self, name) {
+            (Kind::Constant { offset }, ParamName::Offset) => Some(*offset),
+            (Kind::Gain { gain }, ParamName::Gain) => Some(*gain),
+            _ => None,
+        }
+    }
+
+    /// An equal kind with memory of its own.
+    pub fn copy(&self) -> Result<Kind, NoMemory>
+        ensures { IfOk result (λ copy. copy ≡ self.now) }
+    {
+        Ok(match self {
+            Kind::Destination => Kind::Destination,
+            Kind::Constant { offset } => Kind::Constant { offset: *offset },
+            Kind::Gain { gain } => Kind::Gain { gain: *gain },
+        })
+    }
+}

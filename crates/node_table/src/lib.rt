@@ -1,0 +1,11 @@
+//! The nodes (AudioNode) of a graph, in order of creation: what each of them is, and how the channels
+//! of its inputs are mixed.
+#![tactic(auto)]
+
+mod kinds;
+mod nodes;
+#[cfg(test)]
+mod tests;
+
+pub use kinds::Kind;
+pub use nodes::{Attrs, Node, Nodes};

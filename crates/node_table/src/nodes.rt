@@ -1,0 +1,174 @@
+ghost use Rattle.std.specs.Prelude.{◌≡◌, ◌==◌, ◌↔◌, ◌<◌, ◌≤◌, ◌∷◌, ◌++◌, [], false, Some, None, length, IfOk, IsErrOf, OnOk, OnErr};
+ghost use Rattle.wa_base.specs.Contexts.{IsSupported};
+ghost use Rattle.node_table.specs.Kinds.{is_destination};
+ghost use Rattle.node_table.specs.Nodes as table;
+
+use crate::kinds::Kind;
+use std::alloc::Global;
+use std::marker::Model;
+use wa_base::{ContextSpec, Exc, Feature, Interp, Mode, NoMemory, NodeId, Refusal};
+
+const MAX_NODES: usize = 1_024;
+
+/// How the channels of a node's inputs are mixed, and when the node was created.
+#[derive(Clone, Copy, Debug, PartialEq, Eq)]
+pub struct Attrs {
+    /// The number of channels that the mode speaks of (channelCount), from 1 to 32.
+    pub count: u32,
+    /// channelCountMode.
+    pub mode: Mode,
+    /// channelInterpretation.
+    pub interp: Interp,
+    /// The time of the context at the creation, in frames.
+    pub birth: u64,
+}
+
+/// A node (AudioNode).
+#[derive(Debug, Drop, PartialEq)]
+pub struct Node {
+    pub kind: Kind,
+    pub attrs: Attrs,
+}
+
+impl Node {
+    // The destination of a context.
+    fn destination(spec: ContextSpec) -> Node
+        ensures { result ≡ table.destination_of spec }
+    {
+        Node {
+            kind: Kind::Destination,
+            attrs: Attrs {
+                count: spec.channels,
+                mode: Mode::Explicit,
+                interp: Interp::Speakers,
+                birth: 0,
+            },
+        }
+    }
+
+    // A node that was created at this frame.
+    fn created(kind: Kind, birth: u64) -> Node
+        ensures { result ≡ table.node_of kind birth }
+    {
+        let attrs = Attrs {
+            count: 2,
+            mode: Mode::Max,
+            interp: Interp::Speakers,
+            birth,
+        };
+        Node { kind, attrs }
+    }
+
+    // An equal node with memory of its own.
+    fn copy(&self) -> Result<Node, NoMemory>
+        ensures { IfOk result (λ copy. copy ≡ self.now) }
+    {
+        Ok(Node {
+            kind: self.kind.copy()?,
+            attrs: self.attrs,
+        })
+    }
+}
+
+/// The nodes of a graph, in order of creation. Contracts see them as the list of nodes.
+///
+/// The destination is node 0, and is there from the start. A node is never removed.
+#[derive(Debug, Drop)]
+pub struct Nodes {
+    nodes: Vec<Node>,
+}
+
+impl Model for Nodes {
+    ghost use Rattle.std.specs.Prelude.{List};
+    ghost use Rattle.node_table.specs.declared.nodes.Node.{Node};
+    ghost use Rattle.node_table.specs.Nodes.{AreNodes};
+
+    ghost Value = { List Node };
+
+    ghost view = { λ s. s.nodes.items };
+
+    ghost invariant = { λ s. AreNodes s.nodes.items };
+}
+
+impl Nodes {
+    /// The destination of a context, alone: its channel count is the context's, its mode explicit and
+    /// its interpretation speakers (the recommendation's section on AudioDestinationNode).
+    pub fn new(alloc: Global, spec: ContextSpec) -> Result<Nodes, NoMemory>
+        requires { IsSupported spec }
+        ensures { IfOk result (λ nodes. nodes ≡ table.destination_of spec ∷ []) }
+    {
+        let mut nodes = Vec::new(alloc);
+        nodes.push(Node::destination(spec))?;
+        Ok(Nodes { nodes })
+    }
+
+    /// Creates a node of a kind other than the destination at the frame `birth`. Its number is the
+    /// count of the nodes that were there before, and its attributes are the kind's defaults.
+    ///
+    /// It is refused with NotSupportedError and the feature `node-limit` where 1,024 nodes are there,
+    /// the destination among them. After a refusal, and after `NoMemory`, the nodes are as before, and
+    /// the kind is dropped.
+    #[tactic(auto, using(crate::proofs::NodeLists::are_nodes_with_another))]
+    pub fn create(&mut self, kind: Kind, birth: u64) -> Result<NodeId, Refusal>
+        requires { is_destination kind ≡ false }
+        ensures id { IfOk result (λ id. id.0 ≡ length self.old) }
+        ensures nodes { OnOk result (self.new ≡ self.old ++ table.node_of kind birth ∷ []) }
+        ensures accepted { OnOk result (table.creation_refusal self.old kind ≡ None) }
+        ensures refused { (exc : Exc) → IsErrOf result (Refusal.Exc exc) ↔ (table.creation_refusal self.old kind ≡ Some exc) }
+        ensures err { OnErr result (self.new ≡ self.old) }
+    {
+        if self.nodes.len() >= MAX_NODES {
+            return Err(Refusal::Exc(Exc::NotSupported(Some(Feature::NodeLimit))));
+        }
+        let id = NodeId(self.nodes.len() as u32);
+        self.nodes
+            .push(Node::created(kind, birth))
+            .map_err(NoMemory::from)?;
+        Ok(id)
+    }
+
+    /// What a node is.
+    pub fn kind(&self, node: NodeId) -> &Kind
+        requires { node.0 < length self.now }
+        ensures value { table.kind_at self.now node.0 ≡ Some result.now }
+        ensures destination { is_destination result.now ≡ (node.0 == 0) }
+    {
+        &self.nodes[node.0 as usize].kind
+    }
+
+    /// The attributes of a node.
+    pub fn attrs(&self, node: NodeId) -> Attrs
+        requires { node.0 < length self.now }
+        ensures value { table.attrs_at self.now node.0 ≡ Some result }
+        ensures count { (1 ≤ result.count) × (result.count ≤ 32) }
+    {
+        self.nodes[node.0 as usize].attrs
+    }
+
+    /// The number of nodes, from 1 to 1,024.
+    pub fn len(&self) -> u32
+        ensures value { result ≡ length self.now }
+        ensures nodes { table.AreNodes self.now }
+    {
+        self.nodes.len() as u32
+    }
+
+    /// Equal nodes with memory of their own.
+    pub fn copy(&self) -> Result<Nodes, NoMemory>
+        ensures { IfOk result (λ copy. copy ≡ self.now) }
+    {
+        let nodes = copy_all(*self.nodes.allocator(), self.nodes.as_slice())?;
+        Ok(Nodes { nodes })
+    }
+}
+
+// Copies of nodes, in their order.
+fn copy_all(alloc: Global, nodes: &[Node]) -> Result<Vec<Node>, NoMemory>
+    ensures { IfOk result (λ copies. copies.items ≡ nodes.now) }
+{
+    let mut copies = Vec::with_capacity(alloc, nodes.len())?;
+    for node in nodes {
+        copies.push_reserved(node.copy()?);
+    }
+    Ok(copies)
+}

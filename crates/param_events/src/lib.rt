@@ -1,0 +1,12 @@
+//! Automation of a parameter: the events of a timeline, and the value that they give at a frame.
+#![tactic(auto)]
+
+mod events;
+mod laws;
+#[cfg(test)]
+mod tests;
+mod timeline;
+
+pub use events::Event;
+pub use laws::base_is_held;
+pub use timeline::Timeline;
