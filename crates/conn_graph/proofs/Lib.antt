@@ -1,0 +1,8 @@
+pub mod Cells
+pub mod Puts
+pub mod Graphs
+pub mod EndLaws
+pub mod MutingLaws
+pub mod RankLaws
+pub mod Rows
+pub mod WalkLaws

@@ -1,0 +1,6 @@
+pub mod Edges
+pub mod Graph
+pub mod Walks
+pub mod Cells
+pub mod Ends
+pub mod Orders

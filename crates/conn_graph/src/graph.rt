@@ -1,0 +1,247 @@
+ghost use Rattle.std.specs.Prelude.{◌≡◌, ◌↔◌, ◌<◌, ◌+◌, ◌-◌, ◌^◌, [], ◌∷◌, ◌++◌, length, not, Some, IsOk, IfOk, OnOk, OnErr, IsErrOf, IfSome, IsNone};
+ghost use Rattle.wa_base.specs.declared.exceptions.Exc.{Exc};
+ghost use Rattle.wa_base.specs.declared.exceptions.Refusal.TheVariants as Refusal;
+ghost use Rattle.conn_graph.specs.Edges.{target_node, form_node};
+ghost use Rattle.conn_graph.specs.Graph as spec;
+ghost use Rattle.conn_graph.specs.Walks.{out_walk, in_walk, next_step, IsOnWalk, IsOutWalk, IsInWalk, LeavesGraph};
+
+use crate::edges::{Edge, Form, Ports, Target};
+use crate::walks::{has_edge, keep_unnamed, names_one, next_entering, next_leaving, put_edge};
+use std::alloc::Global;
+use std::marker::Model;
+use std::sync::ledger::Ledger;
+use wa_base::{Exc, Feature, NoMemory, NodeId, Refusal, Steps};
+
+const MAX_EDGES: usize = 8_192;
+
+/// The nodes of an audio graph, as far as connections see them, and the connections between them.
+///
+/// Contracts see it as the list of the nodes' ports and the list of connections, in order of the
+/// source's number and, for one source, in order of connection. No connection is there twice.
+#[derive(Drop)]
+pub struct Graph {
+    nodes: Vec<Ports>,
+    edges: Vec<Edge>,
+}
+
+impl Model for Graph {
+    ghost use Rattle.std.specs.Prelude.{◌-◌, vec_capacity, vec_len};
+    ghost use Rattle.conn_graph.specs.Cells.{connections_of, view_of};
+    ghost use Rattle.conn_graph.specs.Graph.{IsGraph};
+    ghost use Rattle.conn_graph.specs.Walks.{GraphView};
+
+    ghost Value = { GraphView };
+
+    ghost view = { λ g. view_of g.nodes.items g.edges.items (vec_capacity g.nodes - vec_len g.nodes) };
+
+    ghost invariant = { λ g. IsGraph (connections_of g.nodes.items g.edges.items) };
+}
+
+impl Graph {
+    /// A graph without nodes. It takes no memory until it grows.
+    pub fn new(alloc: Global) -> Graph
+        ensures { result.value ≡ spec.no_connections }
+    {
+        Graph {
+            nodes: Vec::new(alloc),
+            edges: Vec::new(alloc),
+        }
+    }
+
+    /// Makes room for one more node. The graph stays.
+    pub fn reserve(&mut self) -> Result<(), NoMemory>
+        ensures graph { LeavesGraph self.old self.new }
+        ensures room { OnOk result (0 < self.new.room) }
+    {
+        self.nodes.reserve(1)?;
+        Ok(())
+    }
+
+    /// Adds a node with so many inputs and outputs, and no connection. After `NoMemory` the graph
+    /// is as before.
+    pub fn add_node(&mut self, inputs: u32, outputs: u32, is_delay: bool) -> Result<(), NoMemory>
+        requires { length self.old.value.nodes < 2 ^ 32 - 1 }
+        ensures ok { OnOk result (self.new.value ≡ spec.with_node self.old.value (record { inputs = inputs; outputs = outputs; is_delay = is_delay })) }
+        ensures reserved { 0 < self.old.room → IsOk result }
+        ensures err { OnErr result (LeavesGraph self.old self.new) }
+    {
+        self.nodes.push(Ports {
+            inputs,
+            outputs,
+            is_delay,
+        })?;
+        Ok(())
+    }
+
+    /// Makes a connection. `Ok(false)` says that an identical one was there, and nothing changes.
+    ///
+    /// The refusals are, in this order, `IndexSize` for an output or an input that the node does
+    /// not have, and `NotSupported` with `ConnectionLimit` for a new connection where there are
+    /// 8,192. A refusal leaves the graph as it was (AudioNode.connect).
+    pub fn connect(&mut self, edge: Edge) -> Result<bool, Refusal>
+        requires from { edge.from.0 < length self.old.value.nodes }
+        requires to { target_node edge.to < length self.old.value.nodes }
+        ensures ok { IfOk result (λ is_new. is_new ≡ not (spec.has_edge self.old.value edge)) }
+        ensures value { OnOk result (self.new.value ≡ spec.connected self.old.value edge) }
+        ensures room { OnOk result (self.new.room ≡ self.old.room) }
+        ensures refused { (exc : Exc) → IsErrOf result (Refusal.Exc exc) ↔ (spec.connect_refusal self.old.value edge ≡ Some exc) }
+        ensures err { OnErr result (LeavesGraph self.old self.new) }
+        ensures whole { spec.IsGraph self.new.value }
+    {
+        if let Some(exc) = self.connect_refusal(edge) {
+            return Err(Refusal::Exc(exc));
+        }
+        if has_edge(self.edges.as_slice(), &edge) {
+            return Ok(false);
+        }
+        put_edge(&mut self.edges, edge)?;
+        Ok(true)
+    }
+
+    fn connect_refusal(&self, edge: Edge) -> Option<Exc>
+        requires from { edge.from.0 < length self.now.value.nodes }
+        requires to { target_node edge.to < length self.now.value.nodes }
+        ensures { result ≡ spec.connect_refusal self.now.value edge }
+    {
+        if edge.output >= self.ports(edge.from).outputs || self.lacks_input(edge.to) {
+            return Some(Exc::IndexSize);
+        }
+        if self.edges.len() >= MAX_EDGES && !has_edge(self.edges.as_slice(), &edge) {
+            return Some(Exc::NotSupported(Some(Feature::ConnectionLimit)));
+        }
+        None
+    }
+
+    fn lacks_input(&self, target: Target) -> bool
+        requires { target_node target < length self.now.value.nodes }
+        ensures { result ≡ spec.lacks_input self.now.value target }
+    {
+        match target {
+            Target::Input { node, input } => input >= self.ports(node).inputs,
+            Target::Param(_) => false,
+        }
+    }
+
+    /// Takes the connections away that the form names, and no other (AudioNode.disconnect).
+    ///
+    /// The refusals are, in this order, `IndexSize` for an output and for an input that the node
+    /// does not have, and `InvalidAccess` where a form with a target names no connection. A refusal
+    /// leaves the graph as it was.
+    pub fn disconnect(&mut self, from: NodeId, form: Form) -> Result<(), Exc>
+        requires from { from.0 < length self.old.value.nodes }
+        requires to { IfSome (form_node form) (λ node. node < length self.old.value.nodes) }
+        ensures ok { OnOk result (self.new.value ≡ spec.disconnected self.old.value from.0 form) }
+        ensures room { self.new.room ≡ self.old.room }
+        ensures refused { (exc : Exc) → IsErrOf result exc ↔ (spec.disconnect_refusal self.old.value from.0 form ≡ Some exc) }
+        ensures err { OnErr result (LeavesGraph self.old self.new) }
+        ensures whole { spec.IsGraph self.new.value }
+    {
+        if let Some(exc) = self.disconnect_refusal(from, form) {
+            return Err(exc);
+        }
+        keep_unnamed(&mut self.edges, from, form);
+        Ok(())
+    }
+
+    fn disconnect_refusal(&self, from: NodeId, form: Form) -> Option<Exc>
+        requires from { from.0 < length self.now.value.nodes }
+        requires to { IfSome (form_node form) (λ node. node < length self.now.value.nodes) }
+        ensures { result ≡ spec.disconnect_refusal self.now.value from.0 form }
+    {
+        let lacks_output = match form.output() {
+            Some(output) => output >= self.ports(from).outputs,
+            None => false,
+        };
+        let lacks_input = match form.input() {
+            Some((node, input)) => input >= self.ports(node).inputs,
+            None => false,
+        };
+        if lacks_output || lacks_input {
+            return Some(Exc::IndexSize);
+        }
+        if form.names_a_target() && !names_one(self.edges.as_slice(), from, form) {
+            return Some(Exc::InvalidAccess);
+        }
+        None
+    }
+
+    /// The number of nodes.
+    pub fn len(&self) -> u32
+        ensures number { result ≡ length self.now.value.nodes }
+        ensures whole { spec.IsGraph self.now.value }
+    {
+        self.nodes.len() as u32
+    }
+
+    /// Whether a node is a delay.
+    pub fn is_delay(&self, node: NodeId) -> bool
+        requires { node.0 < length self.now.value.nodes }
+        ensures { result ≡ (spec.ports_at self.now.value node.0).is_delay }
+    {
+        self.ports(node).is_delay
+    }
+
+    fn ports(&self, node: NodeId) -> Ports
+        requires { node.0 < length self.now.value.nodes }
+        ensures { result ≡ spec.ports_at self.now.value node.0 }
+    {
+        self.nodes[node.0 as usize]
+    }
+
+    /// The next connection to a node, with its cell, for one step: the first one after `None`, and
+    /// the one behind the cell of the last answer otherwise. `None` is the end of the walk. The
+    /// connections come in no promised order.
+    pub fn next_in<L: Ledger>(
+        &self,
+        node: NodeId,
+        after: Option<usize>,
+        steps: &mut Steps<L>,
+    ) -> Option<(usize, Edge)>
+        requires node { node.0 < length self.now.value.nodes }
+        requires after { IsOnWalk (in_walk self.now node.0) after }
+        ensures next { result ≡ next_step (in_walk self.now node.0) after }
+        ensures cost { steps.new ≡ steps.old + 1 }
+        ensures walk { IsInWalk self.now.value node.0 (in_walk self.now node.0) }
+    {
+        steps.tick();
+        next_entering(self.edges.as_slice(), node, place_after(after))
+    }
+
+    /// The next connection from a node, with its cell, for one step, in the graph's order: the
+    /// first one after `None`, and the one behind the cell of the last answer otherwise. `None` is
+    /// the end of the walk.
+    pub fn next_out<L: Ledger>(
+        &self,
+        node: NodeId,
+        after: Option<usize>,
+        steps: &mut Steps<L>,
+    ) -> Option<(usize, Edge)>
+        requires node { node.0 < length self.now.value.nodes }
+        requires after { IsOnWalk (out_walk self.now node.0) after }
+        ensures next { result ≡ next_step (out_walk self.now node.0) after }
+        ensures cost { steps.new ≡ steps.old + 1 }
+        ensures walk { IsOutWalk self.now.value node.0 (out_walk self.now node.0) }
+    {
+        steps.tick();
+        next_leaving(self.edges.as_slice(), node, place_after(after))
+    }
+
+    /// A graph of equal value, with memory of its own.
+    pub fn copy(&self) -> Result<Graph, NoMemory>
+        ensures { IfOk result (λ graph. graph.value ≡ self.now.value) }
+    {
+        let alloc = *self.nodes.allocator();
+        Ok(Graph {
+            nodes: Vec::from_slice(alloc, self.nodes.as_slice())?,
+            edges: Vec::from_slice(alloc, self.edges.as_slice())?,
+        })
+    }
+}
+
+// The place behind a cell, or the first one.
+fn place_after(cell: Option<usize>) -> usize
+    ensures none { IsNone cell → result ≡ 0 }
+    ensures some { IfSome cell (λ place. place < 2 ^ 64 - 1 → result ≡ place + 1) }
+{
+    cell.map_or(0, |place| place.saturating_add(1))
+}

@@ -1,0 +1,10 @@
+pub mod Lists
+pub mod Marking
+pub mod Searching
+pub mod WalkLaws
+pub mod Renaming
+pub mod NodeArrows
+pub mod EndArrows
+pub mod Placing
+pub mod LegalChoices
+pub mod LegalityLaws

@@ -1,0 +1,5 @@
+pub mod Reach
+pub mod Arrows
+pub mod Surveys
+pub mod Choices
+pub mod Legality

@@ -1,0 +1,183 @@
+ghost use Rattle.std.specs.Prelude.{◌≡◌, ◌<◌, ◌==◌, ◌&&◌, not, length, map, IfOk};
+ghost use Rattle.std.specs.List.{list_any};
+ghost use Rattle.law_base.specs.Members.{IsIn};
+ghost use Rattle.conn_graph.specs.declared.edges.Edge.{Edge};
+ghost use Rattle.conn_graph.specs.Edges.{target_node};
+ghost use Rattle.conn_graph.specs.Ends.{ends, arrives_at, is_delay, in_cycle as is_in_cycle};
+ghost use Rattle.conn_graph.specs.Graph.{IsGraph};
+ghost use Rattle.cycle_order.specs.Arrows as spec;
+ghost use Rattle.cycle_order.specs.Surveys.{delays_in_cycle};
+
+use crate::reaching::Targets;
+use conn_graph::{Edge, Graph, Target};
+use std::alloc::Global;
+use std::sync::ledger::Ledger;
+use wa_base::{End, Items, NoMemory, NodeId, Steps};
+
+// For each node, the connections that leave it. Each is looked at once.
+#[tactic(auto, unfolding(crate::specs::Arrows::edge_lists))]
+pub(crate) fn edge_lists<L: Ledger>(
+    alloc: Global,
+    graph: &Graph,
+    steps: &mut Steps<L>,
+) -> Result<Vec<Items<Edge>>, NoMemory>
+    ensures lists { IfOk result (λ lists. lists.items ≡ spec.edge_lists graph.now.value) }
+    ensures whole { IsGraph graph.now.value }
+{
+    let mut lists = Vec::new(alloc);
+    for node in 0..graph.len() {
+        lists.push(edges_from(alloc, graph, NodeId(node), steps)?)?;
+    }
+    Ok(lists)
+}
+
+// The connections that leave a node.
+fn edges_from<L: Ledger>(
+    alloc: Global,
+    graph: &Graph,
+    node: NodeId,
+    steps: &mut Steps<L>,
+) -> Result<Items<Edge>, NoMemory>
+    requires { node.0 < length graph.now.value.nodes }
+    ensures { IfOk result (λ edges. edges ≡ spec.edges_from graph.now.value node.0) }
+{
+    let mut edges = Items::new(alloc);
+    let mut after = None;
+    while let Some((cell, edge)) = graph.next_out(node, after, steps) {
+        edges.push(edge)?;
+        after = Some(cell);
+    }
+    Ok(edges)
+}
+
+// The connections as arrows from node to node.
+pub(crate) fn node_arrows(alloc: Global, lists: &[Items<Edge>]) -> Result<Vec<Targets>, NoMemory>
+    ensures { IfOk result (λ arrows. arrows.items ≡ map spec.node_targets lists.now) }
+{
+    let mut arrows = Vec::new(alloc);
+    for edges in lists {
+        arrows.push(node_targets(alloc, edges.as_slice())?)?;
+    }
+    Ok(arrows)
+}
+
+fn node_targets(alloc: Global, edges: &[Edge]) -> Result<Targets, NoMemory>
+    ensures { IfOk result (λ targets. targets ≡ spec.node_targets edges.now) }
+{
+    let mut targets = Items::new(alloc);
+    for edge in edges {
+        targets.push(edge.to.node().0 as usize)?;
+    }
+    Ok(targets)
+}
+
+// The number of an end among the vertices.
+pub(crate) fn vertex_of(end: End) -> usize
+    ensures { result ≡ spec.vertex_of end }
+{
+    2 * end.node.0 as usize + usize::from(!end.writer)
+}
+
+// The arrows between ends, by the connections of each node and the delays that are in a cycle.
+pub(crate) fn end_arrows(
+    alloc: Global,
+    graph: &Graph,
+    lists: &[Items<Edge>],
+    in_cycle: &[NodeId],
+) -> Result<Vec<Targets>, NoMemory>
+    requires whole { IsGraph graph.now.value }
+    requires lists { lists.now ≡ spec.edge_lists graph.now.value }
+    requires in_cycle { in_cycle.now ≡ delays_in_cycle graph.now.value }
+    ensures { IfOk result (λ arrows. arrows.items ≡ spec.end_arrows graph.now.value) }
+{
+    let mut arrows = Vec::new(alloc);
+    for i in 0..graph.len() {
+        let node = NodeId(i);
+        arrows.push(writer_targets(alloc, graph, node, in_cycle)?)?;
+        arrows.push(reader_targets(alloc, graph, lists[i as usize].as_slice())?)?;
+    }
+    Ok(arrows)
+}
+
+fn writer_targets(
+    alloc: Global,
+    graph: &Graph,
+    node: NodeId,
+    in_cycle: &[NodeId],
+) -> Result<Targets, NoMemory>
+    requires node { node.0 < length graph.now.value.nodes }
+    requires in_cycle { in_cycle.now ≡ delays_in_cycle graph.now.value }
+    ensures { IfOk result (λ targets. targets ≡ spec.writer_targets graph.now.value node.0) }
+{
+    let mut targets = Items::new(alloc);
+    if is_passed_on(graph, node, in_cycle) {
+        let reader = End {
+            node,
+            writer: false,
+        };
+        targets.push(vertex_of(reader))?;
+    }
+    Ok(targets)
+}
+
+// Whether an arrow leads from a node's writer to its reader.
+pub(crate) fn is_passed_on(graph: &Graph, node: NodeId, in_cycle: &[NodeId]) -> bool
+    requires node { node.0 < length graph.now.value.nodes }
+    requires in_cycle { in_cycle.now ≡ delays_in_cycle graph.now.value }
+    ensures { result ≡ (is_delay graph.now.value node.0 && not (is_in_cycle graph.now.value node.0)) }
+{
+    graph.is_delay(node) && !is_listed(in_cycle, node)
+}
+
+fn is_listed(nodes: &[NodeId], node: NodeId) -> bool
+    ensures { result ≡ list_any (λ other. other.0 == node.0) nodes.now }
+{
+    nodes.contains(&node)
+}
+
+fn reader_targets(alloc: Global, graph: &Graph, edges: &[Edge]) -> Result<Targets, NoMemory>
+    requires { (e : Edge) → IsIn e edges.now → target_node e.to < length graph.now.value.nodes }
+    ensures { IfOk result (λ targets. targets ≡ spec.reader_targets graph.now.value edges.now) }
+{
+    let mut targets = Items::new(alloc);
+    for edge in edges {
+        targets.push(vertex_of(arrives_at(graph, edge.to)))?;
+    }
+    Ok(targets)
+}
+
+// The end at which a connection arrives.
+pub(crate) fn arrives_at(graph: &Graph, target: Target) -> End
+    requires { target_node target < length graph.now.value.nodes }
+    ensures { result ≡ arrives_at graph.now.value target }
+{
+    match target {
+        Target::Input { node, .. } => End {
+            node,
+            writer: graph.is_delay(node),
+        },
+        Target::Param(param) => End {
+            node: param.node,
+            writer: false,
+        },
+    }
+}
+
+// All ends, in order of node number, the writer first.
+#[tactic(auto, unfolding(conn_graph::specs::Ends::ends))]
+pub(crate) fn ends(alloc: Global, graph: &Graph) -> Result<Vec<End>, NoMemory>
+    ensures { IfOk result (λ list. list.items ≡ ends graph.now.value) }
+{
+    let mut ends = Vec::new(alloc);
+    for i in 0..graph.len() {
+        let node = NodeId(i);
+        if graph.is_delay(node) {
+            ends.push(End { node, writer: true })?;
+        }
+        ends.push(End {
+            node,
+            writer: false,
+        })?;
+    }
+    Ok(ends)
+}

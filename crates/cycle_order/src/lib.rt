@@ -1,0 +1,15 @@
+//! Cycles and orders of an audio graph: which delays are in a cycle, which ends are muted, and in
+//! which order the others are rendered.
+#![tactic(auto)]
+
+mod arrows;
+mod legality;
+mod orders;
+mod reaching;
+mod surveys;
+#[cfg(test)]
+mod tests;
+
+pub use legality::is_legal;
+pub use orders::{Ordered, order};
+pub use surveys::{Ends, Ids, Surveyed, survey};

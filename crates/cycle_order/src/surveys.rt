@@ -1,0 +1,96 @@
+ghost use Rattle.std.specs.Prelude.{◌≡◌, ◌<◌, length, IfOk};
+ghost use Rattle.wa_base.specs.declared.graph_names.End.{End};
+ghost use Rattle.law_base.specs.Members.{IsIn};
+ghost use Rattle.conn_graph.specs.Graph.{IsGraph};
+ghost use Rattle.cycle_order.specs.Arrows as arrows_spec;
+ghost use Rattle.cycle_order.specs.Surveys as spec;
+
+use crate::arrows::{edge_lists, end_arrows, ends, node_arrows, vertex_of};
+use crate::reaching::{Targets, on_cycles};
+use conn_graph::{Edge, Graph};
+use std::alloc::Global;
+use std::sync::ledger::Ledger;
+use wa_base::{End, Items, NoMemory, NodeId, Steps};
+
+/// A list of nodes. Contracts see it as the list itself.
+pub type Ids = Items<NodeId>;
+
+/// A list of ends. Contracts see it as the list itself.
+pub type Ends = Items<End>;
+
+/// What a survey of a graph says.
+#[derive(Debug, Drop)]
+pub struct Surveyed {
+    /// The delays in a cycle, in order of node number.
+    pub in_cycle: Ids,
+    /// The muted ends, in order of node number, the writer before the reader.
+    pub muted: Ends,
+}
+
+/// Finds the delays in a cycle and the muted ends of a graph.
+///
+/// A delay is in a cycle where its node reaches itself through connections, those to parameters
+/// included. An end is muted where it reaches itself, as a node in a cycle without a delay does
+/// (the rendering loop of the Web Audio recommendation mutes the nodes of such a cycle).
+pub fn survey<L: Ledger>(
+    alloc: Global,
+    graph: &Graph,
+    steps: &mut Steps<L>,
+) -> Result<Surveyed, NoMemory>
+    ensures { IfOk result (λ marks. spec.IsSurvey graph.now.value marks) }
+{
+    let lists = edge_lists(alloc, graph, steps)?;
+    let in_cycle = delays_in_cycle(alloc, graph, lists.as_slice())?;
+    let arrows = end_arrows(alloc, graph, lists.as_slice(), in_cycle.as_slice())?;
+    let muted = muted_ends(alloc, graph, arrows.as_slice())?;
+    Ok(Surveyed { in_cycle, muted })
+}
+
+fn delays_in_cycle(alloc: Global, graph: &Graph, lists: &[Items<Edge>]) -> Result<Ids, NoMemory>
+    requires whole { IsGraph graph.now.value }
+    requires lists { lists.now ≡ arrows_spec.edge_lists graph.now.value }
+    ensures { IfOk result (λ ids. ids ≡ spec.delays_in_cycle graph.now.value) }
+{
+    let arrows = node_arrows(alloc, lists)?;
+    let marks = on_cycles(alloc, arrows.as_slice())?;
+    marked_delays(alloc, graph, marks.as_slice())
+}
+
+// The delays among the marked nodes.
+fn marked_delays(alloc: Global, graph: &Graph, marks: &[bool]) -> Result<Ids, NoMemory>
+    requires { length marks.now ≡ length graph.now.value.nodes }
+    ensures { IfOk result (λ ids. ids ≡ spec.marked_delays graph.now.value marks.now) }
+{
+    let mut ids = Ids::new(alloc);
+    for i in 0..graph.len() {
+        let node = NodeId(i);
+        if graph.is_delay(node) && marks[i as usize] {
+            ids.push(node)?;
+        }
+    }
+    Ok(ids)
+}
+
+fn muted_ends(alloc: Global, graph: &Graph, arrows: &[Targets]) -> Result<Ends, NoMemory>
+    requires whole { IsGraph graph.now.value }
+    requires arrows { arrows.now ≡ arrows_spec.end_arrows graph.now.value }
+    ensures { IfOk result (λ muted. muted ≡ spec.muted_ends graph.now.value) }
+{
+    let ends = ends(alloc, graph)?;
+    let marks = on_cycles(alloc, arrows)?;
+    marked_ends(alloc, ends.as_slice(), marks.as_slice())
+}
+
+// The ends whose vertices are marked.
+fn marked_ends(alloc: Global, ends: &[End], marks: &[bool]) -> Result<Ends, NoMemory>
+    requires { (e : End) → IsIn e ends.now → arrows_spec.vertex_of e < length marks.now }
+    ensures { IfOk result (λ marked. marked ≡ spec.marked_ends marks.now ends.now) }
+{
+    let mut marked = Ends::new(alloc);
+    for end in ends {
+        if marks[vertex_of(*end)] {
+            marked.push(*end)?;
+        }
+    }
+    Ok(marked)
+}
