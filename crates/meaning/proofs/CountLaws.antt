@@ -1,0 +1,82 @@
+-- Counts see only along arrows, and so settle.
+use Rattle.std.proofs.Common.{ℕ, suc, ◌≡◌, ◌≤◌, length, List, true, refl, sym, ◌∙◌, ap, arith}
+use Rattle.std.specs.Prelude.{if◌then◌else◌}
+use Rattle.wa_base.specs.declared.graph_names.End.{End}
+use Rattle.law_base.specs.Members.{IsIn}
+use Rattle.law_base.specs.Reaching.{reaches}
+use Rattle.law_base.specs.Heights.{at_moment, before}
+use Rattle.law_base.proofs.Reaching.{direct, further, up_to}
+use mathlib.Core.Path.{fun_ext}
+use Rattle.law_base.proofs.HeightLaws.{settled}
+use Rattle.law_base.proofs.SchemeLaws.{moment-suc}
+use Rattle.node_table.specs.Kinds.{is_delay_kind}
+use Rattle.node_table.specs.declared.kinds.Kind.{Kind}
+use Rattle.node_table.specs.declared.kinds.Kind.TheVariants.{Destination, Constant, Gain}
+use Rattle.conn_graph.specs.Ends.{ends, arrow, height, muted}
+use Rattle.meaning.specs.declared.world.World.{World}
+use Rattle.meaning.specs.World.{kind_of}
+use Rattle.meaning.specs.Validity.{IsJoined}
+use Rattle.meaning.specs.Counts.{world_in, Counts, count_by_kind, count_rule, count_scheme, count_at, count}
+use Rattle.meaning.proofs.Seeing.{AgreeFor, plain_end, same_channels}
+
+module _ (q : ℕ) (w : World) (joined : IsJoined w) (j : ℕ) (past : ℕ → Counts) where
+  by_kind : (e : End) (s t : Counts) → IsIn e (ends w.graph.value) → AgreeFor w e s t → (k : Kind) → kind_of w e.node.0 ≡ k
+      → count_by_kind q w j past s k e ≡ count_by_kind q w j past t k e
+  by_kind e s t h agree Destination is = same_channels w joined s t e (plain_end w joined e h (ap is_delay_kind is)) agree 0
+  by_kind e s t h agree (Constant offset) is = refl
+  by_kind e s t h agree (Gain gain) is = same_channels w joined s t e (plain_end w joined e h (ap is_delay_kind is)) agree 0
+
+  pub count_local : (e : End) (s t : Counts) → IsIn e (ends w.graph.value) → AgreeFor w e s t → count_rule q w j past s e ≡ count_rule q w j past t e
+  unfolding count_rule
+  count_local e s t h agree = ap (λ n. if muted w.graph.value e then 1 else n) (by_kind e s t h agree _ refl)
+
+  pub count_quiet : (e : End) (n : ℕ) → n ≤ length (ends w.graph.value) → reaches (arrow w.graph.value) (ends w.graph.value) n e e ≡ true → (s : Counts) → count_rule q w j past s e ≡ 1
+  unfolding count_rule muted height
+  count_quiet e n l r s = rw (up_to (arrow w.graph.value) (ends w.graph.value) n _ e e l r) refl
+
+-- from the number of ends on, every height gives the count
+pub count_settled : (q : ℕ) (tape : List World) (j : ℕ) → IsJoined (world_in tape j) → (h : ℕ) → height (world_in tape j).graph.value ≤ h
+    → (e : End) → IsIn e (ends (world_in tape j).graph.value) → count_at q tape j h e ≡ count q tape j e
+unfolding count height count_at at_moment
+count_settled q tape j joined h low e is =
+    let w : World = world_in tape j in
+    let earlier = before (count_scheme q) (world_in tape) j in
+    settled (ends w.graph.value) (λ a b. arrow w.graph.value a b ≡ true) (λ n a b. reaches (arrow w.graph.value) (ends w.graph.value) n a b ≡ true)
+    (direct _ _) (further _ _) (λ _. 1) (count_rule q w j earlier) (count_local q w joined j earlier) (count_quiet q w joined j earlier) h low e is
+
+-- one height up
+pub count_suc : (q : ℕ) (tape : List World) (j h : ℕ) → count_at q tape j (suc h) ≡ count_rule q (world_in tape j) j (before (count_scheme q) (world_in tape) j) (count_at q tape j h)
+unfolding count_at
+count_suc q tape j h = moment-suc (count_scheme q) (world_in tape) j h
+
+-- no kind that there is reads the counts of the quanta before
+pub count_rule_alike : (q : ℕ) (w : World) (j : ℕ) (past past' : ℕ → Counts) → count_rule q w j past ≡ count_rule q w j past'
+unfolding count_rule
+count_rule_alike q w j past past' = fun_ext (λ now. fun_ext (λ e. ap (λ n. if muted w.graph.value e then 1 else n) (by_kind now e (kind_of w e.node.0))))
+  where
+    by_kind : (now : Counts) (e : End) (k : Kind) → count_by_kind q w j past now k e ≡ count_by_kind q w j past' now k e
+    by_kind now e Destination = refl
+    by_kind now e (Constant offset) = refl
+    by_kind now e (Gain gain) = refl
+
+-- The rule gives an end's count, wherever the ends that it sees have theirs.
+pub count_gives : (q : ℕ) (tape : List World) (j : ℕ) → IsJoined (world_in tape j) → (past : ℕ → Counts) (counts : Counts) (e : End) → IsIn e (ends (world_in tape j).graph.value)
+    → AgreeFor (world_in tape j) e counts (count q tape j) → count_rule q (world_in tape j) j past counts e ≡ count q tape j e
+unfolding count
+count_gives q tape j joined past counts e is agree =
+    let w : World = world_in tape j in
+    let full = height w.graph.value in
+    count_local q w joined j past e counts (count q tape j) is agree
+    ∙ ap (λ (r : Counts → Counts). r (count q tape j) e) (count_rule_alike q w j past (before (count_scheme q) (world_in tape) j))
+    ∙ ap (λ (c : Counts). c e) (sym (count_suc q tape j full))
+    ∙ count_settled q tape j joined (suc full) (omega arith) e is
+
+-- a muted end has one channel
+pub muted_count : (q : ℕ) (tape : List World) (j : ℕ) → IsJoined (world_in tape j) → (e : End) → IsIn e (ends (world_in tape j).graph.value)
+    → muted (world_in tape j).graph.value e ≡ true → count q tape j e ≡ 1
+unfolding muted height
+muted_count q tape j joined e is m =
+    let w : World = world_in tape j in
+    let past = before (count_scheme q) (world_in tape) j in
+    sym (count_gives q tape j joined past (count q tape j) e is (λ d in_d a. refl))
+    ∙ count_quiet q w joined j past e (length (ends w.graph.value)) (omega arith) m (count q tape j)

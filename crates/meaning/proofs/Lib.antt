@@ -1,0 +1,10 @@
+pub mod Joined
+pub mod Seeing
+pub mod CountLaws
+pub mod ValueLaws
+pub mod OrderLaws
+pub mod BlockLaws
+pub mod TapeLaws
+pub mod PastLaws
+pub mod QuantumLaws
+pub mod Rows

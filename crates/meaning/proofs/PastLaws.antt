@@ -1,0 +1,186 @@
+-- One more quantum after two tapes of one past.
+use Rattle.std.proofs.Common.{ℕ, ℤ, zero, suc, ◌≡◌, ◌+◌, ◌*◌, ◌/◌, ◌<◌, ◌≤◌, length, List, [], ◌∷◌, ◌++◌, true, ◌⊎◌, inl, inr, refl, sym, ◌∙◌, ap, arith, subst, length-append, add-mul}
+use Rattle.std.proofs.Math.Nat.{mul_comm, div-mul-le_self}
+use Rattle.std.specs.Prelude.{if◌then◌else◌, nat_lt}
+use Rattle.std.proofs.lemmas.Nat.{div-mul-add, le-div}
+use Rattle.std.proofs.lemmas.Bool.Decides.{nat_tests}
+use Rattle.wa_base.specs.declared.graph_names.End.{End}
+use Rattle.law_base.specs.Members.{IsIn}
+use Rattle.law_base.specs.Heights.{at_height, at_moment, before}
+use Rattle.law_base.proofs.SchemeLaws.{moment-zero}
+use Rattle.conn_graph.specs.Graph.{Connections}
+use Rattle.conn_graph.specs.Ends.{writer_of, ends, is_delay, height}
+use Rattle.conn_graph.proofs.EndLaws.{has_writer}
+use Rattle.meaning.specs.declared.world.World.{World}
+use Rattle.meaning.specs.World.{plain, node_at}
+use Rattle.meaning.specs.Validity.{IsJoined}
+use Rattle.meaning.specs.Counts.{Counts, world_in, count_rule, count_scheme, count_at, count}
+use Rattle.meaning.specs.Values.{Frame, Values, no_frame, world_at, known_at, equation, value_scheme, value_at, value, frame, frames_before}
+use Rattle.meaning.specs.Pasts.{SamePast}
+use Rattle.meaning.proofs.CountLaws.{count_rule_alike}
+use Rattle.meaning.proofs.Seeing.{LikeFor, SeesFor, equation_sees}
+use Rattle.meaning.proofs.ValueLaws.{value_suc}
+use Rattle.meaning.proofs.TapeLaws.{world_after, count_before, quantum_below, frame_before}
+
+div-le-div : (a b q : ℕ) → 0 < q → a ≤ b → a / q ≤ b / q
+div-le-div a b q some l = le-div (a / q) b q some (omega (arith, div-mul-le_self a q))
+
+module _ (q : ℕ) (some : 0 < q) (w : World) (joined : IsJoined (plain w)) (tape tape' : List World) (same : SamePast q w tape tape') where
+  abbrev g : Connections
+  g = w.graph.value
+
+  abbrev longer : List World
+  longer = tape ++ w ∷ []
+
+  abbrev longer' : List World
+  longer' = tape' ++ w ∷ []
+
+  world_new : world_in longer (length tape) ≡ plain w
+  world_new = world_after tape w (length tape) refl
+
+  world_new' : world_in longer' (length tape) ≡ plain w
+  world_new' = world_after tape' w (length tape) same.quanta
+
+  counts_new : count q longer (length tape) ≡ count q longer' (length tape)
+  unfolding count count_at at_moment height
+  counts_new =
+      let past : ℕ → Counts = before (count_scheme q) (world_in longer) (length tape) in
+      let past' : ℕ → Counts = before (count_scheme q) (world_in longer') (length tape) in
+      ap (λ x. at_height (λ e. 1) (count_rule q x (length tape) past) (height x.graph.value)) world_new
+      ∙ ap (λ r. at_height (λ e. 1) r (height g)) (count_rule_alike q (plain w) (length tape) past past')
+      ∙ sym (ap (λ x. at_height (λ e. 1) (count_rule q x (length tape) past') (height x.graph.value)) world_new')
+
+  -- a frame of the new quantum in the one tape and in the other
+  frame_new : (f : ℕ) → f / q ≡ length tape → (s : Values)
+      → (let x : Frame = record { world = world_at q longer f; counts = count q longer (f / q); values = s } in x) ≡ record { world = plain w; counts = count q longer (length tape); values = s }
+  frame_new f here s =
+      ap (λ k. let x : Frame = record { world = world_in longer k; counts = count q longer k; values = s } in x) here
+      ∙ ap (λ x. let y : Frame = record { world = x; counts = count q longer (length tape); values = s } in y) world_new
+
+  frame_new' : (f : ℕ) → f / q ≡ length tape → (s : Values)
+      → (let x : Frame = record { world = world_at q longer' f; counts = count q longer' (f / q); values = s } in x) ≡ record { world = plain w; counts = count q longer (length tape); values = s }
+  frame_new' f here s =
+      ap (λ k. let x : Frame = record { world = world_in longer' k; counts = count q longer' k; values = s } in x) here
+      ∙ ap (λ x. let y : Frame = record { world = x; counts = count q longer' (length tape); values = s } in y) world_new'
+      ∙ ap (λ c. let y : Frame = record { world = plain w; counts = c; values = s } in y) (sym counts_new)
+
+  -- the frames of the new quantum before f agree on each end
+  abbrev AgreeBefore : ℕ → Type 0
+  AgreeBefore f = (n : ℕ) → q * length tape ≤ n → n < f → (d : End) → IsIn d (ends g) → value q longer n d ≡ value q longer' n d
+
+  seen_now : (u : List World) (f n : ℕ) → n < f → frames_before q u f n ≡ frame q u n
+  seen_now u f n low = ap (λ b. if b then frame q u n else no_frame) (below low)
+    where
+      below : n < f → nat_lt n f ≡ true
+      below low = grind (arith, nat_tests)
+
+  quantum_at : (n f : ℕ) → f / q ≡ length tape → q * length tape ≤ n → n < f → n / q ≡ length tape
+  quantum_at n f here low high =
+      let a : length tape ≤ n / q = le-div (length tape) n q some (subst (λ k. k ≤ n) (mul_comm q (length tape)) low) in
+      let b : n / q ≤ f / q = div-le-div n f q some (omega arith) in
+      let c : n / q ≤ length tape = subst (λ k. n / q ≤ k) here b in
+      omega arith
+
+  old_frames : (n : ℕ) → n < q * length tape → (frame q longer n ≡ frame q tape n) × (frame q longer' n ≡ frame q tape' n)
+  old_frames n l = (frame_before q some tape w n l, frame_before q some tape' w n (subst (λ k. n < q * k) same.quanta l))
+
+  -- what the writer of a delay took in before is the same
+  writer_old : (i n : ℕ) → is_delay g i ≡ true → (node_at w i).attrs.birth ≤ n → n < q * length tape
+      → ((frame q longer n).counts (writer_of i) ≡ (frame q longer' n).counts (writer_of i)) × (value q longer n (writer_of i) 0 ≡ value q longer' n (writer_of i) 0)
+  writer_old i n is low l =
+      let frames = old_frames n l in
+      let quantum : n / q < length tape = quantum_below q n (length tape) some l in
+      let born : (node_at w i).attrs.birth / q ≤ n / q = div-le-div (node_at w i).attrs.birth n q some low in (
+        ap (λ (x : Frame). x.counts (writer_of i)) frames.0 ∙ same.counts i (n / q) is born quantum ∙ sym (ap (λ (x : Frame). x.counts (writer_of i)) frames.1),
+        ap (λ (x : Frame). x.values (writer_of i) 0) frames.0 ∙ same.frames i n is low l ∙ sym (ap (λ (x : Frame). x.values (writer_of i) 0) frames.1),
+      )
+
+  sees_at : (f : ℕ) → f / q ≡ length tape → AgreeBefore f → (e : End) → SeesFor q f (plain w) e (frames_before q longer f) (frames_before q longer' f)
+  sees_at f here agree e = record {
+    recent = λ n low high.
+        let low' : q * length tape ≤ n = subst (λ j. q * j ≤ n) here low in
+        let there : n / q ≡ length tape = quantum_at n f here low' high in
+        LikeFor.alike (count q longer (length tape)) (count q longer (length tape)) (value q longer n) (value q longer' n)
+        (seen_now longer f n high ∙ frame_new n there (value q longer n))
+        (seen_now longer' f n high ∙ frame_new' n there (value q longer' n))
+        (λ d in_d a. refl)
+        (λ d in_d a. agree n low' high d in_d);
+    delays = λ n is low high.
+        let old : n < q * length tape = subst (λ j. n < q * j) here high in
+        let below : n < f = let s : q * (f / q) ≤ f = omega arith in omega arith in
+        let k = writer_old e.node.0 n is low old in (
+          ap (λ (x : Frame). x.counts (writer_of e.node.0)) (seen_now longer f n below) ∙ k.0 ∙ sym (ap (λ (x : Frame). x.counts (writer_of e.node.0)) (seen_now longer' f n below)),
+          ap (λ (x : Frame). x.values (writer_of e.node.0) 0) (seen_now longer f n below) ∙ k.1 ∙ sym (ap (λ (x : Frame). x.values (writer_of e.node.0) 0) (seen_now longer' f n below)),
+        );
+  }
+
+  one_up : (f h : ℕ) → f / q ≡ length tape → AgreeBefore f → ((d : End) → IsIn d (ends g) → value_at q longer f h d ≡ value_at q longer' f h d)
+      → (e : End) → IsIn e (ends g) → value_at q longer f (suc h) e ≡ value_at q longer' f (suc h) e
+  one_up f h here agree below e is =
+      ap (λ (v : Values). v e) (value_suc q longer f h)
+      ∙ ap (λ (x : Frame). equation q f (frames_before q longer f) x e) (frame_new f here (value_at q longer f h))
+      ∙ equation_sees q some (plain w) joined f (frames_before q longer f) (frames_before q longer' f) e is (sees_at f here agree e)
+      (count q longer (length tape)) (count q longer (length tape)) refl (λ d in_d a. refl)
+      (value_at q longer f h) (value_at q longer' f h) (λ d in_d a. below d in_d)
+      ∙ sym (ap (λ (x : Frame). equation q f (frames_before q longer' f) x e) (frame_new' f here (value_at q longer' f h)))
+      ∙ sym (ap (λ (v : Values). v e) (value_suc q longer' f h))
+
+  each_height : (f : ℕ) → f / q ≡ length tape → AgreeBefore f → (h : ℕ) → (e : End) → IsIn e (ends g) → value_at q longer f h e ≡ value_at q longer' f h e
+  unfolding value_at
+  each_height f here agree zero e is =
+      ap (λ (v : Values). v e) (moment-zero (value_scheme q) (known_at q longer) f ∙ sym (moment-zero (value_scheme q) (known_at q longer') f))
+  each_height f here agree (suc h) e is = one_up f h here agree (each_height f here agree h) e is
+
+  full_height : (f : ℕ) → f / q ≡ length tape → AgreeBefore f → (e : End) → IsIn e (ends g) → value q longer f e ≡ value q longer' f e
+  unfolding value
+  full_height f here agree e is =
+      each_height f here agree (height (world_at q longer f).graph.value) e is
+      ∙ ap (λ (x : World). value_at q longer' f (height x.graph.value) e)
+      (ap (world_in longer) here ∙ world_new ∙ sym (ap (world_in longer') here ∙ world_new'))
+
+  quantum_new : (m : ℕ) → m < q → (q * length tape + m) / q ≡ length tape
+  quantum_new m l = ap (λ x. (x + m) / q) (mul_comm q (length tape)) ∙ div-mul-add (length tape) q m l
+
+  -- the first m frames of the new quantum
+  frames_new : (m : ℕ) → m ≤ q → AgreeBefore (q * length tape + m)
+  frames_new zero few n low high d is = absurd (omega arith)
+  frames_new (suc m) few n low high d is = elim (last_or_not n m low high) [
+    | inl l ↦ frames_new m (omega arith) n low l d is
+    | inr e ↦ subst (λ k. value q longer k d ≡ value q longer' k d) (sym e) (full_height (q * length tape + m) (quantum_new m (omega arith)) (frames_new m (omega arith)) d is)
+  ]
+    where
+      last_or_not : (n m : ℕ) → q * length tape ≤ n → n < q * length tape + suc m → (n < q * length tape + m) ⊎ (n ≡ q * length tape + m)
+      last_or_not n m low high = grind arith
+
+  pub value_new : (f : ℕ) (e : End) → f / q ≡ length tape → IsIn e (ends g) → value q longer f e ≡ value q longer' f e
+  value_new f e here is =
+      let low : q * (f / q) ≤ f = omega arith in
+      let high : f < q * (f / q) + q = omega arith in
+      frames_new q (omega arith) f (subst (λ j. q * j ≤ f) here low) (subst (λ j. f < q * j + q) here high) e is
+
+  pub count_new : (e : End) → count q longer (length tape) e ≡ count q longer' (length tape) e
+  count_new e = ap (λ (c : Counts). c e) counts_new
+
+  next_length : q * length longer ≡ q * length tape + q
+  next_length = ap (λ n. q * n) (length-append tape (w ∷ [])) ∙ mul_comm q (length tape + 1) ∙ omega (arith, add-mul (length tape) 1 q, mul_comm q (length tape))
+
+  -- Both pasts are longer by the same quantum.
+  pub past_new : SamePast q w longer longer'
+  past_new = record {
+    quanta = length-append tape (w ∷ []) ∙ ap (λ n. n + 1) same.quanta ∙ sym (length-append tape' (w ∷ []));
+    counts = λ i k is low high. elim (quantum_old_or_new k high) [
+      | inl l ↦ ap (λ (c : Counts). c (writer_of i)) (count_before q tape w k l) ∙ same.counts i k is low l
+          ∙ sym (ap (λ (c : Counts). c (writer_of i)) (count_before q tape' w k (subst (λ n. k < n) same.quanta l)))
+      | inr e ↦ subst (λ j. count q longer j (writer_of i) ≡ count q longer' j (writer_of i)) (sym e) (count_new (writer_of i))
+    ];
+    frames = λ i n is low high. elim (old_or_new n) [
+      | inl l ↦ (writer_old i n is low l).1
+      | inr l ↦ ap (λ (v : ℕ → ℕ → ℤ). v 0) (frames_new q (omega arith) n l (subst (λ k. n < k) next_length high) (writer_of i) (has_writer g i is))
+    ];
+  }
+    where
+      quantum_old_or_new : (k : ℕ) → k < length longer → (k < length tape) ⊎ (k ≡ length tape)
+      quantum_old_or_new k high = let long : length longer ≡ length tape + 1 = length-append tape (w ∷ []) in grind arith
+
+      old_or_new : (n : ℕ) → (n < q * length tape) ⊎ (q * length tape ≤ n)
+      old_or_new n = grind arith

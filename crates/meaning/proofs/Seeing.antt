@@ -1,0 +1,146 @@
+-- What the equation of one end sees, of its own frame, of its own quantum, and of the quanta before.
+use Rattle.std.proofs.Common.{ℕ, ℤ, pos, ◌≡◌, ◌*◌, ◌/◌, ◌<◌, ◌≤◌, ◌+ℤ◌, List, Bool, true, false, refl, sym, ◌∙◌, ap, arith, subst}
+use mathlib.Core.Path.{fun_ext}
+use Rattle.std.specs.Prelude.{if◌then◌else◌, nat_lt, ◌==◌}
+use Rattle.std.proofs.lemmas.Bool.Decides.{nat_tests}
+use Rattle.wa_base.specs.Numbers.{scale}
+use Rattle.wa_base.specs.declared.graph_names.End.{End}
+use Rattle.wa_base.specs.declared.graph_names.Interp.{Interp}
+use Rattle.wa_base.specs.declared.graph_names.Interp.TheVariants.{Speakers}
+use Rattle.wa_base.specs.declared.graph_names.ParamId.{ParamId}
+use Rattle.wa_base.specs.declared.graph_names.ParamName.{ParamName}
+use Rattle.wa_base.specs.declared.graph_names.ParamName.TheVariants as param
+use Rattle.law_base.specs.Members.{IsIn}
+use Rattle.law_base.proofs.Members.{same_map}
+use Rattle.channel_mix.specs.Counts.{input_count}
+use Rattle.channel_mix.specs.Mixing.{mix, fan_in}
+use Rattle.node_table.specs.Kinds.{is_delay_kind}
+use Rattle.node_table.specs.declared.kinds.Kind.{Kind}
+use Rattle.node_table.specs.declared.kinds.Kind.TheVariants.{Destination, Constant, Gain}
+use Rattle.conn_graph.specs.declared.edges.Edge.{Edge}
+use Rattle.conn_graph.specs.Graph.{edges_to_input, edges_to_param}
+use Rattle.conn_graph.specs.Ends.{writer_of, reader_of, ends, is_delay, input_end, arrow, muted}
+use Rattle.conn_graph.proofs.EndLaws.{end_is, has_end, input_arrow, param_arrow}
+use Rattle.meaning.specs.declared.world.World.{World}
+use Rattle.meaning.specs.World.{node_at, kind_of, param_id, intrinsic_value, is_k_rate, nominal, sounds_at}
+use Rattle.meaning.specs.Validity.{IsJoined}
+use Rattle.meaning.specs.Counts.{Counts, input_channels}
+use Rattle.meaning.specs.Values.{Frame, Values, seen, mixed_sum, input_value, computed_value, value_by_kind, equation}
+
+-- an end of a node that is no delay is the one at which the node's inputs arrive
+pub plain_end : (w : World) → IsJoined w → (e : End) → IsIn e (ends w.graph.value) → is_delay_kind (kind_of w e.node.0) ≡ false → e ≡ input_end w.graph.value e.node.0
+plain_end w joined e h k = ap (λ b. let x : End = record { node = e.node; writer = b } in x) (by_writer e.writer refl)
+  where
+    by_writer : (b : Bool) → e.writer ≡ b → e.writer ≡ is_delay w.graph.value e.node.0
+    by_writer true is = is ∙ sym ((end_is w.graph.value e h).1 is)
+    by_writer false is = is ∙ sym (joined.delays e.node.0 ∙ k)
+
+-- and it is no writer
+pub plain_reader : (w : World) → IsJoined w → (e : End) → IsIn e (ends w.graph.value) → is_delay_kind (kind_of w e.node.0) ≡ false → e ≡ reader_of e.node.0
+plain_reader w joined e h k = plain_end w joined e h k ∙ ap (λ b. let x : End = record { node = e.node; writer = b } in x) (joined.delays e.node.0 ∙ k)
+
+-- what is said of ends agrees on each end from which an arrow leads to e
+abbrev pub AgreeFor : {A : Type 0} → World → End → (End → A) → (End → A) → Type 0
+AgreeFor w e s t = (d : End) → IsIn d (ends w.graph.value) → arrow w.graph.value d e ≡ true → s d ≡ t d
+
+-- the end from which a connection to an input comes
+pub input_source : (w : World) → IsJoined w → (e : End) → e ≡ input_end w.graph.value e.node.0 → (i : ℕ) (x : Edge) → IsIn x (edges_to_input w.graph.value e.node.0 i)
+    → IsIn (reader_of x.from.0) (ends w.graph.value) × (arrow w.graph.value (reader_of x.from.0) e ≡ true)
+input_source w joined e is i x h =
+    let a = input_arrow w.graph.value e.node.0 i x h in
+    (has_end w.graph.value x.from.0 (joined.places x a.0).from, subst (λ y. arrow w.graph.value (reader_of x.from.0) y ≡ true) (sym is) a.1)
+
+param_source : (w : World) → IsJoined w → (e : End) → e ≡ reader_of e.node.0 → (name : ParamName) (x : Edge) → IsIn x (edges_to_param w.graph.value (param_id e.node.0 name))
+    → IsIn (reader_of x.from.0) (ends w.graph.value) × (arrow w.graph.value (reader_of x.from.0) e ≡ true)
+param_source w joined e is name x h =
+    let a = param_arrow w.graph.value (param_id e.node.0 name) x h in
+    (has_end w.graph.value x.from.0 (joined.places x a.0).from, subst (λ y. arrow w.graph.value (reader_of x.from.0) y ≡ true) (sym is) a.1)
+
+-- the computed number of channels of an input depends on the ends that are connected to it
+pub same_channels : (w : World) → IsJoined w → (s t : Counts) (e : End) → e ≡ input_end w.graph.value e.node.0 → AgreeFor w e s t → (i : ℕ)
+    → input_channels w s e.node.0 i ≡ input_channels w t e.node.0 i
+same_channels w joined s t e is agree i =
+    ap (input_count (node_at w e.node.0).attrs.mode (node_at w e.node.0).attrs.count)
+    (same_map _ _ (edges_to_input w.graph.value e.node.0 i) (λ x h. let a = input_source w joined e is i x h in agree (reader_of x.from.0) a.0 a.1))
+
+-- Two frames look alike to an end: they are one, or both are of this world and agree, in counts and values, on the ends from which an arrow leads to e.
+pub data LikeFor (w : World) (e : End) (x y : Frame) : Type 0 where
+  same : x ≡ y → LikeFor w e x y
+  alike : (m n : Counts) (s t : Values) → x ≡ record { world = w; counts = m; values = s } → y ≡ record { world = w; counts = n; values = t } → AgreeFor w e m n → AgreeFor w e s t → LikeFor w e x y
+
+-- Two pasts look alike to an end: in the frames of its quantum, and in what its writer took in before, where it is a delay's.
+pub record SeesFor (q f : ℕ) (w : World) (e : End) (past past' : ℕ → Frame) : Type 0 where
+  pub recent : (g : ℕ) → q * (f / q) ≤ g → g < f → LikeFor w e (past g) (past' g)
+  pub delays : (g : ℕ) → is_delay w.graph.value e.node.0 ≡ true → (node_at w e.node.0).attrs.birth ≤ g → g < q * (f / q)
+      → ((past g).counts (writer_of e.node.0) ≡ (past' g).counts (writer_of e.node.0)) × ((past g).values (writer_of e.node.0) 0 ≡ (past' g).values (writer_of e.node.0) 0)
+
+abbrev here : World → Counts → Values → Frame
+here w counts values = record { world = w; counts = counts; values = values }
+
+module _ (q : ℕ) (some : 0 < q) (w : World) (joined : IsJoined w) (f : ℕ) (past past' : ℕ → Frame) (e : End) (h : IsIn e (ends w.graph.value))
+    (sees : SeesFor q f w e past past') (m n : Counts) (own : m e ≡ n e) (agree_counts : AgreeFor w e m n) (s t : Values) (agree : AgreeFor w e s t) where
+  -- a frame of this quantum, this one included
+  like_now : (g : ℕ) → q * (f / q) ≤ g → g ≤ f → LikeFor w e (seen f past (here w m s) g) (seen f past' (here w n t) g)
+  like_now g low high = by_test (g == f) refl
+    where
+      by_test : (b : Bool) → (g == f) ≡ b → LikeFor w e (if b then here w m s else past g) (if b then here w n t else past' g)
+      by_test true now = alike m n s t refl refl agree_counts agree
+      by_test false other = sees.recent g low (grind (arith, nat_tests))
+
+  same_sum : (k l : Counts) (u v : Values) (interp : Interp) (to c : ℕ) (xs : List Edge)
+      → ((x : Edge) → IsIn x xs → (k (reader_of x.from.0) ≡ l (reader_of x.from.0)) × (u (reader_of x.from.0) ≡ v (reader_of x.from.0)))
+      → mixed_sum (here w k u) interp to c xs ≡ mixed_sum (here w l v) interp to c xs
+  same_sum k l u v interp to c xs each = ap fan_in (same_map _ _ xs (λ x is.
+      ap (λ from. mix interp from to (u (reader_of x.from.0) x.output) c) (each x is).0
+      ∙ ap (λ (values : ℕ → ℕ → ℤ). mix interp (l (reader_of x.from.0)) to (values x.output) c) (each x is).1))
+
+  sum_like : (interp : Interp) (to c : ℕ) (xs : List Edge) → ((x : Edge) → IsIn x xs → IsIn (reader_of x.from.0) (ends w.graph.value) × (arrow w.graph.value (reader_of x.from.0) e ≡ true))
+      → (x y : Frame) → LikeFor w e x y → mixed_sum x interp to c xs ≡ mixed_sum y interp to c xs
+  sum_like interp to c xs arrows x y (same p) = ap (λ z. mixed_sum z interp to c xs) p
+  sum_like interp to c xs arrows x y (alike k l u v p r b a) = ap (λ z. mixed_sum z interp to c xs) p
+      ∙ same_sum k l u v interp to c xs (λ z is. let arrow_z = arrows z is in (b (reader_of z.from.0) arrow_z.0 arrow_z.1, a (reader_of z.from.0) arrow_z.0 arrow_z.1))
+      ∙ sym (ap (λ z. mixed_sum z interp to c xs) r)
+
+  input_like : e ≡ input_end w.graph.value e.node.0 → (i c : ℕ) → input_value (here w m s) e.node.0 i c ≡ input_value (here w n t) e.node.0 i c
+  unfolding input_value
+  input_like is i c =
+      ap (λ to. if nat_lt c to then mixed_sum (here w m s) interp to c edges else pos 0) (same_channels w joined m n e is agree_counts i)
+      ∙ ap (λ x. if nat_lt c (input_channels w n e.node.0 i) then x else pos 0)
+      (same_sum m n s t interp (input_channels w n e.node.0 i) c edges (λ x k. let a = input_source w joined e is i x k in (agree_counts (reader_of x.from.0) a.0 a.1, agree (reader_of x.from.0) a.0 a.1)))
+    where
+      interp : Interp
+      interp = (node_at w e.node.0).attrs.interp
+
+      edges : List Edge
+      edges = edges_to_input w.graph.value e.node.0 i
+
+  computed_like : e ≡ reader_of e.node.0 → (name : ParamName) → computed_value q f past (here w m s) (param_id e.node.0 name) ≡ computed_value q f past' (here w n t) (param_id e.node.0 name)
+  unfolding computed_value
+  computed_like is name = by_rate (is_k_rate w id)
+    where
+      id : ParamId
+      id = param_id e.node.0 name
+
+      at : (ℕ → Frame) → Frame → ℕ → ℤ
+      at before now g = nominal (kind_of w e.node.0) (intrinsic_value w id g +ℤ mixed_sum (seen f before now g) Speakers 1 0 (edges_to_param w.graph.value id))
+
+      same_at : (g : ℕ) → q * (f / q) ≤ g → g ≤ f → at past (here w m s) g ≡ at past' (here w n t) g
+      same_at g low high = ap (λ x. nominal (kind_of w e.node.0) (intrinsic_value w id g +ℤ x))
+          (sum_like Speakers 1 0 (edges_to_param w.graph.value id) (param_source w joined e is name) _ _ (like_now g low high))
+
+      by_rate : (b : Bool) → at past (here w m s) (if b then q * (f / q) else f) ≡ at past' (here w n t) (if b then q * (f / q) else f)
+      by_rate true = same_at (q * (f / q)) (omega arith) (omega arith)
+      by_rate false = same_at f (omega arith) (omega arith)
+
+  by_kind : (o c : ℕ) (k : Kind) → kind_of w e.node.0 ≡ k → value_by_kind q f past (here w m s) k e o c ≡ value_by_kind q f past' (here w n t) k e o c
+  by_kind o c Destination is = input_like (plain_end w joined e h (ap is_delay_kind is)) 0 c
+  by_kind o c (Constant offset) is = ap (λ x. if sounds_at w e.node.0 f then x else pos 0) (computed_like (plain_reader w joined e h (ap is_delay_kind is)) param.Offset)
+  by_kind o c (Gain gain) is =
+      ap (λ x. scale x (computed_value q f past (here w m s) (param_id e.node.0 param.Gain))) (input_like (plain_end w joined e h (ap is_delay_kind is)) 0 c)
+      ∙ ap (scale (input_value (here w n t) e.node.0 0 c)) (computed_like (plain_reader w joined e h (ap is_delay_kind is)) param.Gain)
+
+  pub equation_sees : equation q f past (here w m s) e ≡ equation q f past' (here w n t) e
+  unfolding equation
+  equation_sees = fun_ext (λ o. fun_ext (λ c.
+      ap (λ k. if muted w.graph.value e then pos 0 else if nat_lt c k then value_by_kind q f past (here w m s) (kind_of w e.node.0) e o c else pos 0) own
+      ∙ ap (λ x. if muted w.graph.value e then pos 0 else if nat_lt c (n e) then x else pos 0) (by_kind o c _ refl)))

@@ -1,0 +1,45 @@
+-- How many channels each end has in each quantum.
+use Rattle.std.specs.Prelude.{ℕ, List, map, slice_index_or, if◌then◌else◌}
+use Rattle.wa_base.specs.declared.graph_names.End.{End}
+use Rattle.law_base.specs.Heights.{Scheme, at_moment}
+use Rattle.channel_mix.specs.Counts.{input_count}
+use Rattle.node_table.specs.declared.kinds.Kind.{Kind}
+use Rattle.node_table.specs.declared.kinds.Kind.TheVariants.{Destination, Constant, Gain}
+use Rattle.conn_graph.specs.Graph.{edges_to_input}
+use Rattle.conn_graph.specs.Ends.{reader_of, height, muted}
+use Rattle.meaning.specs.declared.world.World.{World}
+use Rattle.meaning.specs.World.{plain, no_world, node_at, kind_of}
+
+-- the world in force in a quantum
+abbrev pub world_in : List World → ℕ → World
+world_in tape j = plain (slice_index_or tape j no_world)
+
+abbrev pub Counts : Type 0
+Counts = End → ℕ
+
+-- the computed number of channels of a node's input
+abbrev pub input_channels : World → Counts → ℕ → ℕ → ℕ
+input_channels w counts n i = input_count (node_at w n).attrs.mode (node_at w n).attrs.count (map (λ e. counts (reader_of e.from.0)) (edges_to_input w.graph.value n i))
+
+-- by the kind of an end's node, in quantum j of q frames, from the counts of the quanta before and of this one
+abbrev pub count_by_kind : ℕ → World → ℕ → (ℕ → Counts) → Counts → Kind → End → ℕ
+count_by_kind q w j past now Destination e = input_channels w now e.node.0 0
+count_by_kind q w j past now (Constant offset) e = 1
+count_by_kind q w j past now (Gain gain) e = input_channels w now e.node.0 0
+
+-- the counts one height up; a muted end has one channel
+unfoldable pub count_rule : ℕ → World → ℕ → (ℕ → Counts) → Counts → Counts
+count_rule q w j past now = λ e. if muted w.graph.value e then 1 else count_by_kind q w j past now (kind_of w e.node.0) e
+
+abbrev pub count_scheme : ℕ → Scheme World Counts Counts
+count_scheme q = record { silence = λ e. 1; rule = count_rule q; full = λ w. height w.graph.value; seen_as = λ w counts. counts; nothing = λ e. 1 }
+
+-- at height h in quantum j
+unfoldable pub count_at : ℕ → List World → ℕ → ℕ → Counts
+unfolding at_moment
+count_at q tape j h = at_moment (count_scheme q) (world_in tape) j h
+
+-- at full height
+unfoldable pub count : ℕ → List World → ℕ → Counts
+unfolding count_at
+count q tape j = count_at q tape j (height (world_in tape j).graph.value)

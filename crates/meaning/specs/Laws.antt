@@ -1,0 +1,51 @@
+-- What is said of the definitions. Each law holds for every size of a quantum from 1 to 1,024 frames.
+use Rattle.std.specs.Prelude.{ℕ, suc, ◌+◌, ◌*◌, ◌/◌, ◌≡◌, ◌<◌, ◌≤◌, length, List, [], ◌∷◌, ◌++◌, All}
+use Rattle.wa_base.specs.declared.graph_names.End.{End}
+use Rattle.law_base.specs.Members.{IsIn}
+use Rattle.conn_graph.specs.Ends.{ends, height}
+use Rattle.conn_graph.specs.Orders.{IsLegalOrder}
+use Rattle.meaning.specs.declared.world.World.{World}
+use Rattle.meaning.specs.Validity.{IsValid}
+use Rattle.meaning.specs.Counts.{world_in, count_at, count}
+use Rattle.meaning.specs.Values.{silence, equation, world_at, value_at, value, frame, frames_before, frame_at}
+use Rattle.meaning.specs.Orders.{values_by}
+use Rattle.meaning.specs.Blocks.{blocks_along}
+use Rattle.meaning.specs.Pasts.{SamePast}
+
+-- whether an end is one of the world in force at a frame
+abbrev pub IsEndAt : ℕ → List World → ℕ → End → Type 0
+IsEndAt q tape f e = IsIn e (ends (world_at q tape f).graph.value)
+
+-- The recursion in its own words: silence at height 0, and at height h + 1 each end's equation over this frame at height h and over each frame before at its full height.
+abbrev pub RecursionLaw : Type 0
+RecursionLaw = (q : ℕ) (tape : List World) (f h : ℕ) →
+    (value_at q tape f 0 ≡ silence)
+    × (value_at q tape f (suc h) ≡ equation q f (frames_before q tape f) (frame_at q tape f h))
+
+-- From the number of ends on, a height changes neither a count nor a value.
+abbrev pub HeightLaw : Type 0
+HeightLaw = (q : ℕ) → 0 < q → q ≤ 1024 → (tape : List World) → All IsValid tape → (f h : ℕ) → height (world_at q tape f).graph.value ≤ h →
+    (e : End) → IsEndAt q tape f e → (count_at q tape (f / q) h e ≡ count q tape (f / q) e) × (value_at q tape f h e ≡ value q tape f e)
+
+-- The values of a frame solve its equations.
+abbrev pub FixpointLaw : Type 0
+FixpointLaw = (q : ℕ) → 0 < q → q ≤ 1024 → (tape : List World) → All IsValid tape → (f : ℕ) → (e : End) → IsEndAt q tape f e →
+    equation q f (frames_before q tape f) (frame q tape f) e ≡ value q tape f e
+
+-- Going once along any legal order gives the values.
+abbrev pub OrderLaw : Type 0
+OrderLaw = (q : ℕ) → 0 < q → q ≤ 1024 → (tape : List World) → All IsValid tape → (f : ℕ) → (order : List End) → IsLegalOrder (world_at q tape f).graph.value order →
+    (e : End) → IsEndAt q tape f e → values_by q tape f order e ≡ value q tape f e
+
+-- Going once along any legal order, and making each end's whole block before the next, gives the values of the quantum.
+abbrev pub BlockLaw : Type 0
+BlockLaw = (q : ℕ) → 0 < q → q ≤ 1024 → (tape : List World) → All IsValid tape → (j : ℕ) → (order : List End) → IsLegalOrder (world_in tape j).graph.value order →
+    (m : ℕ) → m < q → (e : End) → IsIn e (ends (world_in tape j).graph.value) →
+    blocks_along q (frame q tape) (q * j) (world_in tape j) (count q tape j) order (λ m. silence) m e ≡ value q tape (q * j + m) e
+
+-- A quantum after two tapes of one past is the same, and their pasts stay the same.
+abbrev pub PastLaw : Type 0
+PastLaw = (q : ℕ) → 0 < q → q ≤ 1024 → (w : World) (tape tape' : List World) → IsValid w → SamePast q w tape tape' →
+    ((e : End) → IsIn e (ends w.graph.value) → count q (tape ++ w ∷ []) (length tape) e ≡ count q (tape' ++ w ∷ []) (length tape) e)
+    × ((f : ℕ) (e : End) → f / q ≡ length tape → IsIn e (ends w.graph.value) → value q (tape ++ w ∷ []) f e ≡ value q (tape' ++ w ∷ []) f e)
+    × SamePast q w (tape ++ w ∷ []) (tape' ++ w ∷ [])

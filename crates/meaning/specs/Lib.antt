@@ -1,0 +1,11 @@
+pub mod Lists
+pub mod World
+pub mod Validity
+pub mod Counts
+pub mod Worlds
+pub mod Values
+pub mod Rendered
+pub mod Orders
+pub mod Blocks
+pub mod Pasts
+pub mod Laws

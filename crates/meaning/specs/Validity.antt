@@ -1,0 +1,74 @@
+-- What holds of every world of a session.
+use Rattle.std.specs.Prelude.{ℕ, ◌≡◌, ◌↔◌, ◌<◌, ◌≤◌, List, length, map, IsSome, true, false}
+use Rattle.wa_base.specs.Contexts.{IsSupported}
+use Rattle.wa_base.specs.declared.contexts.ContextSpec.{ContextSpec}
+use Rattle.wa_base.specs.declared.graph_names.ParamId.{ParamId}
+use Rattle.wa_base.specs.declared.graph_names.ParamName.{ParamName}
+use Rattle.wa_base.specs.declared.graph_names.Mode.TheVariants.{Explicit}
+use Rattle.law_base.specs.Members.{IsIn, AreDistinct}
+use Rattle.param_events.specs.Timeline.{IsTimeline}
+use Rattle.node_table.specs.Kinds.{inputs, outputs, is_delay_kind, is_destination, param_base}
+use Rattle.node_table.specs.declared.kinds.Kind.TheVariants.{Destination}
+use Rattle.node_table.specs.declared.nodes.Node.{Node}
+use Rattle.conn_graph.specs.declared.edges.Edge.{Edge}
+use Rattle.conn_graph.specs.declared.edges.Ports.{Ports}
+use Rattle.conn_graph.specs.declared.edges.Target.TheVariants.{Param as to_param}
+use Rattle.conn_graph.specs.Graph.{HasPlace, IsGraph}
+use Rattle.conn_graph.specs.Ends.{is_delay}
+use Rattle.meaning.specs.declared.world.World.{World}
+use Rattle.meaning.specs.declared.params.Param.{Param}
+use Rattle.meaning.specs.declared.scheds.Play.{Play}
+use Rattle.meaning.specs.World.{node_at, kind_of, is_source, param_id}
+
+-- node 0 is the destination, whose channelCount and mode are fixed
+pub record IsDestination (spec : ContextSpec) (node : Node) : Type 0 where
+  pub kind : node.kind ≡ Destination
+  pub count : node.attrs.count ≡ spec.channels
+  pub mode : node.attrs.mode ≡ Explicit
+
+-- each other node is none
+pub record IsOther (node : Node) : Type 0 where
+  pub kind : is_destination node.kind ≡ false
+  pub count_low : 1 ≤ node.attrs.count
+  pub count_high : node.attrs.count ≤ 32
+
+pub record HasNodes (w : World) : Type 0 where
+  pub some : 1 ≤ length w.nodes
+  pub few : length w.nodes ≤ 1024
+  pub first : IsDestination w.spec (node_at w 0)
+  pub others : (i : ℕ) → 0 < i → i < length w.nodes → IsOther (node_at w i)
+
+abbrev pub ports_of : Node → Ports
+ports_of node = record { inputs = inputs node.kind; outputs = outputs node.kind; is_delay = is_delay_kind node.kind }
+
+abbrev pub param_ids : World → List ParamId
+param_ids w = map (λ (p : Param). p.id) w.params.items
+
+-- each parameter that a node's kind has stands in the list once, and nothing else; and what a connection leads to stands there
+pub record HasParams (w : World) : Type 0 where
+  pub each : (i : ℕ) (name : ParamName) → i < length w.nodes → IsIn (param_id i name) (param_ids w) ↔ IsSome (param_base (kind_of w i) name)
+  pub there : (id : ParamId) → IsIn id (param_ids w) → id.node.0 < length w.nodes
+  pub once : AreDistinct (param_ids w)
+  pub lines : (p : Param) → IsIn p w.params.items → IsTimeline p.line.events
+  pub targets : (e : Edge) (id : ParamId) → IsIn e w.graph.value.edges → e.to ≡ to_param id → IsIn id (param_ids w)
+
+abbrev pub play_nodes : World → List ℕ
+play_nodes w = map (λ (p : Play). p.id.0) w.scheds.items
+
+-- each source has a schedule, once, and no other node has one
+pub record HasScheds (w : World) : Type 0 where
+  pub each : (i : ℕ) → IsIn i (play_nodes w) ↔ (i < length w.nodes) × (is_source (kind_of w i) ≡ true)
+  pub once : AreDistinct (play_nodes w)
+
+pub record IsValid (w : World) : Type 0 where
+  pub spec : IsSupported w.spec
+  pub nodes : HasNodes w
+  pub graph : IsGraph w.graph.value
+  pub ports : w.graph.value.nodes ≡ map ports_of w.nodes
+  pub params : HasParams w
+  pub scheds : HasScheds w
+
+-- What the laws use of it: each connection has its place, and the delays are those of the graph.
+pub record IsJoined (w : World) : Type 0 where
+  pub places : (e : Edge) → IsIn e w.graph.value.edges → HasPlace w.graph.value e
+  pub delays : (i : ℕ) → is_delay w.graph.value i ≡ is_delay_kind (kind_of w i)

@@ -1,0 +1,119 @@
+-- What each end carries at each frame.
+use Rattle.std.specs.Prelude.{ℕ, ℤ, pos, ◌+ℤ◌, ◌*◌, ◌/◌, List, map, nat_lt, ◌==◌, if◌then◌else◌}
+use Rattle.wa_base.specs.Numbers.{scale}
+use Rattle.wa_base.specs.declared.graph_names.End.{End}
+use Rattle.wa_base.specs.declared.graph_names.Interp.{Interp}
+use Rattle.wa_base.specs.declared.graph_names.Interp.TheVariants.{Speakers}
+use Rattle.wa_base.specs.declared.graph_names.ParamId.{ParamId}
+use Rattle.wa_base.specs.declared.graph_names.ParamName.TheVariants as param
+use Rattle.law_base.specs.Heights.{Scheme, at_moment}
+use Rattle.channel_mix.specs.Mixing.{mix, fan_in}
+use Rattle.node_table.specs.declared.kinds.Kind.{Kind}
+use Rattle.node_table.specs.declared.kinds.Kind.TheVariants.{Destination, Constant, Gain}
+use Rattle.conn_graph.specs.declared.edges.Edge.{Edge}
+use Rattle.conn_graph.specs.Graph.{edges_to_input, edges_to_param}
+use Rattle.conn_graph.specs.Ends.{reader_of, height, muted}
+use Rattle.meaning.specs.declared.world.World.{World}
+use Rattle.meaning.specs.World.{no_world, node_at, kind_of, param_id, intrinsic_value, is_k_rate, nominal, sounds_at}
+use Rattle.meaning.specs.Counts.{Counts, world_in, input_channels, count}
+
+-- all values of one frame: for each end, output and channel
+abbrev pub Values : Type 0
+Values = End → ℕ → ℕ → ℤ
+
+abbrev pub silence : Values
+silence = λ e o c. pos 0
+
+-- all that one frame has
+pub record Frame : Type 0 where
+  pub world : World
+  pub counts : Counts
+  pub values : Values
+
+abbrev pub no_frame : Frame
+no_frame = record { world = no_world; counts = λ e. 1; values = silence }
+
+-- frame g, as an equation of frame f sees it
+abbrev pub seen : ℕ → (ℕ → Frame) → Frame → ℕ → Frame
+seen f past here g = if g == f then here else past g
+
+-- ---- connections, inputs and parameters
+
+-- channel c of what a connection carries, mixed to so many channels
+abbrev pub part : Frame → Interp → ℕ → ℕ → Edge → ℤ
+part x interp to c e = mix interp (x.counts (reader_of e.from.0)) to (x.values (reader_of e.from.0) e.output) c
+
+-- the exact sum over connections, saturated once
+abbrev pub mixed_sum : Frame → Interp → ℕ → ℕ → List Edge → ℤ
+mixed_sum x interp to c edges = fan_in (map (part x interp to c) edges)
+
+-- channel c of input i of node n
+unfoldable pub input_value : Frame → ℕ → ℕ → ℕ → ℤ
+input_value x n i c =
+    let to = input_channels x.world x.counts n i in
+    if nat_lt c to then mixed_sum x (node_at x.world n).attrs.interp to c (edges_to_input x.world.graph.value n i) else pos 0
+
+-- The computed value of a parameter (paramComputedValue): its intrinsic value plus what its connections carry, mixed to one channel, in the nominal range.
+-- At k-rate both are taken at the first frame of the quantum.
+unfoldable pub computed_value : ℕ → ℕ → (ℕ → Frame) → Frame → ParamId → ℤ
+computed_value q f past here id =
+    let g = if is_k_rate here.world id then q * (f / q) else f in
+    nominal (kind_of here.world id.node.0)
+    (intrinsic_value here.world id g +ℤ mixed_sum (seen f past here g) Speakers 1 0 (edges_to_param here.world.graph.value id))
+
+-- ---- the equations
+
+-- channel c of output o of an end, by the kind of its node
+abbrev pub value_by_kind : ℕ → ℕ → (ℕ → Frame) → Frame → Kind → End → ℕ → ℕ → ℤ
+value_by_kind q f past here Destination e o c = input_value here e.node.0 0 c
+value_by_kind q f past here (Constant offset) e o c =
+    if sounds_at here.world e.node.0 f then computed_value q f past here (param_id e.node.0 param.Offset) else pos 0
+value_by_kind q f past here (Gain gain) e o c =
+    scale (input_value here e.node.0 0 c) (computed_value q f past here (param_id e.node.0 param.Gain))
+
+-- Each end's equation at frame f, from the frames before and from this frame one height below. A muted end is silent, and so is a channel that an end lacks.
+unfoldable pub equation : ℕ → ℕ → (ℕ → Frame) → Frame → Values
+equation q f past here = λ e o c.
+    if muted here.world.graph.value e then pos 0 else
+    if nat_lt c (here.counts e) then value_by_kind q f past here (kind_of here.world e.node.0) e o c else pos 0
+
+-- ---- the recursion over frame and height
+
+abbrev pub value_scheme : ℕ → Scheme (World × Counts) Values Frame
+value_scheme q = record {
+  silence = silence;
+  rule = λ known f past now. equation q f past (record { world = known.0; counts = known.1; values = now });
+  full = λ known. height known.0.graph.value;
+  seen_as = λ known values. record { world = known.0; counts = known.1; values = values };
+  nothing = no_frame;
+}
+
+module _ (q : ℕ) (tape : List World) where
+  -- the world of a frame, and with it the counts
+  abbrev pub world_at : ℕ → World
+  world_at f = world_in tape (f / q)
+
+  abbrev pub known_at : ℕ → World × Counts
+  known_at f = (world_at f, count q tape (f / q))
+
+  -- at frame f and height h
+  unfoldable pub value_at : ℕ → ℕ → Values
+  unfolding at_moment
+  value_at f h = at_moment (value_scheme q) known_at f h
+
+  -- at full height
+  unfoldable pub value : ℕ → Values
+  unfolding value_at
+  value f = value_at f (height (world_at f).graph.value)
+
+  -- all of a frame
+  abbrev pub frame : ℕ → Frame
+  frame f = record { world = world_at f; counts = count q tape (f / q); values = value f }
+
+  -- what an equation of frame f sees of the tape: the frames before f, each at its full height
+  abbrev pub frames_before : ℕ → ℕ → Frame
+  frames_before f g = if nat_lt g f then frame g else no_frame
+
+  -- frame f, with the values of height h
+  abbrev pub frame_at : ℕ → ℕ → Frame
+  frame_at f h = record { world = world_at f; counts = count q tape (f / q); values = value_at f h }

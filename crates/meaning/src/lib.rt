@@ -1,0 +1,48 @@
+//! The meaning of a graph over time: the worlds of a session, the value that each end of a node
+//! carries at each frame, and the laws of these values.
+#![tactic(auto)]
+
+ghost use Rattle.meaning.specs.Laws.{RecursionLaw, HeightLaw, FixpointLaw, OrderLaw, BlockLaw, PastLaw};
+
+mod listed;
+mod params;
+mod scheds;
+#[cfg(test)]
+mod tests;
+mod world;
+
+pub use conn_graph::muting_law;
+pub use listed::Listed;
+pub use params::{Param, Params};
+pub use scheds::{Play, Scheds};
+pub use world::World;
+
+/// The recursion over frame and height, as one reads it.
+pub fn recursion_law()
+    ensures { RecursionLaw }
+{}
+
+/// A zero is a silence of the graph, never a height that ran out.
+pub fn height_law()
+    ensures { HeightLaw }
+{}
+
+/// The values of a frame solve its equations: nothing is said of heights.
+pub fn fixpoint_law()
+    ensures { FixpointLaw }
+{}
+
+/// The values do not depend on the order in which the ends are gone along.
+pub fn order_law()
+    ensures { OrderLaw }
+{}
+
+/// A quantum can be made end by end, each with its whole block.
+pub fn block_law()
+    ensures { BlockLaw }
+{}
+
+/// Of the quanta before, a quantum reads only what the delays took in.
+pub fn past_law()
+    ensures { PastLaw }
+{}
