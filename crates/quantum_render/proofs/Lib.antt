@@ -1,0 +1,12 @@
+pub mod Connections
+pub mod Made
+pub mod Sources
+pub mod InputLaws
+pub mod LevelLaws
+pub mod RenderedLaws
+pub mod PassLaws
+pub mod CountingLaws
+pub mod CountPass
+pub mod Passing
+pub mod Parts
+pub mod OutLaws

@@ -1,0 +1,67 @@
+-- The connections that lead to a target are among those that lead to its node.
+use Rattle.std.proofs.Common.{ℕ, zero, suc, ◌≡◌, ◌<◌, ◌≤◌, length, List, [], ◌∷◌, filter, slice_index_or, Bool, true, false, cond, inl, inr, refl, ◌∙◌, ap, arith}
+use Rattle.std.specs.Prelude.{◌==◌}
+use Rattle.std.proofs.lemmas.List.{length-map}
+use Rattle.wa_base.specs.declared.graph_names.ParamId.{ParamId}
+use Rattle.law_base.specs.Members.{IsIn}
+use Rattle.law_base.proofs.Members.{IsIn-filter}
+use Rattle.law_base.proofs.Tests.{and_parts}
+use Rattle.conn_graph.specs.declared.edges.Edge.{Edge}
+use Rattle.conn_graph.specs.declared.edges.Target.{Target}
+use Rattle.conn_graph.specs.declared.edges.Target.TheVariants.{Input, Param}
+use Rattle.conn_graph.specs.Edges.{target_node, is_input, is_param}
+use Rattle.conn_graph.specs.Graph.{Connections, IsGraph, edges_to_input, edges_to_param}
+use Rattle.meaning.specs.declared.world.World.{World}
+use Rattle.meaning.specs.Validity.{ports_of, IsValid}
+use Rattle.quantum_render.specs.Blocks.{leads_to, ComeFrom}
+use Rattle.quantum_render.specs.Levels.{into}
+
+filter_within : {X : Type 0} (p q : X → Bool) → ((x : X) → p x ≡ true → q x ≡ true) → (xs : List X) → filter p (filter q xs) ≡ filter p xs
+filter_within p q each [] = refl
+filter_within p q each (x ∷ xs) = by_tests (q x) (p x) refl refl (filter_within p q each xs)
+  where
+    by_tests : (b c : Bool) → q x ≡ b → p x ≡ c → filter p (filter q xs) ≡ filter p xs → filter p (cond b (x ∷ filter q xs) (filter q xs)) ≡ cond c (x ∷ filter p xs) (filter p xs)
+    by_tests true c is_q is_p below = ap (λ ys. cond (p x) (x ∷ ys) ys) below ∙ ap (λ t. cond t (x ∷ filter p xs) (filter p xs)) is_p
+    by_tests false true is_q is_p below = let t : q x ≡ true = each x is_p in absurd cc
+    by_tests false false is_q is_p below = below
+
+node_of_input : (n i : ℕ) (t : Target) → is_input n i t ≡ true → (target_node t == n) ≡ true
+node_of_input n i (Input node input) h = (and_parts _ _ h).0
+node_of_input n i (Param param) h = absurd cc
+
+node_of_param : (id : ParamId) (t : Target) → is_param id t ≡ true → (target_node t == id.node.0) ≡ true
+node_of_param id (Input node input) h = absurd cc
+node_of_param id (Param param) h = (and_parts _ _ h).0
+
+pub input_sources : (g : Connections) (n i : ℕ) → filter (leads_to (Input (record { 0 = n }) i)) (into g n) ≡ edges_to_input g n i
+input_sources g n i = filter_within (λ e. is_input n i e.to) (λ e. target_node e.to == n) (λ e h. node_of_input n i e.to h) g.edges
+
+pub param_sources : (g : Connections) (id : ParamId) → filter (leads_to (Param id)) (into g id.node.0) ≡ edges_to_param g id
+param_sources g id = filter_within (λ e. is_param id e.to) (λ e. target_node e.to == id.node.0) (λ e h. node_of_param id e.to h) g.edges
+
+-- ---- they come from nodes that are there, and are not too many
+
+pub IsIn-get_or : {X : Type 0} (xs : List X) (i : ℕ) (d : X) → i < length xs → IsIn (slice_index_or xs i d) xs
+IsIn-get_or [] i d l = absurd (omega arith)
+IsIn-get_or (x ∷ xs) zero d l = inl refl
+IsIn-get_or (x ∷ xs) (suc i) d l = inr (IsIn-get_or xs i d (omega arith))
+
+pub into_comes : (g : Connections) (n : ℕ) → IsGraph g → ComeFrom (length g.nodes) (into g n)
+into_comes g n whole i d l =
+    let e : Edge = slice_index_or (into g n) i d in
+    (whole.places e (IsIn-filter (λ x. target_node x.to == n) g.edges e (IsIn-get_or (into g n) i d l)).0).from
+
+length-filter_low : {X : Type 0} (p : X → Bool) (xs : List X) → length (filter p xs) ≤ length xs
+length-filter_low p [] = omega arith
+length-filter_low p (x ∷ xs) = by_test (p x) (length-filter_low p xs)
+  where
+    by_test : (b : Bool) → length (filter p xs) ≤ length xs → length (cond b (x ∷ filter p xs) (filter p xs)) ≤ suc (length xs)
+    by_test true l = omega arith
+    by_test false l = omega arith
+
+pub into_few : (g : Connections) (n : ℕ) → IsGraph g → length (into g n) ≤ 8192
+into_few g n whole = let few = whole.few in let low = length-filter_low (λ (e : Edge). target_node e.to == n) g.edges in omega arith
+
+-- as many ports as nodes
+pub same_nodes : (w : World) → IsValid w → length w.graph.value.nodes ≡ length w.nodes
+same_nodes w valid = ap length valid.ports ∙ length-map w.nodes ports_of

@@ -1,0 +1,5 @@
+pub mod Blocks
+pub mod Levels
+pub mod Renders
+pub mod Plans
+pub mod Stands

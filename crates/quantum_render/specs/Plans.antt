@@ -1,0 +1,26 @@
+-- What a world is rendered by: an order of its ends, the connections to each node, and the channels of each end.
+use Rattle.std.specs.Prelude.{ℕ, ◌≡◌, ◌<◌, ◌≤◌, List, [], ◌∷◌, ◌++◌, length, slice_index_or, true}
+use Rattle.wa_base.specs.declared.graph_names.End.{End}
+use Rattle.law_base.specs.Members.{IsIn}
+use Rattle.conn_graph.specs.declared.edges.Edge.{Edge}
+use Rattle.conn_graph.specs.Ends.{ends, muted}
+use Rattle.conn_graph.specs.Orders.{IsLegalOrder}
+use Rattle.meaning.specs.declared.world.World.{World}
+use Rattle.meaning.specs.Counts.{count}
+use Rattle.quantum_render.specs.Blocks.{counts_in}
+use Rattle.quantum_render.specs.Levels.{into}
+
+-- an order of the unmuted ends, the muted ends, and for each node the connections that lead to it
+pub record IsPlan (w : World) (order : List End) (mute : List End) (sources : List (List Edge)) : Type 0 where
+  pub legal : IsLegalOrder w.graph.value order
+  pub all : (d : End) → IsIn d (ends w.graph.value) → muted w.graph.value d ≡ true → IsIn d mute
+  pub only : (d : End) → IsIn d mute → IsIn d (ends w.graph.value)
+  pub nodes : length sources ≡ length w.graph.value.nodes
+  pub each : (n : ℕ) → n < length sources → slice_index_or sources n [] ≡ into w.graph.value n
+
+-- the channels of each end in the quantum after any tape
+pub record AreCounted (w : World) (counts : List ℕ) : Type 0 where
+  pub nodes : length counts ≡ length w.graph.value.nodes
+  pub low : (n : ℕ) → n < length counts → 1 ≤ slice_index_or counts n 1
+  pub high : (n : ℕ) → n < length counts → slice_index_or counts n 1 ≤ 32
+  pub counted : (tape : List World) (d : End) → IsIn d (ends w.graph.value) → counts_in counts d ≡ count 128 (tape ++ w ∷ []) (length tape) d
