@@ -198,6 +198,11 @@ centre-centre : sample 2 (centre ∷ []) 0 2 ≡ pos 5
 unfolding context constant gain to_input to_gain line started stopped world at_height before at_moment state reaches form mix intrinsic_at ends in_cycle arrow height muted count_rule count_at count input_value computed_value equation value_at value centre
 centre-centre = refl
 
+-- a channel that the source does not have is silent
+centre-source : map (value 2 (centre ∷ []) 0 (reader_of 1) 0) (0 ∷ 1 ∷ []) ≡ pos 5 ∷ pos 0 ∷ []
+unfolding context constant gain to_input to_gain line started stopped world at_height before at_moment state reaches form mix intrinsic_at ends in_cycle arrow height muted count_rule count_at count input_value computed_value equation value_at value centre
+centre-source = refl
+
 -- ---- the gain is mono in the first quantum, and in the second it is stereo with a silent right channel
 stereo : Node → World
 stereo node = world 2 (constant (pos 16777216) ∷ node ∷ []) (to_input 1 2 ∷ to_input 2 0 ∷ [])
