@@ -6,12 +6,12 @@ use Rattle.wa_base.specs.declared.features.Feature.TheVariants as feature
 use Rattle.script_ast.specs.declared.entries.Kind.{Kind}
 use Rattle.script_ast.specs.declared.entries.Kind.TheVariants as kind
 use Rattle.script_ast.specs.declared.entries.Row.{Row}
-use Rattle.script_ast.specs.declared.entries.TheConstants.{CREATE_CONSTANT_SOURCE, CONNECT, START, STOP, START_RENDERING}
+use Rattle.script_ast.specs.declared.entries.TheConstants.{CREATE_CONSTANT_SOURCE, CREATE_GAIN, CONNECT, DISCONNECT, START, STOP, START_RENDERING}
 use Rattle.script_ast.specs.declared.op_names.TheConstants.{OP_NAMES}
 use Rattle.script_ast.specs.declared.op_names.LeftOutName.{LeftOutName}
 use Rattle.script_ast.specs.declared.op_names.LeftOutName.TheVariants as left_out
 use Rattle.script_ast.specs.declared.op_names.OpName.{OpName}
-use Rattle.script_ast.specs.declared.op_names.OpName.TheVariants.{CreateConstantSource, Connect, Start, Stop, StartRendering, Resume, ReadState, ReadTime, LeftOut}
+use Rattle.script_ast.specs.declared.op_names.OpName.TheVariants.{CreateConstantSource, CreateGain, Connect, Disconnect, Start, Stop, StartRendering, Resume, ReadState, ReadTime, LeftOut}
 
 -- the `op` of an operation that the profile leaves out
 abbrev pub left_out_word : LeftOutName → List ℕ
@@ -52,7 +52,9 @@ left_out_feature left_out.CreateConvolver = feature.Convolver
 -- the `op` of an operation
 abbrev pub op_word : OpName → List ℕ
 op_word CreateConstantSource = codes "createConstantSource"
+op_word CreateGain = codes "createGain"
 op_word Connect = codes "connect"
+op_word Disconnect = codes "disconnect"
 op_word Start = codes "start"
 op_word Stop = codes "stop"
 op_word StartRendering = codes "startRendering"
@@ -72,7 +74,9 @@ op_named word = first_named word OP_NAMES
 -- the fields of an operation, in the order in which they are read
 abbrev pub fields_of : OpName → List Row
 fields_of CreateConstantSource = CREATE_CONSTANT_SOURCE
+fields_of CreateGain = CREATE_GAIN
 fields_of Connect = CONNECT
+fields_of Disconnect = DISCONNECT
 fields_of Start = START
 fields_of Stop = STOP
 fields_of StartRendering = START_RENDERING

@@ -1,5 +1,5 @@
 -- The ranges of a call's fields, and the names that a script may give.
-use Rattle.std.specs.Prelude.{ℕ, ◌≤◌, ◌==◌, ◌&&◌, ◌||◌, List, [], ◌∷◌, length, codes, bytes_eq, Bool, not, nat_le, IsTrue, ℤ, pos, neg_ℤ, ◌≤ℤ◌, Option, Some, None}
+use Rattle.std.specs.Prelude.{ℕ, ◌≤◌, ◌==◌, ◌&&◌, ◌||◌, List, [], ◌∷◌, length, codes, bytes_eq, Bool, not, nat_le, IsTrue, ℤ, pos, neg_ℤ, ◌≤ℤ◌, Option, Some, None, IsSome}
 use Rattle.std.specs.List.{list_all}
 use Rattle.std.specs.Char.{is_ascii_alphanumeric}
 use Rattle.script_ast.specs.declared.operations.Op.{Op}
@@ -61,7 +61,12 @@ IsNewName name = IsTrue (is_new_name name)
 abbrev pub IsPath : List ℕ → Type 0
 IsPath path = (1 ≤ length path) × (length path ≤ 255)
 
--- each field of an operation is in its range
+-- a disconnect has none of these three, or its output, or `to`, or `to` and the output, or all three: an input stands beside the others
+abbrev pub IsDisconnectForm : Option ℕ → Option (List ℕ) → Option ℕ → Type 0
+IsDisconnectForm output to None = Unit {0}
+IsDisconnectForm output to (Some input) = IsSome output × IsSome to
+
+-- each field of an operation is in its range, and a disconnect has one of its forms
 abbrev pub IsInRange : Op → Type 0
 IsInRange (op.CreateConstantSource name offset) = IsNewName name × IsFix offset
 IsInRange (op.CreateGain name gain) = IsNewName name × IsFix gain
@@ -75,7 +80,7 @@ IsInRange (op.CreateBuffer name channels frames rate) = IsNewName name × IsCoun
 IsInRange (op.LeftOut feature) = Unit {0}
 IsInRange (op.Connect from output to input) = IsCount output × IsCount input
 IsInRange (op.ConnectParam from output to param) = IsCount output
-IsInRange (op.Disconnect from output to input) = IsCountIfSome output × IsCountIfSome input
+IsInRange (op.Disconnect from output to input) = IsCountIfSome output × IsCountIfSome input × IsDisconnectForm output to input
 IsInRange (op.DisconnectParam from to param output) = IsCountIfSome output
 IsInRange (op.SetChannelCount node value) = IsCount value
 IsInRange (op.SetChannelCountMode node value) = Unit {0}

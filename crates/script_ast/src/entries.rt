@@ -96,6 +96,12 @@ pub const OFFSET: Row = Row {
     fallback: Fallback::Number(16_777_216),
 };
 
+pub const GAIN: Row = Row {
+    field: Field::Gain,
+    kind: Kind::Fix,
+    fallback: Fallback::Number(16_777_216),
+};
+
 pub const FROM: Row = Row {
     field: Field::From,
     kind: Kind::Name,
@@ -108,16 +114,34 @@ pub const OUTPUT: Row = Row {
     fallback: Fallback::Count(0),
 };
 
+pub const OUTPUT_OR_NULL: Row = Row {
+    field: Field::Output,
+    kind: Kind::Count,
+    fallback: Fallback::Null,
+};
+
 pub const TO: Row = Row {
     field: Field::To,
     kind: Kind::Name,
     fallback: Fallback::Needed,
 };
 
+pub const TO_OR_NULL: Row = Row {
+    field: Field::To,
+    kind: Kind::Name,
+    fallback: Fallback::Null,
+};
+
 pub const INPUT: Row = Row {
     field: Field::Input,
     kind: Kind::Count,
     fallback: Fallback::Count(0),
+};
+
+pub const INPUT_OR_NULL: Row = Row {
+    field: Field::Input,
+    kind: Kind::Count,
+    fallback: Fallback::Null,
 };
 
 pub const NODE: Row = Row {
@@ -160,7 +184,11 @@ pub const SCRIPT_TAIL: [Row; 1] = [CALLS];
 
 pub const CREATE_CONSTANT_SOURCE: [Row; 2] = [AS, OFFSET];
 
+pub const CREATE_GAIN: [Row; 2] = [AS, GAIN];
+
 pub const CONNECT: [Row; 4] = [FROM, OUTPUT, TO, INPUT];
+
+pub const DISCONNECT: [Row; 4] = [FROM, OUTPUT_OR_NULL, TO_OR_NULL, INPUT_OR_NULL];
 
 pub const START: [Row; 4] = [NODE, WHEN, START_OFFSET, DURATION];
 

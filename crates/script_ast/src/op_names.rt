@@ -1,7 +1,10 @@
 ghost use Rattle.std.specs.Prelude.{◌≡◌, IsTrue, ◌↔◌, IsSome, bytes_eq, option_map};
 ghost use Rattle.script_ast.specs.OpNames.{left_out_word, left_out_feature, op_word, op_named, first_named, fields_of, has_calls};
 
-use crate::entries::{CONNECT, CREATE_CONSTANT_SOURCE, Kind, Row, START, START_RENDERING, STOP};
+use crate::entries::{
+    CONNECT, CREATE_CONSTANT_SOURCE, CREATE_GAIN, DISCONNECT, Kind, Row, START, START_RENDERING,
+    STOP,
+};
 use wa_base::Feature;
 
 /// The name of an operation that the profile leaves out.
@@ -76,7 +79,9 @@ impl LeftOutName {
 #[derive(Clone, Copy, Debug, PartialEq, Eq)]
 pub enum OpName {
     CreateConstantSource,
+    CreateGain,
     Connect,
+    Disconnect,
     Start,
     Stop,
     StartRendering,
@@ -87,9 +92,11 @@ pub enum OpName {
 }
 
 /// Every operation.
-pub const OP_NAMES: [OpName; 23] = [
+pub const OP_NAMES: [OpName; 25] = [
     OpName::CreateConstantSource,
+    OpName::CreateGain,
     OpName::Connect,
+    OpName::Disconnect,
     OpName::Start,
     OpName::Stop,
     OpName::StartRendering,
@@ -120,7 +127,9 @@ impl OpName {
     {
         match self {
             OpName::CreateConstantSource => "createConstantSource",
+            OpName::CreateGain => "createGain",
             OpName::Connect => "connect",
+            OpName::Disconnect => "disconnect",
             OpName::Start => "start",
             OpName::Stop => "stop",
             OpName::StartRendering => "startRendering",
@@ -151,7 +160,9 @@ impl OpName {
     {
         match self {
             OpName::CreateConstantSource => &CREATE_CONSTANT_SOURCE,
+            OpName::CreateGain => &CREATE_GAIN,
             OpName::Connect => &CONNECT,
+            OpName::Disconnect => &DISCONNECT,
             OpName::Start => &START,
             OpName::Stop => &STOP,
             OpName::StartRendering => &START_RENDERING,

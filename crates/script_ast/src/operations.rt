@@ -86,7 +86,8 @@ pub enum Op {
         to: Name,
         param: Name,
     },
-    /// The AudioNode Interface, disconnect; the fields that are there choose its form.
+    /// The AudioNode Interface, disconnect. The fields that are there choose its form: none,
+    /// `output`, `to`, `to` and `output`, or all three. So an `input` stands beside the other two.
     Disconnect {
         from: Name,
         output: Option<u32>,

@@ -1,4 +1,4 @@
-use crate::{Call, Calls, Op, Path, Script, is_built};
+use crate::{Call, Calls, Fallback, Field, Kind, Op, OpName, Path, Row, Script, is_built};
 use std::alloc::Global;
 use std::test::Fail;
 use wa_base::{ContextSpec, NoMemory};
@@ -43,7 +43,9 @@ fn finds_calls_by_their_ordinals(rt: HostRuntime) -> Result<(), Fail> {
 #[test]
 fn knows_what_is_built(rt: HostRuntime) {
     for op in [
+        "createGain",
         "connect",
+        "disconnect",
         "readTime",
         "startRendering",
         "createConvolver",
@@ -51,9 +53,40 @@ fn knows_what_is_built(rt: HostRuntime) {
     ] {
         assert!(rt; is_built(op), "{op}");
     }
-    for op in ["", "Connect", "createGain", "suspend", "then"] {
+    for op in [
+        "",
+        "Connect",
+        "creategain",
+        "disconnectParam",
+        "suspend",
+        "then",
+    ] {
         assert!(rt; !is_built(op), "{op}");
     }
+}
+
+const fn row(field: Field, kind: Kind, fallback: Fallback) -> Row {
+    Row {
+        field,
+        kind,
+        fallback,
+    }
+}
+
+#[test]
+fn has_the_fields_of_the_format(rt: HostRuntime) {
+    let create_gain = [
+        row(Field::As, Kind::NewName, Fallback::Needed),
+        row(Field::Gain, Kind::Fix, Fallback::Number(16_777_216)),
+    ];
+    assert_eq!(rt; OpName::CreateGain.fields(), create_gain.as_slice());
+    let disconnect = [
+        row(Field::From, Kind::Name, Fallback::Needed),
+        row(Field::Output, Kind::Count, Fallback::Null),
+        row(Field::To, Kind::Name, Fallback::Null),
+        row(Field::Input, Kind::Count, Fallback::Null),
+    ];
+    assert_eq!(rt; OpName::Disconnect.fields(), disconnect.as_slice());
 }
 
 #[test]

@@ -1,7 +1,7 @@
 -- Reading calls one after another.
 use Rattle.std.proofs.lemmas.List.{append-nil, drop_all}
 use Rattle.std.proofs.Common.{◌≡◌, ◌<◌, ◌≤◌, ◌+◌, Bool, ℕ, suc, List, [], ◌∷◌, ◌++◌, length, drop, get_or, refl, sym, ap, ◌∙◌, Ok, Err, Option, Some, None, true, false, add-one, drop-cons, append_assoc, length-append}
-use Rattle.std.specs.Prelude.{flat_map, filter_map, is_some, option_map, option_and_then, unwrap_or, if◌then◌else◌}
+use Rattle.std.specs.Prelude.{⊤, flat_map, filter_map, is_some, option_map, option_and_then, unwrap_or, if◌then◌else◌}
 use Rattle.std.specs.List.{cons_option}
 use Rattle.std.proofs.Common.{Ordering, Less, Equal, Greater}
 use Rattle.std.specs.Ordering.{nat_cmp, match_ordering, is_eq}
@@ -11,7 +11,7 @@ use Rattle.serde_json.specs.Data.{Data, null, boolean, number, string, array, ob
 use Rattle.serde_json.specs.View.{view, items_view}
 use Rattle.serde_json.specs.declared.value.Value.{Value}
 use Rattle.script_ast.specs.declared.call_list.Call.{Call}
-use Rattle.script_json.proofs.Outcomes.{outcome_some}
+use Rattle.script_json.proofs.Outcomes.{outcome_none, outcome_some}
 use Rattle.std.proofs.lemmas.Grind.{flat_map-append}
 use Rattle.std.proofs.lemmas.List.Elements.{filter_map-append}
 use Rattle.serde_json.specs.Find.{as_object, as_array, get_member}
@@ -20,7 +20,7 @@ use Rattle.script_ast.specs.declared.entries.TheConstants.{THEN}
 use Rattle.script_ast.specs.OpNames.{fields_of, has_calls}
 use Rattle.script_ast.specs.declared.fields.Field.TheVariants as field
 use Rattle.script_ast.specs.declared.op_names.OpName.{OpName}
-use Rattle.script_json.specs.Calls.{Placed, placed, held_by, then_calls, list_calls, has_then, call_faults, call_of, name_in, name_faults, op_in}
+use Rattle.script_json.specs.Calls.{Placed, placed, held_by, then_calls, list_calls, has_then, call_faults, call_of, name_in, name_faults, joint_faults, op_faults, op_in}
 use Rattle.script_json.specs.Fields.{fields_faults, list_in}
 use Rattle.script_json.specs.Outcome.{outcome}
 use Rattle.script_json.specs.Reading.{placed_at, call_read, calls_read, held_list}
@@ -54,6 +54,16 @@ read_object call false h = cc
 
 -- ---- one call
 
+-- the fault of a field is the call's first
+pub op_fault : (n : ℕ) (d : Data) (name : OpName) (e : ScriptErr) → outcome {A = ⊤} (fields_faults n d (fields_of name)) tt ≡ Err e
+    → outcome {A = ⊤} (op_faults n d name) tt ≡ Err e
+op_fault n d name e h = outcome_some _ _ tt e h
+
+-- where no field has a fault, the first is one of several fields together
+pub op_joint : (n : ℕ) (d : Data) (name : OpName) (done : ⊤) → outcome {A = ⊤} (fields_faults n d (fields_of name)) tt ≡ Ok done
+    → outcome {A = ⊤} (op_faults n d name) tt ≡ outcome {A = ⊤} (joint_faults n d name) tt
+op_joint n d name done h = outcome_none _ _ tt done h
+
 pub call_read-no_object : (n holder : ℕ) (d : Data) → is_some (as_object d) ≡ false → call_read (placed_at n holder d) ≡ Err (WrongKind n field.Call)
 unfolding call_read call_faults
 call_read-no_object n holder d is_object = rw is_object refl
@@ -63,7 +73,7 @@ unfolding call_read call_faults
 call_read-unknown n holder d is_object name = rw (is_object, name) refl
 
 pub call_read-named : (n holder : ℕ) (d : Data) (name : OpName) → is_some (as_object d) ≡ true → name_in d ≡ Some name
-    → call_read (placed_at n holder d) ≡ outcome (fields_faults n d (fields_of name)) (Some (record { ordinal = n; holder = holder; op = op_in name d }))
+    → call_read (placed_at n holder d) ≡ outcome (op_faults n d name) (Some (record { ordinal = n; holder = holder; op = op_in name d }))
 unfolding call_read call_faults call_of
 call_read-named n holder d name is_object named = rw (is_object, named) refl
 

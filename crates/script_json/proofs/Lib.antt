@@ -1,5 +1,6 @@
 mod CallSteps
 mod DepthLaws
+mod FormLaws
 mod HeadSteps
 mod Outcomes
 mod Rows

@@ -1,14 +1,15 @@
 -- Texts that are written out, and what reading them gives.
-use Rattle.std.specs.Prelude.{◌≡◌, codes, Ok, Err, None, pos, refl, [], ◌∷◌}
+use Rattle.std.specs.Prelude.{◌≡◌, codes, Ok, Err, Some, None, pos, refl, [], ◌∷◌}
 use Rattle.serde_json.proofs.OnLiterals.{serde_json_on_literals}
 use Rattle.serde_json.specs.Read.{read}
 use Rattle.script_ast.specs.OpNames.{op_named}
+use Rattle.script_ast.specs.Ranges.{is_new_name}
 use Rattle.script_ast.specs.declared.fields.Field.TheVariants as field
 use Rattle.script_ast.specs.declared.operations.Op.TheVariants as op
 use Rattle.script_json.specs.Calls.{placed, call_faults, call_of}
-use Rattle.script_json.specs.Fields.{number_in, count_in, text_in, time_or_null_in}
+use Rattle.script_json.specs.Fields.{number_in, text_in, time_or_null_in, count_or_null_in, text_or_null_in}
 use Rattle.script_json.specs.Script.{context_in, main_list, calls_of, head_faults, script_faults, script_in, script_or_fault}
-use Rattle.script_json.specs.declared.faults.ScriptErr.TheVariants.{BadJson, MissingField, WrongKind, UnknownOp}
+use Rattle.script_json.specs.declared.faults.ScriptErr.TheVariants.{BadJson, MissingField, WrongKind, UnknownOp, OutOfRange}
 
 no_bytes : script_or_fault (read []) ≡ Err BadJson
 unfolding serde_json_on_literals
@@ -29,5 +30,41 @@ held_first = refl
 
 started : script_or_fault (read (codes "{\"version\":1,\"context\":{\"channels\":1,\"length\":128,\"rate\":48000},\"calls\":[{\"op\":\"start\",\"node\":\"c\",\"when\":5}]}"))
     ≡ Ok (record { context = record { channels = 1; length = 128; rate = 48000 }; calls = record { ordinal = 1; holder = 0; op = op.Start (codes "c") (pos 5) (pos 0) None } ∷ [] })
-unfolding serde_json_on_literals context_in main_list calls_of head_faults script_faults script_in placed call_faults call_of op_named number_in count_in text_in time_or_null_in
+unfolding serde_json_on_literals context_in main_list calls_of head_faults script_faults script_in placed call_faults call_of op_named number_in text_in time_or_null_in
 started = refl
+
+-- a gain of 1.0 where none is given
+gained : script_or_fault (read (codes "{\"version\":1,\"context\":{\"channels\":1,\"length\":1,\"rate\":1},\"calls\":[{\"op\":\"createGain\",\"as\":\"g\"}]}"))
+    ≡ Ok (record { context = record { channels = 1; length = 1; rate = 1 }; calls = record { ordinal = 1; holder = 0; op = op.CreateGain (codes "g") (pos 16777216) } ∷ [] })
+unfolding serde_json_on_literals context_in main_list calls_of head_faults script_faults script_in placed call_faults call_of op_named is_new_name number_in text_in
+gained = refl
+
+gain_too_high : script_or_fault (read (codes "{\"version\":1,\"context\":{\"channels\":1,\"length\":1,\"rate\":1},\"calls\":[{\"op\":\"createGain\",\"as\":\"g\",\"gain\":2147483648}]}")) ≡ Err (OutOfRange 1 field.Gain)
+unfolding serde_json_on_literals context_in main_list calls_of head_faults script_faults placed call_faults op_named is_new_name
+gain_too_high = refl
+
+-- the first form of a disconnect, in which null counts as absent
+all_cut : script_or_fault (read (codes "{\"version\":1,\"context\":{\"channels\":1,\"length\":1,\"rate\":1},\"calls\":[{\"op\":\"disconnect\",\"from\":\"a\",\"to\":null}]}"))
+    ≡ Ok (record { context = record { channels = 1; length = 1; rate = 1 }; calls = record { ordinal = 1; holder = 0; op = op.Disconnect (codes "a") None None None } ∷ [] })
+unfolding serde_json_on_literals context_in main_list calls_of head_faults script_faults script_in placed call_faults call_of op_named number_in text_in count_or_null_in text_or_null_in
+all_cut = refl
+
+-- and the last one
+one_cut : script_or_fault (read (codes "{\"version\":1,\"context\":{\"channels\":1,\"length\":1,\"rate\":1},\"calls\":[{\"op\":\"disconnect\",\"from\":\"a\",\"output\":1,\"to\":\"b\",\"input\":0}]}"))
+    ≡ Ok (record { context = record { channels = 1; length = 1; rate = 1 }; calls = record { ordinal = 1; holder = 0; op = op.Disconnect (codes "a") (Some 1) (Some (codes "b")) (Some 0) } ∷ [] })
+unfolding serde_json_on_literals context_in main_list calls_of head_faults script_faults script_in placed call_faults call_of op_named number_in text_in count_or_null_in text_or_null_in
+one_cut = refl
+
+-- an input without `to`, and one with it and without the output
+input_alone : script_or_fault (read (codes "{\"version\":1,\"context\":{\"channels\":1,\"length\":1,\"rate\":1},\"calls\":[{\"op\":\"disconnect\",\"from\":\"a\",\"output\":0,\"input\":0}]}")) ≡ Err (MissingField 1 field.To)
+unfolding serde_json_on_literals context_in main_list calls_of head_faults script_faults placed call_faults op_named
+input_alone = refl
+
+input_without_output : script_or_fault (read (codes "{\"version\":1,\"context\":{\"channels\":1,\"length\":1,\"rate\":1},\"calls\":[{\"op\":\"disconnect\",\"from\":\"a\",\"output\":null,\"to\":\"b\",\"input\":0}]}")) ≡ Err (MissingField 1 field.Output)
+unfolding serde_json_on_literals context_in main_list calls_of head_faults script_faults placed call_faults op_named
+input_without_output = refl
+
+-- the fault of a field comes before it
+field_first : script_or_fault (read (codes "{\"version\":1,\"context\":{\"channels\":1,\"length\":1,\"rate\":1},\"calls\":[{\"op\":\"disconnect\",\"from\":\"a\",\"input\":-1}]}")) ≡ Err (OutOfRange 1 field.Input)
+unfolding serde_json_on_literals context_in main_list calls_of head_faults script_faults placed call_faults op_named
+field_first = refl

@@ -1,27 +1,27 @@
 -- A script that is read is well-formed.
-use Rattle.std.proofs.Common.{◌≡◌, ◌≤◌, ◌+◌, ℕ, suc, List, [], ◌∷◌, ◌++◌, length, refl, Ok, Option, Some, None, Bool, true, false, arith, ℤ, pos, neg_ℤ, T}
-use Rattle.std.specs.Prelude.{◌≤ℤ◌, flat_map, filter_map, is_some, option_map, option_and_then, unwrap_or, int_le, ◌&&◌, if◌then◌else◌, nat_le, bytes_eq}
+use Rattle.std.proofs.Common.{◌≡◌, ◌≤◌, ◌+◌, ℕ, suc, List, [], ◌∷◌, ◌++◌, length, refl, Ok, Option, Some, None, Bool, true, false, arith, ℤ, pos, negsuc, neg_ℤ, T}
+use Rattle.std.specs.Prelude.{◌≤ℤ◌, flat_map, filter_map, is_some, option_map, option_and_then, unwrap_or, int_le, nat_abs, ◌&&◌, if◌then◌else◌, bytes_eq}
 use Rattle.std.specs.List.{cons_option}
 use Rattle.std.specs.Int.Signed.{le_z_yes}
 use Rattle.std.proofs.lemmas.Grind.{flat_map-append}
+use Rattle.std.proofs.lemmas.Int.{ints}
 use Rattle.std.proofs.lemmas.List.Elements.{filter_map-append}
-use Rattle.std.proofs.lemmas.Bool.{leb-true}
 use Rattle.serde_json.specs.Data.{Data, null, boolean, number, string, array, object, Items, no_items, item, Members, no_members, member}
 use Rattle.serde_json.specs.Find.{as_object, as_str}
 use Rattle.wa_base.specs.declared.contexts.ContextSpec.{ContextSpec}
 use Rattle.script_ast.specs.Fields.{field_word}
-use Rattle.script_ast.specs.OpNames.{fields_of}
-use Rattle.script_ast.specs.Ranges.{IsFix, IsTime, IsTimeIfSome, IsCount, IsNewName, IsInRange, is_new_name}
+use Rattle.script_ast.specs.Ranges.{IsFix, IsTime, IsTimeIfSome, IsCount, IsCountIfSome, IsNewName, IsInRange, is_new_name}
 use Rattle.script_ast.specs.WellFormed.{IsCallAt, AreCallsAfter, IsWellFormed}
 use Rattle.script_ast.specs.declared.call_list.Call.{Call}
 use Rattle.script_ast.specs.declared.entries.Row.{Row}
 use Rattle.script_ast.specs.declared.entries.TheConstants.{AS, CHANNELS, LENGTH, RATE}
 use Rattle.script_ast.specs.declared.fields.Field.TheVariants as field
 use Rattle.script_ast.specs.declared.op_names.OpName.{OpName}
-use Rattle.script_ast.specs.declared.op_names.OpName.TheVariants.{CreateConstantSource, Connect, Start, Stop, StartRendering, Resume, ReadState, ReadTime, LeftOut}
+use Rattle.script_ast.specs.declared.op_names.OpName.TheVariants.{CreateConstantSource, CreateGain, Connect, Disconnect, Start, Stop, StartRendering, Resume, ReadState, ReadTime, LeftOut}
 use Rattle.script_json.proofs.CallSteps.{both_none, length-calls, outcome_ok}
-use Rattle.script_json.specs.Calls.{Placed, placed, held_by, then_calls, list_calls, has_then, call_faults, call_of, name_in, name_faults, op_in}
-use Rattle.script_json.specs.Fields.{fields_faults, field_faults, cause_faults, member_faults, member_at, number_in, number_within, given_number, time_or_null_in, count_in, count_within, given_count, text_in}
+use Rattle.script_json.proofs.FormLaws.{disconnect_form}
+use Rattle.script_json.specs.Calls.{Placed, placed, held_by, then_calls, list_calls, has_then, call_faults, call_of, name_in, name_faults, op_faults, op_in}
+use Rattle.script_json.specs.Fields.{field_faults, cause_faults, member_faults, member_at, number_in, number_within, given_number, time_or_null_in, count_in, count_or_null_in, text_in}
 use Rattle.script_json.specs.Outcome.{outcome}
 use Rattle.script_json.specs.Reading.{placed_at, calls_read}
 use Rattle.script_json.specs.Script.{context_in, context_of, head_faults}
@@ -75,17 +75,25 @@ pub time_or_null_in-range : (row : Row) (d : Data) → IsTimeIfSome (time_or_nul
 unfolding time_or_null_in
 time_or_null_in-range row d = time_within (option_and_then whole (member_at row d))
 
-count_test : (n : ℕ) (b : Bool) → nat_le n 4294967295 ≡ b → unwrap_or (if b then Some n else None) 0 ≤ 4294967295
-count_test n true h = leb-true n 4294967295 h
-count_test n false h = omega arith
-
-count_or_zero : (o : Option ℕ) → unwrap_or (count_within 4294967295 o) 0 ≤ 4294967295
-count_or_zero None = omega arith
-count_or_zero (Some n) = count_test n _ refl
+count_of : (z : ℤ) → (pos 0 ≤ℤ z) × (z ≤ℤ pos 4294967295) → IsCount (nat_abs z)
+count_of (pos n) h = omega (arith, ints, h.1)
+count_of (negsuc n) h = absurd (omega (arith, ints, h.0))
 
 pub count_in-range : (row : Row) (d : Data) → IsCount (count_in row d)
-unfolding count_in
-count_in-range row d = count_or_zero (given_count row (member_at row d))
+unfolding number_in
+count_in-range row d = count_of _ (within_or_zero _ _ (given_number row (member_at row d)) (le_z_yes tt) (le_z_yes tt))
+
+count_test : (z : ℤ) (b : Bool) → is_within (pos 0) (pos 4294967295) z ≡ b → IsCountIfSome (option_map nat_abs (if b then Some z else None))
+count_test z true h = let e = both_true _ _ h in count_of z (int_le-true _ z e.0, int_le-true z _ e.1)
+count_test z false h = tt
+
+count_within : (o : Option ℤ) → IsCountIfSome (option_map nat_abs (number_within (pos 0) (pos 4294967295) o))
+count_within None = tt
+count_within (Some z) = count_test z _ refl
+
+pub count_or_null_in-range : (row : Row) (d : Data) → IsCountIfSome (count_or_null_in row d)
+unfolding count_or_null_in
+count_or_null_in-range row d = count_within (option_and_then whole (member_at row d))
 
 new_name_test : (n : ℕ) (name : List ℕ) (b : Bool) → is_new_name name ≡ b → cause_faults n field.As (if b then None else Some OutOfRange) ≡ [] → is_new_name name ≡ true
 new_name_test n name true h none = h
@@ -103,9 +111,13 @@ pub text_in-new_name : (n : ℕ) (d : Data) → field_faults n d AS ≡ [] → I
 unfolding text_in
 text_in-new_name n d h = new_name_member n (member_at AS d) h
 
-pub op_in-range : (n : ℕ) (d : Data) (name : OpName) → fields_faults n d (fields_of name) ≡ [] → IsInRange (op_in name d)
-op_in-range n d CreateConstantSource h = (text_in-new_name n d (both_none _ _ h).0, fix_in-range _ d)
+pub op_in-range : (n : ℕ) (d : Data) (name : OpName) → op_faults n d name ≡ [] → IsInRange (op_in name d)
+op_in-range n d CreateConstantSource h = (text_in-new_name n d (both_none _ _ (both_none _ _ h).0).0, fix_in-range _ d)
+op_in-range n d CreateGain h = (text_in-new_name n d (both_none _ _ (both_none _ _ h).0).0, fix_in-range _ d)
 op_in-range n d Connect h = (count_in-range _ d, count_in-range _ d)
+op_in-range n d Disconnect h =
+    let e = both_none _ _ h in
+    (count_or_null_in-range _ d, count_or_null_in-range _ d, disconnect_form n d e.0 e.1)
 op_in-range n d Start h = (time_in-range _ d, time_in-range _ d, time_or_null_in-range _ d)
 op_in-range n d Stop h = time_in-range _ d
 op_in-range n d StartRendering h = tt

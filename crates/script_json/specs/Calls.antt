@@ -5,13 +5,13 @@ use Rattle.serde_json.specs.Find.{get, as_object, as_str}
 use Rattle.script_ast.specs.Fields.{field_word}
 use Rattle.script_ast.specs.OpNames.{op_named, fields_of, has_calls, left_out_feature}
 use Rattle.script_ast.specs.declared.call_list.Call.{Call}
-use Rattle.script_ast.specs.declared.entries.TheConstants.{AS, OFFSET, FROM, OUTPUT, TO, INPUT, NODE, WHEN, START_OFFSET, DURATION}
+use Rattle.script_ast.specs.declared.entries.TheConstants.{AS, OFFSET, GAIN, FROM, OUTPUT, OUTPUT_OR_NULL, TO, TO_OR_NULL, INPUT, INPUT_OR_NULL, NODE, WHEN, START_OFFSET, DURATION}
 use Rattle.script_ast.specs.declared.fields.Field.TheVariants as field
 use Rattle.script_ast.specs.declared.op_names.OpName.{OpName}
-use Rattle.script_ast.specs.declared.op_names.OpName.TheVariants.{CreateConstantSource, Connect, Start, Stop, StartRendering, Resume, ReadState, ReadTime, LeftOut}
+use Rattle.script_ast.specs.declared.op_names.OpName.TheVariants.{CreateConstantSource, CreateGain, Connect, Disconnect, Start, Stop, StartRendering, Resume, ReadState, ReadTime, LeftOut}
 use Rattle.script_ast.specs.declared.operations.Op.{Op}
 use Rattle.script_ast.specs.declared.operations.Op.TheVariants as op
-use Rattle.script_json.specs.Fields.{fields_faults, text_in, fix_in, time_in, time_or_null_in, count_in}
+use Rattle.script_json.specs.Fields.{is_there, fields_faults, lack_faults, text_in, text_or_null_in, fix_in, time_in, time_or_null_in, count_in, count_or_null_in}
 use Rattle.script_json.specs.declared.faults.ScriptErr.{ScriptErr}
 use Rattle.script_json.specs.declared.faults.ScriptErr.TheVariants.{WrongKind, UnknownOp}
 
@@ -61,10 +61,32 @@ unfoldable mutual
   list_calls (array ds) n = placed ds n n
   list_calls (object ms) n = []
 
+-- the faults of a disconnect whose fields are not those of one of its forms: where there is an input, `to` has to be there, and then the output
+abbrev pub form_faults : ℕ → Data → List ScriptErr
+form_faults n d = if is_there INPUT_OR_NULL d then lack_faults n d TO_OR_NULL ++ lack_faults n d OUTPUT_OR_NULL else []
+
+-- the faults of a call n that lie in several of its fields together: only a disconnect has any
+abbrev pub joint_faults : ℕ → Data → OpName → List ScriptErr
+joint_faults n d CreateConstantSource = []
+joint_faults n d CreateGain = []
+joint_faults n d Connect = []
+joint_faults n d Disconnect = form_faults n d
+joint_faults n d Start = []
+joint_faults n d Stop = []
+joint_faults n d StartRendering = []
+joint_faults n d Resume = []
+joint_faults n d ReadState = []
+joint_faults n d ReadTime = []
+joint_faults n d (LeftOut name) = []
+
+-- the faults of the fields of a call n of the operation: first those of each field, then those of several together
+abbrev pub op_faults : ℕ → Data → OpName → List ScriptErr
+op_faults n d name = fields_faults n d (fields_of name) ++ joint_faults n d name
+
 -- the faults of a call n that names this operation, or none
 abbrev pub name_faults : ℕ → Data → Option OpName → List ScriptErr
 name_faults n d None = UnknownOp n ∷ []
-name_faults n d (Some name) = fields_faults n d (fields_of name)
+name_faults n d (Some name) = op_faults n d name
 
 -- the faults of a call: it is an object, its `op` names an operation, and the operation's fields are good, in this order
 unfoldable pub call_faults : Placed → List ScriptErr
@@ -73,7 +95,9 @@ call_faults call = if is_some (as_object call.value) then name_faults call.ordin
 -- a call of an operation with its fields
 abbrev pub op_in : OpName → Data → Op
 op_in CreateConstantSource d = op.CreateConstantSource (text_in AS d) (fix_in OFFSET d)
+op_in CreateGain d = op.CreateGain (text_in AS d) (fix_in GAIN d)
 op_in Connect d = op.Connect (text_in FROM d) (count_in OUTPUT d) (text_in TO d) (count_in INPUT d)
+op_in Disconnect d = op.Disconnect (text_in FROM d) (count_or_null_in OUTPUT_OR_NULL d) (text_or_null_in TO_OR_NULL d) (count_or_null_in INPUT_OR_NULL d)
 op_in Start d = op.Start (text_in NODE d) (time_in WHEN d) (time_in START_OFFSET d) (time_or_null_in DURATION d)
 op_in Stop d = op.Stop (text_in NODE d) (time_in WHEN d)
 op_in StartRendering d = op.StartRendering

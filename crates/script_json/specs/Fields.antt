@@ -1,7 +1,7 @@
 -- The members of a call, or of a script, by the rows of its table: their faults, and their values.
-use Rattle.std.specs.Prelude.{ℕ, List, [], ◌∷◌, flat_map, Bool, true, false, ◌&&◌, nat_le, if◌then◌else◌, ℤ, pos, neg_ℤ, Option, Some, None, option_and_then, unwrap_or, is_some}
+use Rattle.std.specs.Prelude.{ℕ, List, [], ◌∷◌, flat_map, Bool, true, false, not, ◌&&◌, if◌then◌else◌, ℤ, pos, neg_ℤ, nat_abs, Option, Some, None, option_and_then, option_map, unwrap_or, is_some}
 use Rattle.serde_json.specs.Data.{Data, Items, no_items}
-use Rattle.serde_json.specs.Find.{get, as_array, as_null, as_number, as_str, as_u64}
+use Rattle.serde_json.specs.Find.{get, as_array, as_null, as_str}
 use Rattle.script_ast.specs.declared.entries.Row.{Row}
 use Rattle.script_ast.specs.declared.entries.Fallback.{Fallback}
 use Rattle.script_ast.specs.declared.entries.Fallback.TheVariants.{Needed, Null, Number, Count, NoCalls}
@@ -16,6 +16,15 @@ use Rattle.script_json.specs.declared.values.Cause.TheVariants.{WrongKind, OutOf
 -- the member that a row names
 abbrev pub member_at : Row → Data → Option Data
 member_at row d = get (field_word row.field) d
+
+-- whether a member is there, where null counts as absent
+abbrev pub is_given : Option Data → Bool
+is_given None = false
+is_given (Some d) = not (is_some (as_null d))
+
+-- whether the member that a row names is there, where null counts as absent
+abbrev pub is_there : Row → Data → Bool
+is_there row d = is_given (member_at row d)
 
 -- ---- faults
 
@@ -54,43 +63,29 @@ field_faults n d row = member_faults n row (member_at row d)
 abbrev pub fields_faults : ℕ → Data → List Row → List ScriptErr
 fields_faults n d rows = flat_map (field_faults n d) rows
 
+-- the fault of a member of the call n that has to be there, where null counts as absent
+abbrev pub lack_faults : ℕ → Data → Row → List ScriptErr
+lack_faults n d row = if is_there row d then [] else fault.MissingField n row.field ∷ []
+
 -- ---- values: of a field without a fault. Where it has one they are 0, empty or none, and nothing stands on them
 
--- the default that is a number of frames or of units of 2^-24
+-- the default that is a number
 abbrev pub default_number : Fallback → Option ℤ
 default_number Needed = None
 default_number Null = None
 default_number (Number z) = Some z
-default_number (Count n) = None
+default_number (Count n) = Some (pos n)
 default_number NoCalls = None
-
--- the default that is a count
-abbrev pub default_count : Fallback → Option ℕ
-default_count Needed = None
-default_count Null = None
-default_count (Number z) = None
-default_count (Count n) = Some n
-default_count NoCalls = None
 
 -- a number from low to high
 abbrev pub number_within : ℤ → ℤ → Option ℤ → Option ℤ
 number_within low high None = None
 number_within low high (Some z) = if is_within low high z then Some z else None
 
--- a count up to high
-abbrev pub count_within : ℕ → Option ℕ → Option ℕ
-count_within high None = None
-count_within high (Some n) = if nat_le n high then Some n else None
-
 -- the whole number of the member, or the default where it is absent
 abbrev pub given_number : Row → Option Data → Option ℤ
 given_number row None = default_number row.fallback
 given_number row (Some d) = whole d
-
--- the count of the member, or the default where it is absent
-abbrev pub given_count : Row → Option Data → Option ℕ
-given_count row None = default_count row.fallback
-given_count row (Some d) = option_and_then as_u64 (as_number d)
 
 -- the whole number of a field from low to high
 unfoldable pub number_in : ℤ → ℤ → Row → Data → ℤ
@@ -109,8 +104,12 @@ unfoldable pub time_or_null_in : Row → Data → Option ℤ
 time_or_null_in row d = number_within (neg_ℤ (pos 1099511627776)) (pos 1099511627776) (option_and_then whole (member_at row d))
 
 -- the count of a field
-unfoldable pub count_in : Row → Data → ℕ
-count_in row d = unwrap_or (count_within 4294967295 (given_count row (member_at row d))) 0
+abbrev pub count_in : Row → Data → ℕ
+count_in row d = nat_abs (number_in (pos 0) (pos 4294967295) row d)
+
+-- the count of a field that may be null; none where it is null or absent
+unfoldable pub count_or_null_in : Row → Data → Option ℕ
+count_or_null_in row d = option_map nat_abs (number_within (pos 0) (pos 4294967295) (option_and_then whole (member_at row d)))
 
 -- the list of a field
 abbrev pub list_in : Row → Data → Items
@@ -119,3 +118,7 @@ list_in row d = unwrap_or (option_and_then as_array (member_at row d)) no_items
 -- the text of a field
 unfoldable pub text_in : Row → Data → List ℕ
 text_in row d = unwrap_or (option_and_then as_str (member_at row d)) []
+
+-- the text of a field that may be null; none where it is null or absent
+unfoldable pub text_or_null_in : Row → Data → Option (List ℕ)
+text_or_null_in row d = option_and_then as_str (member_at row d)

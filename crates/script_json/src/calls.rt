@@ -1,14 +1,18 @@
 ghost use Rattle.std.specs.Prelude.{◌≡◌, ◌≢◌, ◌+◌, ◌<◌, Ok, Err, Some, IfOk, IfErr, OnOk, length, option_map};
 ghost use Rattle.serde_json.specs.View.{view, items_view};
 ghost use Rattle.serde_json.specs.Data.{items_depth};
-ghost use Rattle.script_json.specs.Calls.{name_in, placed, op_in};
+ghost use Rattle.script_json.specs.Calls.{name_in, placed, form_faults, op_faults, op_in};
+ghost use Rattle.script_json.specs.Outcome.{outcome};
 ghost use Rattle.script_json.specs.Reading.{held_list, placed_at, call_read, calls_read};
 
 use crate::faults::ScriptErr;
-use crate::members::{check_fields, count, fix, list, text, time, time_or_null};
+use crate::members::{
+    check_fields, check_there, count, count_or_null, fix, is_there, list, text, text_or_null, time,
+    time_or_null,
+};
 use script_ast::{
-    AS, Call, Calls, DURATION, FROM, Field, INPUT, NODE, OFFSET, OUTPUT, Op, OpName, START_OFFSET,
-    THEN, TO, WHEN,
+    AS, Call, Calls, DURATION, FROM, Field, GAIN, INPUT, INPUT_OR_NULL, NODE, OFFSET, OUTPUT,
+    OUTPUT_OR_NULL, Op, OpName, START_OFFSET, THEN, TO, TO_OR_NULL, WHEN,
 };
 use serde_json::Value;
 use std::alloc::Global;
@@ -60,13 +64,35 @@ fn read_call(alloc: Global, ordinal: u32, holder: u32, value: &Value) -> Result<
     let Some(name) = name_in(value) else {
         return Err(ScriptErr::UnknownOp(ordinal));
     };
-    check_fields(ordinal, value, name.fields())?;
+    check_call(ordinal, name, value)?;
     let op = build(alloc, name, value)?;
     Ok(Call {
         ordinal,
         holder,
         op,
     })
+}
+
+// The first fault of a call's fields: those of each field come before those of several together.
+fn check_call(ordinal: u32, name: OpName, call: &Value) -> Result<(), ScriptErr>
+    ensures { result ≡ outcome (op_faults ordinal (view call.now) name) tt }
+{
+    check_fields(ordinal, call, name.fields())?;
+    match name {
+        OpName::Disconnect => check_form(ordinal, call),
+        _ => Ok(()),
+    }
+}
+
+// The fault of a disconnect whose fields are not those of one of its forms.
+fn check_form(ordinal: u32, call: &Value) -> Result<(), ScriptErr>
+    ensures { result ≡ outcome (form_faults ordinal (view call.now)) tt }
+{
+    if is_there(call, INPUT_OR_NULL) {
+        check_there(ordinal, call, TO_OR_NULL)?;
+        check_there(ordinal, call, OUTPUT_OR_NULL)?;
+    }
+    Ok(())
 }
 
 // The operation that a call names.
@@ -97,11 +123,21 @@ fn build(alloc: Global, name: OpName, call: &Value) -> Result<Op, NoMemory>
             name: text(alloc, call, AS)?,
             offset: fix(call, OFFSET),
         }),
+        OpName::CreateGain => Ok(Op::CreateGain {
+            name: text(alloc, call, AS)?,
+            gain: fix(call, GAIN),
+        }),
         OpName::Connect => Ok(Op::Connect {
             from: text(alloc, call, FROM)?,
             output: count(call, OUTPUT),
             to: text(alloc, call, TO)?,
             input: count(call, INPUT),
+        }),
+        OpName::Disconnect => Ok(Op::Disconnect {
+            from: text(alloc, call, FROM)?,
+            output: count_or_null(call, OUTPUT_OR_NULL),
+            to: text_or_null(alloc, call, TO_OR_NULL)?,
+            input: count_or_null(call, INPUT_OR_NULL),
         }),
         OpName::Start => Ok(Op::Start {
             node: text(alloc, call, NODE)?,

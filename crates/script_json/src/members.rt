@@ -1,6 +1,6 @@
 ghost use Rattle.std.specs.Prelude.{◌≡◌, Some, IfOk, option_map};
 ghost use Rattle.serde_json.specs.View.{view, items_view};
-ghost use Rattle.script_json.specs.Fields.{member_at, member_faults, field_faults, fields_faults, default_number, default_count, number_in, fix_in, time_in, time_or_null_in, count_in, list_in, text_in, is_needed, takes_null, given_number, given_count, number_within, count_within};
+ghost use Rattle.script_json.specs.Fields.{member_at, member_faults, field_faults, fields_faults, default_number, number_in, fix_in, time_in, time_or_null_in, count_in, list_in, text_in, count_or_null_in, text_or_null_in, is_there, lack_faults, is_needed, takes_null, given_number, number_within};
 ghost use Rattle.script_json.specs.Outcome.{outcome};
 ghost use Rattle.script_json.specs.Values.{whole};
 
@@ -16,6 +16,24 @@ pub fn member<'a>(object: &'a Value, row: Row) -> Option<&'a Value>
     ensures { option_map (λ value. view value.now) result ≡ member_at row (view object.now) }
 {
     object.get(row.field.word())
+}
+
+/// Whether the member is there, where null counts as absent.
+pub fn is_there(object: &Value, row: Row) -> bool
+    ensures { result ≡ is_there row (view object.now) }
+{
+    member(object, row).is_some_and(|value| !value.is_null())
+}
+
+/// The fault of a member that has to be there, where null counts as absent.
+pub fn check_there(ordinal: u32, object: &Value, row: Row) -> Result<(), ScriptErr>
+    ensures { result ≡ outcome (lack_faults ordinal (view object.now) row) tt }
+{
+    if is_there(object, row) {
+        Ok(())
+    } else {
+        Err(ScriptErr::MissingField(ordinal, row.field))
+    }
 }
 
 /// The first fault of the members of an object that the rows name, in their order.
@@ -72,15 +90,7 @@ fn default_number(fallback: Fallback) -> Option<i128>
 {
     match fallback {
         Fallback::Number(number) => Some(i128::from(number)),
-        _ => None,
-    }
-}
-
-fn default_count(fallback: Fallback) -> Option<u64>
-    ensures { result ≡ default_count fallback }
-{
-    match fallback {
-        Fallback::Count(count) => Some(u64::from(count)),
+        Fallback::Count(count) => Some(i128::from(count)),
         _ => None,
     }
 }
@@ -91,15 +101,6 @@ fn given_number(object: &Value, row: Row) -> Option<i128>
     match member(object, row) {
         None => default_number(row.fallback),
         Some(value) => whole(value),
-    }
-}
-
-fn given_count(object: &Value, row: Row) -> Option<u64>
-    ensures { result ≡ given_count row (member_at row (view object.now)) }
-{
-    match member(object, row) {
-        None => default_count(row.fallback),
-        Some(value) => value.as_u64(),
     }
 }
 
@@ -142,13 +143,24 @@ pub fn time_or_null(object: &Value, row: Row) -> Option<i64>
 }
 
 /// The count of a field.
-#[tactic(auto, unfolding(crate::specs::Fields::count_in))]
+#[tactic(auto, unfolding(crate::specs::Fields::number_in))]
 pub fn count(object: &Value, row: Row) -> u32
     ensures { result ≡ count_in row (view object.now) }
 {
-    match given_count(object, row) {
-        Some(count) if count <= u64::from(u32::MAX) => count as u32,
-        _ => 0,
+    match number_within(given_number(object, row), 0, MAX_COUNT) {
+        Some(count) => count as u32,
+        None => 0,
+    }
+}
+
+/// The count of a field that may be null or absent.
+#[tactic(auto, unfolding(crate::specs::Fields::count_or_null_in))]
+pub fn count_or_null(object: &Value, row: Row) -> Option<u32>
+    ensures { result ≡ count_or_null_in row (view object.now) }
+{
+    match number_within(member(object, row).and_then(whole), 0, MAX_COUNT) {
+        Some(count) => Some(count as u32),
+        None => None,
     }
 }
 
@@ -170,4 +182,18 @@ pub fn text(alloc: Global, object: &Value, row: Row) -> Result<Name, NoMemory>
     let text = member(object, row).and_then(Value::as_str).unwrap_or("");
     let bytes = text.as_bytes().to_vec(alloc)?;
     Ok(Name::from(bytes))
+}
+
+/// The text of a field that may be null or absent.
+#[tactic(auto, unfolding(crate::specs::Fields::text_or_null_in))]
+pub fn text_or_null(alloc: Global, object: &Value, row: Row) -> Result<Option<Name>, NoMemory>
+    ensures { IfOk result (λ name. name ≡ text_or_null_in row (view object.now)) }
+{
+    match member(object, row).and_then(Value::as_str) {
+        Some(text) => {
+            let bytes = text.as_bytes().to_vec(alloc)?;
+            Ok(Some(Name::from(bytes)))
+        }
+        None => Ok(None),
+    }
 }
