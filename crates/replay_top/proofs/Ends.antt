@@ -13,7 +13,7 @@ use Rattle.script_json.specs.declared.faults.ScriptErr.{ScriptErr}
 use Rattle.transcript.specs.declared.lines.EndWord.{EndWord}
 use Rattle.transcript.specs.declared.lines.EndWord.TheVariants.{Completed, Stalled, Idle, Refused}
 use Rattle.session.specs.Session.{session_of}
-use Rattle.session.specs.World.{World}
+use Rattle.meaning.specs.declared.world.World.{World}
 use Rattle.replay_top.specs.Answer.{Answer, without_file, answer_to_bytes, answer_to_end, answer_to_script}
 use Rattle.replay_top.specs.Run.{Outside, outside, IsWhole, Answers, Ran, IsRead, TextEnds}
 use Rattle.replay_top.specs.declared.status.Status.{Status}

@@ -13,7 +13,7 @@ use Rattle.transcript.specs.declared.lines.EndWord.TheVariants.{Completed, Stall
 use Rattle.session.specs.Rendering.{completes, rendering_of}
 use Rattle.session.specs.Rows.{sample_in, samples_of}
 use Rattle.session.specs.Session.{session_of}
-use Rattle.session.specs.World.{World}
+use Rattle.meaning.specs.declared.world.World.{World}
 use Rattle.session.proofs.Interleaving.{interleaved_rendered}
 use Rattle.replay_top.specs.Answer.{answer_to_end, answer_to_session}
 use Rattle.replay_top.specs.Outcome.{answer_to_rendering}

@@ -9,7 +9,7 @@ use Rattle.transcript.specs.declared.lines.EndWord.{EndWord}
 use Rattle.transcript.specs.declared.lines.EndWord.TheVariants.{Completed, Stalled, Idle, Refused}
 use Rattle.session.specs.Rows.{frames_of}
 use Rattle.session.specs.Session.{Played, session_of}
-use Rattle.session.specs.World.{World}
+use Rattle.meaning.specs.declared.world.World.{World}
 use Rattle.replay_top.specs.FaultLine.{fault_line}
 use Rattle.replay_top.specs.WavFile.{wav_of}
 use Rattle.replay_top.specs.Words.{usage, out_of}

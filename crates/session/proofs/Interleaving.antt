@@ -6,7 +6,7 @@ use Rattle.std.proofs.lemmas.List.{get_or-set_same, get_or-set_other}
 use Rattle.std.proofs.lemmas.List.FromFn.{fill_by_all, length-map-range_with_len, get_or-map-range_with_len}
 use Rattle.std.proofs.lemmas.Nat.{div-mul-add, mod-mul-add, mul-add-lt, div-add-mod', row_below_turned}
 use Rattle.wa_base.specs.declared.contexts.ContextSpec.{ContextSpec}
-use Rattle.session.specs.World.{World}
+use Rattle.meaning.specs.declared.world.World.{World}
 use Rattle.session.specs.Rows.{sample_in, samples_of, frame_sample_in, frames_of, interleaved_sample, interleaved}
 
 -- ---- one channel of a piece

@@ -1,8 +1,12 @@
-mod FrameSteps
+mod Copying
+mod Grown
 pub mod Interleaving
 mod Marks
+mod Named
 mod NewNames
 mod Quanta
+mod Samples
 mod Standing
-mod Sums
-mod TapeSteps
+mod Stepping
+mod Tapes
+mod Valid

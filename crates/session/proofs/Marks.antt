@@ -1,10 +1,70 @@
--- Sources that are marked one after another.
-use Rattle.std.proofs.Common.{◌≡◌, ◌<◌, ◌+◌, ◌++◌, ℕ, List, length, map, take, drop, slice_set, slice_index_or, arith}
-use Rattle.std.proofs.lemmas.List.{get_or_default}
+-- Sources that are marked one after another, and current values that stay.
+use Rattle.std.proofs.Common.{◌≡◌, ◌<◌, ◌+◌, ◌++◌, ◌∷◌, [], ℕ, ℤ, zero, suc, List, length, map, take, drop, All, Bool, true, false, Some, refl, sym, ◌∙◌, ap, subst, arith}
+use Rattle.std.specs.Prelude.{slice_get, slice_set, slice_index_or, if◌then◌else◌}
+use Rattle.std.proofs.lemmas.List.{get_or_default, set-get_or, get_or-map, length-map}
 use Rattle.std.proofs.lemmas.List.Edits.{map_over_more}
+use Rattle.std.proofs.lemmas.List.Elements.{All-head, All-tail}
+use Rattle.std.proofs.lemmas.Option.{get_or_from_slice_get}
+use Rattle.param_events.specs.Values.{value_at}
+use Rattle.meaning.specs.declared.params.Param.{Param}
+use Rattle.meaning.specs.declared.scheds.Play.{Play}
+use Rattle.session.specs.Changes.{ends_by, marked, slot_set}
+use Rattle.session.specs.Steady.{IsUntouched}
 
 -- f x was written over the element at i, which was read at some default
 pub map_over_next : {X : Type 0} (f : X → X) (xs ys : List X) (i : ℕ) (d : X) → i < length xs → length ys ≡ length xs → ys ≡ map f (take i xs) ++ drop i xs
     → slice_set ys i (f (slice_index_or ys i d)) ≡ map f (take (i + 1) xs) ++ drop (i + 1) xs
 map_over_next f xs ys i d within same so_far =
     map_over_more f xs ys i (slice_index_or ys i d) within so_far (get_or_default ys i d (slice_index_or ys i d) (omega arith))
+
+-- the play at a place, marked
+pub one_marked : (now : ℕ) (xs ys : List Play) (i : ℕ) (old : Play) → i < length xs → length ys ≡ length xs → ys ≡ map (marked now) (take i xs) ++ drop i xs
+    → slice_get ys i ≡ Some old → slice_set ys i (marked now old) ≡ map (marked now) (take (i + 1) xs) ++ drop (i + 1) xs
+one_marked now xs ys i old within same so_far is =
+    ap (λ p. slice_set ys i (marked now p)) (sym (get_or_from_slice_get ys i old old is)) ∙ map_over_next (marked now) xs ys i old within same so_far
+
+marks : (now : ℕ) (old : Play) (b : Bool) → ends_by now old.sched ≡ b → marked now old ≡ (if b then record old { sched = record old.sched { ended = true } } else old)
+marks now old true is = rw is refl
+marks now old false is = rw is refl
+
+pub marked_now : (now : ℕ) (old : Play) → ends_by now old.sched ≡ true → marked now old ≡ record old { sched = record old.sched { ended = true } }
+marked_now now old is = marks now old true is
+
+-- a play that does not end stays
+pub not_marked : (now : ℕ) (xs ys : List Play) (i : ℕ) (old : Play) → i < length xs → length ys ≡ length xs → ys ≡ map (marked now) (take i xs) ++ drop i xs
+    → slice_get ys i ≡ Some old → ends_by now old.sched ≡ false → ys ≡ map (marked now) (take (i + 1) xs) ++ drop (i + 1) xs
+not_marked now xs ys i old within same so_far is stays =
+    sym (set-get_or ys i old) ∙ ap (λ p. slice_set ys i p) (get_or_from_slice_get ys i old old is ∙ sym (marks now old false stays)) ∙ one_marked now xs ys i old within same so_far is
+
+-- without events a current value stays that of the creation
+value-none : (base : ℤ) (frame : ℕ) → value_at base [] frame ≡ base
+unfolding value_at
+value-none base frame = refl
+
+slot_stays : (first : ℕ) (p : Param) → IsUntouched p → slot_set first p ≡ p
+slot_stays first p untouched =
+    ap (λ slot. record p { line = record p.line { slot = slot } })
+    (ap (λ events. value_at p.line.base events first) untouched.events ∙ value-none p.line.base first ∙ sym untouched.slot)
+
+pub slots_stay : (first : ℕ) (ps : List Param) → All IsUntouched ps → map (slot_set first) ps ≡ ps
+slots_stay first [] untouched = refl
+slots_stay first (p ∷ ps) untouched =
+    let here = slot_stays first p (All-head IsUntouched p ps untouched) in
+    let rest = slots_stay first ps (All-tail IsUntouched p ps untouched) in
+    cc
+
+-- what holds of each source's node holds at each place
+pub All-nodes : (P : ℕ → Type 0) (plays : List Play) → All P (map (λ (p : Play). p.id.0) plays) → All (λ (p : Play). P p.id.0) plays
+All-nodes P plays each = λ k d l. subst P (get_or-map (λ (p : Play). p.id.0) plays k d d.id.0 l) (each k d.id.0 (let long = length-map plays (λ (p : Play). p.id.0) in omega arith))
+
+-- marking leaves alone whose the schedules are
+pub marked_nodes : (now : ℕ) (plays : List Play) → map (λ (p : Play). p.id.0) (map (marked now) plays) ≡ map (λ (p : Play). p.id.0) plays
+marked_nodes now [] = refl
+marked_nodes now (p ∷ ps) = let here = same_node now p (ends_by now p.sched) refl in let rest = marked_nodes now ps in cc
+  where
+    same_node : (now : ℕ) (p : Play) (b : Bool) → ends_by now p.sched ≡ b → (marked now p).id.0 ≡ p.id.0
+    same_node now p b is = ap (λ (q : Play). q.id.0) (marks now p b is) ∙ by_mark b
+      where
+        by_mark : (b : Bool) → (if b then record p { sched = record p.sched { ended = true } } else p).id.0 ≡ p.id.0
+        by_mark true = refl
+        by_mark false = refl

@@ -1,3 +1,4 @@
+pub mod Changes
 pub mod Frames
 pub mod Machine
 pub mod Rendering
@@ -6,4 +7,3 @@ pub mod Session
 pub mod Steady
 pub mod Step
 pub mod View
-pub mod World

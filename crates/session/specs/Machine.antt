@@ -1,22 +1,34 @@
 -- The state of the machine between two steps.
 use Rattle.std.specs.Prelude.{ℕ, ◌≡◌, ◌≤◌, ◌<◌, List, Option, None, IsSome}
-use Rattle.wa_base.specs.declared.contexts.ContextSpec.{ContextSpec}
 use Rattle.wa_base.specs.declared.contexts.State.{State}
 use Rattle.wa_base.specs.declared.contexts.State.TheVariants.{Suspended, Running, Closed}
+use Rattle.name_book.specs.Book.{BookView}
 use Rattle.name_book.specs.declared.book.Object.{Object}
-use Rattle.session.specs.World.{World}
+use Rattle.meaning.specs.declared.world.World.{World}
+use Rattle.meaning.specs.World.{plain}
 
 pub record Machine : Type 0 where
-  pub spec : ContextSpec
   pub state : State
   -- the first frame of the next quantum
   pub now : ℕ
   -- the ordinal of the accepted startRendering
   pub started : Option ℕ
+  -- the context, and its nodes and connections
   pub world : World
   -- what each name is bound to, and the name under which each node was created
   pub bindings : List (List ℕ × Object)
   pub first_names : List (ℕ × List ℕ)
+
+-- the machine that a world and a book stand for
+abbrev pub machine_of : State → ℕ → Option ℕ → World → BookView → Machine
+machine_of state now started world book = record {
+  state = state;
+  now = now;
+  started = started;
+  world = plain world;
+  bindings = book.bindings;
+  first_names = book.first_names;
+}
 
 -- ---- what holds of every machine between two steps
 

@@ -1,25 +1,21 @@
 -- The samples that a session renders.
-use Rattle.std.specs.Prelude.{ℕ, ◌*◌, ◌/◌, ◌%◌, ℤ, pos, List, map, slice_get, slice_index_or, ◌+◌}
+use Rattle.std.specs.Prelude.{ℕ, ◌*◌, ◌/◌, ◌%◌, ℤ, pos, List, map, slice_index_or, ◌+◌}
 use Rattle.std.specs.List.{range_with_len}
-use Rattle.std.specs.Option.{option_map_or}
 use Rattle.wa_base.specs.declared.contexts.ContextSpec.{ContextSpec}
-use Rattle.session.specs.World.{World, sample_at}
+use Rattle.meaning.specs.declared.world.World.{World}
+use Rattle.meaning.specs.Rendered.{sample}
 use Rattle.session.specs.Session.{quantum}
-
--- the sample of a channel at a frame, in the world of the frame's quantum; 0 where the tape has none
-abbrev pub rendered_at : List World → ℕ → ℕ → ℕ → ℤ
-rendered_at tape channels channel frame = option_map_or (λ world. sample_at world channels channel frame) (slice_get tape (frame / quantum)) (pos 0)
 
 -- channel after channel: the sample at a place is that of channel place / length at frame place mod length
 abbrev pub sample_in : List World → ContextSpec → ℕ → ℤ
-sample_in tape spec place = rendered_at tape spec.channels (place / spec.length) (place % spec.length)
+sample_in tape spec place = sample quantum tape (place % spec.length) (place / spec.length)
 
 unfoldable pub samples_of : List World → ContextSpec → List ℤ
 samples_of tape spec = map (sample_in tape spec) (range_with_len 0 (spec.channels * spec.length))
 
 -- frame after frame: the sample at a place is that of channel place mod channels at frame place / channels
 abbrev pub frame_sample_in : List World → ContextSpec → ℕ → ℤ
-frame_sample_in tape spec place = rendered_at tape spec.channels (place % spec.channels) (place / spec.channels)
+frame_sample_in tape spec place = sample quantum tape (place / spec.channels) (place % spec.channels)
 
 unfoldable pub frames_of : List World → ContextSpec → List ℤ
 frames_of tape spec = map (frame_sample_in tape spec) (range_with_len 0 (spec.channels * spec.length))

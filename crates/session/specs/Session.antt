@@ -1,6 +1,5 @@
 -- A whole session, without a sample in it.
-use Rattle.std.specs.Prelude.{ℕ, zero, suc, ◌+◌, ◌-◌, ◌*◌, ◌/◌, ◌==◌, ◌&&◌, nat_le, List, [], ◌∷◌, ◌++◌, map, filter, Bool, true, false, not, if◌then◌else◌, unwrap_or, Option, Some, None}
-use Rattle.std.specs.Option.{option_map_or}
+use Rattle.std.specs.Prelude.{ℕ, zero, suc, ◌+◌, ◌-◌, ◌*◌, ◌/◌, ◌==◌, List, [], ◌∷◌, ◌++◌, filter, if◌then◌else◌, unwrap_or, Option, Some, None}
 use Rattle.wa_base.specs.declared.contexts.ContextSpec.{ContextSpec}
 use Rattle.wa_base.specs.Contexts.{is_supported}
 use Rattle.wa_base.specs.declared.contexts.State.TheVariants as state
@@ -13,8 +12,10 @@ use Rattle.transcript.specs.declared.lines.Line.TheVariants as line
 use Rattle.transcript.specs.declared.lines.EndWord.{EndWord}
 use Rattle.transcript.specs.declared.lines.EndWord.TheVariants.{Completed, Idle, Refused}
 use Rattle.name_book.specs.Book.{first_name_of}
-use Rattle.session.specs.declared.world.Constant.{Constant}
-use Rattle.session.specs.World.{World, end_frame}
+use Rattle.meaning.specs.declared.world.World.{World}
+use Rattle.meaning.specs.declared.scheds.Play.{Play}
+use Rattle.meaning.specs.Worlds.{first_world}
+use Rattle.session.specs.Changes.{ends_by, after}
 use Rattle.session.specs.Machine.{Machine}
 use Rattle.session.specs.Step.{step}
 
@@ -45,30 +46,23 @@ held_by holder calls = filter (λ call. call.holder == holder) calls
 
 -- ---- quanta
 
--- a source ends in a quantum where its end frame is no later than the next quantum's first frame
-abbrev pub ends_by : ℕ → Constant → Bool
-ends_by now source = not source.ended && option_map_or (λ end. nat_le end now) (end_frame source) false
-
-abbrev pub marked : ℕ → Constant → Constant
-marked now source = if ends_by now source then record source { ended = true } else source
-
--- a line for each source that ends, in order of node number, with the name under which the node was created
-abbrev pub ended_lines : List (ℕ × List ℕ) → ℕ → ℕ → List Constant → List Line
-ended_lines names now node [] = []
-ended_lines names now node (source ∷ sources) =
-    if ends_by now source
-    then line.Ended (record { 0 = node }) (unwrap_or (first_name_of names node) []) ∷ ended_lines names now (node + 1) sources
-    else ended_lines names now (node + 1) sources
+-- a line for each source that ends, in the order of the schedules, which is that of the node numbers, with the name under which the node was created
+abbrev pub ended_lines : List (ℕ × List ℕ) → ℕ → List Play → List Line
+ended_lines names now [] = []
+ended_lines names now (play ∷ plays) =
+    if ends_by now play.sched
+    then line.Ended play.id (unwrap_or (first_name_of names play.id.0) []) ∷ ended_lines names now plays
+    else ended_lines names now plays
 
 -- the lines that a quantum adds
 abbrev pub lines_after : Machine → List Line
-lines_after machine = ended_lines machine.first_names (machine.now + quantum) 1 machine.world.sources
+lines_after machine = ended_lines machine.first_names (machine.now + quantum) machine.world.scheds.items
 
 -- the machine after one render quantum
 abbrev pub machine_after : Machine → Machine
 machine_after machine = record machine {
   now = machine.now + quantum;
-  world = record machine.world { sources = map (marked (machine.now + quantum)) machine.world.sources };
+  world = after machine.now (machine.now + quantum) machine.world;
 }
 
 abbrev pub after_quantum : Told → Told
@@ -105,11 +99,11 @@ quanta_from frame spec = (spec.length - frame + (quantum - 1)) / quantum
 
 -- as many quanta as are left
 abbrev pub quanta_left : Machine → ℕ
-quanta_left machine = quanta_from machine.now machine.spec
+quanta_left machine = quanta_from machine.now machine.world.spec
 
 -- the complete event comes last
 abbrev pub finished : Told → List World → Played
-finished told tape = record { lines = told.lines ++ line.Complete told.machine.spec.length ∷ []; end = Completed; tape = tape }
+finished told tape = record { lines = told.lines ++ line.Complete told.machine.world.spec.length ∷ []; end = Completed; tape = tape }
 
 -- all quanta are rendered, the context closes, and the list of startRendering runs
 abbrev pub completed : List Call → Told → ℕ → Played
@@ -124,11 +118,10 @@ rendered calls told (Some ordinal) = completed calls told ordinal
 -- the machine before the first call: the destination is there, and its name needs no binding
 abbrev pub first_machine : ContextSpec → Machine
 first_machine spec = record {
-  spec = spec;
   state = state.Suspended;
   now = 0;
   started = None;
-  world = record { sources = []; edges = [] };
+  world = first_world spec;
   bindings = [];
   first_names = [];
 }

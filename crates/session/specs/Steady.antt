@@ -1,15 +1,26 @@
--- What holds of the control side between two steps.
-use Rattle.std.specs.Prelude.{ℕ, ◌≤◌, List, length, Option}
-use Rattle.wa_base.specs.declared.contexts.ContextSpec.{ContextSpec}
-use Rattle.wa_base.specs.declared.contexts.State.{State}
-use Rattle.wa_base.specs.Contexts.{IsSupported}
-use Rattle.session.specs.declared.world.Constant.{Constant}
-use Rattle.session.specs.declared.world.Edge.{Edge}
-use Rattle.session.specs.Machine.{IsInState}
+-- What holds of the machine between two steps.
+use Rattle.std.specs.Prelude.{ℕ, ◌≡◌, ◌≤◌, ◌<◌, List, [], length, All, IsSome}
+use Rattle.name_book.specs.Book.{first_name_of}
+use Rattle.name_book.specs.declared.book.Object.{Object}
+use Rattle.name_book.specs.declared.book.Object.TheVariants.{Node, Buffer}
+use Rattle.meaning.specs.declared.params.Param.{Param}
+use Rattle.meaning.specs.Validity.{IsValid, play_nodes}
+use Rattle.session.specs.Machine.{Machine, IsInState}
 
-pub record IsSteady (spec : ContextSpec) (state : State) (started : Option ℕ) (now : ℕ) (sources : List Constant) (edges : List Edge) : Type 0 where
-  pub supported : IsSupported spec
-  pub in_state : IsInState state started now spec.length
-  pub time : now ≤ 33554560
-  pub nodes : length sources ≤ 1023
-  pub connections : length edges ≤ 8192
+-- an object is there, among so many nodes
+abbrev pub IsThere : ℕ → Object → Type 0
+IsThere count (Node node) = node.0 < count
+IsThere count (Buffer buffer) = Unit {0}
+
+-- a parameter that no call has changed: its current value is that of its creation
+pub record IsUntouched (p : Param) : Type 0 where
+  pub slot : p.line.slot ≡ p.line.base
+  pub events : p.line.events ≡ []
+
+pub record IsSteady (machine : Machine) : Type 0 where
+  pub valid : IsValid machine.world
+  pub in_state : IsInState machine.state machine.started machine.now machine.world.spec.length
+  pub time : machine.now ≤ 33554560
+  pub bound : All (λ (b : List ℕ × Object). IsThere (length machine.world.nodes) b.1) machine.bindings
+  pub named : All (λ node. IsSome (first_name_of machine.first_names node)) (play_nodes machine.world)
+  pub untouched : All IsUntouched machine.world.params.items

@@ -1,77 +1,70 @@
-ghost use Rattle.std.specs.Prelude.{◌≡◌, ◌<◌, ◌+◌, ◌*◌, nat_le, if◌then◌else◌, ◌++◌, ◌∷◌, [], List, length, IfOk, IfSome, IsSome, OnOk, OnErr, true, false};
-ghost use Rattle.std.specs.List.{list_any};
-ghost use Rattle.script_ast.specs.Ranges.{IsInRange, IsNewName};
-ghost use Rattle.session.specs.Rows.{samples_of};
-ghost use Rattle.session.specs.Machine.{IsInState};
+ghost use Rattle.std.specs.Prelude.{◌≡◌, ◌<◌, ◌≤◌, ◌+◌, ◌==◌, nat_le, if◌then◌else◌, false, true, length, slice_get, option_and_then, Some, IfOk, IfSome, IsSome, OnOk, OnErr};
+ghost use Rattle.std.specs.List.{position};
+ghost use Rattle.std.specs.Result.{result_err};
 ghost use Rattle.wa_base.specs.Contexts.{IsSupported};
+ghost use Rattle.node_table.specs.Kinds.{is_destination};
+ghost use Rattle.conn_graph.specs.Edges.{form_node};
+ghost use Rattle.script_ast.specs.Ranges.{IsInRange, IsNewName};
+ghost use Rattle.meaning.specs.World.{plain};
+ghost use Rattle.meaning.specs.Validity.{IsValid};
+ghost use Rattle.session.specs.Changes.{Grows};
+ghost use Rattle.session.specs.Machine.{Machine, IsInState};
 ghost use Rattle.session.specs.Session.{first_machine, lines_after, machine_after, closed_machine, quantum};
-ghost use Rattle.session.specs.World.{World};
 ghost use Rattle.session.specs.Step as spec;
 ghost use Rattle.session.specs.Step.{Steps, KeepsTime, KeepsStart};
 
 use crate::ends::{ended_lines, mark_ended};
-use crate::quantum::{QUANTUM, render_quantum};
-use crate::world::{Constant, Edge};
+use crate::growth::add_node;
+use crate::quantum::QUANTUM;
+use conn_graph::{Edge, Form, Target};
+use meaning::World;
 use name_book::{Book, Object};
+use node_table::Kind;
 use script_ast::{Call, Op};
 use std::alloc::Global;
 use std::marker::Model;
 use transcript::{Answer, Line};
-use wa_base::{ContextSpec, Exc, Feature, Fix, Name, NoMemory, NodeId, State};
-
-const MAX_NODES: usize = 1_024;
-
-const MAX_EDGES: usize = 8_192;
+use wa_base::{ContextSpec, Exc, Feature, Name, NoMemory, NodeId, Refusal, State};
 
 /// The control side of a session: its context, its nodes and connections, and its names. Contracts
 /// see it as the machine.
 #[derive(Drop)]
-pub struct Control {
-    spec: ContextSpec,
+pub(crate) struct Control {
+    alloc: Global,
     state: State,
     time: u64,
     started: Option<u32>,
-    sources: Vec<Constant>,
-    edges: Vec<Edge>,
+    world: World,
     book: Book,
 }
 
 impl Model for Control {
-    ghost use Rattle.session.specs.Machine.{Machine};
-    ghost use Rattle.session.specs.World.{world_of};
+    ghost use Rattle.session.specs.Machine.{Machine, machine_of};
 
     ghost Value = { Machine };
 
-    ghost view = { λ s. record {
-      spec = s.spec;
-      state = s.state;
-      now = s.time;
-      started = s.started;
-      world = world_of s.sources.items s.edges.items;
-      bindings = s.book.bindings;
-      first_names = s.book.first_names;
-    } };
+    ghost view = { λ s. machine_of s.state s.time s.started s.world s.book };
 
     ghost use Rattle.session.specs.Steady.{IsSteady};
 
-    ghost invariant = { λ s. IsSteady s.spec s.state s.started s.time s.sources.items s.edges.items };
+    ghost invariant = { λ s. IsSteady (machine_of s.state s.time s.started s.world s.book) };
 }
 
 impl Control {
     /// The machine of a context before its first call.
-    pub fn new(alloc: Global, spec: ContextSpec) -> Control
+    pub fn new(alloc: Global, spec: ContextSpec) -> Result<Control, NoMemory>
         requires { IsSupported spec }
-        ensures { result ≡ first_machine spec }
+        ensures machine { IfOk result (λ control. control ≡ first_machine spec) }
+        ensures valid { IfOk result (λ control. IsValid control.world) }
     {
-        Control {
-            spec,
+        Ok(Control {
+            alloc,
             state: State::Suspended,
             time: 0,
             started: None,
-            sources: Vec::new(alloc),
-            edges: Vec::new(alloc),
+            world: World::new(alloc, spec)?,
             book: Book::new(alloc),
-        }
+        })
     }
 }
 
@@ -82,24 +75,35 @@ impl Control {
         requires { IsInRange call.now.op }
         ensures ok { IfOk result (Steps self.new (spec.step self.old call.now)) }
         ensures kept { KeepsTime self.old self.new }
+        ensures grows { Grows self.old.now self.old.world self.new.world }
         ensures kept_start { spec.is_start call.now.op ≡ false → self.new.started ≡ self.old.started }
         ensures started { spec.is_start call.now.op ≡ true → OnOk result (IsSome self.new.started) }
         ensures err { OnErr result (self.new ≡ self.old) }
     {
         match &call.op {
-            Op::CreateConstantSource { name, offset } => self.create_source(name, *offset),
+            Op::CreateConstantSource { name, offset } => {
+                self.create(name, Kind::Constant { offset: *offset })
+            }
+            Op::CreateGain { name, gain } => self.create(name, Kind::Gain { gain: *gain }),
             Op::LeftOut { feature } => Ok(Answer::Throw(Exc::NotSupported(Some(*feature)))),
             Op::Connect {
                 from,
                 output,
                 to,
                 input,
-            } => {
-                let from = self.node_named(from);
-                let to = self.node_named(to);
-                self.connect(from, *output, to, *input)
-            }
-            Op::Start { node, when, .. } => Ok(self.start(node, *when)),
+            } => self.connect(from, *output, to, *input),
+            Op::Disconnect {
+                from,
+                output,
+                to,
+                input,
+            } => Ok(self.disconnect(from, *output, to, *input)),
+            Op::Start {
+                node,
+                when,
+                offset,
+                duration,
+            } => Ok(self.start(node, *when, *offset, *duration)),
             Op::Stop { node, when } => Ok(self.stop(node, *when)),
             Op::StartRendering => Ok(self.start_rendering(call.ordinal)),
             Op::Resume => Ok(self.resume()),
@@ -114,7 +118,8 @@ impl Control {
 impl Control {
     // The node that a name is bound to.
     fn node_named(&self, name: &Name) -> Option<u32>
-        ensures { result ≡ spec.node_named self.now name.now }
+        ensures node { result ≡ spec.node_named self.now name.now }
+        ensures there { IfSome result (λ node. node < length self.now.world.nodes) }
     {
         match self.book.find(name) {
             Some(Object::Node(NodeId(node))) => Some(node),
@@ -122,73 +127,163 @@ impl Control {
         }
     }
 
-    fn create_source(&mut self, name: &Name, offset: Fix) -> Result<Answer, NoMemory>
-        requires { IsNewName name.now }
-        ensures ok { IfOk result (Steps self.new (spec.create_source self.old name.now offset)) }
+    fn create(&mut self, name: &Name, kind: Kind) -> Result<Answer, NoMemory>
+        requires name { IsNewName name.now }
+        requires kind { is_destination kind ≡ false }
+        ensures ok { IfOk result (Steps self.new (spec.create self.old name.now kind)) }
         ensures kept { KeepsStart self.old self.new }
+        ensures grows { Grows self.old.now self.old.world self.new.world }
         ensures err { OnErr result (self.new ≡ self.old) }
     {
-        if self.sources.len() + 1 >= MAX_NODES {
-            return Ok(Answer::Throw(Exc::NotSupported(Some(Feature::NodeLimit))));
-        }
-        self.sources.reserve(1)?;
-        let node = NodeId(self.sources.len() as u32 + 1);
+        self.book.reserve(name)?;
+        let node = match add_node(self.alloc, &mut self.world, kind, self.time) {
+            Ok(node) => node,
+            Err(Refusal::Exc(exc)) => return Ok(Answer::Throw(exc)),
+            Err(Refusal::NoMemory) => return Err(NoMemory),
+        };
         self.book.bind(name, Object::Node(node))?;
-        self.sources.push_reserved(Constant {
-            offset,
-            start: None,
-            stop: None,
-            ended: false,
-        });
         Ok(Answer::Ok)
     }
 
     fn connect(
         &mut self,
-        from: Option<u32>,
+        from: &Name,
         output: u32,
-        to: Option<u32>,
+        to: &Name,
         input: u32,
     ) -> Result<Answer, NoMemory>
-        ensures ok { IfOk result (Steps self.new (spec.connect self.old from output to input)) }
+        ensures ok { IfOk result (Steps self.new (spec.connect self.old (spec.node_named self.old from.now) output (spec.node_named self.old to.now) input)) }
         ensures kept { KeepsStart self.old self.new }
+        ensures grows { Grows self.old.now self.old.world self.new.world }
         ensures err { OnErr result (self.new ≡ self.old) }
     {
-        let (Some(from), Some(to)) = (from, to) else {
+        let (Some(from), Some(to)) = (self.node_named(from), self.node_named(to)) else {
             return Ok(Answer::Throw(Exc::WrongType));
         };
+        self.connect_nodes(from, output, to, input)
+    }
+
+    fn connect_nodes(
+        &mut self,
+        from: u32,
+        output: u32,
+        to: u32,
+        input: u32,
+    ) -> Result<Answer, NoMemory>
+        requires from { from < length self.old.world.nodes }
+        requires to { to < length self.old.world.nodes }
+        ensures ok { IfOk result (Steps self.new (spec.connect_edge self.old (spec.edge_of from output to input))) }
+        ensures kept { KeepsStart self.old self.new }
+        ensures grows { Grows self.old.now self.old.world self.new.world }
+        ensures err { OnErr result (self.new ≡ self.old) }
+    {
         if from == 0 {
             return Ok(Answer::Throw(Exc::NotSupported(Some(Feature::DestinationOutput))));
         }
-        if output >= 1 || input >= inputs_of(to) {
-            return Ok(Answer::Throw(Exc::IndexSize));
-        }
-        self.connect_edge(Edge {
+        let node = NodeId(to);
+        let edge = Edge {
             from: NodeId(from),
             output,
-            to: NodeId(to),
-            input,
-        })
+            to: Target::Input { node, input },
+        };
+        match self.world.graph.connect(edge) {
+            Ok(_) => Ok(Answer::Ok),
+            Err(Refusal::Exc(exc)) => Ok(Answer::Throw(exc)),
+            Err(Refusal::NoMemory) => Err(NoMemory),
+        }
     }
 
-    fn connect_edge(&mut self, edge: Edge) -> Result<Answer, NoMemory>
-        ensures ok { IfOk result (Steps self.new (spec.connect_edge self.old edge)) }
+    fn disconnect(
+        &mut self,
+        from: &Name,
+        output: Option<u32>,
+        to: &Option<Name>,
+        input: Option<u32>,
+    ) -> Answer
+        ensures step { Steps self.new (spec.disconnect self.old (spec.node_named self.old from.now) output to.now input) result }
         ensures kept { KeepsStart self.old self.new }
-        ensures err { OnErr result (self.new ≡ self.old) }
+        ensures grows { Grows self.old.now self.old.world self.new.world }
     {
-        if has_edge(self.edges.as_slice(), &edge) {
-            return Ok(Answer::Ok);
-        }
-        if self.edges.len() >= MAX_EDGES {
-            return Ok(Answer::Throw(Exc::NotSupported(Some(Feature::ConnectionLimit))));
-        }
-        self.edges.push(edge)?;
-        Ok(Answer::Ok)
+        let to = match to {
+            None => None,
+            Some(name) => match self.node_named(name) {
+                Some(node) => Some(node),
+                None => return Answer::Throw(Exc::WrongType),
+            },
+        };
+        let Some(from) = self.node_named(from) else {
+            return Answer::Throw(Exc::WrongType);
+        };
+        self.disconnect_form(from, form_of(output, to, input))
     }
 
+    fn disconnect_form(&mut self, from: u32, form: Form) -> Answer
+        requires from { from < length self.old.world.nodes }
+        requires to { IfSome (form_node form) (λ node. node < length self.old.world.nodes) }
+        ensures step { Steps self.new (spec.disconnect_form self.old (Some from) form) result }
+        ensures kept { KeepsStart self.old self.new }
+        ensures grows { Grows self.old.now self.old.world self.new.world }
+    {
+        if from == 0 {
+            return Answer::Throw(Exc::NotSupported(Some(Feature::DestinationOutput)));
+        }
+        match self.world.graph.disconnect(NodeId(from), form) {
+            Ok(()) => Answer::Ok,
+            Err(exc) => Answer::Throw(exc),
+        }
+    }
+}
+
+// Sources: when they start and stop.
+impl Control {
+    // The place of the schedule of the source that a name is bound to.
+    fn play_named(&self, name: &Name) -> Option<usize>
+        ensures within { IfSome result (λ place. place < length self.now.world.scheds.items) }
+        ensures play { option_and_then (λ place. spec.play_at place (slice_get self.now.world.scheds.items place)) result ≡ spec.play_named self.now name.now }
+    {
+        let node = self.node_named(name)?;
+        self.world.scheds.find(NodeId(node))
+    }
+
+    fn start(&mut self, node: &Name, when: i64, offset: i64, duration: Option<i64>) -> Answer
+        ensures step { Steps self.new (spec.start_source self.old (spec.play_named self.old node.now) when) result }
+        ensures kept { KeepsStart self.old self.new }
+        ensures grows { Grows self.old.now self.old.world self.new.world }
+    {
+        let Some(place) = self.play_named(node) else {
+            return Answer::Throw(Exc::WrongType);
+        };
+        let mut sched = self.world.scheds.at(place).sched;
+        if let Err(exc) = sched.start(self.time, when, offset, duration, 0) {
+            return Answer::Throw(exc);
+        }
+        self.world.scheds.at_mut(place).sched = sched;
+        Answer::Ok
+    }
+
+    fn stop(&mut self, node: &Name, when: i64) -> Answer
+        ensures step { Steps self.new (spec.stop_source self.old (spec.play_named self.old node.now) when) result }
+        ensures kept { KeepsStart self.old self.new }
+        ensures grows { Grows self.old.now self.old.world self.new.world }
+    {
+        let Some(place) = self.play_named(node) else {
+            return Answer::Throw(Exc::WrongType);
+        };
+        let mut sched = self.world.scheds.at(place).sched;
+        if let Err(exc) = sched.stop(self.time, when) {
+            return Answer::Throw(exc);
+        }
+        self.world.scheds.at_mut(place).sched = sched;
+        Answer::Ok
+    }
+}
+
+// The context and its quanta.
+impl Control {
     fn start_rendering(&mut self, ordinal: u32) -> Answer
         ensures step { Steps self.new (spec.start_rendering self.old ordinal) result }
         ensures kept { KeepsTime self.old self.new }
+        ensures grows { Grows self.old.now self.old.world self.new.world }
         ensures started { IsSome self.new.started }
     {
         if self.started.is_some() {
@@ -207,68 +302,7 @@ impl Control {
             State::Suspended | State::Closed => Answer::Rejected(Exc::InvalidState),
         }
     }
-}
 
-// Sources: when they start, stop and end.
-impl Control {
-    // The source that a name is bound to, with its place among the sources.
-    fn source_named(&self, name: &Name) -> Option<(usize, Constant)>
-        ensures source { result ≡ spec.source_of self.now.world.sources (spec.node_named self.now name.now) }
-        ensures within { IfSome result (λ found. found.0 < length self.now.world.sources) }
-    {
-        let node = self.node_named(name)?;
-        if node == 0 {
-            return None;
-        }
-        let place = node as usize - 1;
-        match self.sources.get(place) {
-            Some(source) => Some((place, *source)),
-            None => None,
-        }
-    }
-
-    fn start(&mut self, node: &Name, when: i64) -> Answer
-        ensures step { Steps self.new (spec.start_source self.old (spec.source_of self.old.world.sources (spec.node_named self.old node.now)) when) result }
-        ensures kept { KeepsStart self.old self.new }
-    {
-        let Some((place, source)) = self.source_named(node) else {
-            return Answer::Throw(Exc::WrongType);
-        };
-        if source.start.is_some() {
-            return Answer::Throw(Exc::InvalidState);
-        }
-        if when < 0 {
-            return Answer::Throw(Exc::Range);
-        }
-        let start = Some(self.time.max(when as u64));
-        self.sources[place] = Constant { start, ..source };
-        Answer::Ok
-    }
-
-    fn stop(&mut self, node: &Name, when: i64) -> Answer
-        ensures step { Steps self.new (spec.stop_source self.old (spec.source_of self.old.world.sources (spec.node_named self.old node.now)) when) result }
-        ensures kept { KeepsStart self.old self.new }
-    {
-        let Some((place, source)) = self.source_named(node) else {
-            return Answer::Throw(Exc::WrongType);
-        };
-        if source.start.is_none() {
-            return Answer::Throw(Exc::InvalidState);
-        }
-        if when < 0 {
-            return Answer::Throw(Exc::Range);
-        }
-        if source.ended {
-            return Answer::Ok;
-        }
-        let stop = Some(self.time.max(when as u64));
-        self.sources[place] = Constant { stop, ..source };
-        Answer::Ok
-    }
-}
-
-// The context and its quanta.
-impl Control {
     /// The state of the context.
     pub fn state(&self) -> State
         ensures { result ≡ self.now.state }
@@ -276,19 +310,35 @@ impl Control {
         self.state
     }
 
+    /// The first frame of the next quantum.
+    pub fn now(&self) -> u64
+        ensures now { result ≡ self.now.now }
+        ensures short { result ≤ 33554560 }
+    {
+        self.time
+    }
+
+    /// The world that is in force.
+    pub fn world(&self) -> &World
+        ensures world { plain result.now ≡ self.now.world }
+        ensures valid { IsValid result.now }
+    {
+        &self.world
+    }
+
     /// The context.
     pub fn spec(&self) -> ContextSpec
-        ensures spec { result ≡ self.now.spec }
+        ensures spec { result ≡ self.now.world.spec }
         ensures supported { IsSupported result }
     {
-        self.spec
+        self.world.spec
     }
 
     /// The ordinal of the accepted startRendering.
     pub fn started(&self) -> Option<u32>
         ensures started { result ≡ self.now.started }
-        ensures state { IsInState self.now.state self.now.started self.now.now self.now.spec.length }
-        ensures supported { IsSupported self.now.spec }
+        ensures state { IsInState self.now.state self.now.started self.now.now self.now.world.spec.length }
+        ensures supported { IsSupported self.now.world.spec }
     {
         self.started
     }
@@ -301,61 +351,41 @@ impl Control {
         ended_lines(
             alloc,
             &self.book,
-            self.sources.as_slice(),
+            self.world.scheds.as_slice(),
             self.time + QUANTUM,
         )
     }
 
-    /// Renders the next quantum into samples that stand channel after channel.
-    pub fn render(&self, samples: &mut [Fix])
-        requires running { self.now.state ≡ State.Running }
-        requires room { length samples.old ≡ self.now.spec.channels * self.now.spec.length }
-        ensures { (tape : List World) → self.now.now ≡ quantum * length tape → samples.old ≡ samples_of tape self.now.spec
-            → samples.new ≡ samples_of (tape ++ self.now.world ∷ []) self.now.spec }
-    {
-        render_quantum(
-            samples,
-            self.spec,
-            self.time,
-            self.sources.as_slice(),
-            self.edges.as_slice(),
-        );
-    }
-
     /// Goes over one quantum: the time moves on, the sources that end in it are marked, and the
     /// context closes where its length is reached. Says whether it closed.
+    ///
+    /// The current value of a parameter without events is its creation value in each quantum.
     pub fn end_quantum(&mut self) -> bool
         requires { self.old.state ≡ State.Running }
-        ensures closes { result ≡ nat_le self.old.spec.length (self.old.now + quantum) }
+        ensures closes { result ≡ nat_le self.old.world.spec.length (self.old.now + quantum) }
         ensures machine { self.new ≡ (if result then closed_machine (machine_after self.old) else machine_after self.old) }
+        ensures valid { IsValid self.new.world }
     {
         self.time += QUANTUM;
-        mark_ended(self.sources.as_mut_slice(), self.time);
-        if self.time >= self.spec.length {
+        mark_ended(&mut self.world.scheds, self.time);
+        if self.time >= self.world.spec.length {
             self.state = State::Closed;
         }
-        self.time >= self.spec.length
+        self.time >= self.world.spec.length
     }
 }
 
-// The number of a node's inputs: the destination has one, a constant source none.
-fn inputs_of(node: u32) -> u32
-    ensures { result ≡ spec.inputs_of node }
+// The form of a disconnect by the members that are there.
+fn form_of(output: Option<u32>, to: Option<u32>, input: Option<u32>) -> Form
+    ensures { result ≡ spec.form_of output to input }
 {
-    if node == 0 { 1 } else { 0 }
-}
-
-fn has_edge(edges: &[Edge], edge: &Edge) -> bool
-    ensures { result ≡ list_any (spec.same_edge edge.now) edges.now }
-{
-    edges.iter().any(|other| same_edge(edge, other))
-}
-
-fn same_edge(edge: &Edge, other: &Edge) -> bool
-    ensures { result ≡ spec.same_edge edge.now other.now }
-{
-    edge.from.0 == other.from.0
-        && edge.output == other.output
-        && edge.to.0 == other.to.0
-        && edge.input == other.input
+    match (output, to, input) {
+        (None, None, _) => Form::All,
+        (Some(output), None, _) => Form::Output(output),
+        (None, Some(to), _) => Form::Node(NodeId(to)),
+        (Some(output), Some(to), None) => Form::NodeOutput(NodeId(to), output),
+        (Some(output), Some(to), Some(input)) => {
+            Form::NodeOutputInput(NodeId(to), output, input)
+        }
+    }
 }

@@ -1,46 +1,37 @@
-ghost use Rattle.std.specs.Prelude.{◌≡◌, ◌<◌, ◌^◌, ◌-◌, [], map, length, unwrap_or, IfOk};
+ghost use Rattle.std.specs.Prelude.{◌≡◌, [], map, All, IsSome, unwrap_or, IfOk};
 ghost use Rattle.name_book.specs.Book.{first_name_of};
+ghost use Rattle.session.specs.Changes as changes;
 ghost use Rattle.session.specs.Session as session_spec;
+ghost use Rattle.meaning.specs.declared.scheds.Play.{Play as play};
 
-use crate::render::end_frame;
-use crate::world::Constant;
+use meaning::{Play, Scheds};
 use name_book::Book;
+use sched_source::Sched;
 use std::alloc::Global;
 use transcript::Line;
-use wa_base::{Name, NoMemory, NodeId};
+use wa_base::NoMemory;
 
 // Whether a source ends before the quantum that begins at `now`, and has not ended before.
-fn ends_by(source: &Constant, now: u64) -> bool
-    ensures { result ≡ session_spec.ends_by now source.now }
+fn ends_by(sched: &Sched, now: u64) -> bool
+    ensures { result ≡ changes.ends_by now sched.now }
 {
-    if source.ended {
+    if sched.has_ended() {
         return false;
     }
-    match end_frame(source) {
+    match sched.end_frame() {
         Some(end) => end <= now,
         None => false,
     }
 }
 
 /// Marks the sources that end before the quantum that begins at `now`.
-pub(crate) fn mark_ended(sources: &mut [Constant], now: u64)
-    ensures { sources.new ≡ map (session_spec.marked now) sources.old }
+pub(crate) fn mark_ended(scheds: &mut Scheds, now: u64)
+    ensures { scheds.new.items ≡ map (changes.marked now) scheds.old.items }
 {
-    for source in sources {
-        *source = marked(*source, now);
-    }
-}
-
-fn marked(source: Constant, now: u64) -> Constant
-    ensures { result ≡ session_spec.marked now source }
-{
-    if ends_by(&source, now) {
-        Constant {
-            ended: true,
-            ..source
+    for place in 0..scheds.len() {
+        if ends_by(&scheds.at(place).sched, now) {
+            scheds.at_mut(place).sched.fire();
         }
-    } else {
-        source
     }
 }
 
@@ -48,29 +39,18 @@ fn marked(source: Constant, now: u64) -> Constant
 pub(crate) fn ended_lines(
     alloc: Global,
     book: &Book,
-    sources: &[Constant],
+    plays: &[Play],
     now: u64,
 ) -> Result<Vec<Line>, NoMemory>
-    requires { length sources.now < 2 ^ 32 - 1 }
-    ensures { IfOk result (λ lines. lines.items ≡ session_spec.ended_lines book.now.first_names now 1 sources.now) }
+    requires { All (λ (p : play). IsSome (first_name_of book.now.first_names p.id.0)) plays.now }
+    ensures { IfOk result (λ lines. lines.items ≡ session_spec.ended_lines book.now.first_names now plays.now) }
 {
     let mut lines = Vec::new(alloc);
-    let mut node = 1u32;
-    for source in sources {
-        if ends_by(source, now) {
-            lines.push(Line::Ended(NodeId(node), name_of(alloc, book, node)?))?;
+    for play in plays {
+        if ends_by(&play.sched, now) {
+            let name = book.created(play.id).copy()?;
+            lines.push(Line::Ended(play.id, name))?;
         }
-        node += 1;
     }
     Ok(lines)
-}
-
-// The name under which a node was created.
-fn name_of(alloc: Global, book: &Book, node: u32) -> Result<Name, NoMemory>
-    ensures { IfOk result (λ name. name ≡ unwrap_or (first_name_of book.now.first_names node) []) }
-{
-    match book.first_name(NodeId(node)) {
-        Some(name) => name.copy(),
-        None => Ok(Name::new(alloc)),
-    }
 }

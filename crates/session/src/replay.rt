@@ -5,7 +5,7 @@ ghost use Rattle.session.specs.Rendering.{rendering_of};
 ghost use Rattle.session.specs.Session.{after_calls, after_quanta, closing, held_by, quanta_left, replayed as replayed_of, session_of, worlds_of};
 ghost use Rattle.session.specs.Step.{KeepsTime};
 ghost use Rattle.session.specs.View.{Stands};
-ghost use Rattle.session.specs.World.{World};
+ghost use Rattle.meaning.specs.declared.world.World.{World};
 
 use crate::rendered::Rendered;
 use crate::session::{Options, Session, Stop, Turn};
@@ -65,7 +65,7 @@ fn replayed<F: Files>(mut session: Session, calls: &[Call], files: &mut F) -> Re
     requires fresh { Stands session [] }
     ensures lines { IfOk result (λ outcome. outcome.lines.items ≡ (replayed_of calls.now session.told).lines) }
     ensures end { IfOk result (λ outcome. outcome.end ≡ (replayed_of calls.now session.told).end) }
-    ensures rendered { IfOk result (λ outcome. outcome.rendered ≡ rendering_of session.audio session.told.machine.spec (replayed_of calls.now session.told)) }
+    ensures rendered { IfOk result (λ outcome. outcome.rendered ≡ rendering_of session.audio session.told.machine.world.spec (replayed_of calls.now session.told)) }
     ensures supported { IfOk result (λ outcome. IfSome outcome.rendered (λ rendered. IsSupported rendered.spec)) }
     ensures tells { F.tells files.new ≡ F.tells files.old }
     ensures paths { F.paths files.new ≡ F.paths files.old }
@@ -113,7 +113,7 @@ fn render_to_end(session: &mut Session) -> Result<u32, NoMemory>
     ensures told { IfOk result (λ ordinal. session.new.told ≡ closing (after_quanta (quanta_left session.old.told.machine) session.old.told) ordinal) }
     ensures ordinal { IfOk result (λ ordinal. session.old.told.machine.started ≡ Some ordinal) }
     ensures audio { session.new.audio ≡ session.old.audio }
-    ensures kept { session.new.told.machine.spec ≡ session.old.told.machine.spec }
+    ensures kept { session.new.told.machine.world.spec ≡ session.old.told.machine.world.spec }
     ensures started { IfOk result (λ ordinal. session.new.told.machine.started ≡ Some ordinal) }
     ensures stands { (tape : List World) → Stands session.old tape → OnOk result (Stands session.new (tape ++ worlds_of (quanta_left session.old.told.machine) session.old.told)) }
 {

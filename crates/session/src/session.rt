@@ -5,13 +5,15 @@ ghost use Rattle.wa_base.specs.Contexts.{IsSupported};
 ghost use Rattle.session.specs.Session.{after_call, after_quantum, closing};
 ghost use Rattle.wa_base.specs.Contexts.{is_supported as supports};
 ghost use Rattle.session.specs.Step.{is_start, KeepsTime};
-ghost use Rattle.session.specs.View.{first_view, Stands};
-ghost use Rattle.session.specs.World.{World};
+ghost use Rattle.session.specs.View.{IsFirst, IsAsBefore, Stands};
+ghost use Rattle.meaning.specs.declared.world.World.{World};
 
 use crate::control::Control;
+use crate::quantum::render_audio;
 use crate::rendered::Rendered;
 use crate::replay::Outcome;
 use io_edge::Files;
+use quantum_render::Renderer;
 use script_ast::{Call, Op};
 use std::alloc::Global;
 use std::marker::Model;
@@ -57,30 +59,32 @@ pub enum Turn {
     Done(u32),
 }
 
-/// A session while it runs. Contracts see it as its machine, its lines and its samples.
+/// A session while it runs. Contracts see it as its machine, its lines, its samples and, with audio,
+/// its renderer.
 #[derive(Drop)]
 pub struct Session {
     alloc: Global,
-    options: Options,
     control: Control,
     lines: Lines,
+    renderer: Option<Renderer>,
     samples: Vec<Fix>,
 }
 
 impl Model for Session {
+    ghost use Rattle.std.specs.Prelude.{is_some};
     ghost use Rattle.session.specs.View.{SessionView, IsSound};
 
     ghost Value = { SessionView };
 
-    ghost view = { λ s. record { told = record { machine = s.control; lines = s.lines.items }; audio = s.options.audio; samples = s.samples.items } };
+    ghost view = { λ s. record { told = record { machine = s.control; lines = s.lines.items }; audio = is_some s.renderer; samples = s.samples.items; renderer = s.renderer } };
 
-    ghost invariant = { λ s. IsSound s.options.audio s.control s.lines.room s.samples.items };
+    ghost invariant = { λ s. IsSound (is_some s.renderer) s.control s.lines.room s.samples.items s.renderer };
 }
 
 impl Session {
     /// A session in which no call came yet.
     pub fn new(alloc: Global, spec: ContextSpec, options: Options) -> Result<Session, Refusal>
-        ensures ok { IfOk result (λ session. session ≡ first_view spec options.audio) }
+        ensures ok { IfOk result (IsFirst spec options.audio) }
         ensures refused { IsErrOf result (Refusal.Exc (Exc.NotSupported None)) ↔ (supports spec ≡ false) }
         ensures others { IfErr result (λ e. (e ≡ Refusal.Exc (Exc.NotSupported None)) ⊎ (e ≡ Refusal.NoMemory)) }
     {
@@ -89,11 +93,16 @@ impl Session {
         }
         let mut lines = Lines::new(alloc);
         lines.reserve(1)?;
+        let renderer = if options.audio {
+            Some(Renderer::new(alloc, spec, options.tie)?)
+        } else {
+            None
+        };
         Ok(Session {
             alloc,
-            options,
-            control: Control::new(alloc, spec),
+            control: Control::new(alloc, spec)?,
             lines,
+            renderer,
             samples: Vec::new(alloc),
         })
     }
@@ -126,23 +135,26 @@ impl Session {
     /// Renders one quantum, and closes the context where its length is reached.
     pub fn advance(&mut self) -> Result<Turn, NoMemory>
         requires { self.old.told.machine.state ≡ State.Running }
-        ensures left { IfOk result (λ _. self.old.told.machine.now < self.old.told.machine.spec.length) }
+        ensures left { IfOk result (λ _. self.old.told.machine.now < self.old.told.machine.world.spec.length) }
         ensures went { IfOk result (λ turn. turn ≡ Turn.Went
             → (self.new.told ≡ after_quantum self.old.told) × (self.new.told.machine.state ≡ State.Running)
-            × (self.new.told.machine.now < self.new.told.machine.spec.length)) }
+            × (self.new.told.machine.now < self.new.told.machine.world.spec.length)) }
         ensures done { IfOk result (λ turn. (ordinal : ℕ) → turn ≡ Turn.Done ordinal
             → (self.old.told.machine.started ≡ Some ordinal) × (self.new.told ≡ closing (after_quantum self.old.told) ordinal)
-            × (self.old.told.machine.spec.length ≤ self.new.told.machine.now)) }
+            × (self.old.told.machine.world.spec.length ≤ self.new.told.machine.now)) }
         ensures audio { self.new.audio ≡ self.old.audio }
         ensures stands { (tape : List World) → Stands self.old tape → OnOk result (Stands self.new (tape ++ self.old.told.machine.world ∷ [])) }
-        ensures err { OnErr result (self.new ≡ self.old) }
+        ensures err { OnErr result (IsAsBefore self.old self.new) }
     {
         let ordinal = self.control.started().unwrap_or(0);
         let ended = self.control.lines_of_quantum(self.alloc)?;
         self.lines.reserve(ended.len() + 2)?;
-        if self.options.audio {
-            self.control.render(self.samples.as_mut_slice());
-        }
+        render_audio(
+            &mut self.renderer,
+            self.control.world(),
+            self.control.now(),
+            self.samples.as_mut_slice(),
+        )?;
         let closed = self.control.end_quantum();
         self.lines.append_reserved(ended);
         if !closed {
@@ -157,9 +169,9 @@ impl Session {
     fn samples_for(&self, op: &Op) -> Result<Option<Vec<Fix>>, NoMemory>
         ensures some { IfOk result (λ samples. IsSome samples ↔ (IsTrue self.now.audio × IsNone self.now.told.machine.started × (is_start op.now ≡ true))) }
         ensures at_start { IfOk result (λ samples. IsSome samples → self.now.told.machine.now ≡ 0) }
-        ensures zeros { IfOk result (λ samples. IfSome samples (λ v. v.items ≡ replicate (self.now.told.machine.spec.channels * self.now.told.machine.spec.length) (pos 0))) }
+        ensures zeros { IfOk result (λ samples. IfSome samples (λ v. v.items ≡ replicate (self.now.told.machine.world.spec.channels * self.now.told.machine.world.spec.length) (pos 0))) }
     {
-        if !self.options.audio
+        if self.renderer.is_none()
             || !matches!(op, Op::StartRendering)
             || self.control.started().is_some()
         {
@@ -173,8 +185,8 @@ impl Session {
     /// The ordinal of the accepted startRendering.
     pub fn started(&self) -> Option<u32>
         ensures started { result ≡ self.now.told.machine.started }
-        ensures state { IsInState self.now.told.machine.state self.now.told.machine.started self.now.told.machine.now self.now.told.machine.spec.length }
-        ensures supported { IsSupported self.now.told.machine.spec }
+        ensures state { IsInState self.now.told.machine.state self.now.told.machine.started self.now.told.machine.now self.now.told.machine.world.spec.length }
+        ensures supported { IsSupported self.now.told.machine.world.spec }
     {
         self.control.started()
     }
@@ -192,20 +204,20 @@ impl Session {
 
     // The outcome of a session whose context closed.
     pub(crate) fn completed(self) -> Outcome
-        ensures lines { result.lines.items ≡ self.told.lines ++ Line.Complete self.told.machine.spec.length ∷ [] }
+        ensures lines { result.lines.items ≡ self.told.lines ++ Line.Complete self.told.machine.world.spec.length ∷ [] }
         ensures end { result.end ≡ EndWord.Completed }
-        ensures rendered { result.rendered ≡ (if self.audio then Some (record { spec = self.told.machine.spec; samples = self.samples }) else None) }
+        ensures rendered { result.rendered ≡ (if self.audio then Some (record { spec = self.told.machine.world.spec; samples = self.samples }) else None) }
     {
         let Session {
-            options,
             control,
             mut lines,
+            renderer,
             samples,
             ..
         } = self;
         let spec = control.spec();
         lines.push_reserved(Line::Complete(spec.length));
-        let rendered = options.audio.then(|| Rendered {
+        let rendered = renderer.is_some().then(|| Rendered {
             spec,
             samples: Samples::from(samples),
         });

@@ -7,12 +7,14 @@ use script_ast::{Call, Op};
 use std::alloc::Global;
 use std::test::Fail;
 use transcript::{EndWord, Lines, text};
-use wa_base::{Bytes, ContextSpec, Name, NoMemory, ONE, Refusal, State, Tie};
+use wa_base::{Bytes, ContextSpec, Fix, Name, NoMemory, ONE, Refusal, State, Tie};
 
 const WITH_AUDIO: Options = Options {
     tie: Tie::Up,
     audio: true,
 };
+
+const HALF: Fix = 8_388_608;
 
 // A session in which no call came yet. It is begun here so that no proof reckons with the numbers of a test.
 fn begin(alloc: Global, channels: u32, length: u64) -> Result<Session, Refusal> {
@@ -86,7 +88,7 @@ fn name_of(alloc: Global, text: &str) -> Result<Name, NoMemory>
     Ok(Name::from(bytes))
 }
 
-// A source that sounds for one frame, and the start of rendering.
+// A source that sounds for one frame through a gain, and the start of rendering.
 #[tactic(auto, unfolding(script_ast::specs::Ranges::is_new_name))]
 fn op_of(alloc: Global, ordinal: u32) -> Result<Op, NoMemory>
     ensures { IfOk result (λ op. IsInRange op) }
@@ -97,21 +99,38 @@ fn op_of(alloc: Global, ordinal: u32) -> Result<Op, NoMemory>
             name: node,
             offset: ONE,
         }),
-        2 => Ok(Op::Connect {
-            from: node,
-            output: 0,
-            to: name_of(alloc, "destination")?,
-            input: 0,
+        2 => Ok(Op::CreateGain {
+            name: name_of(alloc, "g")?,
+            gain: HALF,
         }),
-        3 => Ok(Op::Start {
+        3 => connect(alloc, node, "g"),
+        4 => connect(alloc, name_of(alloc, "g")?, "destination"),
+        5 => Ok(Op::Start {
             node,
             when: 0,
             offset: 0,
             duration: None,
         }),
-        4 => Ok(Op::Stop { node, when: 1 }),
+        6 => Ok(Op::Stop { node, when: 1 }),
+        7 => Ok(Op::Disconnect {
+            from: node,
+            output: None,
+            to: Some(name_of(alloc, "destination")?),
+            input: None,
+        }),
         _ => Ok(Op::StartRendering),
     }
+}
+
+fn connect(alloc: Global, from: Name, to: &str) -> Result<Op, NoMemory>
+    ensures { IfOk result (λ op. IsInRange op) }
+{
+    Ok(Op::Connect {
+        from,
+        output: 0,
+        to: name_of(alloc, to)?,
+        input: 0,
+    })
 }
 
 // A call that is made a second time where memory for it was refused.
@@ -143,21 +162,21 @@ fn what_was_refused_memory_can_be_done_again(rt: HostRuntime) -> Result<(), Fail
         Err(Refusal::NoMemory) => begin(rt.alloc(), 1, 100)?,
         begun => begun?,
     };
-    for ordinal in 1..6 {
+    for ordinal in 1..9 {
         call_again(rt.alloc(), &mut session, ordinal)?;
     }
     let turn = match advance(&mut session) {
         Err(NoMemory) => advance(&mut session)?,
         Ok(turn) => turn,
     };
-    assert_eq!(rt; turn, Some(Turn::Done(5)));
+    assert_eq!(rt; turn, Some(Turn::Done(8)));
     let outcome = session.completed();
     let lines = text_again(rt.alloc(), &outcome.lines, outcome.end)?;
     let want =
-        b"1 ok\n2 ok\n3 ok\n4 ok\n5 pending\nended 1 c\n5 resolved\ncomplete 100\nend completed\n";
+        b"1 ok\n2 ok\n3 ok\n4 ok\n5 ok\n6 ok\n7 throw InvalidAccessError\n8 pending\nended 1 c\n8 resolved\ncomplete 100\nend completed\n";
     assert!(rt; lines.as_slice() == want.as_slice());
     let mut samples = [0; 100];
-    samples[0] = ONE;
+    samples[0] = HALF;
     assert!(rt;
         outcome.rendered.is_some_and(|rendered| rendered.samples.as_slice() == samples.as_slice())
     );

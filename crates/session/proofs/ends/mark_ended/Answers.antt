@@ -1,7 +1,23 @@
-use Rattle.session.specs.Session.{marked}
-use Rattle.session.proofs.Marks.{map_over_next}
+use Rattle.std.proofs.Common.{◌≡◌, true, slice_set, sym, ◌∙◌, ap, arith}
+use Rattle.std.proofs.lemmas.List.{length-set}
+use Rattle.meaning.specs.declared.scheds.Play.{Play}
+use Rattle.session.specs.Changes.{ends_by}
+use Rattle.session.proofs.Marks.{one_marked, not_marked, marked_now}
 use Rattle.session.proofs.ends.mark_ended.Goals as goal
+use Rattle.session.proofs.ends.mark_ended.Goals.{then-ends_by, else-ends_by}
 
-pub loop-source-preserved : goal.loop-source-preserved
-loop-source-preserved c =
-    rw c.marked.ensures (map_over_next (marked c.args.now) c.args.sources.now c.loop-source.source-items c.loop-source.source-index _ c.loop-source-test.true c.loop-source.auto.source-items c.loop-source.invariant)
+pub loop-place-preserved : goal.loop-place-preserved
+loop-place-preserved c =
+    let inv = c.loop-place.invariant in
+    elim c.if-ends_by.branch [
+      | then-ends_by w ↦
+          let found = w.at_mut.ensures.value in
+          let read = c.at.ensures in
+          let same : w.at_mut.result.now ≡ c.at.result.now = cc (found, read) in
+          let ends : ends_by c.args.now w.at_mut.result.now.sched ≡ true = ap (λ (p : Play). ends_by c.args.now p.sched) same ∙ sym w.if-ends_by.ensures in
+          let new = ap (λ sched. let p : Play = record { id = w.at_mut.result.now.id; sched = sched } in slice_set c.loop-place.scheds.items c.loop-place.place p) w.fire.ensures
+          ∙ ap (λ p. slice_set c.loop-place.scheds.items c.loop-place.place p) (sym (marked_now c.args.now w.at_mut.result.now ends)) in
+          let items = new ∙ one_marked c.args.now c.args.scheds.now.items c.loop-place.scheds.items c.loop-place.place w.at_mut.result.now (omega arith) inv.same inv.so_far found in
+          rw w.scheds-is (record { same = length-set c.loop-place.scheds.items c.loop-place.place _ ∙ inv.same; so_far = items })
+      | else-ends_by w ↦ rw w.scheds-is (record { same = inv.same; so_far = not_marked c.args.now c.args.scheds.now.items c.loop-place.scheds.items c.loop-place.place c.at.result.now (omega arith) inv.same inv.so_far c.at.ensures (sym w.if-ends_by.ensures) })
+    ]

@@ -1,6 +1,9 @@
-use Rattle.std.proofs.Common.{◌≡◌, ◌++◌, map, take, drop}
-use Rattle.session.specs.Session.{marked}
+use Rattle.std.proofs.Common.{◌≡◌, ◌++◌, map, take, drop, length}
+use Rattle.session.specs.Changes.{marked}
 use Rattle.session.proofs.ends.mark_ended.Given as goal
 
-abbrev pub invariant-loop-source : goal.invariant-loop-source
-invariant-loop-source l = l.source-items ≡ map (marked l.now) (take l.source-index l.initial.source-items) ++ drop l.source-index l.initial.source-items
+abbrev pub invariant-loop-place : goal.invariant-loop-place
+invariant-loop-place l = record {
+  same : length l.scheds.items ≡ length l.fn.scheds.items;
+  so_far : l.scheds.items ≡ map (marked l.now) (take l.place l.fn.scheds.items) ++ drop l.place l.fn.scheds.items;
+}

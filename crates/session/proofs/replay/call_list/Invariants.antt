@@ -3,7 +3,7 @@ use Rattle.script_ast.specs.WellFormed.{AreCallsAfter}
 use Rattle.session.specs.Session.{after_calls, held_by}
 use Rattle.session.specs.Step.{KeepsTime}
 use Rattle.session.specs.View.{Stands}
-use Rattle.session.specs.World.{World}
+use Rattle.meaning.specs.declared.world.World.{World}
 use Rattle.session.proofs.replay.call_list.Given as goal
 
 abbrev pub invariant-loop-call : goal.invariant-loop-call

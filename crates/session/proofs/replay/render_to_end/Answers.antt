@@ -18,7 +18,7 @@ returns-in-Done-clause-ordinal c = sym c.loop-ordinal.invariant.3 ∙ (c.in_ok-a
 pub returns-in-Done-clause-kept : goal.returns-in-Done-clause-kept
 returns-in-Done-clause-kept c =
     let done = c.in_ok-advance.ensures.done c.in-Done.ordinal c.in-Done.is in
-    ap (λ told. told.machine.spec) done.1 ∙ c.loop-ordinal.invariant.2
+    ap (λ told. told.machine.world.spec) done.1 ∙ c.loop-ordinal.invariant.2
 
 pub returns-in-Done-clause-started : goal.returns-in-Done-clause-started
 returns-in-Done-clause-started c =
@@ -37,10 +37,10 @@ pub loop-ordinal-preserved : goal.loop-ordinal-preserved
 loop-ordinal-preserved c =
     let went = c.in_ok-advance.ensures.went c.in-Went.is in
     let inv = c.loop-ordinal.invariant in
-    let more = more_left _ _ went.0 went.2 in (
+    let more = more_left c.loop-ordinal.session.told c.advance.new.self.told went.0 went.2 in (
       went.1,
       rw (went.0) (rw (more, went.0) at inv.1),
-      ap (λ told. told.machine.spec) went.0 ∙ inv.2,
+      ap (λ told. told.machine.world.spec) went.0 ∙ inv.2,
       ap (λ told. told.machine.started) went.0 ∙ inv.3,
       c.in_ok-advance.ensures.audio ∙ inv.4,
       λ tape stands. let at = inv.5 tape stands in

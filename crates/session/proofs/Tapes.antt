@@ -1,0 +1,222 @@
+-- The worlds of a session follow one another.
+use Rattle.std.proofs.Common.{ℕ, zero, suc, ◌≡◌, ◌+◌, ◌-◌, ◌*◌, ◌<◌, ◌≤◌, length, List, [], ◌∷◌, ◌++◌, map, All, slice_index_or, ◌⊎◌, inl, inr, refl, sym, ◌∙◌, ap, arith, subst, length-append}
+use Rattle.std.proofs.lemmas.Bool.{cases_lt}
+use Rattle.std.proofs.lemmas.List.{get_or_append_left, get_or-map, length-map}
+use Rattle.std.proofs.lemmas.List.Elements.{All-append, All-cons}
+use Rattle.std.proofs.Math.Seq.{get_or-append_seam, get_or-append_right}
+use Rattle.wa_base.specs.declared.contexts.ContextSpec.{ContextSpec}
+use Rattle.node_table.specs.declared.nodes.Node.{Node}
+use Rattle.meaning.specs.declared.world.World.{World}
+use Rattle.meaning.specs.World.{plain, no_world, no_node, node_at}
+use Rattle.meaning.specs.Validity.{IsValid}
+use Rattle.meaning.specs.Worlds.{IsRegular, IsNewIn, Stays, first_world}
+use Rattle.meaning.specs.Counts.{world_in}
+use Rattle.meaning.proofs.TapeLaws.{world_before, world_after}
+use Rattle.session.specs.Changes.{Grows}
+use Rattle.session.proofs.Valid.{valid_plain}
+
+-- ---- worlds made plain
+
+pub plain_world : (tape : List World) (k : ℕ) → world_in (map plain tape) k ≡ world_in tape k
+plain_world [] k = refl
+plain_world (w ∷ ws) zero = refl
+plain_world (w ∷ ws) (suc k) = plain_world ws k
+
+-- a tape is regular where it is made of plain worlds
+pub regular_of_plain : (q : ℕ) (tape : List World) → IsRegular q (map plain tape) → IsRegular q tape
+regular_of_plain q tape regular =
+    let long = length-map tape plain in
+    record {
+      valid = λ k d l. valid_plain (slice_index_or tape k d) (subst IsValid (get_or-map plain tape k d (plain d) l) (regular.valid k (plain d) (omega arith)));
+      spec = λ j l. ap (λ (w : World). w.spec) (sym (plain_world tape j)) ∙ regular.spec j (omega arith) ∙ ap (λ (w : World). w.spec) (plain_world tape 0);
+      stays = λ j i l below.
+          subst (λ (w : World). Stays i w (world_in tape (suc j))) (plain_world tape j)
+          (subst (λ (w : World). Stays i (world_in (map plain tape) j) w) (plain_world tape (suc j))
+          (regular.stays j i (omega arith) (subst (λ (w : World). i < length w.nodes) (sym (plain_world tape j)) below)));
+      born = λ j i l new.
+          subst (λ (w : World). (node_at w i).attrs.birth ≡ q * j) (plain_world tape j)
+          (regular.born j i (omega arith) (
+            subst (λ (w : World). i < length w.nodes) (sym (plain_world tape j)) new.0,
+            elim new.1 [ inl e ↦ inl e | inr e ↦ inr (subst (λ (w : World). length w.nodes ≤ i) (sym (plain_world tape (j - 1))) e) ],
+          ));
+    }
+
+-- ---- the next world of a tape
+
+pub record IsNext (q : ℕ) (tape : List World) (w : World) : Type 0 where
+  pub valid : IsValid w
+  pub spec : 0 < length tape → w.spec ≡ (world_in tape 0).spec
+  pub stays : (j i : ℕ) → suc j ≡ length tape → i < length (world_in tape j).nodes → Stays i (world_in tape j) (plain w)
+  pub born : (i : ℕ) → i < length w.nodes → (length tape ≡ 0) ⊎ (length (world_in tape (length tape - 1)).nodes ≤ i) → (node_at w i).attrs.birth ≡ q * length tape
+
+module _ (q : ℕ) (tape : List World) (w : World) where
+  abbrev longer : List World
+  longer = tape ++ w ∷ []
+
+  long : length longer ≡ length tape + 1
+  long = length-append tape (w ∷ [])
+
+  old : (k : ℕ) → k < length tape → world_in longer k ≡ world_in tape k
+  old k l = world_before tape w k l
+
+  new : (k : ℕ) → k ≡ length tape → world_in longer k ≡ plain w
+  new k e = world_after tape w k e
+
+  -- the world before the last one of a tape
+  before_last : (P : World → Type 0) → (length tape ≡ 0) ⊎ P (world_in tape (length tape - 1)) → (length tape ≡ 0) ⊎ P (world_in longer (length tape - 1))
+  before_last P (inl e) = inl e
+  before_last P (inr p) = elim (cases_lt 0 (length tape)) [
+    | inl l ↦ inr (subst P (sym (old (length tape - 1) (omega arith))) p)
+    | inr l ↦ inl (omega arith)
+  ]
+
+  before_last' : (P : World → Type 0) → (length tape ≡ 0) ⊎ P (world_in longer (length tape - 1)) → (length tape ≡ 0) ⊎ P (world_in tape (length tape - 1))
+  before_last' P (inl e) = inl e
+  before_last' P (inr p) = elim (cases_lt 0 (length tape)) [
+    | inl l ↦ inr (subst P (old (length tape - 1) (omega arith)) p)
+    | inr l ↦ inl (omega arith)
+  ]
+
+  pub regular_front : IsRegular q longer → IsRegular q tape
+  regular_front regular = record {
+    valid = λ k d l. subst IsValid (get_or_append_left tape (w ∷ []) d k l) (regular.valid k d (omega (arith, long)));
+    spec = λ j l. ap (λ (x : World). x.spec) (sym (old j l)) ∙ regular.spec j (omega (arith, long)) ∙ ap (λ (x : World). x.spec) (old 0 (omega arith));
+    stays = λ j i l below.
+        subst (λ (x : World). Stays i x (world_in tape (suc j))) (old j (omega arith))
+        (subst (λ (x : World). Stays i (world_in longer j) x) (old (suc j) l)
+        (regular.stays j i (omega (arith, long)) (subst (λ (x : World). i < length x.nodes) (sym (old j (omega arith))) below)));
+    born = λ j i l is.
+        subst (λ (x : World). (node_at x i).attrs.birth ≡ q * j) (old j l)
+        (regular.born j i (omega (arith, long)) (
+          subst (λ (x : World). i < length x.nodes) (sym (old j l)) is.0,
+          elim is.1 [ inl e ↦ inl e | inr e ↦ inr (subst (λ (x : World). length x.nodes ≤ i) (sym (old (j - 1) (omega arith))) e) ],
+        ));
+  }
+
+  pub next_of : IsRegular q longer → IsNext q tape w
+  next_of regular = record {
+    valid = subst IsValid (get_or-append_seam tape w [] no_world) (regular.valid (length tape) no_world (omega (arith, long)));
+    spec = λ some. ap (λ (x : World). x.spec) (sym (new (length tape) refl)) ∙ regular.spec (length tape) (omega (arith, long)) ∙ ap (λ (x : World). x.spec) (old 0 some);
+    stays = λ j i e below.
+        subst (λ (x : World). Stays i x (plain w)) (old j (omega arith))
+        (subst (λ (x : World). Stays i (world_in longer j) x) (new (suc j) e)
+        (regular.stays j i (omega (arith, long)) (subst (λ (x : World). i < length x.nodes) (sym (old j (omega arith))) below)));
+    born = λ i below is.
+        subst (λ (x : World). (node_at x i).attrs.birth ≡ q * length tape) (new (length tape) refl)
+        (regular.born (length tape) i (omega (arith, long)) (
+          subst (λ (x : World). i < length x.nodes) (sym (new (length tape) refl)) below,
+          before_last (λ (x : World). length x.nodes ≤ i) is,
+        ));
+  }
+
+  pub regular_more : IsRegular q tape → IsNext q tape w → IsRegular q longer
+  regular_more regular next = record {
+    valid = All-append IsValid tape (w ∷ []) regular.valid (All-cons IsValid w [] next.valid (λ k d l. absurd (omega arith)));
+    spec = λ j l. elim (cases_lt j (length tape)) [
+      | inl low ↦ ap (λ (x : World). x.spec) (old j low) ∙ regular.spec j low ∙ sym (ap (λ (x : World). x.spec) (old 0 (omega arith)))
+      | inr high ↦ last_spec j (omega (arith, long))
+    ];
+    stays = λ j i l below. elim (cases_lt (suc j) (length tape)) [
+      | inl low ↦
+          subst (λ (x : World). Stays i x (world_in longer (suc j))) (sym (old j (omega arith)))
+          (subst (λ (x : World). Stays i (world_in tape j) x) (sym (old (suc j) low))
+          (regular.stays j i low (subst (λ (x : World). i < length x.nodes) (old j (omega arith)) below)))
+      | inr high ↦
+          let at : suc j ≡ length tape = omega (arith, long) in
+          subst (λ (x : World). Stays i x (world_in longer (suc j))) (sym (old j (omega arith)))
+          (subst (λ (x : World). Stays i (world_in tape j) x) (sym (new (suc j) at))
+          (next.stays j i at (subst (λ (x : World). i < length x.nodes) (old j (omega arith)) below)))
+    ];
+    born = λ j i l is. elim (cases_lt j (length tape)) [
+      | inl low ↦
+          subst (λ (x : World). (node_at x i).attrs.birth ≡ q * j) (sym (old j low))
+          (regular.born j i low (
+            subst (λ (x : World). i < length x.nodes) (old j low) is.0,
+            elim is.1 [ inl e ↦ inl e | inr e ↦ inr (subst (λ (x : World). length x.nodes ≤ i) (old (j - 1) (omega arith)) e) ],
+          ))
+      | inr high ↦ last_born j i (omega (arith, long)) is
+    ];
+  }
+    where
+      last_spec : (j : ℕ) → j ≡ length tape → (world_in longer j).spec ≡ (world_in longer 0).spec
+      last_spec j at = elim (cases_lt 0 (length tape)) [
+        | inl some ↦ ap (λ (x : World). x.spec) (new j at) ∙ next.spec some ∙ sym (ap (λ (x : World). x.spec) (old 0 some))
+        | inr none ↦ let first : j ≡ 0 = omega arith in ap (λ k. (world_in longer k).spec) first
+      ]
+
+      last_born : (j i : ℕ) → j ≡ length tape → IsNewIn longer j i → (node_at (world_in longer j) i).attrs.birth ≡ q * j
+      last_born j i at is =
+          subst (λ k. IsNewIn longer k i → (node_at (world_in longer k) i).attrs.birth ≡ q * k) (sym at)
+          (λ here. subst (λ (x : World). (node_at x i).attrs.birth ≡ q * length tape) (sym (new (length tape) refl))
+          (next.born i (subst (λ (x : World). i < length x.nodes) (new (length tape) refl) here.0) (before_last' (λ (x : World). length x.nodes ≤ i) here.1)))
+          is
+
+-- ---- calls and quanta
+
+-- a call leaves the next world of a tape the next one
+pub next_grown : (q : ℕ) (tape : List World) (w w' : World) → IsNext q tape w → Grows (q * length tape) w w' → IsNext q tape w'
+next_grown q tape w w' next grows = record {
+  valid = grows.valid next.valid;
+  spec = λ some. grows.spec ∙ next.spec some;
+  stays = λ j i e below.
+      let stays = next.stays j i e below in
+      record {
+        there = let l = stays.there in omega (arith, long);
+        kind = ap (λ (n : Node). n.kind) (kept i stays.there) ∙ stays.kind;
+        birth = ap (λ (n : Node). n.attrs.birth) (kept i stays.there) ∙ stays.birth;
+      };
+  born = λ i below is. elim (cases_lt i (length w.nodes)) [
+    | inl low ↦ ap (λ (n : Node). n.attrs.birth) (kept i low) ∙ next.born i low is
+    | inr high ↦
+        ap (λ (ns : List Node). (slice_index_or ns i no_node).attrs.birth) grows.nodes
+        ∙ ap (λ (n : Node). n.attrs.birth) (get_or-append_right w.nodes grows.more i no_node high)
+        ∙ grows.born (i - length w.nodes) no_node (omega (arith, long))
+  ];
+}
+  where
+    long : length w'.nodes ≡ length w.nodes + length grows.more
+    long = ap length grows.nodes ∙ length-append w.nodes grows.more
+
+    kept : (i : ℕ) → i < length w.nodes → slice_index_or w'.nodes i no_node ≡ slice_index_or w.nodes i no_node
+    kept i l = ap (λ (ns : List Node). slice_index_or ns i no_node) grows.nodes ∙ get_or_append_left w.nodes grows.more no_node i l
+
+pub regular_grown : (q : ℕ) (tape : List World) (w w' : World) → IsRegular q (tape ++ w ∷ []) → Grows (q * length tape) w w' → IsRegular q (tape ++ w' ∷ [])
+regular_grown q tape w w' regular grows = regular_more q tape w' (regular_front q tape w regular) (next_grown q tape w w' (next_of q tape w regular) grows)
+
+-- the world after a quantum, with the same nodes
+pub regular_after : (q : ℕ) (tape : List World) (w w' : World) → IsRegular q (tape ++ w ∷ []) → IsValid w' → w'.spec ≡ w.spec → w'.nodes ≡ w.nodes
+    → IsRegular q ((tape ++ w ∷ []) ++ w' ∷ [])
+regular_after q tape w w' regular valid spec nodes = regular_more q (tape ++ w ∷ []) w' regular (record {
+  valid = valid;
+  spec = λ some. spec ∙ ap (λ (x : World). x.spec) (sym (world_after tape w (length tape) refl)) ∙ regular.spec (length tape) (omega (arith, long));
+  stays = λ j i e below.
+      let at : j ≡ length tape = omega (arith, long) in
+      let l : i < length w.nodes = subst (λ (x : World). i < length x.nodes) (world_after tape w j at) below in
+      subst (λ (x : World). Stays i x (plain w')) (sym (world_after tape w j at)) (record {
+        there = rw nodes l;
+        kind = ap (λ (ns : List Node). (slice_index_or ns i no_node).kind) nodes;
+        birth = ap (λ (ns : List Node). (slice_index_or ns i no_node).attrs.birth) nodes;
+      });
+  born = λ i below is. elim is [
+    | inl none ↦ absurd (omega (arith, long))
+    | inr high ↦
+        let at : length (tape ++ w ∷ []) - 1 ≡ length tape = omega (arith, long) in
+        let past : length w.nodes ≤ i = subst (λ (x : World). length x.nodes ≤ i) (world_after tape w _ at) high in
+        let same : length w'.nodes ≡ length w.nodes = ap length nodes in
+        absurd (omega arith)
+  ];
+})
+  where
+    long : length (tape ++ w ∷ []) ≡ length tape + 1
+    long = length-append tape (w ∷ [])
+
+-- the destination alone
+pub regular_first : (q : ℕ) (spec : ContextSpec) → IsValid (first_world spec) → IsRegular q (first_world spec ∷ [])
+regular_first q spec valid = regular_more q [] (first_world spec)
+    (record { valid = λ k d l. absurd (omega arith); spec = λ j l. absurd (omega arith); stays = λ j i l below. absurd (omega arith); born = λ j i l is. absurd (omega arith) })
+    (record {
+      valid = valid;
+      spec = λ some. absurd (omega arith);
+      stays = λ j i e below. absurd (omega arith);
+      born = λ i below is. let first : i ≡ 0 = omega arith in rw first (omega arith);
+    })
