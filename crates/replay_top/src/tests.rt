@@ -1,9 +1,11 @@
+mod graphs;
+mod spelling;
+
 use crate::{Status, run};
 use io_edge::{MemFiles, MemSink, MemSource};
 use std::alloc::{AllocError, Global};
 use std::test::Fail;
-use transcript::{Answer, EndWord, Line, Lines, text};
-use wa_base::{Bytes, Exc, Feature, Name, NoMemory, NodeId, State};
+use wa_base::{Bytes, NoMemory};
 
 const CONSTANT: &str =
     "{\"version\":1,\"context\":{\"channels\":1,\"length\":128,\"rate\":48000},\"calls\":[{\"op\":\"createConstantSource\",\"as\":\"c\"},{\"op\":\"connect\",\"from\":\"c\",\"to\":\"destination\"},{\"op\":\"start\",\"node\":\"c\"},{\"op\":\"startRendering\"}]}";
@@ -45,6 +47,14 @@ const FULL: [u8; 3] = [0xff, 0xff, 0x7f];
 
 const SIX: [u8; 18] = [
     0, 0, 0, 0, 0, 0, 0xff, 0xff, 0x7f, 0, 0, 0, 0, 0, 0, 0, 0, 0,
+];
+
+// A frame of 32 channels with it in the first.
+const FIRST_OF_32: [u8; 96] = [
+    0xff, 0xff, 0x7f, 0, 0, 0, 0, 0, 0, 0, 0, 0, 0, 0, 0, 0, 0, 0, 0, 0, 0, 0, 0, 0, 0, 0, 0, 0, 0,
+    0, 0, 0, 0, 0, 0, 0, 0, 0, 0, 0, 0, 0, 0, 0, 0, 0, 0, 0, 0, 0, 0, 0, 0, 0, 0, 0, 0, 0, 0, 0, 0,
+    0, 0, 0, 0, 0, 0, 0, 0, 0, 0, 0, 0, 0, 0, 0, 0, 0, 0, 0, 0, 0, 0, 0, 0, 0, 0, 0, 0, 0, 0, 0, 0,
+    0, 0, 0,
 ];
 
 const LINES: &str = "1 ok\n2 ok\n3 ok\n4 pending\n4 resolved\ncomplete 128\nend completed\n";
@@ -99,7 +109,7 @@ const NONE: Failing = Failing {
     append: 0,
 };
 
-// What a run left outside.
+// What a run left edge.
 #[derive(Drop)]
 struct Left {
     status: Status,
@@ -122,34 +132,57 @@ fn file_of(alloc: Global, files: &MemFiles, path: &str) -> Result<Option<Vec<u8>
     }
 }
 
-fn outside(
-    alloc: Global,
-    script: &[u8],
-    failing: Failing,
-) -> Result<(MemSource, MemFiles, MemSink), NoMemory> {
-    let mut source = MemSource::new(alloc, Bytes::from(script.to_vec(alloc)?), 7);
-    source.fail(failing.read)?;
-    let mut files = MemFiles::new(alloc);
-    files.fail_append(failing.append)?;
-    let mut sink = MemSink::new(alloc, 4);
-    sink.fail(failing.write)?;
-    Ok((source, files, sink))
+// What a run reads and writes: all of it in memory.
+#[derive(Drop)]
+struct Edge {
+    source: MemSource,
+    files: MemFiles,
+    sink: MemSink,
 }
 
+fn edge_of(alloc: Global, script: &[u8], failing: Failing) -> Result<Edge, NoMemory> {
+    let script = Bytes::from(script.to_vec(alloc)?);
+    let mut edge = Edge {
+        source: MemSource::new(alloc, script, 7),
+        files: MemFiles::new(alloc),
+        sink: MemSink::new(alloc, 4),
+    };
+    edge.source.fail(failing.read)?;
+    edge.files.fail_append(failing.append)?;
+    edge.sink.fail(failing.write)?;
+    Ok(edge)
+}
+
+fn status_of(alloc: Global, words: &[String], edge: &mut Edge) -> Status {
+    run(
+        alloc,
+        words,
+        &mut edge.source,
+        &mut edge.files,
+        &mut edge.sink,
+    )
+}
+
+fn left_by(alloc: Global, status: Status, edge: &Edge) -> Result<Left, NoMemory> {
+    Ok(Left {
+        status,
+        text: edge.sink.written().to_vec(alloc)?,
+        file: file_of(alloc, &edge.files, "out.wav")?,
+    })
+}
+
+// A call for each step: the proof of a function costs the more the more values it holds where a call
+// may refuse.
 fn replay(
     alloc: Global,
     words: &[&str],
     script: &[u8],
     failing: Failing,
 ) -> Result<Left, NoMemory> {
+    let mut edge = edge_of(alloc, script, failing)?;
     let words = words_of(alloc, words)?;
-    let (mut source, mut files, mut sink) = outside(alloc, script, failing)?;
-    let status = run(alloc, words.as_slice(), &mut source, &mut files, &mut sink);
-    Ok(Left {
-        status,
-        text: sink.written().to_vec(alloc)?,
-        file: file_of(alloc, &files, "out.wav")?,
-    })
+    let status = status_of(alloc, words.as_slice(), &mut edge);
+    left_by(alloc, status, &edge)
 }
 
 // A WAV file: its header, a frame so often, and what follows.
@@ -168,83 +201,202 @@ fn wav(
     Ok(bytes)
 }
 
+// A session that is rendered: its script, its lines, and its file: the header, a frame so often, and
+// what follows.
+struct Rendering {
+    script: &'static str,
+    lines: &'static str,
+    header: &'static [u8],
+    count: u32,
+    frame: &'static [u8],
+    rest: &'static [u8],
+}
+
+const RENDERINGS: [Rendering; 7] = [
+    Rendering {
+        script: STOPPED,
+        lines: "1 ok\n2 ok\n3 ok\n4 ok\n5 pending\nended 1 c\n5 resolved\ncomplete 130\nend completed\n",
+        header: &HEADER_OF_130,
+        count: 129,
+        frame: &FULL,
+        rest: &[0; 3],
+    },
+    Rendering {
+        script: LEFT_OUT,
+        lines: "1 throw NotSupportedError profile:oscillator\n2 throw TypeError\n3 pending\n3 resolved\ncomplete 128\nend completed\n",
+        header: &HEADER,
+        count: 128,
+        frame: &[0; 3],
+        rest: &[],
+    },
+    Rendering {
+        script: SIX_CHANNELS,
+        lines: LINES,
+        header: &HEADER_OF_SIX,
+        count: 128,
+        frame: &SIX,
+        rest: &[],
+    },
+    Rendering {
+        script: STARTED_TWICE,
+        lines: "1 ok\n2 ok\n3 ok\n4 pending\n5 rejected InvalidStateError\n4 resolved\ncomplete 128\nend completed\n",
+        header: &HEADER,
+        count: 128,
+        frame: &FULL,
+        rest: &[],
+    },
+    Rendering {
+        script: BOUND_ANEW,
+        lines: "1 ok\n2 ok\n3 ok\n4 ok\n5 pending\nended 1 c\n5 resolved\ncomplete 128\nend completed\n",
+        header: &HEADER,
+        count: 128,
+        frame: &[0; 3],
+        rest: &[],
+    },
+    Rendering {
+        script: ONE_FRAME,
+        lines: "1 ok\n2 ok\n3 ok\n4 pending\n4 resolved\ncomplete 1\nend completed\n",
+        header: &HEADER_OF_ONE_FRAME,
+        count: 1,
+        frame: &FULL,
+        rest: &[0],
+    },
+    Rendering {
+        script: SEVERAL_PIECES,
+        lines: "1 ok\n2 ok\n3 ok\n4 pending\n4 resolved\ncomplete 700\nend completed\n",
+        header: &HEADER_OF_32,
+        count: 700,
+        frame: &FIRST_OF_32,
+        rest: &[],
+    },
+];
+
+fn is_rendered(alloc: Global, want: &Rendering) -> Result<bool, NoMemory> {
+    let left = replay(alloc, &["out.wav"], want.script.as_bytes(), NONE)?;
+    let file = wav(alloc, want.header, want.count, want.frame, want.rest)?;
+    Ok(
+        left.status == Status::Rendered
+            && left.text.as_slice() == want.lines.as_bytes()
+            && left.file == Some(file),
+    )
+}
+
+const FOR_ONE_QUANTUM: Rendering = Rendering {
+    script: CONSTANT,
+    lines: LINES,
+    header: &HEADER,
+    count: 128,
+    frame: &FULL,
+    rest: &[],
+};
+
 #[test]
 fn a_constant_for_one_quantum(rt: HostRuntime) -> Result<(), Fail> {
-    let left = replay(rt.alloc(), &["out.wav"], CONSTANT.as_bytes(), NONE)?;
-    assert_eq!(rt; left.status, Status::Rendered);
-    assert_eq!(rt; left.status.number(), 0);
-    assert!(rt; left.text.as_slice() == LINES.as_bytes());
-    assert!(rt; left.file == Some(wav(rt.alloc(), &HEADER, 128, &FULL, &[])?));
+    assert_eq!(rt; Status::Rendered.number(), 0);
+    assert!(rt; is_rendered(rt.alloc(), &FOR_ONE_QUANTUM)?);
     Ok(())
 }
 
 #[test]
 fn sessions_give_their_lines_and_their_files(rt: HostRuntime) -> Result<(), Fail> {
-    let mut wide = [0u8; 96];
-    wide[0..3].copy_from_slice(&FULL);
-    for (script, lines, header, count, frame, rest) in [
-        (
-            STOPPED,
-            "1 ok\n2 ok\n3 ok\n4 ok\n5 pending\nended 1 c\n5 resolved\ncomplete 130\nend completed\n",
-            HEADER_OF_130.as_slice(),
-            129,
-            FULL.as_slice(),
-            [0; 3].as_slice(),
-        ),
-        (
-            LEFT_OUT,
-            "1 throw NotSupportedError profile:oscillator\n2 throw TypeError\n3 pending\n3 resolved\ncomplete 128\nend completed\n",
-            HEADER.as_slice(),
-            128,
-            [0; 3].as_slice(),
-            [].as_slice(),
-        ),
-        (
-            SIX_CHANNELS,
-            LINES,
-            HEADER_OF_SIX.as_slice(),
-            128,
-            SIX.as_slice(),
-            [].as_slice(),
-        ),
-        (
-            STARTED_TWICE,
-            "1 ok\n2 ok\n3 ok\n4 pending\n5 rejected InvalidStateError\n4 resolved\ncomplete 128\nend completed\n",
-            HEADER.as_slice(),
-            128,
-            FULL.as_slice(),
-            [].as_slice(),
-        ),
-        (
-            BOUND_ANEW,
-            "1 ok\n2 ok\n3 ok\n4 ok\n5 pending\nended 1 c\n5 resolved\ncomplete 128\nend completed\n",
-            HEADER.as_slice(),
-            128,
-            [0; 3].as_slice(),
-            [].as_slice(),
-        ),
-        (
-            ONE_FRAME,
-            "1 ok\n2 ok\n3 ok\n4 pending\n4 resolved\ncomplete 1\nend completed\n",
-            HEADER_OF_ONE_FRAME.as_slice(),
-            1,
-            FULL.as_slice(),
-            [0].as_slice(),
-        ),
-        (
-            SEVERAL_PIECES,
-            "1 ok\n2 ok\n3 ok\n4 pending\n4 resolved\ncomplete 700\nend completed\n",
-            HEADER_OF_32.as_slice(),
-            700,
-            wide.as_slice(),
-            [].as_slice(),
-        ),
-    ] {
-        let left = replay(rt.alloc(), &["out.wav"], script.as_bytes(), NONE)?;
-        assert_eq!(rt; left.status, Status::Rendered, "{script}");
-        assert!(rt; left.text.as_slice() == lines.as_bytes(), "{script}");
+    for want in &RENDERINGS {
+        assert!(rt; is_rendered(rt.alloc(), want)?, "{}", want.script);
+    }
+    Ok(())
+}
+
+// Whether a run with these words has this status, writes this text, and touches no file.
+fn is_refused(
+    alloc: Global,
+    words: &[&str],
+    script: &[u8],
+    status: Status,
+    text: &str,
+) -> Result<bool, NoMemory> {
+    let left = replay(alloc, words, script, NONE)?;
+    Ok(left.status == status && left.text.as_slice() == text.as_bytes() && left.file.is_none())
+}
+
+fn leaves_no_file(
+    alloc: Global,
+    script: &str,
+    status: Status,
+    text: &str,
+) -> Result<bool, NoMemory> {
+    is_refused(alloc, &["out.wav"], script.as_bytes(), status, text)
+}
+
+// Scripts that are not rendered, and their lines.
+const UNRENDERED: [(&str, &str); 2] = [
+    (
+        "{\"version\":1,\"context\":{\"channels\":1,\"length\":128,\"rate\":48000},\"calls\":[]}",
+        "end idle\n",
+    ),
+    (
+        "{\"version\":1,\"context\":{\"channels\":33,\"length\":128,\"rate\":48000},\"calls\":[{\"op\":\"startRendering\"}]}",
+        "end refused NotSupportedError\n",
+    ),
+];
+
+#[test]
+fn a_session_without_an_end_has_no_file(rt: HostRuntime) -> Result<(), Fail> {
+    assert_eq!(rt; Status::Unrendered.number(), 3);
+    for (script, lines) in &UNRENDERED {
         assert!(rt;
-            left.file == Some(wav(rt.alloc(), header, count, frame, rest)?),
+            leaves_no_file(rt.alloc(), script, Status::Unrendered, lines)?,
+            "{script}"
+        );
+    }
+    Ok(())
+}
+
+// Words that have no reading.
+const BAD_WORDS: [&[&str]; 4] = [&[], &["--bits", "8", "out.wav"], &["-"], &[""]];
+
+#[test]
+fn bad_words_get_the_usage_line(rt: HostRuntime) -> Result<(), Fail> {
+    for words in &BAD_WORDS {
+        assert!(rt;
+            is_refused(
+                rt.alloc(),
+                words,
+                CONSTANT.as_bytes(),
+                Status::BadWords,
+                USAGE
+            )?
+        );
+    }
+    Ok(())
+}
+
+// Scripts that have a fault of reading, and its line.
+const FAULTY: [(&str, &str); 7] = [
+    ("", "script: BadJson\n"),
+    ("[]", "script: 0 script WrongKind\n"),
+    ("{\"version\":1}", "script: 0 context MissingField\n"),
+    (
+        "{\"version\":1,\"context\":{\"channels\":1,\"length\":128,\"rate\":48000},\"calls\":[{\"op\":\"start\"}]}",
+        "script: 1 node MissingField\n",
+    ),
+    (
+        "{\"version\":1,\"context\":{\"channels\":1,\"length\":128,\"rate\":48000},\"calls\":[{\"op\":\"createFoo\"}]}",
+        "script: 1 op UnknownOp\n",
+    ),
+    (
+        "{\"version\":1,\"context\":{\"channels\":1,\"length\":128,\"rate\":48000},\"calls\":[{\"op\":\"createConstantSource\",\"as\":\"c\",\"offset\":2147483648}]}",
+        "script: 1 offset OutOfRange\n",
+    ),
+    (
+        "{\"version\":1,\"context\":{\"channels\":1,\"length\":128,\"rate\":48000},\"calls\":[{\"op\":\"createGain\",\"as\":\"g\",\"gain\":2147483648}]}",
+        "script: 1 gain OutOfRange\n",
+    ),
+];
+
+#[test]
+fn a_script_with_a_fault_gets_its_line(rt: HostRuntime) -> Result<(), Fail> {
+    for (script, line) in &FAULTY {
+        assert!(rt;
+            leaves_no_file(rt.alloc(), script, Status::BadScript, line)?,
             "{script}"
         );
     }
@@ -252,295 +404,100 @@ fn sessions_give_their_lines_and_their_files(rt: HostRuntime) -> Result<(), Fail
 }
 
 #[test]
-fn a_session_without_an_end_has_no_file(rt: HostRuntime) -> Result<(), Fail> {
-    for (script, lines) in [
-        (
-            "{\"version\":1,\"context\":{\"channels\":1,\"length\":128,\"rate\":48000},\"calls\":[]}",
-            "end idle\n",
-        ),
-        (
-            "{\"version\":1,\"context\":{\"channels\":33,\"length\":128,\"rate\":48000},\"calls\":[{\"op\":\"startRendering\"}]}",
-            "end refused NotSupportedError\n",
-        ),
-    ] {
-        let left = replay(rt.alloc(), &["out.wav"], script.as_bytes(), NONE)?;
-        assert_eq!(rt; left.status, Status::Unrendered, "{script}");
-        assert_eq!(rt; left.status.number(), 3);
-        assert!(rt; left.text.as_slice() == lines.as_bytes(), "{script}");
-        assert!(rt; left.file.is_none(), "{script}");
-    }
-    Ok(())
-}
-
-#[test]
-fn bad_words_get_the_usage_line(rt: HostRuntime) -> Result<(), Fail> {
-    for (words, line) in [
-        ([].as_slice(), USAGE),
-        (["--bits", "8", "out.wav"].as_slice(), USAGE),
-        (["-"].as_slice(), USAGE),
-        ([""].as_slice(), USAGE),
-    ] {
-        let left = replay(rt.alloc(), words, CONSTANT.as_bytes(), NONE)?;
-        assert_eq!(rt; left.status, Status::BadWords);
-        assert!(rt; left.text.as_slice() == line.as_bytes());
-        assert!(rt; left.file.is_none());
-    }
-    Ok(())
-}
-
-#[test]
-fn a_script_with_a_fault_gets_its_line(rt: HostRuntime) -> Result<(), Fail> {
-    for (script, line) in [
-        ("", "script: BadJson\n"),
-        ("[]", "script: 0 script WrongKind\n"),
-        ("{\"version\":1}", "script: 0 context MissingField\n"),
-        (
-            "{\"version\":1,\"context\":{\"channels\":1,\"length\":128,\"rate\":48000},\"calls\":[{\"op\":\"start\"}]}",
-            "script: 1 node MissingField\n",
-        ),
-        (
-            "{\"version\":1,\"context\":{\"channels\":1,\"length\":128,\"rate\":48000},\"calls\":[{\"op\":\"createFoo\"}]}",
-            "script: 1 op UnknownOp\n",
-        ),
-        (
-            "{\"version\":1,\"context\":{\"channels\":1,\"length\":128,\"rate\":48000},\"calls\":[{\"op\":\"createConstantSource\",\"as\":\"c\",\"offset\":2147483648}]}",
-            "script: 1 offset OutOfRange\n",
-        ),
-    ] {
-        let left = replay(rt.alloc(), &["out.wav"], script.as_bytes(), NONE)?;
-        assert_eq!(rt; left.status, Status::BadScript, "{script}");
-        assert!(rt; left.text.as_slice() == line.as_bytes(), "{script}");
-        assert!(rt; left.file.is_none(), "{script}");
-    }
-    Ok(())
-}
-
-#[test]
 fn a_script_past_the_limit_is_too_long(rt: HostRuntime) -> Result<(), Fail> {
-    let script = vec![in rt.alloc(); b' '; 16_777_217]?;
-    let left = replay(rt.alloc(), &["out.wav"], script.as_slice(), NONE)?;
-    assert_eq!(rt; left.status, Status::ScriptTooLong);
-    assert!(rt; left.text.is_empty());
-    assert!(rt; left.file.is_none());
-    let within = replay(rt.alloc(), &["out.wav"], &script[1..], NONE)?;
-    assert_eq!(rt; within.status, Status::BadScript);
+    let alloc = rt.alloc();
+    let words = ["out.wav"];
+    let script = vec![in alloc; b' '; 16_777_217]?;
+    let is_too_long = is_refused(alloc, &words, script.as_slice(), Status::ScriptTooLong, "")?;
+    assert!(rt; is_too_long);
+    let within = &script[1..];
+    assert!(rt;
+        is_refused(
+            alloc,
+            &words,
+            within,
+            Status::BadScript,
+            "script: BadJson\n"
+        )?
+    );
     Ok(())
+}
+
+// Whether a run of the constant in which this call fails has this status, has written this text, and
+// has left this file.
+fn is_cut_short(
+    alloc: Global,
+    failing: Failing,
+    status: Status,
+    text: &str,
+    file: Option<&[u8]>,
+) -> Result<bool, NoMemory> {
+    let left = replay(alloc, &["out.wav"], CONSTANT.as_bytes(), failing)?;
+    let is_file_left = match (&left.file, file) {
+        (Some(bytes), Some(want)) => bytes.as_slice() == want,
+        (None, None) => true,
+        _ => false,
+    };
+    Ok(is_file_left && left.status == status && left.text.as_slice() == text.as_bytes())
 }
 
 #[test]
 fn faults_leave_what_came_before_them(rt: HostRuntime) -> Result<(), Fail> {
-    let second_append = Failing { append: 2, ..NONE };
-    let left = replay(rt.alloc(), &["out.wav"], CONSTANT.as_bytes(), second_append)?;
-    assert_eq!(rt; left.status, Status::WavFault);
-    assert!(rt; left.text.as_slice() == LINES.as_bytes());
-    assert!(rt; left.file == Some(HEADER.to_vec(rt.alloc())?));
-
-    let first_read = Failing { read: 1, ..NONE };
-    let left = replay(rt.alloc(), &["out.wav"], CONSTANT.as_bytes(), first_read)?;
-    assert_eq!(rt; left.status, Status::ScriptFault);
-    assert!(rt; left.text.is_empty() && left.file.is_none());
-
-    let third_write = Failing { write: 3, ..NONE };
-    let left = replay(rt.alloc(), &["out.wav"], CONSTANT.as_bytes(), third_write)?;
-    assert_eq!(rt; left.status, Status::TranscriptFault);
-    assert!(rt; left.text.as_slice() == b"1 ok\n2 o".as_slice());
-    assert!(rt; left.file.is_none());
-    Ok(())
-}
-
-// What stands behind the ordinal of a call, for each answer, each exception and each state.
-const ANSWERS: [(Answer, &str); 17] = [
-    (Answer::Ok, "ok"),
-    (
-        Answer::Throw(Exc::NotSupported(None)),
-        "throw NotSupportedError",
-    ),
-    (Answer::Throw(Exc::InvalidState), "throw InvalidStateError"),
-    (
-        Answer::Throw(Exc::InvalidAccess),
-        "throw InvalidAccessError",
-    ),
-    (Answer::Throw(Exc::IndexSize), "throw IndexSizeError"),
-    (Answer::Throw(Exc::Range), "throw RangeError"),
-    (Answer::Throw(Exc::WrongType), "throw TypeError"),
-    (Answer::Throw(Exc::NotFound), "throw NotFoundError"),
-    (Answer::Throw(Exc::Encoding), "throw EncodingError"),
-    (Answer::Pending, "pending"),
-    (Answer::Resolved, "resolved"),
-    (
-        Answer::Rejected(Exc::InvalidState),
-        "rejected InvalidStateError",
-    ),
-    (Answer::Value(-2_147_483_648), "value -2147483648"),
-    (Answer::State(State::Suspended), "state suspended"),
-    (Answer::State(State::Running), "state running"),
-    (Answer::State(State::Closed), "state closed"),
-    (Answer::Time(1_280), "time 1280"),
-];
-
-const FEATURES: [(Feature, &str); 32] = [
-    (Feature::Oscillator, "oscillator"),
-    (Feature::PeriodicWave, "periodic-wave"),
-    (Feature::Biquad, "biquad"),
-    (Feature::StereoPanner, "stereo-panner"),
-    (Feature::Panner, "panner"),
-    (Feature::Listener, "listener"),
-    (Feature::Compressor, "compressor"),
-    (Feature::Analyser, "analyser"),
-    (Feature::MediaElementSource, "media-element-source"),
-    (Feature::MediaStreamSource, "media-stream-source"),
-    (Feature::MediaStreamTrackSource, "media-stream-track-source"),
-    (Feature::MediaStreamDestination, "media-stream-destination"),
-    (Feature::ScriptProcessor, "script-processor"),
-    (Feature::AudioWorklet, "audio-worklet"),
-    (Feature::Convolver, "convolver"),
-    (Feature::ExponentialRamp, "exponential-ramp"),
-    (Feature::SetTarget, "set-target"),
-    (Feature::Oversample, "oversample"),
-    (Feature::Resampling, "resampling"),
-    (Feature::PlaybackRate, "playback-rate"),
-    (Feature::PlaybackRateAutomation, "playback-rate-automation"),
-    (Feature::Detune, "detune"),
-    (Feature::LoopChange, "loop-change"),
-    (Feature::LateBuffer, "late-buffer"),
-    (Feature::BufferAcquired, "buffer-acquired"),
-    (Feature::DestinationOutput, "destination-output"),
-    (Feature::LongDelay, "long-delay"),
-    (Feature::AssetSize, "asset-size"),
-    (Feature::NodeLimit, "node-limit"),
-    (Feature::ConnectionLimit, "connection-limit"),
-    (Feature::BufferLimit, "buffer-limit"),
-    (Feature::DelayLimit, "delay-limit"),
-];
-
-const ENDS: [(EndWord, &str); 5] = [
-    (EndWord::Completed, "end completed\n"),
-    (EndWord::Idle, "end idle\n"),
-    (EndWord::Stalled(1_280), "end stalled 1280\n"),
-    (
-        EndWord::Refused(Exc::NotSupported(None)),
-        "end refused NotSupportedError\n",
-    ),
-    (
-        EndWord::Refused(Exc::NotSupported(Some(Feature::NodeLimit))),
-        "end refused NotSupportedError profile:node-limit\n",
-    ),
-];
-
-// The operations that are left out, with their features.
-const LEFT_OUT_OPS: [(&str, &str); 15] = [
-    ("createOscillator", "oscillator"),
-    ("createPeriodicWave", "periodic-wave"),
-    ("createBiquadFilter", "biquad"),
-    ("createStereoPanner", "stereo-panner"),
-    ("createPanner", "panner"),
-    ("createDynamicsCompressor", "compressor"),
-    ("createAnalyser", "analyser"),
-    ("setListener", "listener"),
-    ("createMediaElementSource", "media-element-source"),
-    ("createMediaStreamSource", "media-stream-source"),
-    ("createMediaStreamTrackSource", "media-stream-track-source"),
-    ("createMediaStreamDestination", "media-stream-destination"),
-    ("createScriptProcessor", "script-processor"),
-    ("createAudioWorkletNode", "audio-worklet"),
-    ("createConvolver", "convolver"),
-];
-
-// The text of a transcript with one line.
-fn text_of(alloc: Global, line: Line) -> Result<Bytes, NoMemory> {
-    let mut lines = Lines::new(alloc);
-    lines.push(line)?;
-    text(alloc, &lines, &EndWord::Idle)
-}
-
-// The transcript of a script with one call that has no field.
-fn transcript_of(alloc: Global, op: &str) -> Result<Vec<u8>, NoMemory> {
-    let script = format!(in alloc;
-        "{{\"version\":1,\"context\":{{\"channels\":1,\"length\":128,\"rate\":48000}},\"calls\":[{{\"op\":\"{op}\"}}]}}"
-    )?;
-    Ok(replay(alloc, &["out.wav"], script.as_bytes(), NONE)?.text)
-}
-
-// Every word of a transcript, as docs/FORMATS.md writes it.
-#[test]
-fn transcripts_are_spelled_as_their_format_says(rt: HostRuntime) -> Result<(), Fail> {
     let alloc = rt.alloc();
-    for (answer, words) in ANSWERS {
-        let want = format!(in alloc; "7 {words}\nend idle\n")?;
-        assert!(rt;
-            text_of(alloc, Line::Call(7, answer))?.as_slice() == want.as_bytes(),
-            "{words}"
-        );
-    }
-    for (feature, word) in FEATURES {
-        let exc = Exc::NotSupported(Some(feature));
-        let want = format!(in alloc; "7 throw NotSupportedError profile:{word}\nend idle\n")?;
-        assert!(rt;
-            text_of(alloc, Line::Call(7, Answer::Throw(exc)))?.as_slice() == want.as_bytes(),
-            "{word}"
-        );
-        let want = format!(in alloc; "8 rejected NotSupportedError profile:{word}\nend idle\n")?;
-        assert!(rt;
-            text_of(alloc, Line::Call(8, Answer::Rejected(exc)))?.as_slice() == want.as_bytes(),
-            "{word}"
-        );
-    }
-    let name = Name::from(b"tone_2".as_slice().to_vec(alloc)?);
+    let second_append = Failing { append: 2, ..NONE };
+    assert!(rt; is_cut_short(alloc, second_append, Status::WavFault, LINES, Some(&HEADER))?);
+    let first_read = Failing { read: 1, ..NONE };
+    assert!(rt; is_cut_short(alloc, first_read, Status::ScriptFault, "", None)?);
+    let third_write = Failing { write: 3, ..NONE };
     assert!(rt;
-        text_of(alloc, Line::Ended(NodeId(31), name))?.as_slice()
-            == b"ended 31 tone_2\nend idle\n".as_slice()
+        is_cut_short(
+            alloc,
+            third_write,
+            Status::TranscriptFault,
+            "1 ok\n2 o",
+            None
+        )?
     );
-    assert!(rt;
-        text_of(alloc, Line::Complete(48_000))?.as_slice()
-            == b"complete 48000\nend idle\n".as_slice()
-    );
-    for (end, line) in ENDS {
-        assert!(rt;
-            text(alloc, &Lines::new(alloc), &end)?.as_slice() == line.as_bytes(),
-            "{line}"
-        );
-    }
-    for (op, word) in LEFT_OUT_OPS {
-        let want = format!(in alloc; "1 throw NotSupportedError profile:{word}\nend idle\n")?;
-        assert!(rt;
-            transcript_of(alloc, op)?.as_slice() == want.as_bytes(),
-            "{op}"
-        );
-    }
     Ok(())
 }
 
-// A script that creates so many constant sources, and its transcript as far as all are accepted.
-fn sources(alloc: Global, count: u32) -> Result<(Vec<u8>, Vec<u8>), AllocError> {
+// The lines of so many calls that are accepted, from the first on.
+fn accepted(alloc: Global, count: u32) -> Result<Vec<u8>, AllocError> {
+    let mut lines = Vec::new(alloc);
+    for number in 0..count {
+        let line = format!(in alloc; "{} ok\n", number.wrapping_add(1))?;
+        lines.extend_from_slice(line.as_bytes())?;
+    }
+    Ok(lines)
+}
+
+// A script that creates so many constant sources and then one more.
+fn sources(alloc: Global, count: u32) -> Result<Vec<u8>, AllocError> {
     let mut script =
         b"{\"version\":1,\"context\":{\"channels\":1,\"length\":128,\"rate\":48000},\"calls\":["
             .as_slice()
             .to_vec(alloc)?;
-    let mut lines = Vec::new(alloc);
-    for ordinal in 1..count {
-        let call = format!(in alloc; "{{\"op\":\"createConstantSource\",\"as\":\"c{ordinal}\"}},")?;
+    for number in 0..count {
+        let call = format!(in alloc; "{{\"op\":\"createConstantSource\",\"as\":\"c{number}\"}},")?;
         script.extend_from_slice(call.as_bytes())?;
-        let line = format!(in alloc; "{ordinal} ok\n")?;
-        lines.extend_from_slice(line.as_bytes())?;
     }
     script.extend_from_slice(b"{\"op\":\"createConstantSource\",\"as\":\"last\"}]}".as_slice())?;
-    Ok((script, lines))
+    Ok(script)
+}
+
+// Whether so many sources are accepted, and one more gives these last lines.
+fn is_room_for(alloc: Global, count: u32, last: &str) -> Result<bool, NoMemory> {
+    let mut lines = accepted(alloc, count)?;
+    lines.extend_from_slice(last.as_bytes())?;
+    let left = replay(alloc, &["out.wav"], sources(alloc, count)?.as_slice(), NONE)?;
+    Ok(left.text == lines)
 }
 
 #[test]
 fn a_session_has_room_for_1023_sources(rt: HostRuntime) -> Result<(), Fail> {
-    for (count, last) in [
-        (1_023, "1023 ok\nend idle\n"),
-        (
-            1_024,
-            "1024 throw NotSupportedError profile:node-limit\nend idle\n",
-        ),
-    ] {
-        let (script, mut lines) = sources(rt.alloc(), count)?;
-        lines.extend_from_slice(last.as_bytes())?;
-        let left = replay(rt.alloc(), &["out.wav"], script.as_slice(), NONE)?;
-        assert!(rt; left.text == lines);
-    }
+    assert!(rt; is_room_for(rt.alloc(), 1_022, "1023 ok\nend idle\n")?);
+    let refused = "1024 throw NotSupportedError profile:node-limit\nend idle\n";
+    assert!(rt; is_room_for(rt.alloc(), 1_023, refused)?);
     Ok(())
 }
 

@@ -1,0 +1,59 @@
+#!/bin/sh
+# Compares what waplay gives for scripts with what tools/expected.py works out, and with the
+# transcript in the file beside the script. Status 0 where all agree. Run it from anywhere:
+#
+#     tools/compare.sh             each examples/NAME.json; the tests must have the same texts
+#     tools/compare.sh FILE..      these scripts; the transcript of NAME.json is NAME.txt, if any
+set -u
+
+top=$(CDPATH='' cd "$(dirname "$0")/.." && pwd -P) || exit 2
+work=$(mktemp -d) || exit 2
+trap 'rm -rf "$work"' EXIT
+
+wrong=0
+fail() {
+    echo "$1"
+    wrong=$((wrong + 1))
+}
+
+# Whether the tests have a file's text. They make that of two_hundred_constants by a loop.
+is_in_tests() {
+    case $1 in
+        */two_hundred_constants.*) return 0 ;;
+    esac
+    python3 -c 'import sys
+text = open(sys.argv[1]).read()
+tests = [open(path).read() for path in sys.argv[2:]]
+literal = text.replace("\"", "\\\"").rstrip("\n")
+sys.exit(not any(form in test for form in (text, literal) for test in tests))' \
+        "$1" "$top/crates/replay_top/src/tests.rt" "$top/crates/replay_top/src/tests/graphs.rt"
+}
+
+if [ $# -eq 0 ]; then
+    set -- "$top"/examples/*.json
+    for script in "$@"; do
+        is_in_tests "$script" || fail "$script: no test has this text"
+    done
+    for text in "$top"/examples/*.txt; do
+        [ "$text" = "$top/examples/constant.txt" ] || is_in_tests "$text" || fail "$text: no test has this text"
+    done
+fi
+
+for script in "$@"; do
+    rm -f "$work/out.wav"
+    "$top/waplay" "$work/out.wav" <"$script" >"$work/lines"
+    status=$?
+    python3 "$top/tools/expected.py" "$script" --lines >"$work/expected" || exit 2
+    cmp -s "$work/lines" "$work/expected" || fail "$script: another transcript than expected.py's"
+    text=${script%.json}.txt
+    [ ! -e "$text" ] || cmp -s "$work/lines" "$text" || fail "$script: another transcript than $text"
+    if grep -q '^end completed$' "$work/expected"; then
+        [ "$status" -eq 0 ] || fail "$script: status $status"
+        python3 "$top/tools/expected.py" "$script" --check "$work/out.wav" || fail "$script: another WAV file"
+    else
+        [ "$status" -eq 3 ] || fail "$script: status $status"
+        [ ! -e "$work/out.wav" ] || fail "$script: a WAV file where there is none"
+    fi
+done
+echo "$# scripts, $wrong differences"
+[ "$wrong" -eq 0 ]

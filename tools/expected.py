@@ -1,0 +1,320 @@
+#!/usr/bin/env python3
+"""Works out what waplay gives for a script: a second calculation, apart from the program's.
+
+It follows the rules of docs/PROFILE.md and docs/FORMATS.md in the plainest way, so that its answers
+can be compared with those of the program. It needs Python 3 and nothing else.
+
+    python3 tools/expected.py SCRIPT               the transcript, the sum of each channel's samples,
+                                                   and the SHA-256 of the WAV file
+    python3 tools/expected.py SCRIPT --lines       the transcript alone
+    python3 tools/expected.py SCRIPT --check WAV   no output and status 0 where WAV is the file to the
+                                                   byte, else a line on what differs and status 1
+
+The sums are of samples as the WAV file has them: whole numbers of 24 bits, in units of 2^-23. They
+are not sums of rendered values, which are in units of 2^-24 and are rounded for the file.
+
+A script is taken to have no fault of reading. The operations are those of docs/FORMATS.md that are
+built, and those that are left out.
+"""
+
+import argparse
+import hashlib
+import json
+import os
+import struct
+import sys
+
+ONE = 2**24
+QUANTUM = 128
+NODE_LIMIT = 1024
+CONNECTION_LIMIT = 8192
+
+# The features of the operations that are left out.
+LEFT_OUT = dict(pair.split(":") for pair in """
+    createOscillator:oscillator createPeriodicWave:periodic-wave createBiquadFilter:biquad
+    createStereoPanner:stereo-panner createPanner:panner createDynamicsCompressor:compressor
+    createAnalyser:analyser setListener:listener createMediaElementSource:media-element-source
+    createMediaStreamSource:media-stream-source createConvolver:convolver
+    createMediaStreamTrackSource:media-stream-track-source
+    createMediaStreamDestination:media-stream-destination
+    createScriptProcessor:script-processor createAudioWorkletNode:audio-worklet""".split())
+
+
+# Numbers.
+
+def rounded_quotient(a, b):
+    return (2 * a + b) // (2 * b)
+
+
+def saturated(x):
+    return max(-(2**31), min(2**31 - 1, x))
+
+
+def product(x, g):
+    return saturated(rounded_quotient(x * g, ONE))
+
+
+def sample_of(value):
+    return max(-(2**23), min(2**23 - 1, rounded_quotient(value, 2)))
+
+
+def up_mixed(mono, channels):
+    """One channel in the speaker layout of so many channels."""
+    places = {2: [0, 1], 4: [0, 1], 6: [2]}.get(channels, [0])
+    return [mono if channel in places else 0 for channel in range(channels)]
+
+
+# The session.
+
+class Refused(Exception):
+    """A call that is refused, with the exception's text."""
+
+
+def profile(feature):
+    return Refused("NotSupportedError profile:" + feature)
+
+
+class Node:
+    """A node. The value is a source's offset or a gain's gain."""
+
+    def __init__(self, kind, name, value):
+        self.kind, self.name, self.value = kind, name, value
+        self.inputs = 0 if kind == "constant" else 1
+        self.start = self.stop = None
+        self.ended = False
+
+    def end(self):
+        return None if self.stop is None else max(self.start, self.stop)
+
+    def plays_at(self, frame):
+        if self.start is None or frame < self.start:
+            return False
+        return self.end() is None or frame < self.end()
+
+
+class Session:
+    def __init__(self, context):
+        self.channels, self.length, self.rate = (context[k] for k in ("channels", "length", "rate"))
+        self.nodes = [Node("destination", "destination", None)]
+        self.names = {"destination": 0}
+        self.edges = set()  # of (from, output, to, input)
+        self.now, self.state = 0, "suspended"
+        self.rendering = None  # the accepted startRendering: its ordinal and its list
+        self.lines = []
+        self.samples = None
+
+    def find(self, name, kinds=("destination", "constant", "gain")):
+        number = self.names.get(name)
+        if number is None or self.nodes[number].kind not in kinds:
+            raise Refused("TypeError")
+        return number
+
+    def create(self, kind, name, value):
+        if len(self.nodes) >= NODE_LIMIT:
+            raise profile("node-limit")
+        self.nodes.append(Node(kind, name, value))
+        self.names[name] = len(self.nodes) - 1
+        return "ok"
+
+    def connect(self, call):
+        source, target = self.find(call["from"]), self.find(call["to"])
+        output, place = call.get("output", 0), call.get("input", 0)
+        if source == 0:
+            raise profile("destination-output")
+        if output != 0 or place >= self.nodes[target].inputs:
+            raise Refused("IndexSizeError")
+        edge = (source, output, target, place)
+        if edge not in self.edges and len(self.edges) >= CONNECTION_LIMIT:
+            raise profile("connection-limit")
+        self.edges.add(edge)
+        return "ok"
+
+    def disconnect(self, call):
+        output, to, place = (call.get(key) for key in ("output", "to", "input"))
+        source = self.find(call["from"])
+        target = None if to is None else self.find(to)
+        if source == 0:
+            raise profile("destination-output")
+        if output not in (None, 0):
+            raise Refused("IndexSizeError")
+        if place is not None and place >= self.nodes[target].inputs:
+            raise Refused("IndexSizeError")
+        form = (source, output, target, place)
+        meant = {edge for edge in self.edges if all(f in (None, e) for f, e in zip(form, edge))}
+        if target is not None and not meant:
+            raise Refused("InvalidAccessError")
+        self.edges -= meant
+        return "ok"
+
+    def schedule(self, call):
+        node = self.nodes[self.find(call["node"], ("constant",))]
+        frame = max(call.get("when", 0), self.now)
+        if (node.start is None) != (call["op"] == "start"):
+            raise Refused("InvalidStateError")
+        if call.get("when", 0) < 0:
+            raise Refused("RangeError")
+        if call["op"] == "start":
+            node.start = frame
+        elif not node.ended:
+            node.stop = frame
+        return "ok"
+
+    def start_rendering(self, ordinal, held):
+        if self.rendering is not None:
+            raise Refused("InvalidStateError")
+        self.rendering, self.state = (ordinal, held), "running"
+        return "pending"
+
+    def resume(self):
+        if self.state != "running":
+            raise Refused("InvalidStateError")
+        return "resolved"
+
+    def answer(self, ordinal, call, held):
+        op = call["op"]
+        if op in LEFT_OUT:
+            raise profile(LEFT_OUT[op])
+        return {
+            "createConstantSource": lambda: self.create("constant", call["as"], call.get("offset", ONE)),
+            "createGain": lambda: self.create("gain", call["as"], call.get("gain", ONE)),
+            "connect": lambda: self.connect(call),
+            "disconnect": lambda: self.disconnect(call),
+            "start": lambda: self.schedule(call),
+            "stop": lambda: self.schedule(call),
+            "startRendering": lambda: self.start_rendering(ordinal, held),
+            "resume": self.resume,
+            "readState": lambda: "state " + self.state,
+            "readTime": lambda: "time %d" % self.now,
+        }[op]()
+
+    def run(self, calls):
+        for ordinal, call, held in calls:
+            try:
+                text = self.answer(ordinal, call, held)
+            except Refused as refused:
+                promise = call["op"] in ("startRendering", "resume")
+                text = ("rejected " if promise else "throw ") + str(refused)
+            self.lines.append("%d %s" % (ordinal, text))
+
+    def replay(self, calls):
+        """The last line. The other lines and the samples stand in the session afterwards."""
+        if not (1 <= self.channels <= 32 and 1 <= self.length <= 2**25
+                and 8000 <= self.rate <= 96000 and self.channels * self.length <= 2**26):
+            return "end refused NotSupportedError"
+        self.run(calls)
+        if self.rendering is None:
+            return "end idle"
+        self.samples = self.render()
+        while self.now < self.length:
+            self.now += QUANTUM
+            for number, node in enumerate(self.nodes):
+                if not node.ended and node.end() is not None and node.end() <= self.now:
+                    node.ended = True
+                    self.lines.append("ended %d %s" % (number, node.name))
+        ordinal, held = self.rendering
+        self.state = "closed"
+        self.lines.append("%d resolved" % ordinal)
+        self.run(held)
+        self.lines.append("complete %d" % self.length)
+        return "end completed"
+
+    # Rendering.
+
+    def muted(self):
+        """The nodes that reach themselves by one connection or more."""
+        targets = {number: set() for number in range(len(self.nodes))}
+        for source, _, target, _ in self.edges:
+            targets[source].add(target)
+        found = set()
+        for number in targets:
+            reached, to_do = set(), [number]
+            while to_do:
+                new = targets[to_do.pop()] - reached
+                reached |= new
+                to_do.extend(new)
+            if number in reached:
+                found.add(number)
+        return found
+
+    def row(self, playing, muted):
+        """The samples of a frame in which these sources play. All nodes but the destination have
+        one channel. Each begins with 0, and the equations of all nodes are worked out anew until
+        a round changes nothing; this ends, since no node that is not muted waits for itself."""
+        values = [0] * len(self.nodes)
+        while True:
+            before = values
+            sums = [0] * len(self.nodes)
+            for source, _, target, _ in self.edges:
+                sums[target] += before[source]
+            values = []
+            for number, node in enumerate(self.nodes):
+                if number in muted or node.kind == "destination":
+                    values.append(0)
+                elif node.kind == "constant":
+                    values.append(node.value if number in playing else 0)
+                else:
+                    values.append(product(saturated(sums[number]), node.value))
+            if values == before:
+                return [sample_of(v) for v in up_mixed(saturated(sums[0]), self.channels)]
+
+    def render(self):
+        """The samples, frame by frame. Frames in which the same sources play are alike."""
+        muted, rows, samples = self.muted(), {}, []
+        for frame in range(self.length):
+            playing = frozenset(n for n, node in enumerate(self.nodes) if node.plays_at(frame))
+            if playing not in rows:
+                rows[playing] = self.row(playing, muted)
+            samples.append(rows[playing])
+        return samples
+
+
+def numbered(calls, first):
+    """The calls of a list with their ordinals and the lists that they hold, and the next ordinal."""
+    done = []
+    for call in calls:
+        ordinal, held = first, []
+        first += 1
+        if call["op"] == "startRendering":
+            held, first = numbered(call.get("then", []), first)
+        done.append((ordinal, call, held))
+    return done, first
+
+
+def wav_bytes(session):
+    channels, rate = session.channels, session.rate
+    body = b"".join(struct.pack("<i", s)[:3] for row in session.samples for s in row)
+    padding = len(body) % 2
+    return (b"RIFF" + struct.pack("<I", 36 + len(body) + padding) + b"WAVEfmt "
+            + struct.pack("<IHHIIHH", 16, 1, channels, rate, rate * channels * 3, channels * 3, 24)
+            + b"data" + struct.pack("<I", len(body)) + body + b"\0" * padding)
+
+
+def main():
+    words = argparse.ArgumentParser(usage=__doc__)
+    words.add_argument("script")
+    words.add_argument("--lines", action="store_true")
+    words.add_argument("--check", metavar="WAV")
+    words = words.parse_args()
+    with open(words.script, "rb") as file:
+        script = json.loads(file.read())
+    session = Session(script["context"])
+    last = session.replay(numbered(script["calls"], 1)[0])
+    wav = wav_bytes(session) if session.samples is not None else b""
+    if words.check:
+        with open(words.check, "rb") as file:
+            found = file.read()
+        place = len(os.path.commonprefix([found, wav]))
+        if found != wav:
+            print("%s: %d bytes, expected %d; the first difference is at byte %d"
+                  % (words.check, len(found), len(wav), place))
+        return 1 if found != wav else 0
+    print("\n".join(session.lines + [last]))
+    if not words.lines and wav:
+        for channel in range(session.channels):
+            print("channel %d sum %d" % (channel, sum(row[channel] for row in session.samples)))
+        print("wav sha256 " + hashlib.sha256(wav).hexdigest())
+    return 0
+
+
+if __name__ == "__main__":
+    sys.exit(main())
