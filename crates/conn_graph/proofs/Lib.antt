@@ -6,3 +6,5 @@ pub mod MutingLaws
 pub mod RankLaws
 pub mod Rows
 pub mod WalkLaws
+mod Sameness
+mod OutWalks

@@ -1,4 +1,4 @@
-ghost use Rattle.std.specs.Prelude.{◌≡◌, ◌↔◌, ◌<◌, ◌+◌, ◌-◌, ◌^◌, [], ◌∷◌, ◌++◌, length, not, Some, IsOk, IfOk, OnOk, OnErr, IsErrOf, IfSome, IsNone};
+ghost use Rattle.std.specs.Prelude.{◌≡◌, ◌↔◌, ◌<◌, ◌+◌, ◌-◌, ◌^◌, [], ◌∷◌, ◌++◌, length, not, Some, IsTrue, IsOk, IfOk, OnOk, OnErr, IsErrOf, IfSome, IsNone};
 ghost use Rattle.wa_base.specs.declared.exceptions.Exc.{Exc};
 ghost use Rattle.wa_base.specs.declared.exceptions.Refusal.TheVariants as Refusal;
 ghost use Rattle.conn_graph.specs.Edges.{target_node, form_node};
@@ -224,6 +224,15 @@ impl Graph {
     {
         steps.tick();
         next_leaving(self.edges.as_slice(), node, place_after(after))
+    }
+
+    /// Whether two graphs have equal nodes and the same connections in the same order. Each node and
+    /// each connection is looked at once at most.
+    pub fn is_same(&self, other: &Graph) -> bool
+        ensures { IsTrue result ↔ (self.now.value ≡ other.now.value) }
+    {
+        self.nodes.as_slice() == other.nodes.as_slice()
+            && self.edges.as_slice() == other.edges.as_slice()
     }
 
     /// A graph of equal value, with memory of its own.

@@ -333,10 +333,12 @@ fn a_copy_goes_on_by_itself(rt: HostRuntime) -> Result<(), Fail> {
     let first = joined(alloc, 3, &[edge])?;
     let mut second = first.copy()?;
     assert!(rt; has(alloc, &second, &[edge])?);
+    assert!(rt; first.is_same(&second));
     assert_eq!(rt; connect(&mut second, to_input(2, 1, 0, 1)), Ok(true));
     assert_eq!(rt; disconnect(&mut second, 1, Form::All), Ok(()));
     assert!(rt; has(alloc, &first, &[edge])?);
     assert!(rt; has(alloc, &second, &[to_input(2, 1, 0, 1)])?);
+    assert!(rt; !first.is_same(&second));
     Ok(())
 }
 

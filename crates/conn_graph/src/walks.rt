@@ -7,16 +7,23 @@ ghost use Rattle.conn_graph.specs.Graph.{AreFrom, with_edge};
 use crate::edges::{Edge, Form, is_named, same_edge};
 use wa_base::{NoMemory, NodeId};
 
-// The first connection of a node from a place on, and its place.
+// The first connection of a node from a place on, and its place. It is looked for by halving, since
+// the connections stand in the order of their sources.
 pub(crate) fn next_leaving(edges: &[Edge], node: NodeId, first: usize) -> Option<(usize, Edge)>
+    requires { AreFrom 0 edges.now }
     ensures { result ≡ slice_get (numbered (leaves node.0) first (drop first edges.now)) 0 }
 {
-    for i in first..edges.len() {
-        if edges[i].from.0 == node.0 {
-            return Some((i, edges[i]));
-        }
+    let point = edges.partition_point(|edge| edge.from.0 < node.0);
+    let place = point.max(first);
+    if place >= edges.len() {
+        return None;
     }
-    None
+    let edge = edges[place];
+    if edge.from.0 == node.0 {
+        Some((place, edge))
+    } else {
+        None
+    }
 }
 
 // The first connection to a node from a place on, and its place.

@@ -10,3 +10,4 @@ pub mod CountPass
 pub mod Passing
 pub mod Parts
 pub mod OutLaws
+pub mod ParamPlaces

@@ -1,7 +1,9 @@
 -- The connections that lead to a target are among those that lead to its node.
-use Rattle.std.proofs.Common.{ℕ, zero, suc, ◌≡◌, ◌<◌, ◌≤◌, length, List, [], ◌∷◌, filter, slice_index_or, Bool, true, false, cond, inl, inr, refl, ◌∙◌, ap, arith}
+use Rattle.std.proofs.Common.{ℕ, zero, suc, ◌≡◌, ◌+◌, ◌<◌, ◌≤◌, length, List, [], ◌∷◌, ◌++◌, filter, take, slice_index_or, slice_set, Bool, true, false, cond, inl, inr, refl, sym, ◌∙◌, ap, arith}
 use Rattle.std.specs.Prelude.{◌==◌}
-use Rattle.std.proofs.lemmas.List.{length-map}
+use Rattle.std.proofs.lemmas.Bool.Decides.{nat_tests}
+use Rattle.std.proofs.lemmas.List.{length-map, append-nil, take_more, get_or-set_same, get_or-set_other}
+use Rattle.std.proofs.lemmas.List.Elements.{filter-append}
 use Rattle.wa_base.specs.declared.graph_names.ParamId.{ParamId}
 use Rattle.law_base.specs.Members.{IsIn}
 use Rattle.law_base.proofs.Members.{IsIn-filter}
@@ -9,6 +11,7 @@ use Rattle.law_base.proofs.Tests.{and_parts}
 use Rattle.conn_graph.specs.declared.edges.Edge.{Edge}
 use Rattle.conn_graph.specs.declared.edges.Target.{Target}
 use Rattle.conn_graph.specs.declared.edges.Target.TheVariants.{Input, Param}
+use Rattle.conn_graph.specs.Cells.{enters}
 use Rattle.conn_graph.specs.Edges.{target_node, is_input, is_param}
 use Rattle.conn_graph.specs.Graph.{Connections, IsGraph, edges_to_input, edges_to_param}
 use Rattle.meaning.specs.declared.world.World.{World}
@@ -65,3 +68,27 @@ into_few g n whole = let few = whole.few in let low = length-filter_low (λ (e :
 -- as many ports as nodes
 pub same_nodes : (w : World) → IsValid w → length w.graph.value.nodes ≡ length w.nodes
 same_nodes w valid = ap length valid.ports ∙ length-map w.nodes ports_of
+
+-- ---- the connections to each node, one connection after another
+
+pub filed : (lists : List (List Edge)) (all : List Edge) (i t n nodes : ℕ) (e d : Edge) (entered : List Edge) → length lists ≡ nodes → t < nodes → i < length all
+    → slice_index_or all i d ≡ e → target_node e.to ≡ t → entered ≡ slice_index_or lists t [] ++ e ∷ []
+    → ((k : ℕ) → k < nodes → slice_index_or lists k [] ≡ filter (enters k) (take i all))
+    → n < nodes → slice_index_or (slice_set lists t entered) n [] ≡ filter (enters n) (take (i + 1) all)
+filed lists all i t n nodes e d entered long there l is leads one each low = by_test (t == n) refl ∙ sym more
+  where
+    more : filter (enters n) (take (i + 1) all) ≡ filter (enters n) (take i all) ++ cond (t == n) (e ∷ []) []
+    more =
+        ap (filter (enters n)) (take_more all i d l ∙ ap (λ x. take i all ++ x ∷ []) is)
+        ∙ filter-append (enters n) (take i all) (e ∷ [])
+        ∙ ap (λ k. filter (enters n) (take i all) ++ cond (k == n) (e ∷ []) []) leads
+
+    by_test : (b : Bool) → (t == n) ≡ b → slice_index_or (slice_set lists t entered) n [] ≡ filter (enters n) (take i all) ++ cond b (e ∷ []) []
+    by_test true s =
+        let same : n ≡ t = grind (arith, nat_tests) in
+        ap (λ k. slice_index_or (slice_set lists t entered) k []) same
+        ∙ get_or-set_same lists t entered [] (rw long there)
+        ∙ one
+        ∙ ap (λ xs. xs ++ e ∷ []) (each t there ∙ ap (λ k. filter (enters k) (take i all)) (sym same))
+    by_test false s =
+        get_or-set_other lists t n entered [] (λ k. grind (arith, nat_tests)) ∙ each n low ∙ sym (append-nil (filter (enters n) (take i all)))

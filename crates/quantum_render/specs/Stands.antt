@@ -41,9 +41,10 @@ pub record IsGrown (r : RendererView) (w : World) : Type 0 where
   pub room : length r.blocks ≡ length r.counts * 4096
 
 -- what holds of every renderer
-pub record IsWhole (most quanta : ℕ) (blocks summed carry level : List ℤ) : Type 0 where
+pub record IsWhole (most quanta : ℕ) (blocks hear summed carry level : List ℤ) : Type 0 where
   pub channels : most ≤ 32
   pub out : 0 < quanta → 4096 ≤ length blocks
+  pub heard : length hear ≡ 4096
   pub sums : length summed ≡ 4096
   pub carried : length carry ≡ 128
   pub levels : length level ≡ 128

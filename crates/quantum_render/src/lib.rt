@@ -7,6 +7,7 @@ mod kinds;
 mod levels;
 mod nodes;
 mod pass;
+mod places;
 mod plan;
 mod renderer;
 #[cfg(test)]

@@ -19,6 +19,7 @@ use wa_base::{End, Fix, Items};
 // it is muted.
 pub(crate) fn render_quantum(
     blocks: &mut [Fix],
+    heard: &mut [Fix],
     sums: &mut [i64],
     carried: &mut [i64],
     levels: &mut [Fix],
@@ -33,18 +34,20 @@ pub(crate) fn render_quantum(
     requires plan { IsPlan world.now order.now muted.now into.now }
     requires counted { AreCounted world.now counts.now }
     requires blocks { length blocks.old ≡ length counts.now * 4096 }
+    requires heard { length heard.old ≡ 4096 }
     requires sums { length sums.old ≡ 4096 }
     requires carried { length carried.old ≡ 128 }
     requires levels { length levels.old ≡ 128 }
     requires time { first ≤ 2 ^ 62 }
     ensures length { length blocks.new ≡ length blocks.old }
+    ensures heard { length heard.new ≡ 4096 }
     ensures sums { length sums.new ≡ 4096 }
     ensures carried { length carried.new ≡ 128 }
     ensures levels { length levels.new ≡ 128 }
     ensures out { (tape : List a_world) → first ≡ 128 * length tape → (c m : ℕ) → c < world.now.spec.channels → m < 128 → cell blocks.new 0 c m ≡ sample 128 (tape ++ world.now ∷ []) (128 * length tape + m) c }
 {
     pass_along(
-        blocks, sums, carried, levels, counts, world, order, muted, into, first,
+        blocks, heard, sums, carried, levels, counts, world, order, muted, into, first,
     );
     quiet_rest(blocks, counts[0] as usize, world.spec.channels as usize);
 }
@@ -65,6 +68,7 @@ fn quiet_rest(blocks: &mut [Fix], count: usize, channels: usize)
 // from the blocks of those before it.
 fn pass_along(
     blocks: &mut [Fix],
+    heard: &mut [Fix],
     sums: &mut [i64],
     carried: &mut [i64],
     levels: &mut [Fix],
@@ -79,11 +83,13 @@ fn pass_along(
     requires plan { IsPlan world.now order.now muted.now into.now }
     requires counted { AreCounted world.now counts.now }
     requires blocks { length blocks.old ≡ length counts.now * 4096 }
+    requires heard { length heard.old ≡ 4096 }
     requires sums { length sums.old ≡ 4096 }
     requires carried { length carried.old ≡ 128 }
     requires levels { length levels.old ≡ 128 }
     requires time { first ≤ 2 ^ 62 }
     ensures length { length blocks.new ≡ length blocks.old }
+    ensures heard { length heard.new ≡ 4096 }
     ensures sums { length sums.new ≡ 4096 }
     ensures carried { length carried.new ≡ 128 }
     ensures levels { length levels.new ≡ 128 }
@@ -95,6 +101,7 @@ fn pass_along(
         let connections = into[node.0 as usize].as_slice();
         render_node(
             blocks,
+            heard,
             sums,
             carried,
             levels,

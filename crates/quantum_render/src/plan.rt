@@ -1,46 +1,110 @@
 ghost use Rattle.std.specs.Prelude.{◌≡◌, ◌<◌, ◌++◌, ℕ, [], length, filter, slice_index_or, IfOk, OnOk};
 ghost use Rattle.law_base.specs.Members.{IsIn};
+ghost use Rattle.conn_graph.specs.declared.edges.Edge.{Edge as an_edge};
+ghost use Rattle.conn_graph.specs.Edges.{target_node};
 ghost use Rattle.conn_graph.specs.Cells.{leaves, enters};
-ghost use Rattle.meaning.specs.Validity.{IsValid};
 ghost use Rattle.quantum_render.specs.Levels.{into as leads_into};
-ghost use Rattle.quantum_render.specs.Plans.{IsPlan};
+ghost use Rattle.quantum_render.specs.Plans.{IsPlanOf};
 
 use conn_graph::{Edge, Graph};
 use cycle_order::{Ends, order, survey};
-use meaning::World;
 use std::alloc::Global;
+use std::marker::Model;
 use std::sync::ledger::Ledger;
-use wa_base::{Items, NoMemory, NodeId, Steps, Tie};
+use wa_base::{End, Items, NoMemory, NodeId, Steps, Tie};
 
-// What a world is rendered by, as long as its nodes and connections stay.
+// What a graph is rendered by, kept with the graph for which it was made.
 #[derive(Drop)]
 pub(crate) struct Plan {
+    graph: Graph,
     // The unmuted ends in a legal order.
-    pub(crate) order: Ends,
-    pub(crate) muted: Ends,
+    order: Ends,
+    muted: Ends,
     // For each node, the connections that lead to it.
-    pub(crate) into: Vec<Items<Edge>>,
+    into: Vec<Items<Edge>>,
 }
 
-// Surveys and orders a world.
-pub(crate) fn plan_of<L: Ledger>(
-    alloc: Global,
-    world: &World,
-    tie: Tie,
-    steps: &mut Steps<L>,
-) -> Result<Plan, NoMemory>
-    requires valid { IsValid world.now }
-    ensures { IfOk result (λ plan. IsPlan world.now plan.order plan.muted plan.into.items) }
-{
-    let marks = survey(alloc, &world.graph, steps)?;
-    let ordered = order(alloc, &world.graph, &marks, tie, steps)?;
-    let all = connections(alloc, &world.graph, steps)?;
-    let into = by_target(alloc, world.graph.len(), all.as_slice())?;
-    Ok(Plan {
-        order: ordered.ends,
-        muted: marks.muted,
-        into,
-    })
+impl Model for Plan {
+    ghost use Rattle.quantum_render.specs.Plans.{PlanView, IsPlanOf};
+
+    ghost Value = { PlanView };
+
+    ghost view = { λ p. record {
+      order = p.order;
+      muted = p.muted;
+      into = p.into.items;
+    } };
+
+    ghost invariant = { λ p. IsPlanOf p.graph.value p.order p.muted p.into.items };
+}
+
+impl Plan {
+    // The plan of a graph without nodes.
+    pub(crate) fn new(alloc: Global) -> Plan {
+        Plan {
+            graph: Graph::new(alloc),
+            order: Ends::new(alloc),
+            muted: Ends::new(alloc),
+            into: Vec::new(alloc),
+        }
+    }
+
+    // Surveys and orders a graph.
+    fn of<L: Ledger>(
+        alloc: Global,
+        graph: &Graph,
+        tie: Tie,
+        steps: &mut Steps<L>,
+    ) -> Result<Plan, NoMemory>
+        ensures { IfOk result (λ plan. IsPlanOf graph.now.value plan.order plan.muted plan.into) }
+    {
+        let marks = survey(alloc, graph, steps)?;
+        let ordered = order(alloc, graph, &marks, tie, steps)?;
+        let all = connections(alloc, graph, steps)?;
+        let into = by_target(alloc, graph.len(), all.as_slice())?;
+        let kept = graph.copy()?;
+        Ok(Plan {
+            graph: kept,
+            order: ordered.ends,
+            muted: marks.muted,
+            into,
+        })
+    }
+
+    // Makes this the plan of a graph. As long as the graph stays, so does its plan.
+    pub(crate) fn follow<L: Ledger>(
+        &mut self,
+        alloc: Global,
+        graph: &Graph,
+        tie: Tie,
+        steps: &mut Steps<L>,
+    ) -> Result<(), NoMemory>
+        ensures { OnOk result (IsPlanOf graph.now.value self.new.order self.new.muted self.new.into) }
+    {
+        if self.graph.is_same(graph) {
+            return Ok(());
+        }
+        *self = Plan::of(alloc, graph, tie, steps)?;
+        Ok(())
+    }
+
+    pub(crate) fn order(&self) -> &[End]
+        ensures { result.now ≡ self.now.order }
+    {
+        self.order.as_slice()
+    }
+
+    pub(crate) fn muted(&self) -> &[End]
+        ensures { result.now ≡ self.now.muted }
+    {
+        self.muted.as_slice()
+    }
+
+    pub(crate) fn sources(&self) -> &[Items<Edge>]
+        ensures { result.now ≡ self.now.into }
+    {
+        self.into.as_slice()
+    }
 }
 
 // All connections, in the graph's order.
@@ -76,26 +140,28 @@ fn append_from<L: Ledger>(
     Ok(())
 }
 
-// For each node, those of the connections that lead to it.
+// For each node, those of the connections that lead to it. Each connection is looked at once.
 fn by_target(alloc: Global, nodes: u32, all: &[Edge]) -> Result<Vec<Items<Edge>>, NoMemory>
+    requires { (e : an_edge) → IsIn e all.now → target_node e.to < nodes }
     ensures length { IfOk result (λ into. length into.items ≡ nodes) }
     ensures each { IfOk result (λ into. (n : ℕ) → n < nodes → slice_index_or into.items n [] ≡ filter (enters n) all.now) }
 {
-    let mut into = Vec::new(alloc);
-    for node in 0..nodes {
-        into.push(entering(alloc, node, all)?)?;
+    let mut into = no_connections(alloc, nodes)?;
+    for edge in all {
+        let node = edge.to.node().0 as usize;
+        into[node].push(*edge)?;
     }
     Ok(into)
 }
 
-fn entering(alloc: Global, node: u32, all: &[Edge]) -> Result<Items<Edge>, NoMemory>
-    ensures { IfOk result (λ into. into ≡ filter (enters node) all.now) }
+// For each node, no connection.
+fn no_connections(alloc: Global, nodes: u32) -> Result<Vec<Items<Edge>>, NoMemory>
+    ensures length { IfOk result (λ into. length into.items ≡ nodes) }
+    ensures each { IfOk result (λ into. (n : ℕ) → n < nodes → slice_index_or into.items n [] ≡ []) }
 {
-    let mut into = Items::new(alloc);
-    for edge in all {
-        if edge.to.node().0 == node {
-            into.push(*edge)?;
-        }
+    let mut into = Vec::new(alloc);
+    for _ in 0..nodes {
+        into.push(Items::new(alloc))?;
     }
     Ok(into)
 }

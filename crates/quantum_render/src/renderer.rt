@@ -9,14 +9,12 @@ ghost use Rattle.quantum_render.specs.Stands.{StandsFor, IsPrepared, IsCounted, 
 use crate::counting::count_channels;
 use crate::gather::{QUANTUM, ROOM};
 use crate::pass::render_quantum;
-use crate::plan::plan_of;
-use conn_graph::Edge;
-use cycle_order::Ends;
+use crate::plan::Plan;
 use meaning::World;
 use std::alloc::Global;
 use std::marker::Model;
 use std::sync::ledger::Ledger;
-use wa_base::{ContextSpec, Fix, Items, NoMemory, Steps, Tie};
+use wa_base::{ContextSpec, Fix, NoMemory, Steps, Tie};
 
 /// Renders one quantum of 128 frames after another (the rendering loop of the recommendation).
 ///
@@ -28,11 +26,10 @@ pub struct Renderer {
     spec: ContextSpec,
     tie: Tie,
     quanta: u64,
-    order: Ends,
-    muted: Ends,
-    into: Vec<Items<Edge>>,
+    plan: Plan,
     counts: Vec<u32>,
     blocks: Vec<Fix>,
+    heard: Vec<Fix>,
     sums: Vec<i64>,
     carried: Vec<i64>,
     levels: Vec<Fix>,
@@ -46,14 +43,14 @@ impl Model for Renderer {
     ghost view = { λ r. record {
       spec = r.spec;
       quanta = r.quanta;
-      order = r.order;
-      muted = r.muted;
-      into = r.into.items;
+      order = r.plan.order;
+      muted = r.plan.muted;
+      into = r.plan.into;
       counts = r.counts.items;
       blocks = r.blocks.items;
     } };
 
-    ghost invariant = { λ r. IsWhole r.spec.channels r.quanta r.blocks.items r.sums.items r.carried.items r.levels.items };
+    ghost invariant = { λ r. IsWhole r.spec.channels r.quanta r.blocks.items r.heard.items r.sums.items r.carried.items r.levels.items };
 }
 
 impl Renderer {
@@ -68,11 +65,10 @@ impl Renderer {
             spec,
             tie,
             quanta: 0,
-            order: Ends::new(alloc),
-            muted: Ends::new(alloc),
-            into: Vec::new(alloc),
+            plan: Plan::new(alloc),
             counts: Vec::new(alloc),
             blocks: Vec::new(alloc),
+            heard: vec![in alloc; 0; ROOM]?,
             sums: vec![in alloc; 0; ROOM]?,
             carried: vec![in alloc; 0; QUANTUM]?,
             levels: vec![in alloc; 0; QUANTUM]?,
@@ -81,6 +77,7 @@ impl Renderer {
 
     /// Surveys and orders a world, and takes the memory for its counts. It may be called at any
     /// time, and begins a quantum anew. After `NoMemory` the renderer stands for the same tapes.
+    /// Where nodes and connections are those of the last call, its survey and order are kept.
     pub fn prepare<L: Ledger>(
         &mut self,
         world: &World,
@@ -93,11 +90,8 @@ impl Renderer {
         ensures spec { self.new.spec ≡ self.old.spec }
         ensures quanta { self.new.quanta ≡ self.old.quanta }
     {
-        let plan = plan_of(self.alloc, world, self.tie, steps)?;
+        self.plan.follow(self.alloc, &world.graph, self.tie, steps)?;
         self.counts.resize(world.nodes.len() as usize, 1)?;
-        self.order = plan.order;
-        self.muted = plan.muted;
-        self.into = plan.into;
         Ok(())
     }
 
@@ -116,9 +110,9 @@ impl Renderer {
         count_channels(
             self.counts.as_mut_slice(),
             world,
-            self.order.as_slice(),
-            self.muted.as_slice(),
-            self.into.as_slice(),
+            self.plan.order(),
+            self.plan.muted(),
+            self.plan.sources(),
         );
     }
 
@@ -149,14 +143,15 @@ impl Renderer {
     {
         render_quantum(
             self.blocks.as_mut_slice(),
+            self.heard.as_mut_slice(),
             self.sums.as_mut_slice(),
             self.carried.as_mut_slice(),
             self.levels.as_mut_slice(),
             self.counts.as_slice(),
             world,
-            self.order.as_slice(),
-            self.muted.as_slice(),
-            self.into.as_slice(),
+            self.plan.order(),
+            self.plan.muted(),
+            self.plan.sources(),
             first,
         );
         self.quanta += 1;

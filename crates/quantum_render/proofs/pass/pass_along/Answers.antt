@@ -15,6 +15,7 @@ pub loop-end-init : goal.loop-end-init
 loop-end-init c = record {
   blocks = passing_begins c.args.world.now (joined c.args.world.now c.requires.valid) c.args.order.now c.args.muted.now c.args.into.now c.requires.plan c.args.counts.now c.requires.counted c.args.first c.hush.new.blocks
       (c.hush.ensures.length ∙ c.requires.blocks) c.hush.ensures.silent;
+  heard = c.requires.heard;
   sums = c.requires.sums;
   carried = c.requires.carried;
   levels = c.requires.levels;
@@ -53,6 +54,7 @@ pub loop-end-preserved : goal.loop-end-preserved
 loop-end-preserved c = record {
   blocks = passing_goes_on c.args.world.now (joined c.args.world.now c.requires.valid) c.args.order.now c.loop-end.end-index c.args.counts.now c.requires.counted c.args.first c.loop-end.blocks c.loop-end.invariant.blocks c.loop-end-test.true
       c.render_node.new.blocks c.render_node.ensures.writes;
+  heard = c.render_node.ensures.heard;
   sums = c.render_node.ensures.sums;
   carried = c.render_node.ensures.carried;
   levels = c.render_node.ensures.levels;

@@ -1,22 +1,29 @@
-use Rattle.std.proofs.Common.{[], ◌∙◌, ap, length, arith, slice_index_or}
-use Rattle.std.specs.Prelude.{filter}
-use Rattle.std.proofs.lemmas.List.FromFn.{map-range_with_len_more, length-map-range_with_len, get_or-map-range_with_len}
-use Rattle.conn_graph.specs.Cells.{enters}
+use Rattle.std.proofs.Common.{ℕ, [], ◌∷◌, ◌++◌, ◌<◌, refl, length, rules, slice_index_or, ◌∙◌, sym, ap}
+use Rattle.std.proofs.lemmas.List.{get_or_default, length-set}
+use Rattle.conn_graph.specs.Edges.{target_node}
+use Rattle.conn_graph.specs.declared.edges.Edge.{Edge}
+use Rattle.quantum_render.proofs.Connections.{no_edge}
+use Rattle.quantum_render.proofs.Sources.{IsIn-get_or, filed}
 use Rattle.quantum_render.proofs.plan.by_target.Goals as goal
 
-pub loop-node-preserved : goal.loop-node-preserved
-loop-node-preserved c =
-    let node = c.loop-node.node in
-    let all = c.loop-node.invariant in
-    let one = c.in_ok-entering.ensures in
-    let pushed = c.in_ok-push.ensures.items in
-    let more = map-range_with_len_more (λ n. filter (enters n) c.args.all.now) 0 node node (omega arith) in
-    cc
+pub index_mut-requires : goal.index_mut-requires
+index_mut-requires c =
+    let e : Edge = slice_index_or c.args.all.now c.loop-edge.edge-index no_edge in
+    let there : target_node e.to < c.args.nodes = c.requires e (IsIn-get_or c.args.all.now c.loop-edge.edge-index no_edge c.loop-edge-test.true) in
+    let within : c.node-node.result.0 < length c.loop-edge.into.items = rw (c.loop-edge.invariant.length, c.node-node.ensures) there in
+    search rules
 
-pub returns-clause-length : goal.returns-clause-length
-returns-clause-length c = ap length c.loop-node.invariant ∙ length-map-range_with_len (λ n. filter (enters n) c.args.all.now) 0 c.loop-node.node ∙ omega arith
-
-pub returns-clause-each : goal.returns-clause-each
-returns-clause-each c n l =
-    ap (λ xs. slice_index_or xs n []) c.loop-node.invariant
-    ∙ get_or-map-range_with_len (λ n. filter (enters n) c.args.all.now) 0 c.loop-node.node n n [] (omega arith) (omega arith)
+pub loop-edge-preserved : goal.loop-edge-preserved
+loop-edge-preserved c =
+    let e : Edge = slice_index_or c.args.all.now c.loop-edge.edge-index no_edge in
+    let there : target_node e.to < c.args.nodes = c.requires e (IsIn-get_or c.args.all.now c.loop-edge.edge-index no_edge c.loop-edge-test.true) in
+    let node : ℕ = c.node-node.result.0 in
+    let here : node < c.args.nodes = rw c.node-node.ensures there in
+    record {
+      length = length-set c.loop-edge.into.items node c.push.new.self ∙ c.loop-edge.invariant.length;
+      each = λ n low.
+          filed c.loop-edge.into.items c.args.all.now c.loop-edge.edge-index node n c.args.nodes e no_edge c.push.new.self c.loop-edge.invariant.length here c.loop-edge-test.true
+          refl (sym c.node-node.ensures)
+          (c.in_ok-push.ensures.ok ∙ ap (λ es. es ++ e ∷ []) (c.index_mut.ensures.value ∙ get_or_default c.loop-edge.into.items node c.index_mut.result.now [] (rw c.loop-edge.invariant.length here)))
+          c.loop-edge.invariant.each low;
+    }

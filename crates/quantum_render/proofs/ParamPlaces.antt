@@ -1,0 +1,53 @@
+-- Where items have keys of their own, one that has a key is the first that has it.
+use Rattle.std.proofs.Common.{ℕ, zero, suc, ◌≡◌, ◌+◌, ◌<◌, length, List, [], ◌∷◌, map, slice_index_or, Bool, true, false, cond, not, None, Some, inl, inr, refl, sym, ◌∙◌, ap, ap₂, arith, subst}
+use Rattle.std.specs.Prelude.{◌==◌, nat_lt}
+use Rattle.std.specs.List.{position, position_or_len}
+use Rattle.std.proofs.lemmas.Bool.Decides.{nat_tests}
+use Rattle.wa_base.specs.declared.graph_names.ParamId.{ParamId}
+use Rattle.wa_base.specs.declared.graph_names.ParamName.{ParamName}
+use Rattle.law_base.specs.Members.{IsIn, AreDistinct}
+use Rattle.law_base.proofs.Tests.{and_parts}
+use Rattle.conn_graph.specs.Edges.{same_name, same_param}
+use Rattle.meaning.specs.declared.params.Param.{Param}
+use Rattle.meaning.specs.declared.scheds.Play.{Play}
+use Rattle.meaning.specs.declared.world.World.{World}
+use Rattle.meaning.specs.World.{param_id}
+use Rattle.meaning.specs.Validity.{IsValid}
+
+module _ {X K : Type 0} (key : X → K) (test : X → Bool) (k : K) (means : (x : X) → test x ≡ true → key x ≡ k) where
+  key_in : (xs : List X) (i : ℕ) (d : X) → i < length xs → IsIn (key (slice_index_or xs i d)) (map key xs)
+  key_in [] i d l = absurd (omega arith)
+  key_in (x ∷ xs) zero d l = inl refl
+  key_in (x ∷ xs) (suc i) d l = inr (key_in xs i d (omega arith))
+
+  first_is : (xs : List X) (i : ℕ) (d : X) → AreDistinct (map key xs) → i < length xs → test (slice_index_or xs i d) ≡ true → position_or_len test xs ≡ i
+  first_is [] i d distinct l t = absurd (omega arith)
+  first_is (x ∷ xs) zero d distinct l t = ap (λ b. cond (not b) (1 + position_or_len test xs) 0) t
+  first_is (x ∷ xs) (suc i) d distinct l t = by_test (test x) refl (first_is xs i d distinct.1 (omega arith) t)
+    where
+      by_test : (b : Bool) → test x ≡ b → position_or_len test xs ≡ i → cond (not b) (1 + position_or_len test xs) 0 ≡ suc i
+      by_test true s below = absurd (distinct.0 (subst (λ y. IsIn y (map key xs)) (means (slice_index_or xs i d) t ∙ sym (means x s)) (key_in xs i d (omega arith))))
+      by_test false s below = omega (arith, below)
+
+  position_is : (xs : List X) (i : ℕ) (d : X) → AreDistinct (map key xs) → i < length xs → test (slice_index_or xs i d) ≡ true → position test xs ≡ Some i
+  position_is xs i d distinct l t =
+      let first = first_is xs i d distinct l t in
+      ap (λ n. cond (nat_lt n (length xs)) (Some n) None) first ∙ ap (λ b. cond b (Some i) None) (let inside : nat_lt i (length xs) ≡ true = grind (arith, nat_tests) in inside)
+
+same_name_is : (a b : ParamName) → same_name a b ≡ true → a ≡ b
+same_name_is a b h = grind arith
+
+same_param_is : (a b : ParamId) → same_param a b ≡ true → a ≡ b
+same_param_is a b h =
+    let parts = and_parts (a.node.0 == b.node.0) (same_name a.name b.name) h in
+    let number : a.node.0 ≡ b.node.0 = let t : (a.node.0 == b.node.0) ≡ true = parts.0 in grind (arith, nat_tests) in
+    let name : a.name ≡ b.name = same_name_is a.name b.name parts.1 in
+    ap₂ param_id number name
+
+pub param_position : (w : World) → IsValid w → (id : ParamId) (i : ℕ) (d : Param) → i < length w.params.items → same_param (slice_index_or w.params.items i d).id id ≡ true
+    → position (λ (p : Param). same_param p.id id) w.params.items ≡ Some i
+param_position w valid id i d l t = position_is (λ (p : Param). p.id) (λ p. same_param p.id id) id (λ p h. same_param_is p.id id h) w.params.items i d valid.params.once l t
+
+pub play_position : (w : World) → IsValid w → (node i : ℕ) (d : Play) → i < length w.scheds.items → ((slice_index_or w.scheds.items i d).id.0 == node) ≡ true
+    → position (λ (p : Play). p.id.0 == node) w.scheds.items ≡ Some i
+play_position w valid node i d l t = position_is (λ (p : Play). p.id.0) (λ p. p.id.0 == node) node (λ p h. let same : p.id.0 ≡ node = grind (arith, nat_tests) in same) w.scheds.items i d valid.scheds.once l t

@@ -1,0 +1,36 @@
+use Rattle.std.proofs.Common.{ℕ, ◌≡◌, ◌<◌, List, [], length, slice_index_or, sym, ◌∙◌, ap, subst}
+use Rattle.std.specs.Prelude.{filter}
+use Rattle.wa_base.specs.declared.graph_names.End.{End}
+use Rattle.law_base.specs.Members.{IsIn}
+use Rattle.law_base.proofs.Members.{IsIn-filter, IsIn-filter_from}
+use Rattle.conn_graph.specs.declared.edges.Edge.{Edge}
+use Rattle.conn_graph.specs.Cells.{enters}
+use Rattle.conn_graph.specs.Ends.{ends, muted}
+use Rattle.conn_graph.specs.Graph.{Connections}
+use Rattle.conn_graph.specs.Orders.{IsLegalOrder}
+use Rattle.cycle_order.specs.Surveys.{muted_ends}
+use Rattle.quantum_render.specs.Plans.{IsPlanOf}
+use Rattle.quantum_render.proofs.plan.Plan.of.Goals as goal
+
+plan_is : (g : Connections) (order mute : List End) (sources : List (List Edge)) → IsLegalOrder g order → mute ≡ muted_ends g → length sources ≡ length g.nodes
+    → ((n : ℕ) → n < length g.nodes → slice_index_or sources n [] ≡ filter (enters n) g.edges) → IsPlanOf g order mute sources
+unfolding muted_ends
+plan_is g order mute sources legal marks nodes each = record {
+  legal = legal;
+  all = λ d in_d m. subst (IsIn d) (sym marks) (IsIn-filter_from (muted g) (ends g) d in_d m);
+  only = λ d in_d. (IsIn-filter (muted g) (ends g) d (subst (IsIn d) marks in_d)).0;
+  nodes = nodes;
+  each = λ n l. each n (subst (λ k. n < k) nodes l);
+}
+
+pub returns : goal.returns
+returns g c =
+    let nodes = c.in_ok-into.ensures.length ∙ c.len.ensures.number in
+    plan_is c.args.graph.now.value _ _ _ c.in_ok-ordered.ensures.legal c.in_ok-marks.ensures.muted nodes
+    (λ n l. c.in_ok-into.ensures.each n (subst (λ k. n < k) (sym c.len.ensures.number) l) ∙ ap (λ es. filter (enters n) es) (c.as_slice.ensures.value ∙ c.in_ok-all.ensures))
+
+pub invariant_of-result : goal.invariant_of-result
+invariant_of-result g c =
+    let nodes = c.in_ok-into.ensures.length ∙ c.len.ensures.number in
+    rw c.in_ok-kept.ensures (plan_is c.args.graph.now.value _ _ _ c.in_ok-ordered.ensures.legal c.in_ok-marks.ensures.muted nodes
+    (λ n l. c.in_ok-into.ensures.each n (subst (λ k. n < k) (sym c.len.ensures.number) l) ∙ ap (λ es. filter (enters n) es) (c.as_slice.ensures.value ∙ c.in_ok-all.ensures)))
