@@ -1,6 +1,7 @@
 -- What a world is rendered by: an order of its ends, the connections to each node, and the channels of each end.
 use Rattle.std.specs.Prelude.{ℕ, ◌≡◌, ◌<◌, ◌≤◌, List, [], ◌∷◌, ◌++◌, length, slice_index_or, true}
 use Rattle.wa_base.specs.declared.graph_names.End.{End}
+use Rattle.wa_base.specs.declared.graph_names.Tie.{Tie}
 use Rattle.law_base.specs.Members.{IsIn}
 use Rattle.conn_graph.specs.declared.edges.Edge.{Edge}
 use Rattle.conn_graph.specs.Ends.{ends, muted as is_muted}
@@ -21,6 +22,7 @@ pub record IsPlanOf (g : Connections) (order : List End) (mute : List End) (sour
 
 -- what contracts see of a plan
 pub record PlanView : Type 0 where
+  pub tie : Tie
   pub order : List End
   pub muted : List End
   pub into : List (List Edge)

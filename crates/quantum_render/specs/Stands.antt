@@ -2,6 +2,7 @@
 use Rattle.std.specs.Prelude.{ℕ, ℤ, ◌≡◌, ◌<◌, ◌≤◌, ◌+◌, ◌-◌, ◌*◌, List, length}
 use Rattle.wa_base.specs.declared.contexts.ContextSpec.{ContextSpec}
 use Rattle.wa_base.specs.declared.graph_names.End.{End}
+use Rattle.wa_base.specs.declared.graph_names.Tie.{Tie}
 use Rattle.conn_graph.specs.declared.edges.Edge.{Edge}
 use Rattle.meaning.specs.declared.world.World.{World}
 use Rattle.meaning.specs.Rendered.{sample}
@@ -13,6 +14,8 @@ pub record RendererView : Type 0 where
   pub spec : ContextSpec
   -- the quanta that were rendered
   pub quanta : ℕ
+  -- which of two ends is rendered first where either may be
+  pub tie : Tie
   -- the plan of the world that was prepared last
   pub order : List End
   pub muted : List End

@@ -3,6 +3,7 @@ ghost use Rattle.law_base.specs.Members.{IsIn};
 ghost use Rattle.conn_graph.specs.declared.edges.Edge.{Edge as an_edge};
 ghost use Rattle.conn_graph.specs.Edges.{target_node};
 ghost use Rattle.conn_graph.specs.Cells.{leaves, enters};
+ghost use Rattle.cycle_order.specs.Choices.{chosen_order};
 ghost use Rattle.quantum_render.specs.Levels.{into as leads_into};
 ghost use Rattle.quantum_render.specs.Plans.{IsPlanOf};
 
@@ -17,6 +18,7 @@ use wa_base::{End, Items, NoMemory, NodeId, Steps, Tie};
 #[derive(Drop)]
 pub(crate) struct Plan {
     graph: Graph,
+    tie: Tie,
     // The unmuted ends in a legal order.
     order: Ends,
     muted: Ends,
@@ -25,24 +27,30 @@ pub(crate) struct Plan {
 }
 
 impl Model for Plan {
+    ghost use Rattle.std.specs.Prelude.{◌≡◌};
+    ghost use Rattle.cycle_order.specs.Choices.{chosen_order};
     ghost use Rattle.quantum_render.specs.Plans.{PlanView, IsPlanOf};
 
     ghost Value = { PlanView };
 
     ghost view = { λ p. record {
+      tie = p.tie;
       order = p.order;
       muted = p.muted;
       into = p.into.items;
     } };
 
-    ghost invariant = { λ p. IsPlanOf p.graph.value p.order p.muted p.into.items };
+    ghost invariant = { λ p. IsPlanOf p.graph.value p.order p.muted p.into.items × (p.order ≡ chosen_order p.graph.value p.tie) };
 }
 
 impl Plan {
     // The plan of a graph without nodes.
-    pub(crate) fn new(alloc: Global) -> Plan {
+    pub(crate) fn new(alloc: Global, tie: Tie) -> Plan
+        ensures { result.tie ≡ tie }
+    {
         Plan {
             graph: Graph::new(alloc),
+            tie,
             order: Ends::new(alloc),
             muted: Ends::new(alloc),
             into: Vec::new(alloc),
@@ -56,7 +64,9 @@ impl Plan {
         tie: Tie,
         steps: &mut Steps<L>,
     ) -> Result<Plan, NoMemory>
-        ensures { IfOk result (λ plan. IsPlanOf graph.now.value plan.order plan.muted plan.into) }
+        ensures plan { IfOk result (λ plan. IsPlanOf graph.now.value plan.order plan.muted plan.into) }
+        ensures order { IfOk result (λ plan. plan.order ≡ chosen_order graph.now.value tie) }
+        ensures tie { IfOk result (λ plan. plan.tie ≡ tie) }
     {
         let marks = survey(alloc, graph, steps)?;
         let ordered = order(alloc, graph, &marks, tie, steps)?;
@@ -65,6 +75,7 @@ impl Plan {
         let kept = graph.copy()?;
         Ok(Plan {
             graph: kept,
+            tie,
             order: ordered.ends,
             muted: marks.muted,
             into,
@@ -76,15 +87,16 @@ impl Plan {
         &mut self,
         alloc: Global,
         graph: &Graph,
-        tie: Tie,
         steps: &mut Steps<L>,
     ) -> Result<(), NoMemory>
-        ensures { OnOk result (IsPlanOf graph.now.value self.new.order self.new.muted self.new.into) }
+        ensures plan { OnOk result (IsPlanOf graph.now.value self.new.order self.new.muted self.new.into) }
+        ensures order { OnOk result (self.new.order ≡ chosen_order graph.now.value self.old.tie) }
+        ensures tie { self.new.tie ≡ self.old.tie }
     {
         if self.graph.is_same(graph) {
             return Ok(());
         }
-        *self = Plan::of(alloc, graph, tie, steps)?;
+        *self = Plan::of(alloc, graph, self.tie, steps)?;
         Ok(())
     }
 

@@ -4,6 +4,7 @@ ghost use Rattle.meaning.specs.declared.world.World.{World as a_world};
 ghost use Rattle.meaning.specs.Rendered.{sample};
 ghost use Rattle.meaning.specs.Validity.{IsValid};
 ghost use Rattle.meaning.specs.Worlds.{IsRegular};
+ghost use Rattle.cycle_order.specs.Choices.{chosen_order};
 ghost use Rattle.quantum_render.specs.Stands.{StandsFor, IsPrepared, IsCounted, IsGrown};
 
 use crate::counting::count_channels;
@@ -24,7 +25,6 @@ use wa_base::{ContextSpec, Fix, NoMemory, Steps, Tie};
 pub struct Renderer {
     alloc: Global,
     spec: ContextSpec,
-    tie: Tie,
     quanta: u64,
     plan: Plan,
     counts: Vec<u32>,
@@ -43,6 +43,7 @@ impl Model for Renderer {
     ghost view = { λ r. record {
       spec = r.spec;
       quanta = r.quanta;
+      tie = r.plan.tie;
       order = r.plan.order;
       muted = r.plan.muted;
       into = r.plan.into;
@@ -59,13 +60,13 @@ impl Renderer {
         requires { IsSupported spec }
         ensures stands { IfOk result (λ r. StandsFor r []) }
         ensures spec { IfOk result (λ r. r.spec ≡ spec) }
+        ensures tie { IfOk result (λ r. r.tie ≡ tie) }
     {
         Ok(Renderer {
             alloc,
             spec,
-            tie,
             quanta: 0,
-            plan: Plan::new(alloc),
+            plan: Plan::new(alloc, tie),
             counts: Vec::new(alloc),
             blocks: Vec::new(alloc),
             heard: vec![in alloc; 0; ROOM]?,
@@ -86,11 +87,13 @@ impl Renderer {
         requires valid { IsValid world.now }
         requires spec { world.now.spec ≡ self.old.spec }
         ensures ok { OnOk result (IsPrepared self.new world.now) }
+        ensures order { OnOk result (self.new.order ≡ chosen_order world.now.graph.value self.old.tie) }
         ensures stands { (tape : List a_world) → StandsFor self.old tape → StandsFor self.new tape }
         ensures spec { self.new.spec ≡ self.old.spec }
+        ensures tie { self.new.tie ≡ self.old.tie }
         ensures quanta { self.new.quanta ≡ self.old.quanta }
     {
-        self.plan.follow(self.alloc, &world.graph, self.tie, steps)?;
+        self.plan.follow(self.alloc, &world.graph, steps)?;
         self.counts.resize(world.nodes.len() as usize, 1)?;
         Ok(())
     }
@@ -105,6 +108,7 @@ impl Renderer {
         ensures counted { IsCounted self.new world.now }
         ensures stands { (tape : List a_world) → StandsFor self.old tape → StandsFor self.new tape }
         ensures spec { self.new.spec ≡ self.old.spec }
+        ensures tie { self.new.tie ≡ self.old.tie }
         ensures quanta { self.new.quanta ≡ self.old.quanta }
     {
         count_channels(
@@ -124,6 +128,7 @@ impl Renderer {
         ensures ok { OnOk result (IsGrown self.new world.now) }
         ensures stands { (tape : List a_world) → StandsFor self.old tape → StandsFor self.new tape }
         ensures spec { self.new.spec ≡ self.old.spec }
+        ensures tie { self.new.tie ≡ self.old.tie }
         ensures quanta { self.new.quanta ≡ self.old.quanta }
     {
         self.blocks.resize(self.counts.len() * ROOM, 0)?;
@@ -139,6 +144,7 @@ impl Renderer {
         requires time { first ≤ 2 ^ 62 }
         ensures stands { (tape : List a_world) → StandsFor self.old tape → IsRegular 128 (tape ++ world.now ∷ []) → StandsFor self.new (tape ++ world.now ∷ []) }
         ensures spec { self.new.spec ≡ self.old.spec }
+        ensures tie { self.new.tie ≡ self.old.tie }
         ensures quanta { self.new.quanta ≡ self.old.quanta + 1 }
     {
         render_quantum(

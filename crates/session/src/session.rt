@@ -85,6 +85,7 @@ impl Session {
     /// A session in which no call came yet.
     pub fn new(alloc: Global, spec: ContextSpec, options: Options) -> Result<Session, Refusal>
         ensures ok { IfOk result (IsFirst spec options.audio) }
+        ensures tie { IfOk result (λ session. IfSome session.renderer (λ renderer. renderer.tie ≡ options.tie)) }
         ensures refused { IsErrOf result (Refusal.Exc (Exc.NotSupported None)) ↔ (supports spec ≡ false) }
         ensures others { IfErr result (λ e. (e ≡ Refusal.Exc (Exc.NotSupported None)) ⊎ (e ≡ Refusal.NoMemory)) }
     {

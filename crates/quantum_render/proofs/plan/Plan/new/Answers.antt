@@ -1,6 +1,8 @@
-use Rattle.std.proofs.Common.{[], refl, arith}
+use Rattle.std.proofs.Common.{◌≡◌, [], refl, arith}
+use Rattle.wa_base.specs.declared.graph_names.Tie.{Tie}
 use Rattle.conn_graph.specs.Ends.{ends}
 use Rattle.conn_graph.specs.Graph.{no_connections}
+use Rattle.cycle_order.specs.Choices.{chosen_order, places_from, unmuted_ends}
 use Rattle.quantum_render.specs.Plans.{IsPlanOf}
 use Rattle.quantum_render.proofs.plan.Plan.new.Goals as goal
 
@@ -15,5 +17,9 @@ empty = record {
   each = λ n l. absurd (omega arith);
 }
 
+no_order : (tie : Tie) → [] ≡ chosen_order no_connections tie
+unfolding ends chosen_order places_from unmuted_ends
+no_order tie = refl
+
 pub invariant_of-result : goal.invariant_of-result
-invariant_of-result c = rw (c.new.ensures, c.new-2.ensures, c.new-3.ensures, c.new-4.ensures.items) empty
+invariant_of-result c = rw (c.new.ensures, c.new-2.ensures, c.new-3.ensures, c.new-4.ensures.items) (empty, no_order c.args.tie)

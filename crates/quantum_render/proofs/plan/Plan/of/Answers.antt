@@ -1,4 +1,4 @@
-use Rattle.std.proofs.Common.{ℕ, ◌≡◌, ◌<◌, List, [], length, slice_index_or, sym, ◌∙◌, ap, subst}
+use Rattle.std.proofs.Common.{ℕ, ◌≡◌, ◌<◌, List, [], length, slice_index_or, refl, sym, ◌∙◌, ap, subst}
 use Rattle.std.specs.Prelude.{filter}
 use Rattle.wa_base.specs.declared.graph_names.End.{End}
 use Rattle.law_base.specs.Members.{IsIn}
@@ -26,11 +26,18 @@ plan_is g order mute sources legal marks nodes each = record {
 pub returns : goal.returns
 returns g c =
     let nodes = c.in_ok-into.ensures.length ∙ c.len.ensures.number in
-    plan_is c.args.graph.now.value _ _ _ c.in_ok-ordered.ensures.legal c.in_ok-marks.ensures.muted nodes
-    (λ n l. c.in_ok-into.ensures.each n (subst (λ k. n < k) (sym c.len.ensures.number) l) ∙ ap (λ es. filter (enters n) es) (c.as_slice.ensures.value ∙ c.in_ok-all.ensures))
+    record {
+      plan = plan_is c.args.graph.now.value _ _ _ c.in_ok-ordered.ensures.legal c.in_ok-marks.ensures.muted nodes
+          (λ n l. c.in_ok-into.ensures.each n (subst (λ k. n < k) (sym c.len.ensures.number) l) ∙ ap (λ es. filter (enters n) es) (c.as_slice.ensures.value ∙ c.in_ok-all.ensures));
+      order = c.in_ok-ordered.ensures.tie;
+      tie = refl;
+    }
 
 pub invariant_of-result : goal.invariant_of-result
 invariant_of-result g c =
     let nodes = c.in_ok-into.ensures.length ∙ c.len.ensures.number in
-    rw c.in_ok-kept.ensures (plan_is c.args.graph.now.value _ _ _ c.in_ok-ordered.ensures.legal c.in_ok-marks.ensures.muted nodes
-    (λ n l. c.in_ok-into.ensures.each n (subst (λ k. n < k) (sym c.len.ensures.number) l) ∙ ap (λ es. filter (enters n) es) (c.as_slice.ensures.value ∙ c.in_ok-all.ensures)))
+    rw c.in_ok-kept.ensures (
+      plan_is c.args.graph.now.value _ _ _ c.in_ok-ordered.ensures.legal c.in_ok-marks.ensures.muted nodes
+          (λ n l. c.in_ok-into.ensures.each n (subst (λ k. n < k) (sym c.len.ensures.number) l) ∙ ap (λ es. filter (enters n) es) (c.as_slice.ensures.value ∙ c.in_ok-all.ensures)),
+      c.in_ok-ordered.ensures.tie,
+    )
