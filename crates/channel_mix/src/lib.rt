@@ -6,8 +6,6 @@ mod counts;
 mod kernels;
 mod mixing;
 mod outputs;
-#[cfg(test)]
-mod tests;
 
 pub use counts::count;
 pub use mixing::mix_add;

@@ -7,8 +7,6 @@ ghost use Rattle.conn_graph.specs.Orders.{MutingLaw};
 
 mod edges;
 mod graph;
-#[cfg(test)]
-mod tests;
 mod walks;
 
 pub use edges::{Edge, Form, Ports, Target};

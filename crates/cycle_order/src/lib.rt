@@ -7,8 +7,6 @@ mod legality;
 mod orders;
 mod reaching;
 mod surveys;
-#[cfg(test)]
-mod tests;
 
 pub use legality::is_legal;
 pub use orders::{Ordered, order};

@@ -9,8 +9,6 @@ mod real;
 mod sink;
 mod source;
 mod sure;
-#[cfg(test)]
-mod tests;
 mod whole;
 
 pub use errors::{EdgeErr, Failed, ReadErr};

@@ -4,8 +4,6 @@
 
 mod kinds;
 mod nodes;
-#[cfg(test)]
-mod tests;
 
 pub use kinds::Kind;
 pub use nodes::{Attrs, Node, Nodes};

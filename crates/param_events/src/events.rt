@@ -27,8 +27,8 @@ pub enum Event {
 }
 
 impl Event {
-    // An equal event with memory of its own.
-    fn copy(&self) -> Result<Event, NoMemory>
+    /// An equal event with memory of its own.
+    pub fn copy(&self) -> Result<Event, NoMemory>
         ensures { IfOk result (λ copy. copy ≡ self.now) }
     {
         match self {

@@ -3,8 +3,6 @@
 
 mod events;
 mod laws;
-#[cfg(test)]
-mod tests;
 mod timeline;
 
 pub use events::Event;

@@ -2,7 +2,5 @@
 #![tactic(auto)]
 
 mod sched;
-#[cfg(test)]
-mod tests;
 
 pub use sched::Sched;

@@ -3,8 +3,6 @@
 
 mod lines;
 mod printed;
-#[cfg(test)]
-mod tests;
 
 pub use lines::{Answer, EndWord, Line, Lines};
 pub use printed::text;

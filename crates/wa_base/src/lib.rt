@@ -11,8 +11,6 @@ mod items;
 mod memory;
 mod numbers;
 mod steps;
-#[cfg(test)]
-mod tests;
 
 pub use contexts::{ContextSpec, State};
 pub use exceptions::{Exc, Refusal};

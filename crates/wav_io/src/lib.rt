@@ -3,8 +3,6 @@
 
 mod chunks;
 mod samples;
-#[cfg(test)]
-mod tests;
 
 pub use chunks::header;
 pub use samples::frames_into;

@@ -1,5 +1,0 @@
-use Rattle.conn_graph.specs.Walks.{IsOnWalk, in_walk}
-use Rattle.conn_graph.proofs.tests.walk_to.Given as goal
-
-abbrev pub invariant-loop : goal.invariant-loop
-invariant-loop g l = IsOnWalk (in_walk l.graph l.node) l.after

@@ -1,4 +1,0 @@
-use Rattle.cycle_order.proofs.tests.told.Given as goal
-
-abbrev pub ghosts-ask : goal.ghosts-ask
-ghosts-ask a = record { name = a.blank.name; parts = a.blank.parts }

@@ -1,0 +1,397 @@
+ghost use Rattle.std.specs.Prelude.{◌≡◌, ◌<◌, length, true, IfSome};
+ghost use Rattle.conn_graph.specs.Edges.{form_node};
+
+use conn_graph::{Edge, Form, Graph, Target};
+use std::alloc::Global;
+use std::marker::Brand;
+use std::sync::ledger::{Blank, Ledger};
+use std::test::Fail;
+use wa_base::{Exc, Feature, NoMemory, NodeId, ParamId, ParamName, Refusal, Steps};
+
+const GAIN: ParamId = ParamId {
+    node: NodeId(2),
+    name: ParamName::Gain,
+};
+
+const DELAY_TIME: ParamId = ParamId {
+    node: NodeId(2),
+    name: ParamName::DelayTime,
+};
+
+const AT_LIMIT: Refusal = Refusal::Exc(Exc::NotSupported(Some(Feature::ConnectionLimit)));
+
+fn to_input(from: u32, output: u32, node: u32, input: u32) -> Edge {
+    let to = Target::Input {
+        node: NodeId(node),
+        input,
+    };
+    Edge {
+        from: NodeId(from),
+        output,
+        to,
+    }
+}
+
+fn to_param(from: u32, output: u32, param: ParamId) -> Edge {
+    Edge {
+        from: NodeId(from),
+        output,
+        to: Target::Param(param),
+    }
+}
+
+fn add(graph: &mut Graph, inputs: u32, outputs: u32) -> Result<(), NoMemory> {
+    if graph.len() == u32::MAX {
+        return Err(NoMemory);
+    }
+    graph.add_node(inputs, outputs, false)
+}
+
+// A graph of so many nodes with two inputs and two outputs each.
+fn begin(alloc: Global, count: u32) -> Result<Graph, NoMemory> {
+    let mut graph = Graph::new(alloc);
+    for _ in 0..count {
+        add(&mut graph, 2, 2)?;
+    }
+    Ok(graph)
+}
+
+// NotFound where a node is not there, which the graph itself never answers.
+fn connect(graph: &mut Graph, edge: Edge) -> Result<bool, Refusal> {
+    if edge.from.0 >= graph.len() || edge.to.node().0 >= graph.len() {
+        return Err(Refusal::Exc(Exc::NotFound));
+    }
+    graph.connect(edge)
+}
+
+fn disconnect(graph: &mut Graph, from: u32, form: Form) -> Result<(), Exc> {
+    if from >= graph.len() || !has_node(graph, form) {
+        return Err(Exc::NotFound);
+    }
+    graph.disconnect(NodeId(from), form)
+}
+
+fn has_node(graph: &Graph, form: Form) -> bool
+    ensures { result ≡ true → IfSome (form_node form) (λ node. node < length graph.now.value.nodes) }
+{
+    match form {
+        Form::All | Form::Output(_) => true,
+        Form::Node(node) | Form::NodeOutput(node, _) | Form::NodeOutputInput(node, _, _) => {
+            node.0 < graph.len()
+        }
+        Form::Param(param) | Form::ParamOutput(param, _) => param.node.0 < graph.len(),
+    }
+}
+
+// The connections from a node, as the walk gives them.
+#[tactic(auto, using(conn_graph::proofs::WalkLaws::step_on))]
+fn walk_from<L: Ledger>(
+    alloc: Global,
+    graph: &Graph,
+    node: u32,
+    blank: Blank,
+) -> Result<Vec<Edge>, NoMemory>
+    requires name { blank.name ≡ L.name }
+    requires parts { blank.parts ≡ L.parts }
+    requires some { 0 < L.parts }
+{
+    let mut steps: Steps<L> = Steps::new(blank);
+    let mut edges = Vec::new(alloc);
+    if node >= graph.len() {
+        return Ok(edges);
+    }
+    let mut after = None;
+    for _ in 0..=8_192 {
+        let Some((cell, edge)) = graph.next_out(NodeId(node), after, &mut steps) else {
+            break;
+        };
+        edges.push(edge)?;
+        after = Some(cell);
+    }
+    Ok(edges)
+}
+
+fn from(alloc: Global, graph: &Graph, node: u32) -> Result<Vec<Edge>, NoMemory> {
+    walk_from::<Brand>(alloc, graph, node, Blank::new(1))
+}
+
+// The connections to a node, as the walk gives them.
+#[tactic(auto, using(conn_graph::proofs::WalkLaws::step_on))]
+fn walk_to<L: Ledger>(
+    alloc: Global,
+    graph: &Graph,
+    node: u32,
+    blank: Blank,
+) -> Result<Vec<Edge>, NoMemory>
+    requires name { blank.name ≡ L.name }
+    requires parts { blank.parts ≡ L.parts }
+    requires some { 0 < L.parts }
+{
+    let mut steps: Steps<L> = Steps::new(blank);
+    let mut edges = Vec::new(alloc);
+    if node >= graph.len() {
+        return Ok(edges);
+    }
+    let mut after = None;
+    for _ in 0..=8_192 {
+        let Some((cell, edge)) = graph.next_in(NodeId(node), after, &mut steps) else {
+            break;
+        };
+        edges.push(edge)?;
+        after = Some(cell);
+    }
+    Ok(edges)
+}
+
+fn to(alloc: Global, graph: &Graph, node: u32) -> Result<Vec<Edge>, NoMemory> {
+    walk_to::<Brand>(alloc, graph, node, Blank::new(1))
+}
+
+// The connections without those at some places.
+fn without(alloc: Global, edges: &[Edge], gone: &[usize]) -> Result<Vec<Edge>, NoMemory> {
+    let mut kept = Vec::new(alloc);
+    for (place, edge) in edges.iter().enumerate() {
+        if !gone.contains(&place) {
+            kept.push(*edge)?;
+        }
+    }
+    Ok(kept)
+}
+
+// Whether the walks from and to each node give these connections: those from a node in this order,
+// those to a node in any.
+fn has(alloc: Global, graph: &Graph, edges: &[Edge]) -> Result<bool, NoMemory> {
+    for node in 0..graph.len() {
+        let mut leaving = Vec::new(alloc);
+        let mut entering = Vec::new(alloc);
+        for edge in edges {
+            if edge.from.0 == node {
+                leaving.push(*edge)?;
+            }
+            if edge.to.node().0 == node {
+                entering.push(*edge)?;
+            }
+        }
+        let entered = to(alloc, graph, node)?;
+        if from(alloc, graph, node)? != leaving
+            || entered.len() != entering.len()
+            || !entering.iter().all(|edge| entered.contains(edge))
+        {
+            return Ok(false);
+        }
+    }
+    Ok(true)
+}
+
+// So many nodes, with these connections.
+fn joined(alloc: Global, count: u32, edges: &[Edge]) -> Result<Graph, Refusal> {
+    let mut graph = begin(alloc, count)?;
+    for edge in edges {
+        connect(&mut graph, *edge)?;
+    }
+    Ok(graph)
+}
+
+#[test]
+fn a_repeated_connection_changes_nothing(rt: HostRuntime) -> Result<(), Fail> {
+    let alloc = rt.alloc();
+    let mut graph = begin(alloc, 2)?;
+    let edge = to_input(1, 0, 0, 0);
+    assert_eq!(rt; connect(&mut graph, edge), Ok(true));
+    assert_eq!(rt; connect(&mut graph, edge), Ok(false));
+    assert!(rt; has(alloc, &graph, &[edge])?);
+    let form = Form::Node(NodeId(0));
+    assert_eq!(rt; disconnect(&mut graph, 1, form), Ok(()));
+    assert!(rt; has(alloc, &graph, &[])?);
+    assert_eq!(rt; disconnect(&mut graph, 1, form), Err(Exc::InvalidAccess));
+    Ok(())
+}
+
+#[test]
+fn each_form_takes_away_what_it_names(rt: HostRuntime) -> Result<(), Fail> {
+    let alloc = rt.alloc();
+    let edges = [
+        to_input(1, 0, 2, 0),
+        to_input(1, 0, 2, 1),
+        to_input(1, 1, 2, 0),
+        to_input(1, 1, 0, 0),
+        to_param(1, 0, GAIN),
+        to_param(1, 1, GAIN),
+        to_param(1, 1, DELAY_TIME),
+        to_input(3, 0, 2, 0),
+    ];
+    let node = NodeId(2);
+    let rows: [(Form, &[usize]); 8] = [
+        (Form::All, &[0, 1, 2, 3, 4, 5, 6]),
+        (Form::Output(1), &[2, 3, 5, 6]),
+        (Form::Node(node), &[0, 1, 2]),
+        (Form::NodeOutput(node, 0), &[0, 1]),
+        (Form::NodeOutputInput(node, 0, 1), &[1]),
+        (Form::NodeOutputInput(node, 1, 0), &[2]),
+        (Form::Param(GAIN), &[4, 5]),
+        (Form::ParamOutput(GAIN, 1), &[5]),
+    ];
+    for (form, gone) in rows {
+        let mut graph = joined(alloc, 4, &edges)?;
+        assert!(rt; has(alloc, &graph, &edges)?);
+        assert_eq!(rt; disconnect(&mut graph, 1, form), Ok(()));
+        let kept = without(alloc, &edges, gone)?;
+        assert!(rt; has(alloc, &graph, kept.as_slice())?, "{form:?}");
+    }
+    Ok(())
+}
+
+#[test]
+fn a_refused_call_changes_nothing(rt: HostRuntime) -> Result<(), Fail> {
+    let alloc = rt.alloc();
+    let edge = to_input(1, 0, 2, 0);
+    let mut graph = joined(alloc, 3, &[edge])?;
+    let node = NodeId(2);
+    for (form, answer) in [
+        (Form::Output(2), Err(Exc::IndexSize)),
+        (Form::NodeOutput(node, 2), Err(Exc::IndexSize)),
+        (Form::NodeOutputInput(node, 2, 0), Err(Exc::IndexSize)),
+        (Form::NodeOutputInput(node, 0, 2), Err(Exc::IndexSize)),
+        (Form::NodeOutputInput(NodeId(0), 0, 2), Err(Exc::IndexSize)),
+        (Form::ParamOutput(GAIN, 2), Err(Exc::IndexSize)),
+        (Form::Node(NodeId(1)), Err(Exc::InvalidAccess)),
+        (Form::NodeOutput(node, 1), Err(Exc::InvalidAccess)),
+        (Form::NodeOutputInput(node, 0, 1), Err(Exc::InvalidAccess)),
+        (Form::Param(GAIN), Err(Exc::InvalidAccess)),
+        (Form::ParamOutput(GAIN, 0), Err(Exc::InvalidAccess)),
+        (Form::Output(1), Ok(())),
+    ] {
+        assert_eq!(rt; disconnect(&mut graph, 1, form), answer, "{form:?}");
+    }
+    assert_eq!(rt; disconnect(&mut graph, 2, Form::All), Ok(()));
+    for refused in [
+        to_input(1, 2, 2, 0),
+        to_input(1, 0, 2, 2),
+        to_param(1, 2, GAIN),
+    ] {
+        let answer = Err(Refusal::Exc(Exc::IndexSize));
+        assert_eq!(rt; connect(&mut graph, refused), answer);
+    }
+    assert!(rt; has(alloc, &graph, &[edge])?);
+    Ok(())
+}
+
+#[test]
+fn connections_of_a_node_keep_their_order(rt: HostRuntime) -> Result<(), Fail> {
+    let alloc = rt.alloc();
+    let mut edges = [
+        to_input(1, 1, 2, 1),
+        to_input(3, 0, 2, 0),
+        to_input(1, 0, 0, 0),
+        to_input(2, 0, 0, 0),
+        to_param(1, 0, GAIN),
+        to_input(0, 0, 1, 0),
+        to_input(1, 0, 2, 0),
+        to_input(3, 1, 1, 0),
+    ];
+    let mut graph = joined(alloc, 4, &edges)?;
+    assert!(rt; has(alloc, &graph, &edges)?);
+    assert_eq!(rt; disconnect(&mut graph, 1, Form::Node(NodeId(0))), Ok(()));
+    assert_eq!(rt; connect(&mut graph, edges[2]), Ok(true));
+    assert!(rt; !has(alloc, &graph, &edges)?);
+    edges[2..].rotate_left(1);
+    assert!(rt; has(alloc, &graph, &edges)?);
+    Ok(())
+}
+
+#[test]
+fn there_are_at_most_8192_connections(rt: HostRuntime) -> Result<(), Fail> {
+    let alloc = rt.alloc();
+    let mut graph = begin(alloc, 1)?;
+    add(&mut graph, 1, 32)?;
+    for node in 2..10 {
+        add(&mut graph, 32, 1)?;
+        for output in 0..32 {
+            for input in 0..32 {
+                let edge = to_input(1, output, node, input);
+                assert_eq!(rt; connect(&mut graph, edge), Ok(true));
+            }
+        }
+    }
+    for refused in [to_input(2, 0, 0, 0), to_param(1, 0, GAIN)] {
+        assert_eq!(rt; connect(&mut graph, refused), Err(AT_LIMIT));
+    }
+    assert_eq!(rt; connect(&mut graph, to_input(1, 31, 9, 31)), Ok(false));
+    let lacking = Err(Refusal::Exc(Exc::IndexSize));
+    assert_eq!(rt; connect(&mut graph, to_input(1, 32, 9, 31)), lacking);
+    assert_eq!(rt; from(alloc, &graph, 1)?.len(), 8_192);
+    assert_eq!(rt; to(alloc, &graph, 9)?.len(), 1_024);
+    assert_eq!(rt; disconnect(&mut graph, 1, Form::Output(0)), Ok(()));
+    assert_eq!(rt; connect(&mut graph, to_input(2, 0, 0, 0)), Ok(true));
+    Ok(())
+}
+
+#[test]
+fn a_copy_goes_on_by_itself(rt: HostRuntime) -> Result<(), Fail> {
+    let alloc = rt.alloc();
+    let edge = to_input(1, 0, 2, 0);
+    let first = joined(alloc, 3, &[edge])?;
+    let mut second = first.copy()?;
+    assert!(rt; has(alloc, &second, &[edge])?);
+    assert!(rt; first.is_same(&second));
+    assert_eq!(rt; connect(&mut second, to_input(2, 1, 0, 1)), Ok(true));
+    assert_eq!(rt; disconnect(&mut second, 1, Form::All), Ok(()));
+    assert!(rt; has(alloc, &first, &[edge])?);
+    assert!(rt; has(alloc, &second, &[to_input(2, 1, 0, 1)])?);
+    assert!(rt; !first.is_same(&second));
+    Ok(())
+}
+
+#[test]
+fn nodes_are_added_in_order(rt: HostRuntime) -> Result<(), Fail> {
+    let mut graph = Graph::new(rt.alloc());
+    for (number, is_delay) in [(0, false), (1, true), (2, false)] {
+        assert_eq!(rt; graph.len(), number);
+        assert_eq!(rt; graph.reserve(), Ok(()));
+        assert_eq!(rt; graph.add_node(number, 1, is_delay), Ok(()));
+    }
+    assert_eq!(rt; graph.len(), 3);
+    for (number, is_delay) in [(0, false), (1, true), (2, false)] {
+        assert_eq!(rt; graph.is_delay(NodeId(number)), is_delay);
+    }
+    assert_eq!(rt; connect(&mut graph, to_input(0, 0, 2, 1)), Ok(true));
+    let lacking = Err(Refusal::Exc(Exc::IndexSize));
+    assert_eq!(rt; connect(&mut graph, to_input(0, 0, 1, 1)), lacking);
+    Ok(())
+}
+
+// Where one growth is refused, what asked for it can be done again.
+#[test]
+fn what_was_refused_memory_can_be_done_again(rt: HostRuntime) -> Result<(), Fail> {
+    let alloc = rt.alloc();
+    let mut graph = Graph::new(alloc);
+    for number in 0..5 {
+        if add(&mut graph, 2, 2) == Err(NoMemory) {
+            assert_eq!(rt; graph.len(), number);
+            add(&mut graph, 2, 2)?;
+        }
+    }
+    let edges = [
+        to_input(1, 0, 2, 0),
+        to_param(1, 0, GAIN),
+        to_input(2, 1, 4, 1),
+        to_input(3, 0, 4, 0),
+        to_input(4, 0, 0, 0),
+    ];
+    for (place, edge) in edges.iter().enumerate() {
+        if connect(&mut graph, *edge) == Err(Refusal::NoMemory) {
+            assert!(rt; has(alloc, &graph, &edges[..place])?);
+            connect(&mut graph, *edge)?;
+        }
+    }
+    let copy = match graph.copy() {
+        Err(NoMemory) => graph.copy()?,
+        Ok(copy) => copy,
+    };
+    let seen = match has(alloc, &copy, &edges) {
+        Err(NoMemory) => has(alloc, &copy, &edges)?,
+        Ok(seen) => seen,
+    };
+    assert!(rt; seen);
+    Ok(())
+}
