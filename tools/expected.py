@@ -289,6 +289,13 @@ def wav_bytes(session):
             + b"data" + struct.pack("<I", len(body)) + body + b"\0" * padding)
 
 
+def replayed(script):
+    """The session of a script that was read as JSON, when it is through, and its transcript."""
+    session = Session(script["context"])
+    last = session.replay(numbered(script["calls"], 1)[0])
+    return session, "\n".join(session.lines + [last]) + "\n"
+
+
 def main():
     words = argparse.ArgumentParser(usage=__doc__)
     words.add_argument("script")
@@ -296,9 +303,7 @@ def main():
     words.add_argument("--check", metavar="WAV")
     words = words.parse_args()
     with open(words.script, "rb") as file:
-        script = json.loads(file.read())
-    session = Session(script["context"])
-    last = session.replay(numbered(script["calls"], 1)[0])
+        session, text = replayed(json.loads(file.read()))
     wav = wav_bytes(session) if session.samples is not None else b""
     if words.check:
         with open(words.check, "rb") as file:
@@ -308,7 +313,7 @@ def main():
             print("%s: %d bytes, expected %d; the first difference is at byte %d"
                   % (words.check, len(found), len(wav), place))
         return 1 if found != wav else 0
-    print("\n".join(session.lines + [last]))
+    print(text, end="")
     if not words.lines and wav:
         for channel in range(session.channels):
             print("channel %d sum %d" % (channel, sum(row[channel] for row in session.samples)))

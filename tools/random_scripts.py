@@ -1,0 +1,429 @@
+#!/usr/bin/env python3
+"""Makes random scripts, and compares what waplay gives for them with what tools/expected.py works out.
+
+Of each script it compares the exit status, the transcript and every byte of the WAV file. A script
+hangs on the seed and its number alone, so each can be made again by itself. It needs Python 3, and
+for --measure the program /usr/bin/time.
+
+    python3 tools/random_scripts.py                       compares 1,000 scripts with the program that
+                                                          ./waplay has built
+    python3 tools/random_scripts.py --count 20000 --seed 7 --jobs 4 --program FILE
+                                                          so many, of this seed, in so many processes,
+                                                          with this program
+    python3 tools/random_scripts.py --seed 7 --print 12   the script with the number 12
+    python3 tools/random_scripts.py --loads FOLDER        writes the scripts that speed is measured
+                                                          with: FOLDER/a.json and so on (see LOADS)
+    python3 tools/random_scripts.py --measure FOLDER      runs the scripts of a folder, and prints the
+                                                          least user time of three runs and the peak
+                                                          memory of each
+
+A comparison prints a line for each difference, then how often each answer came up and which of those
+that can come up did not, and last how many scripts differ. The status is 0 where none does.
+
+A new operation gets a function in "The operations" and a row in OPERATIONS; its answers that no
+other call gives get a row in ANSWERS. A new kind of node gets a row in KINDS too.
+"""
+
+import argparse
+import collections
+import json
+import multiprocessing
+import os
+import random
+import re
+import subprocess
+import sys
+import tempfile
+
+import expected
+
+TOP = os.path.dirname(os.path.dirname(os.path.abspath(__file__)))
+FIX = (-(2**31), 2**31 - 1)
+TIME = 2**40
+ONE = 2**24
+
+
+class Maker:
+    """One script in the making. It keeps which names it gave to which kind of object, whether or not
+    the call that gives them will be refused: a call that names what is not there is wanted too."""
+
+    def __init__(self, rng):
+        self.rng = rng
+        self.names = {}  # of a name, its kind
+        self.made = 0
+        self.length = 1
+
+    # Chances and values.
+
+    def may(self, chance):
+        return self.rng.random() < chance
+
+    def new_name(self):
+        if self.names and self.may(0.05):
+            return self.rng.choice(list(self.names))
+        self.made += 1
+        return "n%d" % self.made + self.rng.choice(["", "", "", "", "-", "_", "x" * (63 - len(str(self.made)))])
+
+    def name(self, *kinds):
+        """A name of one of these kinds, mostly; else any, also of nothing."""
+        fitting = [name for name, kind in self.names.items() if kind in kinds]
+        if "destination" in kinds and self.may(0.25):
+            return "destination"
+        if fitting and self.may(0.93):
+            return self.rng.choice(fitting)
+        return self.rng.choice(["destination", "nobody", "", "a b", "\u00e9\n", *self.names])
+
+    def fix(self):
+        """Mostly a value of moderate size, so that a sum is not always past the range."""
+        some = self.rng.randint(0, 9)
+        if some < 6:
+            return self.rng.randint(-ONE, ONE)
+        if some < 8:
+            return self.rng.choice([0, 1, -1, 2, ONE, -ONE, ONE // 2, ONE - 1, ONE + 1, 3 * ONE])
+        return self.rng.choice([*FIX, self.rng.randint(*FIX)])
+
+    def time(self):
+        """Mostly a frame of the context."""
+        some = self.rng.randint(0, 9)
+        if some < 6:
+            return self.rng.randint(0, self.length)
+        if some < 8:
+            return self.rng.choice([0, 1, 127, 128, 129, 256])
+        return self.rng.choice([self.length + self.rng.randint(-1, 130), -1, TIME, -TIME])
+
+    def index(self):
+        return 0 if self.may(0.9) else self.rng.choice([1, 2, 31, 32, 2**32 - 1])
+
+    def call(self, op, needed=(), **optional):
+        """A call with its needed fields, and some of those that may be absent."""
+        fields = {**dict(needed), **{key: value for key, value in optional.items() if self.may(0.7)}}
+        if self.may(0.01):
+            fields["note"] = [None, {"op": "start"}]
+        return {"op": op, **fields}
+
+    # The operations.
+
+    def create(self, op, **optional):
+        name = self.new_name()
+        self.names[name] = op
+        return self.call(op, [("as", name)], **optional)
+
+    def create_constant(self):
+        return self.create("createConstantSource", offset=self.fix())
+
+    def create_gain(self):
+        return self.create("createGain", gain=self.fix())
+
+    def connect(self):
+        ends = [("from", self.name(*KINDS)), ("to", self.name("createGain", "destination"))]
+        return self.call("connect", ends, output=self.index(), input=self.index())
+
+    def disconnect(self):
+        call = {"op": "disconnect", "from": self.name(*KINDS)}
+        form = self.rng.choice([[], ["output"], ["to"], ["to", "output"], ["to", "output", "input"]])
+        for field in ("output", "to", "input"):
+            if field in form:
+                call[field] = self.name("createGain", "destination") if field == "to" else self.index()
+            elif self.may(0.1):
+                call[field] = None
+        return call
+
+    def start(self):
+        node = [("node", self.name(*SOURCES))]
+        return self.call("start", node, when=self.time(), offset=self.time(), duration=self.rng.choice([None, self.time()]))
+
+    def stop(self):
+        return self.call("stop", [("node", self.name(*SOURCES))], when=self.time())
+
+    def start_rendering(self, depth=0):
+        some = 0 if depth > 3 else self.rng.choice([0, 1, 4, 8])
+        return self.call("startRendering", then=[self.any_call(depth + 1) for _ in range(some)])
+
+    def read(self):
+        call = {"op": self.rng.choice(["readState", "readTime", "resume"])}
+        if self.may(0.05):
+            call["then"] = [{"op": "no operation, and no call"}]
+        return call
+
+    def left_out(self):
+        return {"op": self.rng.choice(list(expected.LEFT_OUT)), "as": self.new_name()}
+
+    def any_call(self, depth=0):
+        rows = [row for row in OPERATIONS if depth or row[1] is not Maker.start_rendering]
+        make = self.rng.choices([make for _, make in rows], [often for often, _ in rows])[0]
+        return make(self, depth) if make is Maker.start_rendering else make(self)
+
+    # The shapes of scripts: each gives the calls of the main list.
+
+    def mixed(self):
+        """Any calls, hostile ones among them; rendering is started before some of them."""
+        calls = [self.create_constant() for _ in range(self.rng.randint(0, 3))]
+        calls += [self.start() for _ in calls]
+        calls += [self.any_call() for _ in range(self.rng.randint(0, self.rng.choice([10, 30, 80])))]
+        calls += [{"op": "connect", "from": name, "to": "destination"} for name in self.names if self.may(0.3)]
+        for _ in range(self.rng.choice([0, 1, 1, 1, 1, 1, 1, 2])):
+            calls.insert(self.rng.randint(len(calls) // 2, len(calls)), self.start_rendering())
+        return calls
+
+    def graph(self):
+        """Nodes and connections, cycles in some; every source starts, some stop, and in some graphs
+        connections are taken away."""
+        calls = [self.create_constant() for _ in range(self.rng.randint(1, 8))]
+        calls += [self.create_gain() for _ in range(self.rng.randint(0, self.rng.choice([3, 12, 40])))]
+        places = list(dict.fromkeys(call["as"] for call in calls))
+        starts = [{"op": "start", "node": name, "when": max(0, self.time())}
+                  for name in places if self.names[name] in SOURCES]
+        backward = self.rng.choice([0, 0, 0.02, 0.3])
+        for _ in range(self.rng.randint(1, 3 * len(places))):
+            a, b = self.rng.randrange(len(places)), self.rng.randrange(len(places) + 1)
+            if b <= a and not self.may(backward):
+                b = len(places)
+            calls.append({"op": "connect", "from": places[a], "to": (places + ["destination"])[b]})
+        calls += starts + [self.stop() for _ in range(self.rng.choice([0, 0, 1, 4]))]
+        calls += [self.disconnect() for _ in range(self.rng.choice([0, 0, 0, 1, 4]))]
+        return calls + [self.start_rendering()]
+
+    def crowd(self):
+        """More nodes than there may be, and then any calls."""
+        calls = [self.rng.choice([self.create_constant, self.create_gain])() for _ in range(1030)]
+        calls += [self.connect() for _ in range(300)] + [self.start() for _ in range(100)]
+        self.length = min(self.length, 130)
+        return calls + [self.any_call() for _ in range(30)] + [self.start_rendering()]
+
+    def tangle(self):
+        """More connections than there may be, each source to each gain, and then any calls."""
+        sources, gains = ([make() for _ in range(98)] for make in (self.create_constant, self.create_gain))
+        calls = sources + gains
+        calls += [{"op": "connect", "from": a["as"], "to": b["as"]} for a in sources for b in gains]
+        calls += [{"op": "start", "node": a["as"]} for a in sources]
+        self.length = min(self.length, 130)
+        return calls + [self.any_call() for _ in range(30)] + [self.start_rendering()]
+
+    def unrendered(self):
+        """A context at the ends of its ranges, within or past them. Rendering is not started."""
+        return [call for call in self.mixed() if call["op"] != "startRendering"]
+
+    def script(self):
+        rng = self.rng
+        shape = rng.choices([shape for _, shape in SHAPES], [often for often, _ in SHAPES])[0]
+        self.length = rng.choice([1, 2, 127, 128, 129, 255, 256, 257]) if self.may(0.2) else rng.randint(1, 600)
+        channels = rng.choice([1, 1, 2, 2, 4, 6, rng.randint(1, 32), 32])
+        rate = rng.choice([8000, 44100, 48000, 96000, rng.randint(8000, 96000)])
+        calls = shape(self)
+        if shape is Maker.unrendered:
+            channels = rng.choice([0, 1, 2, 3, 32, 33, 2**32 - 1])
+            self.length = rng.choice([0, 1, 2**21, 2**21 + 1, 2**25, 2**25 + 1, 2**32 - 1])
+            rate = rng.choice([0, 7999, 8000, 48000, 96000, 96001, 2**32 - 1])
+        elif self.may(0.02):
+            channels = rng.choice([0, 33, 2**32 - 1])
+        return {"version": 1, "context": {"channels": channels, "length": self.length, "rate": rate}, "calls": calls}
+
+
+# How often each operation is called, and what makes a call of it.
+OPERATIONS = [
+    (10, Maker.create_constant),
+    (14, Maker.create_gain),
+    (30, Maker.connect),
+    (10, Maker.disconnect),
+    (16, Maker.start),
+    (8, Maker.stop),
+    (3, Maker.start_rendering),
+    (6, Maker.read),
+    (2, Maker.left_out),
+]
+
+# The kinds of nodes, by the operation that makes them, and those of them that start and stop.
+SOURCES = ["createConstantSource"]
+KINDS = SOURCES + ["createGain"]
+
+# How often a script has each shape. The last two take long to work out.
+SHAPES = [
+    (1200, Maker.mixed),
+    (1000, Maker.graph),
+    (100, Maker.unrendered),
+    (4, Maker.crowd),
+    (2, Maker.tangle),
+]
+
+# The answers that are to come up, as they stand behind an ordinal or at the end, without numbers.
+ANSWERS = """ok
+pending
+resolved
+state suspended
+state running
+state closed
+time
+ended
+complete
+end completed
+end idle
+end refused NotSupportedError
+rejected InvalidStateError
+throw TypeError
+throw IndexSizeError
+throw InvalidStateError
+throw InvalidAccessError
+throw RangeError
+throw NotSupportedError profile:node-limit
+throw NotSupportedError profile:connection-limit
+throw NotSupportedError profile:destination-output""".split("\n") + [
+    "throw NotSupportedError profile:" + feature for feature in expected.LEFT_OUT.values()]
+
+
+def script_of(seed, number):
+    return Maker(random.Random("%d %d" % (seed, number))).script()
+
+
+# The loads.
+
+def script_with(channels, length, calls):
+    return {"version": 1, "context": {"channels": channels, "length": length, "rate": 48000},
+            "calls": calls + [{"op": "startRendering"}]}
+
+
+def sounding(name, offset):
+    return [{"op": "createConstantSource", "as": name, "offset": offset}, {"op": "start", "node": name}]
+
+
+def gain(name, value, *sources):
+    return [{"op": "createGain", "as": name, "gain": value}] + [joined(source, name) for source in sources]
+
+
+def joined(source, target):
+    return {"op": "connect", "from": source, "to": target}
+
+
+def pairs_of_constants_and_gains():
+    calls = []
+    for i in range(200):
+        calls += sounding("c%d" % i, 1000 * i) + gain("g%d" % i, ONE // 2 + i, "c%d" % i)
+        calls.append(joined("g%d" % i, "destination"))
+    return script_with(2, 480000, calls)
+
+
+def chain_of_gains():
+    calls = sounding("g0", ONE // 2)
+    for i in range(1, 401):
+        calls += gain("g%d" % i, ONE - 1 if i % 2 else ONE + 1, "g%d" % (i - 1))
+    return script_with(1, 480000, calls + [joined("g400", "destination")])
+
+
+def layers_of_gains():
+    calls = [call for i in range(30) for call in sounding("g0-%d" % i, 100000 * i)]
+    for layer in range(1, 31):
+        for i in range(30):
+            before = ["g%d-%d" % (layer - 1, (i + k) % 30) for k in range(9)]
+            calls += gain("g%d-%d" % (layer, i), ONE // 9, *before)
+    return script_with(1, 48000, calls + [joined("g30-%d" % i, "destination") for i in range(30)])
+
+
+def as_many_nodes_as_there_may_be():
+    calls = sounding("c", ONE)
+    for i in range(1022):
+        calls += gain("g%d" % i, ONE // 1024, "c") + [joined("g%d" % i, "destination")]
+    return script_with(1, 48000, calls)
+
+
+LOADS = {
+    "a": pairs_of_constants_and_gains,   # 200 constants into 200 gains, 2 channels, 480,000 frames
+    "b": chain_of_gains,                 # 400 gains one behind the other, 1 channel, 480,000 frames
+    "c": layers_of_gains,                # 30 layers of 30 gains with 9 connections each, 48,000 frames
+    "d": as_many_nodes_as_there_may_be,  # a constant into 1,022 gains, 1 channel, 48,000 frames
+}
+
+
+def measure(program, folder):
+    with tempfile.TemporaryDirectory() as work:
+        for name in sorted(name for name in os.listdir(folder) if name.endswith(".json")):
+            runs = []
+            for _ in range(3):
+                with open(os.path.join(folder, name), "rb") as script:
+                    ran = subprocess.run(
+                        ["/usr/bin/time", "-f", "%U %M", program, "out.wav"],
+                        stdin=script, capture_output=True, cwd=work, text=True)
+                runs.append([float(word) for word in ran.stderr.split("\n")[-2].split()])
+            time, memory = (min(column) for column in zip(*runs))
+            print("%s: %.2f s, %.1f MB, status %d" % (name, time, memory / 1000, ran.returncode))
+
+
+# The comparison.
+
+def differences(program, seed, number):
+    """What differs at a script, and the answers that it has."""
+    script = script_of(seed, number)
+    session, text = expected.replayed(script)
+    wav = None if session.samples is None else expected.wav_bytes(session)
+    out = "%d.wav" % os.getpid()
+    if os.path.exists(out):
+        os.remove(out)
+    ran = subprocess.run([program, out], input=json.dumps(script).encode(), stdout=subprocess.PIPE, timeout=600)
+    found = None
+    if os.path.exists(out):
+        with open(out, "rb") as file:
+            found = file.read()
+    wrong = []
+    if ran.returncode != (3 if wav is None else 0):
+        wrong.append("status %d" % ran.returncode)
+    if ran.stdout.decode() != text:
+        wrong.append("transcript")
+    if found != wav:
+        wrong.append("WAV file")
+    answers = [re.sub(r"^\d+ ", "", line) for line in text.splitlines()]
+    return number, wrong, collections.Counter(re.sub(r"^(ended|complete|time) .*", r"\1", it) for it in answers)
+
+
+def compared(job):
+    try:
+        return differences(*job)
+    except Exception as error:
+        return job[2], ["no answer: %r" % error], collections.Counter()
+
+
+def compare(program, seed, count, jobs):
+    wrong, answers = 0, collections.Counter()
+    with tempfile.TemporaryDirectory() as work:
+        with multiprocessing.Pool(jobs, os.chdir, [work]) as pool:
+            work_list = ((program, seed, number) for number in range(count))
+            for number, different, seen in pool.imap_unordered(compared, work_list, 20):
+                answers.update(seen)
+                if different:
+                    wrong += 1
+                    print("script %d of seed %d: %s" % (number, seed, ", ".join(different)), flush=True)
+    for answer, often in answers.most_common():
+        print("%9d %s" % (often, answer))
+    for answer in ANSWERS:
+        if answer not in answers:
+            print("     none %s" % answer)
+    print("%d scripts, %d differences" % (count, wrong))
+    return 1 if wrong else 0
+
+
+def main():
+    words = argparse.ArgumentParser(usage=__doc__)
+    words.add_argument("--seed", type=int, default=1)
+    words.add_argument("--count", type=int, default=1000)
+    words.add_argument("--jobs", type=int, default=os.cpu_count())
+    words.add_argument("--program", default=os.path.join(TOP, "crates", "waplay", "out", "waplay"))
+    words.add_argument("--print", type=int, metavar="NUMBER")
+    words.add_argument("--loads", metavar="FOLDER")
+    words.add_argument("--measure", metavar="FOLDER")
+    words = words.parse_args()
+    program = os.path.abspath(words.program)
+    if words.print is not None:
+        print(json.dumps(script_of(words.seed, words.print)))
+    elif words.loads:
+        for name, load in LOADS.items():
+            with open(os.path.join(words.loads, name + ".json"), "w") as file:
+                json.dump(load(), file)
+    elif not os.access(program, os.X_OK):
+        print("%s is no program: run ./waplay once, which builds it" % program)
+        return 2
+    elif words.measure:
+        measure(program, words.measure)
+    else:
+        return compare(program, words.seed, words.count, words.jobs)
+    return 0
+
+
+if __name__ == "__main__":
+    sys.exit(main())
