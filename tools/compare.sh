@@ -4,9 +4,12 @@
 #
 #     tools/compare.sh             each examples/NAME.json; the tests must have the same texts
 #     tools/compare.sh FILE..      these scripts; the transcript of NAME.json is NAME.txt, if any
+#
+# It runs ./waplay, or the program that the variable WAPLAY names.
 set -u
 
 top=$(CDPATH='' cd "$(dirname "$0")/.." && pwd -P) || exit 2
+waplay=${WAPLAY:-$top/waplay}
 work=$(mktemp -d) || exit 2
 trap 'rm -rf "$work"' EXIT
 
@@ -26,7 +29,7 @@ text = open(sys.argv[1]).read()
 tests = [open(path).read() for path in sys.argv[2:]]
 literal = text.replace("\"", "\\\"").rstrip("\n")
 sys.exit(not any(form in test for form in (text, literal) for test in tests))' \
-        "$1" "$top/crates/replay_top/src/tests.rt" "$top/crates/replay_top/src/tests/graphs.rt"
+        "$1" "$top"/crates/*/src/*.rt "$top"/crates/*/src/*/*.rt
 }
 
 if [ $# -eq 0 ]; then
@@ -41,7 +44,7 @@ fi
 
 for script in "$@"; do
     rm -f "$work/out.wav"
-    "$top/waplay" "$work/out.wav" <"$script" >"$work/lines"
+    "$waplay" "$work/out.wav" <"$script" >"$work/lines"
     status=$?
     python3 "$top/tools/expected.py" "$script" --lines >"$work/expected" || exit 2
     cmp -s "$work/lines" "$work/expected" || fail "$script: another transcript than expected.py's"

@@ -1,0 +1,107 @@
+#!/bin/sh
+# Real runs of the program that the gate leaves, as both compilers built it: over real files, real
+# standard input and real standard output, of which no contract can speak. Run it from anywhere:
+#
+#     tools/after_gate.sh [LINE]     LINE is the gate's last line, 'N passed, M failed'
+#
+# What is not as wanted gets a line. The last line is of the same form as LINE, with the numbers of
+# LINE and of what is looked at here added up, and the status is 0 where M is 0. Where the gate left
+# no program, nothing is run, and a line says so.
+set -u
+
+top=$(CDPATH='' cd "$(dirname "$0")/.." && pwd -P) || exit 2
+work=$(mktemp -d) || exit 2
+trap 'rm -rf "$work"' EXIT
+cd "$work" || exit 2
+
+passed=0
+failed=0
+saw() {
+    if [ "$1" -eq 0 ]; then
+        passed=$((passed + 1))
+    else
+        failed=$((failed + 1))
+        echo "after the gate: $2"
+    fi
+}
+
+# Runs the program with these words on the file `in`: what it must end with, what it must write, and
+# whether out.wav, which holds the word `before`, must stay as it is.
+run() {
+    status=$1
+    stays=$2
+    shift 2
+    echo before >out.wav
+    "$program" "$@" <in >lines 2>&1
+    found=$?
+    [ "$found" -eq "$status" ]
+    saw $? "$program $*: status $found in place of $status"
+    cmp -s lines wanted
+    saw $? "$program $*, status $status: another text than wanted"
+    if [ "$stays" = stays ]; then
+        [ "$(cat out.wav)" = before ]
+        saw $? "$program $*, status $status: the file is not as before"
+    fi
+}
+
+usage='words: waplay [--bits 16|24] [--order up|down] [--mode render|check] [--gen N] OUT'
+constant=$top/examples/constant
+programs=0
+for program in "$top/crates/waplay/out/waplay" "$top/crates/waplay/out/waplay.by-rattle"; do
+    [ -x "$program" ] || continue
+    programs=$((programs + 1))
+
+    # Status 0: transcripts and files to the byte.
+    for script in "$top"/examples/*.json; do
+        WAPLAY=$program "$top/tools/compare.sh" "$script" >differences
+        saw $? "$program: $(cat differences)"
+    done
+
+    # Status 2: words that have no reading.
+    cp "$constant.json" in
+    echo "$usage" >wanted
+    run 2 stays
+    run 2 stays ''
+    run 2 stays -
+    run 2 stays --bits
+    run 2 stays out.wav out.wav
+
+    # Status 3: rendering is not started; the context is refused.
+    echo '{"version":1,"context":{"channels":1,"length":128,"rate":48000},"calls":[{"op":"readTime"}]}' >in
+    printf '1 time 0\nend idle\n' >wanted
+    run 3 stays out.wav
+    echo '{"version":1,"context":{"channels":33,"length":128,"rate":48000},"calls":[{"op":"startRendering"}]}' >in
+    echo 'end refused NotSupportedError' >wanted
+    run 3 stays out.wav
+
+    # Status 4: the script has a fault.
+    : >in
+    echo 'script: BadJson' >wanted
+    run 4 stays out.wav
+    echo '{"version":1,"context":{"channels":1,"length":128,"rate":48000},"calls":[{"op":"start"}]}' >in
+    echo 'script: 1 node MissingField' >wanted
+    run 4 stays out.wav
+
+    # Status 5: the script is too long, by one byte.
+    head -c 16777217 /dev/zero >in
+    : >wanted
+    run 5 stays out.wav
+
+    # Status 9: the file's folder is not there.
+    cp "$constant.json" in
+    cp "$constant.txt" wanted
+    run 9 stays no_folder/out.wav
+done
+
+if [ "$programs" -eq 0 ]; then
+    echo 'after the gate: it left no program, so nothing was run'
+else
+    echo "after the gate: program files run: $programs; as wanted: $passed of $((passed + failed)) looks at real runs with the statuses 0, 2, 3, 4, 5 and 9"
+fi
+if [ $# -gt 0 ]; then
+    rest=${1#* passed, }
+    passed=$((passed + ${1%% *}))
+    failed=$((failed + ${rest%% *}))
+fi
+echo "$passed passed, $failed failed"
+[ "$failed" -eq 0 ]
