@@ -3,7 +3,7 @@
 
 Of each script it compares the exit status, the transcript and every byte of the WAV file. A script
 hangs on the seed and its number alone, so each can be made again by itself. It needs Python 3, and
-for --measure the program /usr/bin/time.
+for --measure GNU time.
 
     python3 tools/random_scripts.py                       compares 1,000 scripts with the program that
                                                           ./waplay has built
@@ -11,6 +11,7 @@ for --measure the program /usr/bin/time.
                                                           so many, of this seed, in so many processes,
                                                           with this program
     python3 tools/random_scripts.py --seed 7 --print 12   the script with the number 12
+    python3 tools/random_scripts.py --seed 7 --shrink 12  the same with as few calls as still differ
     python3 tools/random_scripts.py --loads FOLDER        writes the scripts that speed is measured
                                                           with: FOLDER/a.json and so on (see LOADS)
     python3 tools/random_scripts.py --measure FOLDER      runs the scripts of a folder, and prints the
@@ -20,8 +21,9 @@ for --measure the program /usr/bin/time.
 A comparison prints a line for each difference, then how often each answer came up and which of those
 that can come up did not, and last how many scripts differ. The status is 0 where none does.
 
-A new operation gets a function in "The operations" and a row in OPERATIONS; its answers that no
-other call gives get a row in ANSWERS. A new kind of node gets a row in KINDS too.
+A new operation gets a function in "The operations" and a row in OPERATIONS, or in KINDS where it
+makes a node: from then on other calls name nodes of the kind. An answer that only it gives gets a
+row in ANSWERS.
 """
 
 import argparse
@@ -31,10 +33,12 @@ import multiprocessing
 import os
 import random
 import re
+import shutil
 import subprocess
 import sys
 import tempfile
 
+sys.dont_write_bytecode = True
 import expected
 
 TOP = os.path.dirname(os.path.dirname(os.path.abspath(__file__)))
@@ -51,6 +55,7 @@ class Maker:
         self.rng = rng
         self.names = {}  # of a name, its kind
         self.made = 0
+        self.depth = 0  # of the lists of calls
         self.length = 1
 
     # Chances and values.
@@ -64,14 +69,18 @@ class Maker:
         self.made += 1
         return "n%d" % self.made + self.rng.choice(["", "", "", "", "-", "_", "x" * (63 - len(str(self.made)))])
 
-    def name(self, *kinds):
-        """A name of one of these kinds, mostly; else any, also of nothing."""
-        fitting = [name for name, kind in self.names.items() if kind in kinds]
-        if "destination" in kinds and self.may(0.25):
-            return "destination"
+    def name(self, fits=lambda kind: True):
+        """A name of an object whose kind fits, mostly; else any, also of nothing."""
+        fitting = [name for name, kind in self.names.items() if fits(kind)]
         if fitting and self.may(0.93):
             return self.rng.choice(fitting)
         return self.rng.choice(["destination", "nobody", "", "a b", "\u00e9\n", *self.names])
+
+    def source(self):
+        return self.name(lambda kind: kind.plays)
+
+    def target(self):
+        return "destination" if self.may(0.25) else self.name(lambda kind: kind.inputs)
 
     def fix(self):
         """Mostly a value of moderate size, so that a sum is not always past the range."""
@@ -91,8 +100,12 @@ class Maker:
             return self.rng.choice([0, 1, 127, 128, 129, 256])
         return self.rng.choice([self.length + self.rng.randint(-1, 130), -1, TIME, -TIME])
 
-    def index(self):
-        return 0 if self.may(0.9) else self.rng.choice([1, 2, 31, 32, 2**32 - 1])
+    def index(self, name, field):
+        """The number of an input or an output of a node, mostly one that is there."""
+        there = getattr(self.names.get(name), field, 1)
+        if there and self.may(0.9):
+            return self.rng.randrange(there)
+        return self.rng.choice([0, 1, 2, 31, 32, 2**32 - 1])
 
     def call(self, op, needed=(), **optional):
         """A call with its needed fields, and some of those that may be absent."""
@@ -105,8 +118,18 @@ class Maker:
 
     def create(self, op, **optional):
         name = self.new_name()
-        self.names[name] = op
+        self.names[name] = KINDS[op]
         return self.call(op, [("as", name)], **optional)
+
+    def create_node(self, fits=lambda kind: True):
+        kinds = [kind for kind in KINDS.values() if fits(kind)]
+        return self.rng.choices(kinds, [kind.often for kind in kinds])[0].make(self)
+
+    def create_source(self):
+        return self.create_node(lambda kind: kind.plays)
+
+    def create_place(self):
+        return self.create_node(lambda kind: kind.inputs)
 
     def create_constant(self):
         return self.create("createConstantSource", offset=self.fix())
@@ -115,29 +138,31 @@ class Maker:
         return self.create("createGain", gain=self.fix())
 
     def connect(self):
-        ends = [("from", self.name(*KINDS)), ("to", self.name("createGain", "destination"))]
-        return self.call("connect", ends, output=self.index(), input=self.index())
+        source, target = self.name(), self.target()
+        return self.call("connect", [("from", source), ("to", target)],
+                         output=self.index(source, "outputs"), input=self.index(target, "inputs"))
 
     def disconnect(self):
-        call = {"op": "disconnect", "from": self.name(*KINDS)}
+        source, target = self.name(), self.target()
+        call = {"op": "disconnect", "from": source}
+        values = {"output": self.index(source, "outputs"), "to": target, "input": self.index(target, "inputs")}
         form = self.rng.choice([[], ["output"], ["to"], ["to", "output"], ["to", "output", "input"]])
-        for field in ("output", "to", "input"):
+        for field, value in values.items():
             if field in form:
-                call[field] = self.name("createGain", "destination") if field == "to" else self.index()
+                call[field] = value
             elif self.may(0.1):
                 call[field] = None
         return call
 
     def start(self):
-        node = [("node", self.name(*SOURCES))]
-        return self.call("start", node, when=self.time(), offset=self.time(), duration=self.rng.choice([None, self.time()]))
+        return self.call("start", [("node", self.source())], when=self.time(),
+                         offset=self.time(), duration=self.rng.choice([None, self.time()]))
 
     def stop(self):
-        return self.call("stop", [("node", self.name(*SOURCES))], when=self.time())
+        return self.call("stop", [("node", self.source())], when=self.time())
 
-    def start_rendering(self, depth=0):
-        some = 0 if depth > 3 else self.rng.choice([0, 1, 4, 8])
-        return self.call("startRendering", then=[self.any_call(depth + 1) for _ in range(some)])
+    def start_rendering(self):
+        return self.call("startRendering", then=self.held())
 
     def read(self):
         call = {"op": self.rng.choice(["readState", "readTime", "resume"])}
@@ -148,16 +173,22 @@ class Maker:
     def left_out(self):
         return {"op": self.rng.choice(list(expected.LEFT_OUT)), "as": self.new_name()}
 
-    def any_call(self, depth=0):
-        rows = [row for row in OPERATIONS if depth or row[1] is not Maker.start_rendering]
-        make = self.rng.choices([make for _, make in rows], [often for often, _ in rows])[0]
-        return make(self, depth) if make is Maker.start_rendering else make(self)
+    def any_call(self):
+        makes = [make for _, make in OPERATIONS]
+        return self.rng.choices(makes, [often for often, _ in OPERATIONS])[0](self)
+
+    def held(self):
+        """The calls of a list that a call holds."""
+        self.depth += 1
+        calls = [self.any_call() for _ in range(0 if self.depth > 3 else self.rng.choice([0, 1, 4, 8]))]
+        self.depth -= 1
+        return calls
 
     # The shapes of scripts: each gives the calls of the main list.
 
     def mixed(self):
         """Any calls, hostile ones among them; rendering is started before some of them."""
-        calls = [self.create_constant() for _ in range(self.rng.randint(0, 3))]
+        calls = [self.create_source() for _ in range(self.rng.randint(0, 3))]
         calls += [self.start() for _ in calls]
         calls += [self.any_call() for _ in range(self.rng.randint(0, self.rng.choice([10, 30, 80])))]
         calls += [{"op": "connect", "from": name, "to": "destination"} for name in self.names if self.may(0.3)]
@@ -168,11 +199,11 @@ class Maker:
     def graph(self):
         """Nodes and connections, cycles in some; every source starts, some stop, and in some graphs
         connections are taken away."""
-        calls = [self.create_constant() for _ in range(self.rng.randint(1, 8))]
-        calls += [self.create_gain() for _ in range(self.rng.randint(0, self.rng.choice([3, 12, 40])))]
+        calls = [self.create_source() for _ in range(self.rng.randint(1, 8))]
+        calls += [self.create_place() for _ in range(self.rng.randint(0, self.rng.choice([3, 12, 40])))]
         places = list(dict.fromkeys(call["as"] for call in calls))
         starts = [{"op": "start", "node": name, "when": max(0, self.time())}
-                  for name in places if self.names[name] in SOURCES]
+                  for name in places if self.names[name].plays]
         backward = self.rng.choice([0, 0, 0.02, 0.3])
         for _ in range(self.rng.randint(1, 3 * len(places))):
             a, b = self.rng.randrange(len(places)), self.rng.randrange(len(places) + 1)
@@ -185,14 +216,14 @@ class Maker:
 
     def crowd(self):
         """More nodes than there may be, and then any calls."""
-        calls = [self.rng.choice([self.create_constant, self.create_gain])() for _ in range(1030)]
+        calls = [self.create_node() for _ in range(1030)]
         calls += [self.connect() for _ in range(300)] + [self.start() for _ in range(100)]
         self.length = min(self.length, 130)
         return calls + [self.any_call() for _ in range(30)] + [self.start_rendering()]
 
     def tangle(self):
         """More connections than there may be, each source to each gain, and then any calls."""
-        sources, gains = ([make() for _ in range(98)] for make in (self.create_constant, self.create_gain))
+        sources, gains = ([make() for _ in range(98)] for make in (self.create_source, self.create_gain))
         calls = sources + gains
         calls += [{"op": "connect", "from": a["as"], "to": b["as"]} for a in sources for b in gains]
         calls += [{"op": "start", "node": a["as"]} for a in sources]
@@ -221,20 +252,23 @@ class Maker:
 
 # How often each operation is called, and what makes a call of it.
 OPERATIONS = [
-    (10, Maker.create_constant),
-    (14, Maker.create_gain),
+    (24, Maker.create_node),
     (30, Maker.connect),
     (10, Maker.disconnect),
     (16, Maker.start),
     (8, Maker.stop),
-    (3, Maker.start_rendering),
+    (2, Maker.start_rendering),
     (6, Maker.read),
     (2, Maker.left_out),
 ]
 
-# The kinds of nodes, by the operation that makes them, and those of them that start and stop.
-SOURCES = ["createConstantSource"]
-KINDS = SOURCES + ["createGain"]
+# The kinds of nodes, by the operation that makes them: how often one is made, and by what; how many
+# inputs and outputs it has, and whether it starts and stops.
+Kind = collections.namedtuple("Kind", "often make inputs outputs plays")
+KINDS = {
+    "createConstantSource": Kind(10, Maker.create_constant, 0, 1, True),
+    "createGain": Kind(14, Maker.create_gain, 1, 1, False),
+}
 
 # How often a script has each shape. The last two take long to work out.
 SHAPES = [
@@ -339,18 +373,17 @@ def measure(program, folder):
             for _ in range(3):
                 with open(os.path.join(folder, name), "rb") as script:
                     ran = subprocess.run(
-                        ["/usr/bin/time", "-f", "%U %M", program, "out.wav"],
+                        [shutil.which("time"), "-f", "%U %M", program, "out.wav"],
                         stdin=script, capture_output=True, cwd=work, text=True)
                 runs.append([float(word) for word in ran.stderr.split("\n")[-2].split()])
             time, memory = (min(column) for column in zip(*runs))
-            print("%s: %.2f s, %.1f MB, status %d" % (name, time, memory / 1000, ran.returncode))
+            print("%s: %.2f s, %.1f MiB, status %d" % (name, time, memory / 1024, ran.returncode))
 
 
 # The comparison.
 
-def differences(program, seed, number):
-    """What differs at a script, and the answers that it has."""
-    script = script_of(seed, number)
+def differences(program, script):
+    """What differs at a script, and its transcript."""
     session, text = expected.replayed(script)
     wav = None if session.samples is None else expected.wav_bytes(session)
     out = "%d.wav" % os.getpid()
@@ -364,27 +397,44 @@ def differences(program, seed, number):
     wrong = []
     if ran.returncode != (3 if wav is None else 0):
         wrong.append("status %d" % ran.returncode)
-    if ran.stdout.decode() != text:
+    if ran.stdout != text.encode():
         wrong.append("transcript")
     if found != wav:
         wrong.append("WAV file")
+    return wrong, text
+
+
+def compared(job):
+    program, seed, number = job
+    try:
+        wrong, text = differences(program, script_of(seed, number))
+    except Exception as error:
+        wrong, text = ["no comparison: %r" % error], ""
     answers = [re.sub(r"^\d+ ", "", line) for line in text.splitlines()]
     return number, wrong, collections.Counter(re.sub(r"^(ended|complete|time) .*", r"\1", it) for it in answers)
 
 
-def compared(job):
-    try:
-        return differences(*job)
-    except Exception as error:
-        return job[2], ["no answer: %r" % error], collections.Counter()
+def shrunk(program, script):
+    """The script without calls of its main list that no difference hangs on."""
+    size = len(script["calls"])
+    while size:
+        at = 0
+        while at < len(script["calls"]):
+            less = {**script, "calls": script["calls"][:at] + script["calls"][at + size:]}
+            if differences(program, less)[0]:
+                script = less
+            else:
+                at += size
+        size //= 2
+    return script
 
 
 def compare(program, seed, count, jobs):
     wrong, answers = 0, collections.Counter()
     with tempfile.TemporaryDirectory() as work:
         with multiprocessing.Pool(jobs, os.chdir, [work]) as pool:
-            work_list = ((program, seed, number) for number in range(count))
-            for number, different, seen in pool.imap_unordered(compared, work_list, 20):
+            jobs = ((program, seed, number) for number in range(count))
+            for number, different, seen in pool.imap_unordered(compared, jobs, 20):
                 answers.update(seen)
                 if different:
                     wrong += 1
@@ -405,6 +455,7 @@ def main():
     words.add_argument("--jobs", type=int, default=os.cpu_count())
     words.add_argument("--program", default=os.path.join(TOP, "crates", "waplay", "out", "waplay"))
     words.add_argument("--print", type=int, metavar="NUMBER")
+    words.add_argument("--shrink", type=int, metavar="NUMBER")
     words.add_argument("--loads", metavar="FOLDER")
     words.add_argument("--measure", metavar="FOLDER")
     words = words.parse_args()
@@ -420,6 +471,10 @@ def main():
         return 2
     elif words.measure:
         measure(program, words.measure)
+    elif words.shrink is not None:
+        with tempfile.TemporaryDirectory() as work:
+            os.chdir(work)
+            print(json.dumps(shrunk(program, script_of(words.seed, words.shrink))))
     else:
         return compare(program, words.seed, words.count, words.jobs)
     return 0
