@@ -25,12 +25,11 @@ saw() {
     fi
 }
 
-# Runs the program with these words on the file `in`: what it must end with, what it must write, and
-# whether out.wav, which holds the word `before`, must stay as it is.
+# Runs the program on the file `in`, with all but the first of these words. It must end with the
+# first, write what the file `wanted` has, and leave out.wav as it is, which holds the word `before`.
 run() {
     status=$1
-    stays=$2
-    shift 2
+    shift
     echo before >out.wav
     "$program" "$@" <in >lines 2>&1
     found=$?
@@ -38,10 +37,8 @@ run() {
     saw $? "$program $*: status $found in place of $status"
     cmp -s lines wanted
     saw $? "$program $*, status $status: another text than wanted"
-    if [ "$stays" = stays ]; then
-        [ "$(cat out.wav)" = before ]
-        saw $? "$program $*, status $status: the file is not as before"
-    fi
+    [ "$(cat out.wav)" = before ]
+    saw $? "$program $*, status $status: the file is not as before"
 }
 
 usage='words: waplay [--bits 16|24] [--order up|down] [--mode render|check] [--gen N] OUT'
@@ -60,37 +57,37 @@ for program in "$top/crates/waplay/out/waplay" "$top/crates/waplay/out/waplay.by
     # Status 2: words that have no reading.
     cp "$constant.json" in
     echo "$usage" >wanted
-    run 2 stays
-    run 2 stays ''
-    run 2 stays -
-    run 2 stays --bits
-    run 2 stays out.wav out.wav
+    run 2
+    run 2 ''
+    run 2 -
+    run 2 --bits
+    run 2 out.wav out.wav
 
     # Status 3: rendering is not started; the context is refused.
     echo '{"version":1,"context":{"channels":1,"length":128,"rate":48000},"calls":[{"op":"readTime"}]}' >in
     printf '1 time 0\nend idle\n' >wanted
-    run 3 stays out.wav
+    run 3 out.wav
     echo '{"version":1,"context":{"channels":33,"length":128,"rate":48000},"calls":[{"op":"startRendering"}]}' >in
     echo 'end refused NotSupportedError' >wanted
-    run 3 stays out.wav
+    run 3 out.wav
 
     # Status 4: the script has a fault.
     : >in
     echo 'script: BadJson' >wanted
-    run 4 stays out.wav
+    run 4 out.wav
     echo '{"version":1,"context":{"channels":1,"length":128,"rate":48000},"calls":[{"op":"start"}]}' >in
     echo 'script: 1 node MissingField' >wanted
-    run 4 stays out.wav
+    run 4 out.wav
 
     # Status 5: the script is too long, by one byte.
     head -c 16777217 /dev/zero >in
     : >wanted
-    run 5 stays out.wav
+    run 5 out.wav
 
     # Status 9: the file's folder is not there.
     cp "$constant.json" in
     cp "$constant.txt" wanted
-    run 9 stays no_folder/out.wav
+    run 9 no_folder/out.wav
 done
 
 if [ "$programs" -eq 0 ]; then
