@@ -1,3 +1,4 @@
+pub mod Entries
 pub mod Fields
 pub mod OpNames
 pub mod Ranges

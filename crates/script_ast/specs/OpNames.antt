@@ -1,13 +1,12 @@
 -- The operations of a script: their names, and the fields of their calls.
-use Rattle.std.specs.Prelude.{ℕ, List, [], codes, bytes_eq, Bool, true, false, find, Option}
+use Rattle.std.specs.Prelude.{ℕ, List, [], ◌∷◌, codes, bytes_eq, Bool, true, false, find, Option}
 use Rattle.std.specs.List.{list_any}
 use Rattle.wa_base.specs.declared.features.Feature.{Feature}
 use Rattle.wa_base.specs.declared.features.Feature.TheVariants as feature
+use Rattle.script_ast.specs.Entries as entry
 use Rattle.script_ast.specs.declared.entries.Kind.{Kind}
 use Rattle.script_ast.specs.declared.entries.Kind.TheVariants as kind
 use Rattle.script_ast.specs.declared.entries.Row.{Row}
-use Rattle.script_ast.specs.declared.entries.TheConstants.{CREATE_CONSTANT_SOURCE, CREATE_GAIN, CONNECT, DISCONNECT, START, STOP, START_RENDERING}
-use Rattle.script_ast.specs.declared.op_names.TheConstants.{OP_NAMES}
 use Rattle.script_ast.specs.declared.op_names.LeftOutName.{LeftOutName}
 use Rattle.script_ast.specs.declared.op_names.LeftOutName.TheVariants as left_out
 use Rattle.script_ast.specs.declared.op_names.OpName.{OpName}
@@ -63,23 +62,52 @@ op_word ReadState = codes "readState"
 op_word ReadTime = codes "readTime"
 op_word (LeftOut name) = left_out_word name
 
--- the first of the operations that the text names
+-- every operation
+abbrev pub operations : List OpName
+operations =
+    CreateConstantSource ∷
+    CreateGain ∷
+    Connect ∷
+    Disconnect ∷
+    Start ∷
+    Stop ∷
+    StartRendering ∷
+    Resume ∷
+    ReadState ∷
+    ReadTime ∷
+    LeftOut left_out.CreateOscillator ∷
+    LeftOut left_out.CreatePeriodicWave ∷
+    LeftOut left_out.CreateBiquadFilter ∷
+    LeftOut left_out.CreateStereoPanner ∷
+    LeftOut left_out.CreatePanner ∷
+    LeftOut left_out.CreateDynamicsCompressor ∷
+    LeftOut left_out.CreateAnalyser ∷
+    LeftOut left_out.SetListener ∷
+    LeftOut left_out.CreateMediaElementSource ∷
+    LeftOut left_out.CreateMediaStreamSource ∷
+    LeftOut left_out.CreateMediaStreamTrackSource ∷
+    LeftOut left_out.CreateMediaStreamDestination ∷
+    LeftOut left_out.CreateScriptProcessor ∷
+    LeftOut left_out.CreateAudioWorkletNode ∷
+    LeftOut left_out.CreateConvolver ∷ []
+
+-- the first of these operations that the text names
 abbrev pub first_named : List ℕ → List OpName → Option OpName
 first_named word names = find (λ name. bytes_eq (op_word name) word) names
 
 -- the operation that a text names
 unfoldable pub op_named : List ℕ → Option OpName
-op_named word = first_named word OP_NAMES
+op_named word = first_named word operations
 
 -- the fields of an operation, in the order in which they are read
 abbrev pub fields_of : OpName → List Row
-fields_of CreateConstantSource = CREATE_CONSTANT_SOURCE
-fields_of CreateGain = CREATE_GAIN
-fields_of Connect = CONNECT
-fields_of Disconnect = DISCONNECT
-fields_of Start = START
-fields_of Stop = STOP
-fields_of StartRendering = START_RENDERING
+fields_of CreateConstantSource = entry.create_constant_source
+fields_of CreateGain = entry.create_gain
+fields_of Connect = entry.connect
+fields_of Disconnect = entry.disconnect
+fields_of Start = entry.start
+fields_of Stop = entry.stop
+fields_of StartRendering = entry.start_rendering
 fields_of Resume = []
 fields_of ReadState = []
 fields_of ReadTime = []

@@ -1,3 +1,6 @@
+ghost use Rattle.std.specs.Prelude.{◌≡◌, option_map};
+ghost use Rattle.script_ast.specs.Entries.{row_in, fallback_in};
+
 use crate::fields::Field;
 
 /// What the JSON value of a field has to be.
@@ -44,154 +47,82 @@ pub struct Row {
     pub fallback: Fallback,
 }
 
-// The members of a script, and of its `context`.
+// A row: the name of a field, its kind and its default.
+macro_rules! row {
+    ($field:ident, $kind:ident, $($fallback:tt)+) => {
+        Row {
+            field: Field::$field,
+            kind: Kind::$kind,
+            fallback: Fallback::$($fallback)+,
+        }
+    };
+}
 
-pub const VERSION: Row = Row {
-    field: Field::Version,
-    kind: Kind::Version,
-    fallback: Fallback::Needed,
-};
+// The members of a script, around those of its `context`.
 
-pub const CONTEXT: Row = Row {
-    field: Field::Context,
-    kind: Kind::Object,
-    fallback: Fallback::Needed,
-};
+pub const SCRIPT_HEAD: [Row; 2] = [
+    row!(Version, Version, Needed),
+    row!(Context, Object, Needed),
+];
 
-pub const CALLS: Row = Row {
-    field: Field::Calls,
-    kind: Kind::Calls,
-    fallback: Fallback::Needed,
-};
+pub const CONTEXT_FIELDS: [Row; 3] = [
+    row!(Channels, Count, Needed),
+    row!(Length, Count, Needed),
+    row!(Rate, Count, Needed),
+];
 
-pub const CHANNELS: Row = Row {
-    field: Field::Channels,
-    kind: Kind::Count,
-    fallback: Fallback::Needed,
-};
+pub const SCRIPT_TAIL: [Row; 1] = [row!(Calls, Calls, Needed)];
 
-pub const LENGTH: Row = Row {
-    field: Field::Length,
-    kind: Kind::Count,
-    fallback: Fallback::Needed,
-};
+// The fields of each operation, in the order in which they are read; `then` comes last.
 
-pub const RATE: Row = Row {
-    field: Field::Rate,
-    kind: Kind::Count,
-    fallback: Fallback::Needed,
-};
+pub const CREATE_CONSTANT_SOURCE: [Row; 2] = [
+    row!(As, NewName, Needed),
+    row!(Offset, Fix, Number(16_777_216)),
+];
 
-// The fields of calls.
+pub const CREATE_GAIN: [Row; 2] = [
+    row!(As, NewName, Needed),
+    row!(Gain, Fix, Number(16_777_216)),
+];
 
-pub const AS: Row = Row {
-    field: Field::As,
-    kind: Kind::NewName,
-    fallback: Fallback::Needed,
-};
+pub const CONNECT: [Row; 4] = [
+    row!(From, Name, Needed),
+    row!(Output, Count, Count(0)),
+    row!(To, Name, Needed),
+    row!(Input, Count, Count(0)),
+];
 
-pub const OFFSET: Row = Row {
-    field: Field::Offset,
-    kind: Kind::Fix,
-    fallback: Fallback::Number(16_777_216),
-};
+pub const DISCONNECT: [Row; 4] = [
+    row!(From, Name, Needed),
+    row!(Output, Count, Null),
+    row!(To, Name, Null),
+    row!(Input, Count, Null),
+];
 
-pub const GAIN: Row = Row {
-    field: Field::Gain,
-    kind: Kind::Fix,
-    fallback: Fallback::Number(16_777_216),
-};
+pub const START: [Row; 4] = [
+    row!(Node, Name, Needed),
+    row!(When, Time, Number(0)),
+    row!(Offset, Time, Number(0)),
+    row!(Duration, Time, Null),
+];
 
-pub const FROM: Row = Row {
-    field: Field::From,
-    kind: Kind::Name,
-    fallback: Fallback::Needed,
-};
+pub const STOP: [Row; 2] = [row!(Node, Name, Needed), row!(When, Time, Number(0))];
 
-pub const OUTPUT: Row = Row {
-    field: Field::Output,
-    kind: Kind::Count,
-    fallback: Fallback::Count(0),
-};
+pub const START_RENDERING: [Row; 1] = [row!(Then, Calls, NoCalls)];
 
-pub const OUTPUT_OR_NULL: Row = Row {
-    field: Field::Output,
-    kind: Kind::Count,
-    fallback: Fallback::Null,
-};
+/// The default of the field with this name in an entry; a field that the entry has not is needed.
+pub fn fallback_in(rows: &[Row], field: Field) -> Fallback
+    ensures { result ≡ fallback_in rows.now field }
+{
+    match find_row(rows, field).copied() {
+        Some(row) => row.fallback,
+        None => Fallback::Needed,
+    }
+}
 
-pub const TO: Row = Row {
-    field: Field::To,
-    kind: Kind::Name,
-    fallback: Fallback::Needed,
-};
-
-pub const TO_OR_NULL: Row = Row {
-    field: Field::To,
-    kind: Kind::Name,
-    fallback: Fallback::Null,
-};
-
-pub const INPUT: Row = Row {
-    field: Field::Input,
-    kind: Kind::Count,
-    fallback: Fallback::Count(0),
-};
-
-pub const INPUT_OR_NULL: Row = Row {
-    field: Field::Input,
-    kind: Kind::Count,
-    fallback: Fallback::Null,
-};
-
-pub const NODE: Row = Row {
-    field: Field::Node,
-    kind: Kind::Name,
-    fallback: Fallback::Needed,
-};
-
-pub const WHEN: Row = Row {
-    field: Field::When,
-    kind: Kind::Time,
-    fallback: Fallback::Number(0),
-};
-
-pub const START_OFFSET: Row = Row {
-    field: Field::Offset,
-    kind: Kind::Time,
-    fallback: Fallback::Number(0),
-};
-
-pub const DURATION: Row = Row {
-    field: Field::Duration,
-    kind: Kind::Time,
-    fallback: Fallback::Null,
-};
-
-pub const THEN: Row = Row {
-    field: Field::Then,
-    kind: Kind::Calls,
-    fallback: Fallback::NoCalls,
-};
-
-// The rows of each entry, in the entry's order; `then` comes last.
-
-pub const SCRIPT_HEAD: [Row; 2] = [VERSION, CONTEXT];
-
-pub const CONTEXT_FIELDS: [Row; 3] = [CHANNELS, LENGTH, RATE];
-
-pub const SCRIPT_TAIL: [Row; 1] = [CALLS];
-
-pub const CREATE_CONSTANT_SOURCE: [Row; 2] = [AS, OFFSET];
-
-pub const CREATE_GAIN: [Row; 2] = [AS, GAIN];
-
-pub const CONNECT: [Row; 4] = [FROM, OUTPUT, TO, INPUT];
-
-pub const DISCONNECT: [Row; 4] = [FROM, OUTPUT_OR_NULL, TO_OR_NULL, INPUT_OR_NULL];
-
-pub const START: [Row; 4] = [NODE, WHEN, START_OFFSET, DURATION];
-
-pub const STOP: [Row; 2] = [NODE, WHEN];
-
-pub const START_RENDERING: [Row; 1] = [THEN];
+// The row of the field with this name.
+fn find_row(rows: &[Row], field: Field) -> Option<&Row>
+    ensures { option_map (λ row. row.now) result ≡ row_in rows.now field }
+{
+    rows.iter().find(|row| row.field.word() == field.word())
+}

@@ -1,4 +1,4 @@
-ghost use Rattle.std.specs.Prelude.{◌≡◌, IsTrue, ◌↔◌, IsSome, bytes_eq, option_map};
+ghost use Rattle.std.specs.Prelude.{◌≡◌, Some, IsTrue, ◌↔◌, IsSome, bytes_eq, option_map};
 ghost use Rattle.script_ast.specs.OpNames.{left_out_word, left_out_feature, op_word, op_named, first_named, fields_of, has_calls};
 
 use crate::entries::{
@@ -28,9 +28,11 @@ pub enum LeftOutName {
 }
 
 impl LeftOutName {
-    /// The value of a call's `op` that names the operation.
+    /// The value of a call's `op` that names the operation, and no other one.
+    #[tactic(auto, unfolding(crate::specs::OpNames::op_named))]
     pub fn word(self) -> &'static str
-        ensures { result.now ≡ left_out_word self }
+        ensures word { result.now ≡ left_out_word self }
+        ensures named { op_named result.now ≡ Some (OpName.LeftOut self) }
     {
         match self {
             LeftOutName::CreateOscillator => "createOscillator",
@@ -121,9 +123,11 @@ pub const OP_NAMES: [OpName; 25] = [
 ];
 
 impl OpName {
-    /// The value of a call's `op` that names the operation.
+    /// The value of a call's `op` that names the operation, and no other one.
+    #[tactic(auto, unfolding(crate::specs::OpNames::op_named))]
     pub fn word(self) -> &'static str
-        ensures { result.now ≡ op_word self }
+        ensures word { result.now ≡ op_word self }
+        ensures named { op_named result.now ≡ Some self }
     {
         match self {
             OpName::CreateConstantSource => "createConstantSource",

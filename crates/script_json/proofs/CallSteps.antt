@@ -16,7 +16,6 @@ use Rattle.std.proofs.lemmas.Grind.{flat_map-append}
 use Rattle.std.proofs.lemmas.List.Elements.{filter_map-append}
 use Rattle.serde_json.specs.Find.{as_object, as_array, get_member}
 use Rattle.script_ast.specs.Fields.{field_word}
-use Rattle.script_ast.specs.declared.entries.TheConstants.{THEN}
 use Rattle.script_ast.specs.OpNames.{fields_of, has_calls}
 use Rattle.script_ast.specs.declared.fields.Field.TheVariants as field
 use Rattle.script_ast.specs.declared.op_names.OpName.{OpName}
@@ -77,7 +76,7 @@ pub call_read-named : (n holder : ℕ) (d : Data) (name : OpName) → is_some (a
 unfolding call_read call_faults call_of
 call_read-named n holder d name is_object named = rw (is_object, named) refl
 
-pub held_list-named : (d : Data) (name : OpName) → name_in d ≡ Some name → has_calls name ≡ true → held_list d ≡ list_in THEN d
+pub held_list-named : (d : Data) (name : OpName) → name_in d ≡ Some name → has_calls name ≡ true → held_list d ≡ list_in field.Then d
 unfolding held_list
 held_list-named d name named has = rw (named, has) refl
 
@@ -109,7 +108,7 @@ unfolding placed
 then_calls-placed no_members n = refl
 then_calls-placed (member key d ms) n = rw (← is_eq-slice_cmp (field_word field.Then) key) (then_calls-member (slice_cmp nat_cmp (field_word field.Then) key) key d ms n (then_calls-placed ms n))
 
-placed_if : (b : Bool) (ms : Members) (n : ℕ) → (if b then then_calls ms n else []) ≡ placed (if b then list_in THEN (object ms) else no_items) n n
+placed_if : (b : Bool) (ms : Members) (n : ℕ) → (if b then then_calls ms n else []) ≡ placed (if b then list_in field.Then (object ms) else no_items) n n
 unfolding placed
 placed_if true ms n = then_calls-placed ms n
 placed_if false ms n = refl

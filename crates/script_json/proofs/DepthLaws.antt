@@ -9,7 +9,6 @@ use Rattle.serde_json.specs.Find.{get, get_member, as_array, as_object}
 use Rattle.serde_json.specs.View.{view, items_view}
 use Rattle.serde_json.specs.declared.value.Value.{Value}
 use Rattle.script_ast.specs.Fields.{field_word}
-use Rattle.script_ast.specs.declared.entries.TheConstants.{THEN}
 use Rattle.script_ast.specs.declared.fields.Field.TheVariants as field
 use Rattle.script_json.specs.Calls.{has_then, name_in}
 use Rattle.script_json.specs.Reading.{held_list}
@@ -43,7 +42,7 @@ get_depth key (string s) h = cc
 get_depth key (array ds) h = cc
 get_depth key (object ms) h = omega (arith, member_depth key ms)
 
-held_test : (b : Bool) (d : Data) → is_some (as_object d) ≡ true → items_depth (if b then list_in THEN d else no_items) < depth d
+held_test : (b : Bool) (d : Data) → is_some (as_object d) ≡ true → items_depth (if b then list_in field.Then d else no_items) < depth d
 held_test true d h = get_depth (field_word field.Then) d h
 held_test false d h = omega (arith, get_depth (field_word field.Then) d h)
 

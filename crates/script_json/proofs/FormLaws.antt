@@ -4,8 +4,11 @@ use Rattle.std.specs.Prelude.{IsSome, is_some, not, ◌&&◌, nat_abs, option_an
 use Rattle.serde_json.specs.Data.{Data, null, boolean, number, string, array, object}
 use Rattle.serde_json.specs.Find.{as_null, as_str}
 use Rattle.script_ast.specs.Ranges.{IsDisconnectForm}
-use Rattle.script_ast.specs.declared.entries.TheConstants.{DISCONNECT, FROM, OUTPUT_OR_NULL, TO_OR_NULL, INPUT_OR_NULL}
+use Rattle.script_ast.specs.Entries.{row, disconnect}
+use Rattle.script_ast.specs.declared.entries.Fallback.TheVariants.{Needed, Null}
+use Rattle.script_ast.specs.declared.entries.Kind.TheVariants as kind
 use Rattle.script_ast.specs.declared.fields.Field.{Field}
+use Rattle.script_ast.specs.declared.fields.Field.TheVariants as field
 use Rattle.script_json.proofs.CallSteps.{both_none}
 use Rattle.script_json.specs.Calls.{form_faults}
 use Rattle.script_json.specs.Fields.{member_at, is_given, is_there, lack_faults, cause_faults, member_faults, field_faults, fields_faults, number_within, count_or_null_in, text_or_null_in}
@@ -41,11 +44,11 @@ faults_given : (faults : List ScriptErr) (b : Bool) → not b ≡ true → (if t
 faults_given faults true there h = cc
 faults_given faults false there h = h
 
-count_there : (n : ℕ) (o : Option Data) → member_faults n OUTPUT_OR_NULL o ≡ [] → is_given o ≡ true → IsSome (count_value o)
+count_there : (n : ℕ) (o : Option Data) → member_faults n (row field.Output kind.Count Null) o ≡ [] → is_given o ≡ true → IsSome (count_value o)
 count_there n None h there = cc
 count_there n (Some d) h there = number_given n _ (whole d) (faults_given _ (is_some (as_null d)) there h)
 
-text_there : (n : ℕ) (o : Option Data) → member_faults n TO_OR_NULL o ≡ [] → is_given o ≡ true → IsSome (text_value o)
+text_there : (n : ℕ) (o : Option Data) → member_faults n (row field.To kind.Name Null) o ≡ [] → is_given o ≡ true → IsSome (text_value o)
 text_there n None h there = cc
 text_there n (Some d) h there = text_given n _ (is_some (as_str d)) (faults_given _ (is_some (as_null d)) there h)
 
@@ -66,8 +69,8 @@ no_lack : (b : Bool) (fault : ScriptErr) → (if b then [] else fault ∷ []) �
 no_lack true fault h = refl
 no_lack false fault h = cc
 
-beside_input : (n : ℕ) (d : Data) (b : Bool) → (if b then lack_faults n d TO_OR_NULL ++ lack_faults n d OUTPUT_OR_NULL else []) ≡ [] → b ≡ true
-    → (is_there OUTPUT_OR_NULL d ≡ true) × (is_there TO_OR_NULL d ≡ true)
+beside_input : (n : ℕ) (d : Data) (b : Bool) → (if b then lack_faults n d field.To ++ lack_faults n d field.Output else []) ≡ [] → b ≡ true
+    → (is_there field.Output d ≡ true) × (is_there field.To d ≡ true)
 beside_input n d true h there = let e = both_none _ _ h in (no_lack _ _ e.1, no_lack _ _ e.0)
 beside_input n d false h there = cc
 
@@ -80,11 +83,11 @@ middle_none ws xs ys zs h =
     let after_first = (both_none ws (xs ++ (ys ++ zs)) h).1 in
     ((both_none xs (ys ++ zs) after_first).0, (both_none ys zs (both_none xs (ys ++ zs) after_first).1).0)
 
-pub disconnect_form : (n : ℕ) (d : Data) → fields_faults n d DISCONNECT ≡ [] → form_faults n d ≡ []
-    → IsDisconnectForm (count_or_null_in OUTPUT_OR_NULL d) (text_or_null_in TO_OR_NULL d) (count_or_null_in INPUT_OR_NULL d)
+pub disconnect_form : (n : ℕ) (d : Data) → fields_faults n d disconnect ≡ [] → form_faults n d ≡ []
+    → IsDisconnectForm (count_or_null_in field.Output d) (text_or_null_in field.To d) (count_or_null_in field.Input d)
 unfolding count_or_null_in text_or_null_in
 disconnect_form n d fields form =
-    let good = middle_none (field_faults n d FROM) (field_faults n d OUTPUT_OR_NULL) (field_faults n d TO_OR_NULL) _ fields in
-    form_of (count_value (member_at OUTPUT_OR_NULL d)) (text_value (member_at TO_OR_NULL d)) (count_value (member_at INPUT_OR_NULL d)) (λ input.
-    let there = beside_input n d (is_there INPUT_OR_NULL d) form (value_there (member_at INPUT_OR_NULL d) input) in
-    (count_there n (member_at OUTPUT_OR_NULL d) good.0 there.0, text_there n (member_at TO_OR_NULL d) good.1 there.1))
+    let good = middle_none (field_faults n d (row field.From kind.Name Needed)) (field_faults n d (row field.Output kind.Count Null)) (field_faults n d (row field.To kind.Name Null)) _ fields in
+    form_of (count_value (member_at field.Output d)) (text_value (member_at field.To d)) (count_value (member_at field.Input d)) (λ input.
+    let there = beside_input n d (is_there field.Input d) form (value_there (member_at field.Input d) input) in
+    (count_there n (member_at field.Output d) good.0 there.0, text_there n (member_at field.To d) good.1 there.1))

@@ -13,8 +13,11 @@ use Rattle.script_ast.specs.Fields.{field_word}
 use Rattle.script_ast.specs.Ranges.{IsFix, IsTime, IsTimeIfSome, IsCount, IsCountIfSome, IsNewName, IsInRange, is_new_name}
 use Rattle.script_ast.specs.WellFormed.{IsCallAt, AreCallsAfter, IsWellFormed}
 use Rattle.script_ast.specs.declared.call_list.Call.{Call}
+use Rattle.script_ast.specs.Entries.{row, fallback_in, context_fields}
+use Rattle.script_ast.specs.declared.entries.Fallback.TheVariants.{Needed}
+use Rattle.script_ast.specs.declared.entries.Kind.TheVariants as kind
 use Rattle.script_ast.specs.declared.entries.Row.{Row}
-use Rattle.script_ast.specs.declared.entries.TheConstants.{AS, CHANNELS, LENGTH, RATE}
+use Rattle.script_ast.specs.declared.fields.Field.{Field}
 use Rattle.script_ast.specs.declared.fields.Field.TheVariants as field
 use Rattle.script_ast.specs.declared.op_names.OpName.{OpName}
 use Rattle.script_ast.specs.declared.op_names.OpName.TheVariants.{CreateConstantSource, CreateGain, Connect, Disconnect, Start, Stop, StartRendering, Resume, ReadState, ReadTime, LeftOut}
@@ -55,13 +58,13 @@ within_or_zero : (low high : ℤ) (o : Option ℤ) → low ≤ℤ pos 0 → pos 
 within_or_zero low high None below above = (below, above)
 within_or_zero low high (Some z) below above = within_test low high z (is_within low high z) refl below above
 
-pub fix_in-range : (row : Row) (d : Data) → IsFix (number_in (neg_ℤ (pos 2147483648)) (pos 2147483647) row d)
+pub fix_in-range : (entry : List Row) (field : Field) (d : Data) → IsFix (number_in (neg_ℤ (pos 2147483648)) (pos 2147483647) entry field d)
 unfolding number_in
-fix_in-range row d = within_or_zero _ _ (given_number row (member_at row d)) (le_z_yes tt) (le_z_yes tt)
+fix_in-range entry field d = within_or_zero _ _ (given_number (fallback_in entry field) (member_at field d)) (le_z_yes tt) (le_z_yes tt)
 
-pub time_in-range : (row : Row) (d : Data) → IsTime (number_in (neg_ℤ (pos 1099511627776)) (pos 1099511627776) row d)
+pub time_in-range : (entry : List Row) (field : Field) (d : Data) → IsTime (number_in (neg_ℤ (pos 1099511627776)) (pos 1099511627776) entry field d)
 unfolding number_in
-time_in-range row d = within_or_zero _ _ (given_number row (member_at row d)) (le_z_yes tt) (le_z_yes tt)
+time_in-range entry field d = within_or_zero _ _ (given_number (fallback_in entry field) (member_at field d)) (le_z_yes tt) (le_z_yes tt)
 
 time_test : (z : ℤ) (b : Bool) → is_within (neg_ℤ (pos 1099511627776)) (pos 1099511627776) z ≡ b → IsTimeIfSome (if b then Some z else None)
 time_test z true h = let e = both_true _ _ h in (int_le-true _ z e.0, int_le-true z _ e.1)
@@ -71,17 +74,17 @@ time_within : (o : Option ℤ) → IsTimeIfSome (number_within (neg_ℤ (pos 109
 time_within None = tt
 time_within (Some z) = time_test z _ refl
 
-pub time_or_null_in-range : (row : Row) (d : Data) → IsTimeIfSome (time_or_null_in row d)
+pub time_or_null_in-range : (field : Field) (d : Data) → IsTimeIfSome (time_or_null_in field d)
 unfolding time_or_null_in
-time_or_null_in-range row d = time_within (option_and_then whole (member_at row d))
+time_or_null_in-range field d = time_within (option_and_then whole (member_at field d))
 
 count_of : (z : ℤ) → (pos 0 ≤ℤ z) × (z ≤ℤ pos 4294967295) → IsCount (nat_abs z)
 count_of (pos n) h = omega (arith, ints, h.1)
 count_of (negsuc n) h = absurd (omega (arith, ints, h.0))
 
-pub count_in-range : (row : Row) (d : Data) → IsCount (count_in row d)
+pub count_in-range : (entry : List Row) (field : Field) (d : Data) → IsCount (count_in entry field d)
 unfolding number_in
-count_in-range row d = count_of _ (within_or_zero _ _ (given_number row (member_at row d)) (le_z_yes tt) (le_z_yes tt))
+count_in-range entry field d = count_of _ (within_or_zero _ _ (given_number (fallback_in entry field) (member_at field d)) (le_z_yes tt) (le_z_yes tt))
 
 count_test : (z : ℤ) (b : Bool) → is_within (pos 0) (pos 4294967295) z ≡ b → IsCountIfSome (option_map nat_abs (if b then Some z else None))
 count_test z true h = let e = both_true _ _ h in count_of z (int_le-true _ z e.0, int_le-true z _ e.1)
@@ -91,9 +94,9 @@ count_within : (o : Option ℤ) → IsCountIfSome (option_map nat_abs (number_wi
 count_within None = tt
 count_within (Some z) = count_test z _ refl
 
-pub count_or_null_in-range : (row : Row) (d : Data) → IsCountIfSome (count_or_null_in row d)
+pub count_or_null_in-range : (field : Field) (d : Data) → IsCountIfSome (count_or_null_in field d)
 unfolding count_or_null_in
-count_or_null_in-range row d = count_within (option_and_then whole (member_at row d))
+count_or_null_in-range field d = count_within (option_and_then whole (member_at field d))
 
 new_name_test : (n : ℕ) (name : List ℕ) (b : Bool) → is_new_name name ≡ b → cause_faults n field.As (if b then None else Some OutOfRange) ≡ [] → is_new_name name ≡ true
 new_name_test n name true h none = h
@@ -103,23 +106,23 @@ new_name_text : (n : ℕ) (o : Option (List ℕ)) → cause_faults n field.As (n
 new_name_text n None h = cc
 new_name_text n (Some name) h = new_name_test n name _ refl h
 
-new_name_member : (n : ℕ) (o : Option Data) → member_faults n AS o ≡ [] → IsNewName (unwrap_or (option_and_then as_str o) [])
+new_name_member : (n : ℕ) (o : Option Data) → member_faults n (row field.As kind.NewName Needed) o ≡ [] → IsNewName (unwrap_or (option_and_then as_str o) [])
 new_name_member n None h = cc
 new_name_member n (Some d) h = new_name_text n (as_str d) h
 
-pub text_in-new_name : (n : ℕ) (d : Data) → field_faults n d AS ≡ [] → IsNewName (text_in AS d)
+pub text_in-new_name : (n : ℕ) (d : Data) → field_faults n d (row field.As kind.NewName Needed) ≡ [] → IsNewName (text_in field.As d)
 unfolding text_in
-text_in-new_name n d h = new_name_member n (member_at AS d) h
+text_in-new_name n d h = new_name_member n (member_at field.As d) h
 
 pub op_in-range : (n : ℕ) (d : Data) (name : OpName) → op_faults n d name ≡ [] → IsInRange (op_in name d)
-op_in-range n d CreateConstantSource h = (text_in-new_name n d (both_none _ _ (both_none _ _ h).0).0, fix_in-range _ d)
-op_in-range n d CreateGain h = (text_in-new_name n d (both_none _ _ (both_none _ _ h).0).0, fix_in-range _ d)
-op_in-range n d Connect h = (count_in-range _ d, count_in-range _ d)
+op_in-range n d CreateConstantSource h = (text_in-new_name n d (both_none _ _ (both_none _ _ h).0).0, fix_in-range _ _ d)
+op_in-range n d CreateGain h = (text_in-new_name n d (both_none _ _ (both_none _ _ h).0).0, fix_in-range _ _ d)
+op_in-range n d Connect h = (count_in-range _ _ d, count_in-range _ _ d)
 op_in-range n d Disconnect h =
     let e = both_none _ _ h in
     (count_or_null_in-range _ d, count_or_null_in-range _ d, disconnect_form n d e.0 e.1)
-op_in-range n d Start h = (time_in-range _ d, time_in-range _ d, time_or_null_in-range _ d)
-op_in-range n d Stop h = time_in-range _ d
+op_in-range n d Start h = (time_in-range _ _ d, time_in-range _ _ d, time_or_null_in-range _ d)
+op_in-range n d Stop h = time_in-range _ _ d
 op_in-range n d StartRendering h = tt
 op_in-range n d Resume h = tt
 op_in-range n d ReadState h = tt
@@ -222,8 +225,8 @@ read_well_formed d context ds calls head read =
     let e = outcome_ok _ _ _ head in
     let f = outcome_ok _ _ _ read in
     record {
-      channels = rw (← e.1) (count_in-range CHANNELS (context_in d));
-      frames = rw (← e.1) (count_in-range LENGTH (context_in d));
-      rate = rw (← e.1) (count_in-range RATE (context_in d));
+      channels = rw (← e.1) (count_in-range context_fields field.Channels (context_in d));
+      frames = rw (← e.1) (count_in-range context_fields field.Length (context_in d));
+      rate = rw (← e.1) (count_in-range context_fields field.Rate (context_in d));
       calls = rw (← f.1) (placed_good ds 0 0 (omega arith) f.0);
     }

@@ -2,10 +2,10 @@
 use Rattle.std.specs.Prelude.{ℕ, ◌+◌, List, [], ◌∷◌, ◌++◌, length, bytes_eq, Bool, false, if◌then◌else◌, Option, Some, None, option_and_then, option_map, is_some}
 use Rattle.serde_json.specs.Data.{Data, null, boolean, number, string, array, object, Items, no_items, item, Members, no_members, member}
 use Rattle.serde_json.specs.Find.{get, as_object, as_str}
+use Rattle.script_ast.specs.Entries as entry
 use Rattle.script_ast.specs.Fields.{field_word}
 use Rattle.script_ast.specs.OpNames.{op_named, fields_of, has_calls, left_out_feature}
 use Rattle.script_ast.specs.declared.call_list.Call.{Call}
-use Rattle.script_ast.specs.declared.entries.TheConstants.{AS, OFFSET, GAIN, FROM, OUTPUT, OUTPUT_OR_NULL, TO, TO_OR_NULL, INPUT, INPUT_OR_NULL, NODE, WHEN, START_OFFSET, DURATION}
 use Rattle.script_ast.specs.declared.fields.Field.TheVariants as field
 use Rattle.script_ast.specs.declared.op_names.OpName.{OpName}
 use Rattle.script_ast.specs.declared.op_names.OpName.TheVariants.{CreateConstantSource, CreateGain, Connect, Disconnect, Start, Stop, StartRendering, Resume, ReadState, ReadTime, LeftOut}
@@ -63,21 +63,12 @@ unfoldable mutual
 
 -- the faults of a disconnect whose fields are not those of one of its forms: where there is an input, `to` has to be there, and then the output
 abbrev pub form_faults : ℕ → Data → List ScriptErr
-form_faults n d = if is_there INPUT_OR_NULL d then lack_faults n d TO_OR_NULL ++ lack_faults n d OUTPUT_OR_NULL else []
+form_faults n d = if is_there field.Input d then lack_faults n d field.To ++ lack_faults n d field.Output else []
 
 -- the faults of a call n that lie in several of its fields together: only a disconnect has any
 abbrev pub joint_faults : ℕ → Data → OpName → List ScriptErr
-joint_faults n d CreateConstantSource = []
-joint_faults n d CreateGain = []
-joint_faults n d Connect = []
 joint_faults n d Disconnect = form_faults n d
-joint_faults n d Start = []
-joint_faults n d Stop = []
-joint_faults n d StartRendering = []
-joint_faults n d Resume = []
-joint_faults n d ReadState = []
-joint_faults n d ReadTime = []
-joint_faults n d (LeftOut name) = []
+joint_faults n d _ = []
 
 -- the faults of the fields of a call n of the operation: first those of each field, then those of several together
 abbrev pub op_faults : ℕ → Data → OpName → List ScriptErr
@@ -94,12 +85,12 @@ call_faults call = if is_some (as_object call.value) then name_faults call.ordin
 
 -- a call of an operation with its fields
 abbrev pub op_in : OpName → Data → Op
-op_in CreateConstantSource d = op.CreateConstantSource (text_in AS d) (fix_in OFFSET d)
-op_in CreateGain d = op.CreateGain (text_in AS d) (fix_in GAIN d)
-op_in Connect d = op.Connect (text_in FROM d) (count_in OUTPUT d) (text_in TO d) (count_in INPUT d)
-op_in Disconnect d = op.Disconnect (text_in FROM d) (count_or_null_in OUTPUT_OR_NULL d) (text_or_null_in TO_OR_NULL d) (count_or_null_in INPUT_OR_NULL d)
-op_in Start d = op.Start (text_in NODE d) (time_in WHEN d) (time_in START_OFFSET d) (time_or_null_in DURATION d)
-op_in Stop d = op.Stop (text_in NODE d) (time_in WHEN d)
+op_in CreateConstantSource d = op.CreateConstantSource (text_in field.As d) (fix_in entry.create_constant_source field.Offset d)
+op_in CreateGain d = op.CreateGain (text_in field.As d) (fix_in entry.create_gain field.Gain d)
+op_in Connect d = op.Connect (text_in field.From d) (count_in entry.connect field.Output d) (text_in field.To d) (count_in entry.connect field.Input d)
+op_in Disconnect d = op.Disconnect (text_in field.From d) (count_or_null_in field.Output d) (text_or_null_in field.To d) (count_or_null_in field.Input d)
+op_in Start d = op.Start (text_in field.Node d) (time_in entry.start field.When d) (time_in entry.start field.Offset d) (time_or_null_in field.Duration d)
+op_in Stop d = op.Stop (text_in field.Node d) (time_in entry.stop field.When d)
 op_in StartRendering d = op.StartRendering
 op_in Resume d = op.Resume
 op_in ReadState d = op.ReadState

@@ -1,7 +1,8 @@
--- The members of a call, or of a script, by the rows of its table: their faults, and their values.
+-- The members of a call, of a script or of its context, by the rows of its entry: their faults, and their values.
 use Rattle.std.specs.Prelude.{ℕ, List, [], ◌∷◌, flat_map, Bool, true, false, not, ◌&&◌, if◌then◌else◌, ℤ, pos, neg_ℤ, nat_abs, Option, Some, None, option_and_then, option_map, unwrap_or, is_some}
 use Rattle.serde_json.specs.Data.{Data, Items, no_items}
 use Rattle.serde_json.specs.Find.{get, as_array, as_null, as_str}
+use Rattle.script_ast.specs.Entries.{fallback_in}
 use Rattle.script_ast.specs.declared.entries.Row.{Row}
 use Rattle.script_ast.specs.declared.entries.Fallback.{Fallback}
 use Rattle.script_ast.specs.declared.entries.Fallback.TheVariants.{Needed, Null, Number, Count, NoCalls}
@@ -13,18 +14,18 @@ use Rattle.script_json.specs.declared.faults.ScriptErr.TheVariants as fault
 use Rattle.script_json.specs.declared.values.Cause.{Cause}
 use Rattle.script_json.specs.declared.values.Cause.TheVariants.{WrongKind, OutOfRange}
 
--- the member that a row names
-abbrev pub member_at : Row → Data → Option Data
-member_at row d = get (field_word row.field) d
+-- the member with a field's name
+abbrev pub member_at : Field → Data → Option Data
+member_at field d = get (field_word field) d
 
 -- whether a member is there, where null counts as absent
 abbrev pub is_given : Option Data → Bool
 is_given None = false
 is_given (Some d) = not (is_some (as_null d))
 
--- whether the member that a row names is there, where null counts as absent
-abbrev pub is_there : Row → Data → Bool
-is_there row d = is_given (member_at row d)
+-- whether a field is there, where null counts as absent
+abbrev pub is_there : Field → Data → Bool
+is_there field d = is_given (member_at field d)
 
 -- ---- faults
 
@@ -57,15 +58,15 @@ member_faults n row (Some d) = if takes_null row.fallback && is_some (as_null d)
 
 -- the faults of one field of the call n
 abbrev pub field_faults : ℕ → Data → Row → List ScriptErr
-field_faults n d row = member_faults n row (member_at row d)
+field_faults n d row = member_faults n row (member_at row.field d)
 
 -- the faults of the fields of the call n, in the order of the rows
 abbrev pub fields_faults : ℕ → Data → List Row → List ScriptErr
 fields_faults n d rows = flat_map (field_faults n d) rows
 
--- the fault of a member of the call n that has to be there, where null counts as absent
-abbrev pub lack_faults : ℕ → Data → Row → List ScriptErr
-lack_faults n d row = if is_there row d then [] else fault.MissingField n row.field ∷ []
+-- the fault of a field of the call n that has to be there, where null counts as absent
+abbrev pub lack_faults : ℕ → Data → Field → List ScriptErr
+lack_faults n d field = if is_there field d then [] else fault.MissingField n field ∷ []
 
 -- ---- values: of a field without a fault. Where it has one they are 0, empty or none, and nothing stands on them
 
@@ -83,42 +84,42 @@ number_within low high None = None
 number_within low high (Some z) = if is_within low high z then Some z else None
 
 -- the whole number of the member, or the default where it is absent
-abbrev pub given_number : Row → Option Data → Option ℤ
-given_number row None = default_number row.fallback
-given_number row (Some d) = whole d
+abbrev pub given_number : Fallback → Option Data → Option ℤ
+given_number fallback None = default_number fallback
+given_number fallback (Some d) = whole d
 
--- the whole number of a field from low to high
-unfoldable pub number_in : ℤ → ℤ → Row → Data → ℤ
-number_in low high row d = unwrap_or (number_within low high (given_number row (member_at row d))) (pos 0)
+-- the whole number, from low to high, of a field of an entry
+unfoldable pub number_in : ℤ → ℤ → List Row → Field → Data → ℤ
+number_in low high entry field d = unwrap_or (number_within low high (given_number (fallback_in entry field) (member_at field d))) (pos 0)
 
--- the value of a field, in units of 2^-24
-abbrev pub fix_in : Row → Data → ℤ
-fix_in row d = number_in (neg_ℤ (pos 2147483648)) (pos 2147483647) row d
+-- the value of a field of an entry, in units of 2^-24
+abbrev pub fix_in : List Row → Field → Data → ℤ
+fix_in entry field d = number_in (neg_ℤ (pos 2147483648)) (pos 2147483647) entry field d
 
--- the number of frames of a field
-abbrev pub time_in : Row → Data → ℤ
-time_in row d = number_in (neg_ℤ (pos 1099511627776)) (pos 1099511627776) row d
+-- the number of frames of a field of an entry
+abbrev pub time_in : List Row → Field → Data → ℤ
+time_in entry field d = number_in (neg_ℤ (pos 1099511627776)) (pos 1099511627776) entry field d
 
 -- the number of frames of a field that may be null; none where it is null or absent
-unfoldable pub time_or_null_in : Row → Data → Option ℤ
-time_or_null_in row d = number_within (neg_ℤ (pos 1099511627776)) (pos 1099511627776) (option_and_then whole (member_at row d))
+unfoldable pub time_or_null_in : Field → Data → Option ℤ
+time_or_null_in field d = number_within (neg_ℤ (pos 1099511627776)) (pos 1099511627776) (option_and_then whole (member_at field d))
 
--- the count of a field
-abbrev pub count_in : Row → Data → ℕ
-count_in row d = nat_abs (number_in (pos 0) (pos 4294967295) row d)
+-- the count of a field of an entry
+abbrev pub count_in : List Row → Field → Data → ℕ
+count_in entry field d = nat_abs (number_in (pos 0) (pos 4294967295) entry field d)
 
 -- the count of a field that may be null; none where it is null or absent
-unfoldable pub count_or_null_in : Row → Data → Option ℕ
-count_or_null_in row d = option_map nat_abs (number_within (pos 0) (pos 4294967295) (option_and_then whole (member_at row d)))
+unfoldable pub count_or_null_in : Field → Data → Option ℕ
+count_or_null_in field d = option_map nat_abs (number_within (pos 0) (pos 4294967295) (option_and_then whole (member_at field d)))
 
 -- the list of a field
-abbrev pub list_in : Row → Data → Items
-list_in row d = unwrap_or (option_and_then as_array (member_at row d)) no_items
+abbrev pub list_in : Field → Data → Items
+list_in field d = unwrap_or (option_and_then as_array (member_at field d)) no_items
 
 -- the text of a field
-unfoldable pub text_in : Row → Data → List ℕ
-text_in row d = unwrap_or (option_and_then as_str (member_at row d)) []
+unfoldable pub text_in : Field → Data → List ℕ
+text_in field d = unwrap_or (option_and_then as_str (member_at field d)) []
 
 -- the text of a field that may be null; none where it is null or absent
-unfoldable pub text_or_null_in : Row → Data → Option (List ℕ)
-text_or_null_in row d = option_and_then as_str (member_at row d)
+unfoldable pub text_or_null_in : Field → Data → Option (List ℕ)
+text_or_null_in field d = option_and_then as_str (member_at field d)

@@ -2,7 +2,7 @@
 use Rattle.std.specs.Prelude.{ℕ, List, ◌++◌, flat_map, filter_map, if◌then◌else◌, Option, Result}
 use Rattle.serde_json.specs.Data.{Data, Items, no_items}
 use Rattle.script_ast.specs.declared.call_list.Call.{Call}
-use Rattle.script_ast.specs.declared.entries.TheConstants.{THEN}
+use Rattle.script_ast.specs.declared.fields.Field.TheVariants as field
 use Rattle.script_json.specs.Calls.{Placed, call_faults, call_of, has_then, name_in}
 use Rattle.script_json.specs.Fields.{list_in}
 use Rattle.script_json.specs.Outcome.{outcome}
@@ -10,7 +10,7 @@ use Rattle.script_json.specs.declared.faults.ScriptErr.{ScriptErr}
 
 -- the list of the calls that a call holds
 unfoldable pub held_list : Data → Items
-held_list d = if has_then (name_in d) then list_in THEN d else no_items
+held_list d = if has_then (name_in d) then list_in field.Then d else no_items
 
 -- the call with this ordinal, holder and value
 abbrev pub placed_at : ℕ → ℕ → Data → Placed

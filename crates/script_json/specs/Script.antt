@@ -3,8 +3,8 @@ use Rattle.std.specs.Prelude.{ℕ, List, [], ◌∷◌, ◌++◌, flat_map, filt
 use Rattle.serde_json.specs.Data.{Data, Items, null}
 use Rattle.serde_json.specs.Find.{as_object}
 use Rattle.wa_base.specs.declared.contexts.ContextSpec.{ContextSpec}
+use Rattle.script_ast.specs.Entries.{script_head, context_fields, script_tail}
 use Rattle.script_ast.specs.declared.call_list.Script.{Script}
-use Rattle.script_ast.specs.declared.entries.TheConstants.{SCRIPT_HEAD, CONTEXT, CONTEXT_FIELDS, SCRIPT_TAIL, CALLS, CHANNELS, LENGTH, RATE}
 use Rattle.script_ast.specs.declared.fields.Field.TheVariants as field
 use Rattle.script_json.specs.Calls.{Placed, placed, call_faults, call_of}
 use Rattle.script_json.specs.Fields.{member_at, fields_faults, count_in, list_in}
@@ -15,15 +15,15 @@ use Rattle.script_json.specs.declared.faults.ScriptErr.TheVariants.{BadJson, Wro
 
 -- the member `context` of a script
 unfoldable pub context_in : Data → Data
-context_in d = unwrap_or (member_at CONTEXT d) null
+context_in d = unwrap_or (member_at field.Context d) null
 
 -- the context that the member asks for
 abbrev pub context_of : Data → ContextSpec
-context_of d = record { channels = count_in CHANNELS d; length = count_in LENGTH d; rate = count_in RATE d }
+context_of d = record { channels = count_in context_fields field.Channels d; length = count_in context_fields field.Length d; rate = count_in context_fields field.Rate d }
 
 -- the main list of calls
 unfoldable pub main_list : Data → Items
-main_list d = list_in CALLS d
+main_list d = list_in field.Calls d
 
 -- every call of a script in order of ordinals
 unfoldable pub calls_of : Data → List Placed
@@ -32,7 +32,7 @@ calls_of d = placed (main_list d) 0 0
 -- the faults of what stands around the calls
 unfoldable pub head_faults : Data → List ScriptErr
 head_faults d = if is_some (as_object d)
-    then fields_faults 0 d SCRIPT_HEAD ++ fields_faults 0 (context_in d) CONTEXT_FIELDS ++ fields_faults 0 d SCRIPT_TAIL
+    then fields_faults 0 d script_head ++ fields_faults 0 (context_in d) context_fields ++ fields_faults 0 d script_tail
     else WrongKind 0 field.Script ∷ []
 
 -- the faults of a script in their order: first those around the calls, then those of each call in order of ordinals

@@ -10,10 +10,7 @@ use crate::members::{
     check_fields, check_there, count, count_or_null, fix, is_there, list, text, text_or_null, time,
     time_or_null,
 };
-use script_ast::{
-    AS, Call, Calls, DURATION, FROM, Field, GAIN, INPUT, INPUT_OR_NULL, NODE, OFFSET, OUTPUT,
-    OUTPUT_OR_NULL, Op, OpName, START_OFFSET, THEN, TO, TO_OR_NULL, WHEN,
-};
+use script_ast::{Call, Calls, Field, Op, OpName, entries};
 use serde_json::Value;
 use std::alloc::Global;
 use wa_base::NoMemory;
@@ -88,9 +85,9 @@ fn check_call(ordinal: u32, name: OpName, call: &Value) -> Result<(), ScriptErr>
 fn check_form(ordinal: u32, call: &Value) -> Result<(), ScriptErr>
     ensures { result ≡ outcome (form_faults ordinal (view call.now)) tt }
 {
-    if is_there(call, INPUT_OR_NULL) {
-        check_there(ordinal, call, TO_OR_NULL)?;
-        check_there(ordinal, call, OUTPUT_OR_NULL)?;
+    if is_there(call, Field::Input) {
+        check_there(ordinal, call, Field::To)?;
+        check_there(ordinal, call, Field::Output)?;
     }
     Ok(())
 }
@@ -109,7 +106,7 @@ fn held_list(call: &Value) -> &[Value]
     ensures { items_view result.now ≡ held_list (view call.now) }
 {
     match name_in(call) {
-        Some(name) if name.has_calls() => list(call, THEN),
+        Some(name) if name.has_calls() => list(call, Field::Then),
         _ => &[],
     }
 }
@@ -120,34 +117,34 @@ fn build(alloc: Global, name: OpName, call: &Value) -> Result<Op, NoMemory>
 {
     match name {
         OpName::CreateConstantSource => Ok(Op::CreateConstantSource {
-            name: text(alloc, call, AS)?,
-            offset: fix(call, OFFSET),
+            name: text(alloc, call, Field::As)?,
+            offset: fix(call, &entries::CREATE_CONSTANT_SOURCE, Field::Offset),
         }),
         OpName::CreateGain => Ok(Op::CreateGain {
-            name: text(alloc, call, AS)?,
-            gain: fix(call, GAIN),
+            name: text(alloc, call, Field::As)?,
+            gain: fix(call, &entries::CREATE_GAIN, Field::Gain),
         }),
         OpName::Connect => Ok(Op::Connect {
-            from: text(alloc, call, FROM)?,
-            output: count(call, OUTPUT),
-            to: text(alloc, call, TO)?,
-            input: count(call, INPUT),
+            from: text(alloc, call, Field::From)?,
+            output: count(call, &entries::CONNECT, Field::Output),
+            to: text(alloc, call, Field::To)?,
+            input: count(call, &entries::CONNECT, Field::Input),
         }),
         OpName::Disconnect => Ok(Op::Disconnect {
-            from: text(alloc, call, FROM)?,
-            output: count_or_null(call, OUTPUT_OR_NULL),
-            to: text_or_null(alloc, call, TO_OR_NULL)?,
-            input: count_or_null(call, INPUT_OR_NULL),
+            from: text(alloc, call, Field::From)?,
+            output: count_or_null(call, Field::Output),
+            to: text_or_null(alloc, call, Field::To)?,
+            input: count_or_null(call, Field::Input),
         }),
         OpName::Start => Ok(Op::Start {
-            node: text(alloc, call, NODE)?,
-            when: time(call, WHEN),
-            offset: time(call, START_OFFSET),
-            duration: time_or_null(call, DURATION),
+            node: text(alloc, call, Field::Node)?,
+            when: time(call, &entries::START, Field::When),
+            offset: time(call, &entries::START, Field::Offset),
+            duration: time_or_null(call, Field::Duration),
         }),
         OpName::Stop => Ok(Op::Stop {
-            node: text(alloc, call, NODE)?,
-            when: time(call, WHEN),
+            node: text(alloc, call, Field::Node)?,
+            when: time(call, &entries::STOP, Field::When),
         }),
         OpName::StartRendering => Ok(Op::StartRendering),
         OpName::Resume => Ok(Op::Resume),

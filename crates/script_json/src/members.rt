@@ -1,38 +1,39 @@
 ghost use Rattle.std.specs.Prelude.{◌≡◌, Some, IfOk, option_map};
 ghost use Rattle.serde_json.specs.View.{view, items_view};
+ghost use Rattle.script_ast.specs.Entries.{fallback_in};
 ghost use Rattle.script_json.specs.Fields.{member_at, member_faults, field_faults, fields_faults, default_number, number_in, fix_in, time_in, time_or_null_in, count_in, list_in, text_in, count_or_null_in, text_or_null_in, is_there, lack_faults, is_needed, takes_null, given_number, number_within};
 ghost use Rattle.script_json.specs.Outcome.{outcome};
 ghost use Rattle.script_json.specs.Values.{whole};
 
 use crate::faults::ScriptErr;
 use crate::values::{Cause, MAX_COUNT, MAX_FIX, MAX_TIME, MIN_FIX, MIN_TIME, cause_of, whole};
-use script_ast::{Fallback, Row};
+use script_ast::{Fallback, Field, Row, fallback_in};
 use serde_json::Value;
 use std::alloc::Global;
 use wa_base::{Fix, Name, NoMemory};
 
-/// The member that the row names.
-pub fn member<'a>(object: &'a Value, row: Row) -> Option<&'a Value>
-    ensures { option_map (λ value. view value.now) result ≡ member_at row (view object.now) }
+/// The member with the field's name.
+pub fn member<'a>(object: &'a Value, field: Field) -> Option<&'a Value>
+    ensures { option_map (λ value. view value.now) result ≡ member_at field (view object.now) }
 {
-    object.get(row.field.word())
+    object.get(field.word())
 }
 
 /// Whether the member is there, where null counts as absent.
-pub fn is_there(object: &Value, row: Row) -> bool
-    ensures { result ≡ is_there row (view object.now) }
+pub fn is_there(object: &Value, field: Field) -> bool
+    ensures { result ≡ is_there field (view object.now) }
 {
-    member(object, row).is_some_and(|value| !value.is_null())
+    member(object, field).is_some_and(|value| !value.is_null())
 }
 
 /// The fault of a member that has to be there, where null counts as absent.
-pub fn check_there(ordinal: u32, object: &Value, row: Row) -> Result<(), ScriptErr>
-    ensures { result ≡ outcome (lack_faults ordinal (view object.now) row) tt }
+pub fn check_there(ordinal: u32, object: &Value, field: Field) -> Result<(), ScriptErr>
+    ensures { result ≡ outcome (lack_faults ordinal (view object.now) field) tt }
 {
-    if is_there(object, row) {
+    if is_there(object, field) {
         Ok(())
     } else {
-        Err(ScriptErr::MissingField(ordinal, row.field))
+        Err(ScriptErr::MissingField(ordinal, field))
     }
 }
 
@@ -49,7 +50,7 @@ pub fn check_fields(ordinal: u32, object: &Value, rows: &[Row]) -> Result<(), Sc
 fn check_field(ordinal: u32, object: &Value, row: Row) -> Result<(), ScriptErr>
     ensures { result ≡ outcome (field_faults ordinal (view object.now) row) tt }
 {
-    match member(object, row) {
+    match member(object, row.field) {
         None => {
             if is_needed(row.fallback) {
                 return Err(ScriptErr::MissingField(ordinal, row.field));
@@ -95,11 +96,11 @@ fn default_number(fallback: Fallback) -> Option<i128>
     }
 }
 
-fn given_number(object: &Value, row: Row) -> Option<i128>
-    ensures { result ≡ given_number row (member_at row (view object.now)) }
+fn given_number(object: &Value, entry: &[Row], field: Field) -> Option<i128>
+    ensures { result ≡ given_number (fallback_in entry.now field) (member_at field (view object.now)) }
 {
-    match member(object, row) {
-        None => default_number(row.fallback),
+    match member(object, field) {
+        None => default_number(fallback_in(entry, field)),
         Some(value) => whole(value),
     }
 }
@@ -115,39 +116,39 @@ fn number_within(number: Option<i128>, low: i64, high: i64) -> Option<i64>
     }
 }
 
-/// The value of a field, in units of 2^-24.
+/// The value of a field of an entry, in units of 2^-24.
 #[tactic(auto, unfolding(crate::specs::Fields::number_in))]
-pub fn fix(object: &Value, row: Row) -> Fix
-    ensures { result ≡ fix_in row (view object.now) }
+pub fn fix(object: &Value, entry: &[Row], field: Field) -> Fix
+    ensures { result ≡ fix_in entry.now field (view object.now) }
 {
-    match number_within(given_number(object, row), MIN_FIX, MAX_FIX) {
+    match number_within(given_number(object, entry, field), MIN_FIX, MAX_FIX) {
         Some(number) => number as Fix,
         None => 0,
     }
 }
 
-/// The number of frames of a field.
+/// The number of frames of a field of an entry.
 #[tactic(auto, unfolding(crate::specs::Fields::number_in))]
-pub fn time(object: &Value, row: Row) -> i64
-    ensures { result ≡ time_in row (view object.now) }
+pub fn time(object: &Value, entry: &[Row], field: Field) -> i64
+    ensures { result ≡ time_in entry.now field (view object.now) }
 {
-    number_within(given_number(object, row), MIN_TIME, MAX_TIME).unwrap_or(0)
+    number_within(given_number(object, entry, field), MIN_TIME, MAX_TIME).unwrap_or(0)
 }
 
 /// The number of frames of a field that may be null or absent.
 #[tactic(auto, unfolding(crate::specs::Fields::time_or_null_in))]
-pub fn time_or_null(object: &Value, row: Row) -> Option<i64>
-    ensures { result ≡ time_or_null_in row (view object.now) }
+pub fn time_or_null(object: &Value, field: Field) -> Option<i64>
+    ensures { result ≡ time_or_null_in field (view object.now) }
 {
-    number_within(member(object, row).and_then(whole), MIN_TIME, MAX_TIME)
+    number_within(member(object, field).and_then(whole), MIN_TIME, MAX_TIME)
 }
 
-/// The count of a field.
+/// The count of a field of an entry.
 #[tactic(auto, unfolding(crate::specs::Fields::number_in))]
-pub fn count(object: &Value, row: Row) -> u32
-    ensures { result ≡ count_in row (view object.now) }
+pub fn count(object: &Value, entry: &[Row], field: Field) -> u32
+    ensures { result ≡ count_in entry.now field (view object.now) }
 {
-    match number_within(given_number(object, row), 0, MAX_COUNT) {
+    match number_within(given_number(object, entry, field), 0, MAX_COUNT) {
         Some(count) => count as u32,
         None => 0,
     }
@@ -155,20 +156,20 @@ pub fn count(object: &Value, row: Row) -> u32
 
 /// The count of a field that may be null or absent.
 #[tactic(auto, unfolding(crate::specs::Fields::count_or_null_in))]
-pub fn count_or_null(object: &Value, row: Row) -> Option<u32>
-    ensures { result ≡ count_or_null_in row (view object.now) }
+pub fn count_or_null(object: &Value, field: Field) -> Option<u32>
+    ensures { result ≡ count_or_null_in field (view object.now) }
 {
-    match number_within(member(object, row).and_then(whole), 0, MAX_COUNT) {
+    match number_within(member(object, field).and_then(whole), 0, MAX_COUNT) {
         Some(count) => Some(count as u32),
         None => None,
     }
 }
 
 /// The list of a field.
-pub fn list(object: &Value, row: Row) -> &[Value]
-    ensures { items_view result.now ≡ list_in row (view object.now) }
+pub fn list(object: &Value, field: Field) -> &[Value]
+    ensures { items_view result.now ≡ list_in field (view object.now) }
 {
-    match member(object, row).and_then(Value::as_array) {
+    match member(object, field).and_then(Value::as_array) {
         Some(list) => list.as_slice(),
         None => &[],
     }
@@ -176,20 +177,20 @@ pub fn list(object: &Value, row: Row) -> &[Value]
 
 /// The text of a field.
 #[tactic(auto, unfolding(crate::specs::Fields::text_in))]
-pub fn text(alloc: Global, object: &Value, row: Row) -> Result<Name, NoMemory>
-    ensures { IfOk result (λ name. name ≡ text_in row (view object.now)) }
+pub fn text(alloc: Global, object: &Value, field: Field) -> Result<Name, NoMemory>
+    ensures { IfOk result (λ name. name ≡ text_in field (view object.now)) }
 {
-    let text = member(object, row).and_then(Value::as_str).unwrap_or("");
+    let text = member(object, field).and_then(Value::as_str).unwrap_or("");
     let bytes = text.as_bytes().to_vec(alloc)?;
     Ok(Name::from(bytes))
 }
 
 /// The text of a field that may be null or absent.
 #[tactic(auto, unfolding(crate::specs::Fields::text_or_null_in))]
-pub fn text_or_null(alloc: Global, object: &Value, row: Row) -> Result<Option<Name>, NoMemory>
-    ensures { IfOk result (λ name. name ≡ text_or_null_in row (view object.now)) }
+pub fn text_or_null(alloc: Global, object: &Value, field: Field) -> Result<Option<Name>, NoMemory>
+    ensures { IfOk result (λ name. name ≡ text_or_null_in field (view object.now)) }
 {
-    match member(object, row).and_then(Value::as_str) {
+    match member(object, field).and_then(Value::as_str) {
         Some(text) => {
             let bytes = text.as_bytes().to_vec(alloc)?;
             Ok(Some(Name::from(bytes)))

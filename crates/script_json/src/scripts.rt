@@ -9,10 +9,8 @@ use crate::calls::add_calls;
 use crate::faults::ScriptErr;
 use crate::members::{check_fields, count, list, member};
 use crate::tree::parse;
-use script_ast::{
-    CALLS, CHANNELS, CONTEXT, CONTEXT_FIELDS, Calls, Field, LENGTH, RATE, SCRIPT_HEAD, SCRIPT_TAIL,
-    Script,
-};
+use script_ast::entries::{CONTEXT_FIELDS, SCRIPT_HEAD, SCRIPT_TAIL};
+use script_ast::{Calls, Field, Script};
 use serde_json::Value;
 use std::alloc::Global;
 use wa_base::ContextSpec;
@@ -54,7 +52,7 @@ fn read_context(value: &Value) -> Result<ContextSpec, ScriptErr>
         return Err(ScriptErr::WrongKind(0, Field::Script));
     }
     check_fields(0, value, &SCRIPT_HEAD)?;
-    let Some(context) = member(value, CONTEXT) else {
+    let Some(context) = member(value, Field::Context) else {
         return Err(ScriptErr::MissingField(0, Field::Context));
     };
     check_fields(0, context, &CONTEXT_FIELDS)?;
@@ -66,9 +64,9 @@ fn context_of(context: &Value) -> ContextSpec
     ensures { result ≡ context_of (view context.now) }
 {
     ContextSpec {
-        channels: count(context, CHANNELS),
-        length: u64::from(count(context, LENGTH)),
-        rate: count(context, RATE),
+        channels: count(context, &CONTEXT_FIELDS, Field::Channels),
+        length: u64::from(count(context, &CONTEXT_FIELDS, Field::Length)),
+        rate: count(context, &CONTEXT_FIELDS, Field::Rate),
     }
 }
 
@@ -77,5 +75,5 @@ fn context_of(context: &Value) -> ContextSpec
 fn main_list(value: &Value) -> &[Value]
     ensures { items_view result.now ≡ main_list (view value.now) }
 {
-    list(value, CALLS)
+    list(value, Field::Calls)
 }

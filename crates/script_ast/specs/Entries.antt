@@ -1,0 +1,99 @@
+-- The entries: the members of a script and of its context, and the fields of each operation, in the order in which they are read.
+-- Each row is the name of a field, its kind and its default: a field that is `Needed` has none, and one whose default is `Null` may hold null.
+use Rattle.std.specs.Prelude.{List, [], ◌∷◌, pos, bytes_eq, find, Option, Some, None}
+use Rattle.script_ast.specs.Fields.{field_word}
+use Rattle.script_ast.specs.declared.entries.Fallback.{Fallback}
+use Rattle.script_ast.specs.declared.entries.Fallback.TheVariants.{Needed, Null, Number, Count, NoCalls}
+use Rattle.script_ast.specs.declared.entries.Kind.{Kind}
+use Rattle.script_ast.specs.declared.entries.Kind.TheVariants as kind
+use Rattle.script_ast.specs.declared.entries.Row.{Row}
+use Rattle.script_ast.specs.declared.fields.Field.{Field}
+use Rattle.script_ast.specs.declared.fields.Field.TheVariants as field
+
+-- a row of an entry
+abbrev pub row : Field → Kind → Fallback → Row
+row field kind fallback = record { field = field; kind = kind; fallback = fallback }
+
+-- ---- the members of a script, around those of its context
+
+-- `version`, `context`
+abbrev pub script_head : List Row
+script_head =
+    row field.Version kind.Version Needed ∷
+    row field.Context kind.Object Needed ∷ []
+
+-- those of `context`: `channels`, `length`, `rate`
+abbrev pub context_fields : List Row
+context_fields =
+    row field.Channels kind.Count Needed ∷
+    row field.Length kind.Count Needed ∷
+    row field.Rate kind.Count Needed ∷ []
+
+-- `calls`
+abbrev pub script_tail : List Row
+script_tail =
+    row field.Calls kind.Calls Needed ∷ []
+
+-- ---- the fields of the operations
+
+-- `createConstantSource`
+abbrev pub create_constant_source : List Row
+create_constant_source =
+    row field.As kind.NewName Needed ∷
+    row field.Offset kind.Fix (Number (pos 16777216)) ∷ []
+
+-- `createGain`
+abbrev pub create_gain : List Row
+create_gain =
+    row field.As kind.NewName Needed ∷
+    row field.Gain kind.Fix (Number (pos 16777216)) ∷ []
+
+-- `connect`
+abbrev pub connect : List Row
+connect =
+    row field.From kind.Name Needed ∷
+    row field.Output kind.Count (Count 0) ∷
+    row field.To kind.Name Needed ∷
+    row field.Input kind.Count (Count 0) ∷ []
+
+-- `disconnect`
+abbrev pub disconnect : List Row
+disconnect =
+    row field.From kind.Name Needed ∷
+    row field.Output kind.Count Null ∷
+    row field.To kind.Name Null ∷
+    row field.Input kind.Count Null ∷ []
+
+-- `start`
+abbrev pub start : List Row
+start =
+    row field.Node kind.Name Needed ∷
+    row field.When kind.Time (Number (pos 0)) ∷
+    row field.Offset kind.Time (Number (pos 0)) ∷
+    row field.Duration kind.Time Null ∷ []
+
+-- `stop`
+abbrev pub stop : List Row
+stop =
+    row field.Node kind.Name Needed ∷
+    row field.When kind.Time (Number (pos 0)) ∷ []
+
+-- `startRendering`
+abbrev pub start_rendering : List Row
+start_rendering =
+    row field.Then kind.Calls NoCalls ∷ []
+
+-- ---- the default of a field
+
+-- the row of the field with this name
+abbrev pub row_in : List Row → Field → Option Row
+row_in rows field = find (λ row. bytes_eq (field_word row.field) (field_word field)) rows
+
+-- the default that a row has; a field without a row is needed
+abbrev pub fallback_of : Option Row → Fallback
+fallback_of None = Needed
+fallback_of (Some row) = row.fallback
+
+-- the default of the field with this name in an entry
+abbrev pub fallback_in : List Row → Field → Fallback
+fallback_in rows field = fallback_of (row_in rows field)
