@@ -7,8 +7,6 @@ mod fields;
 mod op_names;
 mod operations;
 mod paths;
-#[cfg(test)]
-mod tests;
 
 pub use call_list::{Call, Calls, Script};
 pub use entries::{Fallback, Kind, Row, fallback_in};

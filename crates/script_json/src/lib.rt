@@ -5,8 +5,6 @@ mod calls;
 mod faults;
 mod members;
 mod scripts;
-#[cfg(test)]
-mod tests;
 mod tree;
 mod values;
 

@@ -1,0 +1,15 @@
+//! Tests of script_ast and script_json over their public calls.
+#![tactic(auto)]
+
+#[cfg(test)]
+mod call_cases;
+#[cfg(test)]
+mod connection_cases;
+#[cfg(test)]
+mod parts;
+#[cfg(test)]
+mod reading;
+#[cfg(test)]
+mod script_cases;
+#[cfg(test)]
+mod texts;

@@ -1,0 +1,116 @@
+/// Whole scripts, and what reading them gives.
+pub static SCRIPTS: [(&str, &str); 56] = [
+    ("", "BadJson"),
+    ("{", "BadJson"),
+    ("{\"version\":1,}", "BadJson"),
+    ("{'version':1}", "BadJson"),
+    ("{\"version\":1} 2", "BadJson"),
+    ("{\"version\":01}", "BadJson"),
+    ("{\"version\":1e400}", "BadJson"),
+    ("{\"x\":1e400,\"version\":3}", "BadJson"),
+    ("{\"x\":\"\\ud800\",\"version\":3}", "BadJson"),
+    ("[]", "0 script WrongKind"),
+    ("null", "0 script WrongKind"),
+    ("1", "0 script WrongKind"),
+    ("\"version\"", "0 script WrongKind"),
+    ("[{\"version\":1}]", "0 script WrongKind"),
+    ("{}", "0 version MissingField"),
+    ("{\"x\":1}", "0 version MissingField"),
+    ("{\"version\":\"1\"}", "0 version WrongKind"),
+    ("{\"version\":1.0}", "0 version WrongKind"),
+    ("{\"version\":1e0}", "0 version WrongKind"),
+    ("{\"version\":null}", "0 version WrongKind"),
+    ("{\"version\":true}", "0 version WrongKind"),
+    ("{\"version\":-0}", "0 version WrongKind"),
+    ("{\"version\":0}", "0 version OutOfRange"),
+    ("{\"version\":2}", "0 version OutOfRange"),
+    ("{\"version\":3}", "0 version OutOfRange"),
+    ("{\"version\":-1}", "0 version OutOfRange"),
+    ("{\"version\":18446744073709551615}", "0 version OutOfRange"),
+    ("{\"version\":18446744073709551616}", "0 version WrongKind"),
+    ("{\"version\":-9223372036854775808}", "0 version OutOfRange"),
+    ("{\"version\":-9223372036854775809}", "0 version WrongKind"),
+    ("{\"version\":2,\"version\":1}", "0 context MissingField"),
+    ("{\"version\":1,\"version\":2}", "0 version OutOfRange"),
+    ("{\"version\":1}", "0 context MissingField"),
+    ("{\"context\":1,\"version\":2}", "0 version OutOfRange"),
+    ("{\"version\":1,\"context\":[]}", "0 context WrongKind"),
+    ("{\"version\":1,\"context\":null}", "0 context WrongKind"),
+    ("{\"version\":1,\"context\":{}}", "0 channels MissingField"),
+    (
+        "{\"version\":1,\"channels\":1,\"context\":{\"length\":1}}",
+        "0 channels MissingField",
+    ),
+    (
+        "{\"version\":1,\"context\":{\"channels\":\"1\"}}",
+        "0 channels WrongKind",
+    ),
+    (
+        "{\"version\":1,\"context\":{\"channels\":-1}}",
+        "0 channels OutOfRange",
+    ),
+    (
+        "{\"version\":1,\"context\":{\"channels\":4294967296}}",
+        "0 channels OutOfRange",
+    ),
+    (
+        "{\"version\":1,\"context\":{\"rate\":\"x\",\"channels\":1}}",
+        "0 length MissingField",
+    ),
+    (
+        "{\"version\":1,\"context\":{\"channels\":1,\"length\":1.5,\"rate\":-1}}",
+        "0 length WrongKind",
+    ),
+    (
+        "{\"version\":1,\"context\":{\"channels\":1,\"length\":1}}",
+        "0 rate MissingField",
+    ),
+    (
+        "{\"version\":1,\"calls\":0,\"context\":{\"channels\":1,\"length\":1,\"rate\":null}}",
+        "0 rate WrongKind",
+    ),
+    (
+        "{\"version\":1,\"context\":{\"channels\":1,\"length\":1,\"rate\":4294967296}}",
+        "0 rate OutOfRange",
+    ),
+    (
+        "{\"version\":1,\"context\":5,\"context\":{\"channels\":1,\"length\":1,\"rate\":1}}",
+        "0 calls MissingField",
+    ),
+    (
+        "{\"version\":1,\"context\":{\"channels\":\"x\",\"channels\":1,\"length\":1,\"rate\":1}}",
+        "0 calls MissingField",
+    ),
+    (
+        "{\"version\":1,\"context\":{\"channels\":1,\"length\":1,\"rate\":1}}",
+        "0 calls MissingField",
+    ),
+    (
+        "{\"version\":1,\"context\":{\"channels\":1,\"length\":1,\"rate\":1},\"calls\":null}",
+        "0 calls WrongKind",
+    ),
+    (
+        "{\"version\":1,\"context\":{\"channels\":1,\"length\":1,\"rate\":1},\"calls\":{}}",
+        "0 calls WrongKind",
+    ),
+    (
+        "{\"calls\":[1],\"version\":1,\"context\":{\"channels\":1,\"length\":1}}",
+        "0 rate MissingField",
+    ),
+    (
+        "{\"version\":1,\"context\":{\"channels\":1,\"length\":1,\"rate\":1},\"calls\":[1],\"calls\":[]}",
+        "context 1 1 1",
+    ),
+    (
+        " {\"calls\":[],\"context\":{\"rate\":48000,\"length\":128,\"channels\":2},\"version\":1}\n",
+        "context 2 128 48000",
+    ),
+    (
+        "{\"version\":1,\"context\":{\"channels\":0,\"length\":0,\"rate\":4294967295},\"calls\":[]}",
+        "context 0 0 4294967295",
+    ),
+    (
+        "{\"version\":1,\"renderQuantum\":null,\"x\":[],\"context\":{\"channels\":1,\"length\":4294967295,\"rate\":7,\"x\":0},\"calls\":[]}",
+        "context 1 4294967295 7",
+    ),
+];

@@ -1,0 +1,104 @@
+use script_ast::{Call, Op, Script};
+use script_json::read;
+use std::alloc::{AllocError, Global};
+use wa_base::Name;
+
+fn text(name: &Name) -> &str {
+    str::from_utf8(name.as_slice()).unwrap_or("no text")
+}
+
+fn count_text(alloc: Global, count: Option<u32>) -> Result<String, AllocError> {
+    match count {
+        Some(count) => format!(in alloc; "{count}"),
+        None => String::from_str(alloc, "none"),
+    }
+}
+
+fn disconnect_text(
+    alloc: Global,
+    from: &str,
+    output: Option<u32>,
+    to: &Option<Name>,
+    input: Option<u32>,
+) -> Result<String, AllocError> {
+    let output = count_text(alloc, output)?;
+    let input = count_text(alloc, input)?;
+    let to = match to {
+        Some(to) => text(to),
+        None => "none",
+    };
+    format!(in alloc; "disconnect {from} {output} {to} {input}")
+}
+
+fn op_text(alloc: Global, op: &Op) -> Result<String, AllocError> {
+    match op {
+        Op::CreateConstantSource { name, offset } => {
+            format!(in alloc; "createConstantSource {} {offset}", text(name))
+        }
+        Op::CreateGain { name, gain } => format!(in alloc; "createGain {} {gain}", text(name)),
+        Op::Connect {
+            from,
+            output,
+            to,
+            input,
+        } => format!(in alloc; "connect {} {output} {} {input}", text(from), text(to)),
+        Op::Disconnect {
+            from,
+            output,
+            to,
+            input,
+        } => disconnect_text(alloc, text(from), *output, to, *input),
+        Op::Start {
+            node,
+            when,
+            offset,
+            duration: Some(duration),
+        } => format!(in alloc; "start {} {when} {offset} {duration}", text(node)),
+        Op::Start {
+            node,
+            when,
+            offset,
+            duration: None,
+        } => format!(in alloc; "start {} {when} {offset} none", text(node)),
+        Op::Stop { node, when } => format!(in alloc; "stop {} {when}", text(node)),
+        Op::StartRendering => String::from_str(alloc, "startRendering"),
+        Op::Resume => String::from_str(alloc, "resume"),
+        Op::ReadState => String::from_str(alloc, "readState"),
+        Op::ReadTime => String::from_str(alloc, "readTime"),
+        Op::LeftOut { feature } => format!(in alloc; "left out {}", feature.word()),
+        _ => String::from_str(alloc, "another operation"),
+    }
+}
+
+fn calls_text(alloc: Global, calls: &[Call]) -> Result<String, AllocError> {
+    let mut all = String::new(alloc);
+    for call in calls {
+        let op = op_text(alloc, &call.op)?;
+        let line = format!(in alloc; "{} {} {op}", call.ordinal, call.holder)?;
+        if !all.is_empty() {
+            all.push_str(", ")?;
+        }
+        all.push_str(line.as_str())?;
+    }
+    Ok(all)
+}
+
+fn script_text(alloc: Global, script: &Script) -> Result<String, AllocError> {
+    let calls = script.calls.as_slice();
+    if calls.is_empty() {
+        let context = script.context;
+        return format!(in alloc;
+            "context {} {} {}",
+            context.channels, context.length, context.rate
+        );
+    }
+    calls_text(alloc, calls)
+}
+
+/// What reading the bytes gives: the context where there is no call, else the calls, or the fault.
+pub fn reading(alloc: Global, bytes: &[u8]) -> Result<String, AllocError> {
+    match read(alloc, bytes) {
+        Ok(script) => script_text(alloc, &script),
+        Err(fault) => format!(in alloc; "{fault}"),
+    }
+}
