@@ -1,6 +1,6 @@
 use io_edge::{
     DirFiles, EdgeErr, Failed, Files, MemFiles, MemSink, MemSource, ReadSource, Sink, Source,
-    SureFiles, SureSink, SureSource, WriteSink,
+    SureFiles, SureSink, SureSource, WriteSink, append_all,
 };
 use std::alloc::Global;
 use std::test::Fail;
@@ -50,6 +50,22 @@ fn files_keep_what_came_before_the_fault(rt: HostRuntime) -> Result<(), Fail> {
     assert_eq!(rt; files.append("out.wav", b"more"), Err(EdgeErr::Failed));
     assert_eq!(rt; files.get("out.wav"), Some(b"RIFF".as_slice()));
     assert!(rt; files.get("other.wav").is_none());
+    Ok(())
+}
+
+#[test]
+fn appends_are_bounded_and_leave_a_part(rt: HostRuntime) -> Result<(), Fail> {
+    let mut files = MemFiles::new(rt.alloc());
+    files.set_append(4, 3);
+    files.fail_append(2)?;
+    files.fail_append(4)?;
+    assert_eq!(rt; files.append("a", b"RIFFWAVE"), Ok(4));
+    assert_eq!(rt; files.append("a", b"WAVE"), Err(EdgeErr::Failed));
+    assert_eq!(rt; files.append("a", b"E"), Ok(1));
+    assert_eq!(rt; files.append("b", b"d"), Err(EdgeErr::Failed));
+    assert_eq!(rt; append_all(&mut files, "b", b"ata data"), Ok(()));
+    assert_eq!(rt; files.get("a"), Some(b"RIFFWAVE".as_slice()));
+    assert_eq!(rt; files.get("b"), Some(b"data data".as_slice()));
     Ok(())
 }
 

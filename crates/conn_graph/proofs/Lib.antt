@@ -8,3 +8,4 @@ pub mod Rows
 pub mod WalkLaws
 mod Sameness
 mod OutWalks
+pub mod FormRows

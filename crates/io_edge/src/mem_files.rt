@@ -1,10 +1,9 @@
-ghost use Rattle.std.specs.Prelude.{◌≡◌, ◌≤◌, ◌↔◌, ◌++◌, [], true, length, option_map, IsErrOf, IfOk, OnOk, OnErr, IsTrue};
-ghost use Rattle.std.specs.FinMap as finite;
+ghost use Rattle.std.specs.Prelude.{◌≡◌, ◌≤◌, ◌<◌, ◌↔◌, ◌++◌, [], true, false, length, take, min, option_map, IsErrOf, IfOk, OnOk, OnErr, IsTrue};
 ghost use Rattle.io_edge.specs.Faults.{Rose};
 ghost use Rattle.io_edge.specs.FileMap.{paths_of};
-ghost use Rattle.io_edge.specs.MemStore.{failed_writes};
-ghost use Rattle.io_edge.specs.Paths.{Sets, bytes_at};
-ghost use Rattle.io_edge.specs.Plan.{no_calls, with_failing, fails_next, after_call};
+ghost use Rattle.io_edge.specs.MemStore.{failed_writes, no_files};
+ghost use Rattle.io_edge.specs.Paths.{Sets, AppendsPart, bytes_at};
+ghost use Rattle.io_edge.specs.Plan.{with_failing, fails_next, after_call};
 
 use crate::errors::EdgeErr;
 use crate::files::Files;
@@ -14,35 +13,43 @@ use std::alloc::Global;
 use std::marker::Model;
 use wa_base::{Bytes, NoMemory};
 
-/// Files in memory whose calls of `create` and of `append` fail where they were told to. A call that
-/// fails changes no file, and an append takes the whole piece. Contracts see the map from paths to what
-/// their files hold, and the plans of the calls of `create` and of `append`, each with its own count.
+/// Files in memory whose calls of `create` and of `append` fail where they were told to. A `create` that
+/// fails changes no file. An `append` takes a few bytes, and one that fails leaves a few. Contracts see
+/// the map from paths to what their files hold, the plans of the calls of `create` and of `append`, each
+/// with its own count, the greatest count of bytes per `append`, and how many a failing one leaves.
 #[derive(Drop)]
 pub struct MemFiles {
     files: SureFiles,
     creates: CallPlan,
     appends: CallPlan,
+    most: u64,
+    kept: u64,
 }
 
 impl Model for MemFiles {
+    ghost use Rattle.std.specs.Prelude.{◌≤◌};
     ghost use Rattle.io_edge.specs.MemStore.{MemStore, mem_store_code};
 
     ghost Value = { MemStore };
 
     ghost coded = { mem_store_code };
 
-    ghost view = { λ s. record { files = s.files; creates = s.creates; appends = s.appends } };
+    ghost view = { λ s. record { files = s.files; creates = s.creates; appends = s.appends; most = s.most; kept = s.kept } };
+
+    ghost invariant = { λ s. 1 ≤ s.most };
 }
 
 impl MemFiles {
-    /// A store with no file. No call is to fail.
+    /// A store with no file. No call is to fail, and an `append` takes the whole piece.
     pub fn new(alloc: Global) -> MemFiles
-        ensures { result ≡ record { files = finite.empty; creates = no_calls; appends = no_calls } }
+        ensures { result ≡ no_files }
     {
         MemFiles {
             files: SureFiles::new(alloc),
             creates: CallPlan::new(alloc),
             appends: CallPlan::new(alloc),
+            most: u64::MAX,
+            kept: 0,
         }
     }
 
@@ -52,6 +59,8 @@ impl MemFiles {
         ensures ok { OnOk result (Sets (paths_of self.old.files) (paths_of self.new.files) path.now bytes) }
         ensures creates { self.new.creates ≡ self.old.creates }
         ensures appends { self.new.appends ≡ self.old.appends }
+        ensures most { self.new.most ≡ self.old.most }
+        ensures kept { self.new.kept ≡ self.old.kept }
         ensures err { OnErr result (self.new ≡ self.old) }
     {
         self.files.put(path, bytes)
@@ -79,6 +88,16 @@ impl MemFiles {
     {
         self.appends.fail(call)
     }
+
+    /// From now on an `append` takes at most `most` bytes, and one that fails leaves the first `kept`
+    /// bytes of its piece, or the whole piece where it is shorter.
+    pub fn set_append(&mut self, most: u64, kept: u64)
+        requires { 1 ≤ most }
+        ensures { self.new ≡ record self.old { most = most; kept = kept } }
+    {
+        self.most = most;
+        self.kept = kept;
+    }
 }
 
 impl Files for MemFiles {
@@ -96,6 +115,8 @@ impl Files for MemFiles {
         ensures failed { IsErrOf result EdgeErr.Failed ↔ IsTrue (fails_next self.old.creates) }
         ensures counted { self.new.creates ≡ after_call self.old.creates }
         ensures appends { self.new.appends ≡ self.old.appends }
+        ensures most { self.new.most ≡ self.old.most }
+        ensures kept { self.new.kept ≡ self.old.kept }
     {
         if self.creates.next_fails() {
             return Err(EdgeErr::Failed);
@@ -103,20 +124,37 @@ impl Files for MemFiles {
         self.files.create(path)
     }
 
+    /// Where memory for the bytes that a failing call leaves is refused, it answers `NoMemory`, and the
+    /// files stay as they were.
     fn append(&mut self, path: &str, piece: &[u8]) -> Result<usize, EdgeErr>
-        ensures added { OnOk result (Sets (paths_of self.old.files) (paths_of self.new.files) path.now
-            (bytes_at (paths_of self.old.files) path.now ++ piece.now)) }
-        ensures count { IfOk result (λ n. n ≡ length piece.now) }
-        ensures err { OnErr result (self.new.files ≡ self.old.files) }
+        ensures added { IfOk result (λ n. Sets (paths_of self.old.files) (paths_of self.new.files) path.now
+            (bytes_at (paths_of self.old.files) path.now ++ take n piece.now)) }
+        ensures some { IfOk result (λ n. 0 < length piece.now → 0 < n) }
+        ensures count { IfOk result (λ n. n ≡ min (length piece.now) self.old.most) }
+        ensures left { IsErrOf result EdgeErr.Failed → 0 < length (take self.old.kept piece.now)
+            → Sets (paths_of self.old.files) (paths_of self.new.files) path.now
+            (bytes_at (paths_of self.old.files) path.now ++ take self.old.kept piece.now) }
+        ensures none_left { IsErrOf result EdgeErr.Failed → take self.old.kept piece.now ≡ [] → self.new.files ≡ self.old.files }
+        ensures err { OnErr result (AppendsPart (paths_of self.old.files) (paths_of self.new.files) path.now piece.now) }
+        ensures memory { IsErrOf result EdgeErr.NoMemory → self.new.files ≡ self.old.files }
         ensures later { failed_writes self.old ≤ failed_writes self.new }
         ensures cause { IsErrOf result EdgeErr.Failed → Rose (failed_writes self.old) (failed_writes self.new) }
-        ensures failed { IsErrOf result EdgeErr.Failed ↔ IsTrue (fails_next self.old.appends) }
+        ensures failed { IsErrOf result EdgeErr.Failed → IsTrue (fails_next self.old.appends) }
+        ensures done { OnOk result (fails_next self.old.appends ≡ false) }
+        ensures at_once { take self.old.kept piece.now ≡ [] → IsTrue (fails_next self.old.appends) → IsErrOf result EdgeErr.Failed }
         ensures counted { self.new.appends ≡ after_call self.old.appends }
         ensures creates { self.new.creates ≡ self.old.creates }
+        ensures most { self.new.most ≡ self.old.most }
+        ensures kept { self.new.kept ≡ self.old.kept }
     {
         if self.appends.next_fails() {
+            let left = piece.len().min(self.kept as usize);
+            if left > 0 {
+                self.files.append(path, &piece[..left])?;
+            }
             return Err(EdgeErr::Failed);
         }
-        self.files.append(path, piece)
+        let count = piece.len().min(self.most as usize);
+        self.files.append(path, &piece[..count])
     }
 }

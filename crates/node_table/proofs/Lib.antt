@@ -1,1 +1,2 @@
 pub mod NodeLists
+pub mod Rows

@@ -1,0 +1,57 @@
+-- What nodes of each kind have, and what they are created with, as the definitions compute it.
+use Rattle.std.proofs.Common.{pos, ◌≡◌, List, [], ◌∷◌, None, Some, map, true, false, refl}
+use Rattle.wa_base.specs.declared.contexts.ContextSpec.{ContextSpec}
+use Rattle.wa_base.specs.declared.graph_names.Interp.TheVariants.{Speakers}
+use Rattle.wa_base.specs.declared.graph_names.Mode.TheVariants.{Max, Explicit}
+use Rattle.wa_base.specs.declared.graph_names.ParamName.{ParamName}
+use Rattle.wa_base.specs.declared.graph_names.ParamName.TheVariants as param
+use Rattle.node_table.specs.declared.kinds.Kind.{Kind}
+use Rattle.node_table.specs.declared.kinds.Kind.TheVariants.{Destination, Constant, Gain}
+use Rattle.node_table.specs.Kinds.{is_destination, inputs, outputs, is_delay_kind, param_base}
+use Rattle.node_table.specs.Nodes.{destination_of, node_of, kind_at, attrs_at}
+
+abbrev kinds : List Kind
+kinds = Destination ∷ Constant (pos 5) ∷ Gain (pos 7) ∷ []
+
+-- the ports of each kind
+inputs-kinds : map inputs kinds ≡ 1 ∷ 0 ∷ 1 ∷ []
+inputs-kinds = refl
+
+outputs-kinds : map outputs kinds ≡ 1 ∷ 1 ∷ 1 ∷ []
+outputs-kinds = refl
+
+is_destination-kinds : map is_destination kinds ≡ true ∷ false ∷ false ∷ []
+is_destination-kinds = refl
+
+is_delay_kind-kinds : map is_delay_kind kinds ≡ false ∷ false ∷ false ∷ []
+is_delay_kind-kinds = refl
+
+-- the parameters of each kind, with the values that they are created with
+abbrev names : List ParamName
+names = param.Offset ∷ param.Gain ∷ param.DelayTime ∷ param.PlaybackRate ∷ param.Detune ∷ []
+
+param_base-destination : map (param_base Destination) names ≡ None ∷ None ∷ None ∷ None ∷ None ∷ []
+param_base-destination = refl
+
+param_base-constant : map (param_base (Constant (pos 5))) names ≡ Some (pos 5) ∷ None ∷ None ∷ None ∷ None ∷ []
+param_base-constant = refl
+
+param_base-gain : map (param_base (Gain (pos 7))) names ≡ None ∷ Some (pos 7) ∷ None ∷ None ∷ None ∷ []
+param_base-gain = refl
+
+-- the attributes of the destination of a context with six channels, and of a node that is created at frame 1,280
+abbrev context : ContextSpec
+context = record { channels = 6; length = 4; rate = 48000 }
+
+attrs-destination : attrs_at (destination_of context ∷ []) 0 ≡ Some (record { count = 6; mode = Explicit; interp = Speakers; birth = 0 })
+attrs-destination = refl
+
+kind-destination : kind_at (destination_of context ∷ []) 0 ≡ Some Destination
+kind-destination = refl
+
+attrs-created : map (attrs_at (destination_of context ∷ node_of (Gain (pos 7)) 1280 ∷ [])) (1 ∷ 2 ∷ [])
+    ≡ Some (record { count = 2; mode = Max; interp = Speakers; birth = 1280 }) ∷ None ∷ []
+attrs-created = refl
+
+kind-created : map (kind_at (destination_of context ∷ node_of (Gain (pos 7)) 1280 ∷ [])) (1 ∷ 2 ∷ []) ≡ Some (Gain (pos 7)) ∷ None ∷ []
+kind-created = refl
