@@ -15,54 +15,76 @@ fn begin(rt: &HostRuntime, folder: &str) -> io::Result<()> {
     fs::create_dir(rt, folder)
 }
 
+// Takes two files away and then their folder, which fails where there is another file in it.
+fn end(rt: &HostRuntime, paths: [&str; 2], folder: &str) -> io::Result<()> {
+    fs::remove_file(rt, paths[0])?;
+    fs::remove_file(rt, paths[1])?;
+    fs::remove_dir(rt, folder)
+}
+
+fn makes_anew(rt: &HostRuntime, path: &str, other: &str) -> io::Result<bool> {
+    fs::write(rt, path, OLD)?;
+    fs::write(rt, other, OLD)?;
+    let mut files = DirFiles::new(rt);
+    Ok(
+        files.create(path) == Ok(())
+            && holds(rt, path, b"")?
+            && files.append(path, b"RIFF\0\xff") == Ok(6)
+            && append_all(&mut files, path, b"WAVEfmt ") == Ok(())
+            && holds(rt, path, b"RIFF\0\xffWAVEfmt ")?
+            && holds(rt, other, OLD)?,
+    )
+}
+
 #[test]
 fn a_file_is_made_anew_and_grows(rt: HostRuntime) -> Result<(), Fail> {
-    let (path, other) = ("made_anew/out.wav", "made_anew/other.wav");
+    let paths = ["made_anew/out.wav", "made_anew/other.wav"];
     begin(&rt, "made_anew")?;
-    fs::write(&rt, path, OLD)?;
-    fs::write(&rt, other, OLD)?;
-    let mut files = DirFiles::new(&rt);
-    assert_eq!(rt; files.create(path), Ok(()));
-    assert!(rt; holds(&rt, path, b"")?);
-    assert_eq!(rt; files.append(path, b"RIFF\0\xff"), Ok(6));
-    assert_eq!(rt; append_all(&mut files, path, b"WAVEfmt "), Ok(()));
-    assert!(rt; holds(&rt, path, b"RIFF\0\xffWAVEfmt ")?);
-    assert!(rt; holds(&rt, other, OLD)?);
-    fs::remove_file(&rt, path)?;
-    fs::remove_file(&rt, other)?;
-    fs::remove_dir(&rt, "made_anew").expect(&rt, "no other file was made");
+    assert!(rt; makes_anew(&rt, paths[0], paths[1])?);
+    end(&rt, paths, "made_anew")?;
     Ok(())
+}
+
+fn makes_first(rt: &HostRuntime, created: &str, appended: &str) -> io::Result<bool> {
+    let mut files = DirFiles::new(rt);
+    Ok(
+        files.create(created) == Ok(())
+            && files.append(appended, b"data") == Ok(4)
+            && holds(rt, created, b"")?
+            && holds(rt, appended, b"data")?,
+    )
 }
 
 #[test]
 fn a_file_that_is_missing_is_made(rt: HostRuntime) -> Result<(), Fail> {
-    let (created, appended) = ("made_first/a.wav", "made_first/b.wav");
+    let paths = ["made_first/a.wav", "made_first/b.wav"];
     begin(&rt, "made_first")?;
-    let mut files = DirFiles::new(&rt);
-    assert_eq!(rt; files.create(created), Ok(()));
-    assert_eq!(rt; files.append(appended, b"data"), Ok(4));
-    assert!(rt; holds(&rt, created, b"")?);
-    assert!(rt; holds(&rt, appended, b"data")?);
-    fs::remove_file(&rt, created)?;
-    fs::remove_file(&rt, appended)?;
-    fs::remove_dir(&rt, "made_first").expect(&rt, "no other file was made");
+    assert!(rt; makes_first(&rt, paths[0], paths[1])?);
+    end(&rt, paths, "made_first")?;
     Ok(())
+}
+
+fn passes_on(rt: &HostRuntime, from: &str, to: &str) -> io::Result<bool> {
+    fs::write(rt, from, OLD)?;
+    let mut source = ReadSource::new(fs::File::open(rt, from)?);
+    let mut sink = WriteSink::new(fs::File::create(rt, to)?);
+    let Ok(bytes) = read_all(rt.alloc(), &mut source, OLD.len()) else {
+        return Ok(false);
+    };
+    Ok(
+        bytes.as_slice() == OLD
+            && write_all(&mut sink, b"1 ok\n") == Ok(())
+            && write_all(&mut sink, b"\xff\0end") == Ok(())
+            && holds(rt, to, b"1 ok\n\xff\0end")?
+            && holds(rt, from, OLD)?,
+    )
 }
 
 #[test]
 fn a_file_is_read_whole_and_written_whole(rt: HostRuntime) -> Result<(), Fail> {
-    let (from, to) = ("passed_on/in.json", "passed_on/out.txt");
+    let paths = ["passed_on/in.json", "passed_on/out.txt"];
     begin(&rt, "passed_on")?;
-    fs::write(&rt, from, OLD)?;
-    let mut source = ReadSource::new(fs::File::open(&rt, from)?);
-    let bytes = read_all(rt.alloc(), &mut source, OLD.len())?;
-    assert!(rt; bytes.as_slice() == OLD);
-    let mut sink = WriteSink::new(fs::File::create(&rt, to)?);
-    assert_eq!(rt; write_all(&mut sink, b"1 ok\n"), Ok(()));
-    assert_eq!(rt; write_all(&mut sink, bytes.as_slice()), Ok(()));
-    let text = b"1 ok\nwhat was there before, which is longer than what is written";
-    assert!(rt; holds(&rt, to, text)?);
-    assert!(rt; holds(&rt, from, OLD)?);
-    fs::remove_dir_all(&rt, "passed_on")?;
+    assert!(rt; passes_on(&rt, paths[0], paths[1])?);
+    end(&rt, paths, "passed_on")?;
     Ok(())
 }

@@ -14,8 +14,7 @@ fn is_mixed_to(src: &[i32], interp: Interp, want: &[i64]) -> bool {
     acc[..to] == want[..]
 }
 
-#[test]
-fn an_input_has_the_channels_of_its_mode(rt: HostRuntime) {
+fn has_counts() -> bool {
     for (mode, channel_count, counts, want) in [
         (Mode::Max, 2, [1, 6, 4].as_slice(), 6),
         (Mode::ClampedMax, 2, [1, 6, 4].as_slice(), 2),
@@ -25,12 +24,16 @@ fn an_input_has_the_channels_of_its_mode(rt: HostRuntime) {
         (Mode::ClampedMax, 2, [].as_slice(), 1),
         (Mode::Explicit, 2, [].as_slice(), 2),
     ] {
-        assert_eq!(rt;
-            count(mode, channel_count, counts),
-            want,
-            "{mode:?} {channel_count}"
-        );
+        if count(mode, channel_count, counts) != want {
+            return false;
+        }
     }
+    true
+}
+
+#[test]
+fn an_input_has_the_channels_of_its_mode(rt: HostRuntime) {
+    assert!(rt; has_counts());
 }
 
 #[test]

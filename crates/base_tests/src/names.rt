@@ -6,6 +6,15 @@ use std::alloc::Global;
 use std::test::Fail;
 use wa_base::{BufId, Name, NoMemory, NodeId};
 
+const BOUND: [(&str, Option<Object>); 6] = [
+    ("tone", Some(Object::Node(NodeId(2)))),
+    ("noise", Some(Object::Buffer(BufId(0)))),
+    ("again", Some(Object::Node(NodeId(1)))),
+    ("destination", Some(Object::Node(NodeId(0)))),
+    ("tones", None),
+    ("", None),
+];
+
 fn name_of(alloc: Global, text: &str) -> Result<Name, NoMemory>
     ensures { IfOk result (λ name. name ≡ text.now) }
 {
@@ -20,49 +29,60 @@ fn bind(alloc: Global, book: &mut Book, text: &str, object: Object) -> Result<()
     book.bind(&name, object)
 }
 
-fn find(alloc: Global, book: &Book, text: &str) -> Result<Option<Object>, NoMemory> {
-    let name = name_of(alloc, text)?;
-    Ok(book.find(&name))
+// Whether each name stands for its object.
+fn finds_all(
+    alloc: Global,
+    book: &Book,
+    rows: &[(&str, Option<Object>)],
+) -> Result<bool, NoMemory> {
+    for (text, want) in rows {
+        if book.find(&name_of(alloc, text)?) != *want {
+            return Ok(false);
+        }
+    }
+    Ok(true)
 }
 
-#[test]
 #[tactic(auto, unfolding(name_book::specs::Book::destination))]
-fn names_stand_for_what_they_were_bound_to_last(rt: HostRuntime) -> Result<(), Fail> {
-    let alloc = rt.alloc();
+fn keeps_last_and_first_names(alloc: Global) -> Result<bool, NoMemory> {
     let mut book = Book::new(alloc);
     bind(alloc, &mut book, "tone", Object::Node(NodeId(1)))?;
     bind(alloc, &mut book, "noise", Object::Buffer(BufId(0)))?;
     bind(alloc, &mut book, "tone", Object::Node(NodeId(2)))?;
     bind(alloc, &mut book, "again", Object::Node(NodeId(1)))?;
-    for (text, want) in [
-        ("tone", Some(Object::Node(NodeId(2)))),
-        ("noise", Some(Object::Buffer(BufId(0)))),
-        ("again", Some(Object::Node(NodeId(1)))),
-        ("destination", Some(Object::Node(NodeId(0)))),
-        ("tones", None),
-        ("", None),
-    ] {
-        assert_eq!(rt; find(alloc, &book, text)?, want);
-    }
-    assert!(rt; book.created(NodeId(1)).as_slice() == b"tone".as_slice());
-    assert!(rt; book.created(NodeId(2)).as_slice() == b"tone".as_slice());
-    Ok(())
+    Ok(
+        book.created(NodeId(1)).as_slice() == b"tone".as_slice()
+            && book.created(NodeId(2)).as_slice() == b"tone".as_slice()
+            && finds_all(alloc, &book, &BOUND)?,
+    )
 }
 
 #[test]
+fn names_stand_for_what_they_were_bound_to_last(rt: HostRuntime) -> Result<(), Fail> {
+    assert!(rt; keeps_last_and_first_names(rt.alloc())?);
+    Ok(())
+}
+
 #[tactic(auto, unfolding(name_book::specs::Book::destination))]
-fn a_reserved_name_is_bound(rt: HostRuntime) -> Result<(), Fail> {
-    let alloc = rt.alloc();
+fn binds_a_reserved_name(alloc: Global) -> Result<bool, NoMemory> {
     let mut book = Book::new(alloc);
     let name = name_of(alloc, "level")?;
     let other = name_of(alloc, "other")?;
     book.reserve(&other)?;
     book.reserve(&name)?;
     book.reserve(&name)?;
-    assert_eq!(rt; book.find(&name), None);
+    let was_unbound = book.find(&name).is_none();
     book.bind(&name, Object::Node(NodeId(7)))?;
-    assert_eq!(rt; book.find(&name), Some(Object::Node(NodeId(7))));
-    assert_eq!(rt; book.find(&other), None);
-    assert!(rt; book.created(NodeId(7)).as_slice() == b"level".as_slice());
+    let level = Some(Object::Node(NodeId(7)));
+    Ok(
+        was_unbound
+            && book.created(NodeId(7)).as_slice() == b"level".as_slice()
+            && finds_all(alloc, &book, &[("level", level), ("other", None)])?,
+    )
+}
+
+#[test]
+fn a_reserved_name_is_bound(rt: HostRuntime) -> Result<(), Fail> {
+    assert!(rt; binds_a_reserved_name(rt.alloc())?);
     Ok(())
 }

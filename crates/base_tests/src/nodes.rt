@@ -40,101 +40,147 @@ fn attrs_of(nodes: &Nodes, number: u32) -> Option<Attrs> {
     }
 }
 
+// Whether the node with this number is of this kind and has these attributes.
+fn is_node(nodes: &Nodes, number: u32, kind: &Kind, attrs: Attrs) -> bool {
+    kind_of(nodes, number) == Some(kind) && attrs_of(nodes, number) == Some(attrs)
+}
+
+fn attrs(count: u32, mode: Mode, birth: u64) -> Attrs {
+    Attrs {
+        count,
+        mode,
+        interp: Interp::Speakers,
+        birth,
+    }
+}
+
+fn creates_with_defaults(alloc: Global) -> Result<bool, Refusal> {
+    let mut nodes = begin(alloc, 6)?;
+    let constant = nodes.create(Kind::Constant { offset: -7 }, 0)?;
+    let gain = create_gain(&mut nodes, ONE, 1_280)?;
+    Ok(
+        constant == NodeId(1)
+            && gain == NodeId(2)
+            && nodes.len() == 3
+            && is_node(&nodes, 0, &Kind::Destination, attrs(6, Mode::Explicit, 0))
+            && is_node(
+                &nodes,
+                1,
+                &Kind::Constant { offset: -7 },
+                attrs(2, Mode::Max, 0),
+            )
+            && is_node(
+                &nodes,
+                2,
+                &Kind::Gain { gain: ONE },
+                attrs(2, Mode::Max, 1_280),
+            ),
+    )
+}
+
 #[test]
 fn nodes_have_the_defaults_of_their_kinds(rt: HostRuntime) -> Result<(), Fail> {
-    let mut nodes = begin(rt.alloc(), 6)?;
-    assert_eq!(rt; nodes.create(Kind::Constant { offset: -7 }, 0)?, NodeId(1));
-    assert_eq!(rt; create_gain(&mut nodes, ONE, 1_280)?, NodeId(2));
-    assert_eq!(rt; nodes.len(), 3);
-    for (number, kind, count, mode, birth) in [
-        (0, Kind::Destination, 6, Mode::Explicit, 0),
-        (1, Kind::Constant { offset: -7 }, 2, Mode::Max, 0),
-        (2, Kind::Gain { gain: ONE }, 2, Mode::Max, 1_280),
-    ] {
-        let attrs = Attrs {
-            count,
-            mode,
-            interp: Interp::Speakers,
-            birth,
-        };
-        assert_eq!(rt; kind_of(&nodes, number), Some(&kind));
-        assert_eq!(rt; attrs_of(&nodes, number), Some(attrs));
-    }
+    assert!(rt; creates_with_defaults(rt.alloc())?);
     Ok(())
+}
+
+// Whether a kind has so many inputs, one output, and no parameters but these.
+fn has(kind: &Kind, inputs: u32, offset: Option<Fix>, gain: Option<Fix>) -> bool {
+    kind.inputs() == inputs
+        && kind.outputs() == 1
+        && !kind.is_delay()
+        && kind.param_base(ParamName::Offset) == offset
+        && kind.param_base(ParamName::Gain) == gain
+        && kind.param_base(ParamName::DelayTime).is_none()
+        && kind.param_base(ParamName::PlaybackRate).is_none()
+        && kind.param_base(ParamName::Detune).is_none()
 }
 
 #[test]
 fn kinds_have_their_ports_and_parameters(rt: HostRuntime) {
-    for (kind, inputs, outputs, offset, gain) in [
-        (Kind::Destination, 1, 1, None, None),
-        (Kind::Constant { offset: 5 }, 0, 1, Some(5), None),
-        (Kind::Gain { gain: -9 }, 1, 1, None, Some(-9)),
-    ] {
-        assert_eq!(rt; kind.inputs(), inputs);
-        assert_eq!(rt; kind.outputs(), outputs);
-        assert!(rt; !kind.is_delay());
-        assert_eq!(rt; kind.param_base(ParamName::Offset), offset);
-        assert_eq!(rt; kind.param_base(ParamName::Gain), gain);
-        assert_eq!(rt; kind.param_base(ParamName::DelayTime), None);
-        assert_eq!(rt; kind.param_base(ParamName::PlaybackRate), None);
-        assert_eq!(rt; kind.param_base(ParamName::Detune), None);
+    assert!(rt; has(&Kind::Destination, 1, None, None));
+    assert!(rt; has(&Kind::Constant { offset: 5 }, 0, Some(5), None));
+    assert!(rt; has(&Kind::Gain { gain: -9 }, 1, None, Some(-9)));
+}
+
+fn refuses_the_1025th(alloc: Global) -> Result<bool, Refusal> {
+    let mut nodes = begin(alloc, 1)?;
+    for number in 1..1_024 {
+        if create_gain(&mut nodes, 0, 128)? != NodeId(number) {
+            return Ok(false);
+        }
     }
+    Ok(
+        create_gain(&mut nodes, 1, 256) == Err(AT_LIMIT)
+            && create_gain(&mut nodes, 1, 256) == Err(AT_LIMIT)
+            && nodes.len() == 1_024
+            && kind_of(&nodes, 1_023) == Some(&Kind::Gain { gain: 0 })
+            && kind_of(&nodes, 1_024).is_none(),
+    )
 }
 
 #[test]
 fn there_are_at_most_1024_nodes(rt: HostRuntime) -> Result<(), Fail> {
-    let mut nodes = begin(rt.alloc(), 1)?;
-    for number in 1..1_024 {
-        assert_eq!(rt; create_gain(&mut nodes, 0, 128)?, NodeId(number));
-    }
-    for _ in 0..2 {
-        assert_eq!(rt; create_gain(&mut nodes, 1, 256), Err(AT_LIMIT));
-    }
-    assert_eq!(rt; nodes.len(), 1_024);
-    assert_eq!(rt; kind_of(&nodes, 1_023), Some(&Kind::Gain { gain: 0 }));
-    assert_eq!(rt; kind_of(&nodes, 1_024), None);
+    assert!(rt; refuses_the_1025th(rt.alloc())?);
     Ok(())
+}
+
+// Whether both have the same node at this number.
+fn are_alike(first: &Nodes, second: &Nodes, number: u32) -> bool {
+    kind_of(first, number) == kind_of(second, number)
+        && attrs_of(first, number) == attrs_of(second, number)
+}
+
+fn copies_apart(alloc: Global) -> Result<bool, Refusal> {
+    let mut first = begin(alloc, 32)?;
+    create_gain(&mut first, 3, 384)?;
+    let mut second = first.copy()?;
+    create_gain(&mut second, 4, 512)?;
+    let gain = Kind::Gain { gain: 4 };
+    Ok(
+        first.len() == 2
+            && second.len() == 3
+            && are_alike(&first, &second, 0)
+            && are_alike(&first, &second, 1)
+            && kind_of(&second, 2) == Some(&gain)
+            && gain.copy()? == gain,
+    )
 }
 
 #[test]
 fn a_copy_goes_on_by_itself(rt: HostRuntime) -> Result<(), Fail> {
-    let mut first = begin(rt.alloc(), 32)?;
-    create_gain(&mut first, 3, 384)?;
-    let mut second = first.copy()?;
-    create_gain(&mut second, 4, 512)?;
-    assert_eq!(rt; first.len(), 2);
-    assert_eq!(rt; second.len(), 3);
-    for number in 0..2 {
-        assert_eq!(rt; kind_of(&first, number), kind_of(&second, number));
-        assert_eq!(rt; attrs_of(&first, number), attrs_of(&second, number));
-    }
-    assert_eq!(rt; kind_of(&second, 2), Some(&Kind::Gain { gain: 4 }));
-    let kind = Kind::Gain { gain: 4 }.copy()?;
-    assert_eq!(rt; kind, Kind::Gain { gain: 4 });
+    assert!(rt; copies_apart(rt.alloc())?);
     Ok(())
 }
 
 // Where one growth is refused, what asked for it can be done again.
-#[test]
-fn what_was_refused_memory_can_be_done_again(rt: HostRuntime) -> Result<(), Fail> {
-    let mut nodes = match begin(rt.alloc(), 2) {
-        Err(Refusal::NoMemory) => begin(rt.alloc(), 2)?,
+fn creates_again(nodes: &mut Nodes) -> Result<NodeId, Refusal> {
+    let number = nodes.len();
+    match create_gain(nodes, ONE, 0) {
+        Err(Refusal::NoMemory) if nodes.len() == number => create_gain(nodes, ONE, 0),
+        created => created,
+    }
+}
+
+fn goes_on_after_refusals(alloc: Global) -> Result<bool, Refusal> {
+    let mut nodes = match begin(alloc, 2) {
+        Err(Refusal::NoMemory) => begin(alloc, 2)?,
         begun => begun?,
     };
     for number in 1..10 {
-        let node = match create_gain(&mut nodes, ONE, 0) {
-            Err(Refusal::NoMemory) => {
-                assert_eq!(rt; nodes.len(), number);
-                create_gain(&mut nodes, ONE, 0)?
-            }
-            created => created?,
-        };
-        assert_eq!(rt; node, NodeId(number));
+        if creates_again(&mut nodes)? != NodeId(number) {
+            return Ok(false);
+        }
     }
     let copy = match nodes.copy() {
         Err(NoMemory) => nodes.copy()?,
         Ok(copy) => copy,
     };
-    assert_eq!(rt; copy.len(), 10);
+    Ok(copy.len() == 10)
+}
+
+#[test]
+fn what_was_refused_memory_can_be_done_again(rt: HostRuntime) -> Result<(), Fail> {
+    assert!(rt; goes_on_after_refusals(rt.alloc())?);
     Ok(())
 }

@@ -1,16 +1,8 @@
+use std::alloc::Global;
 use std::test::Fail;
 use wa_base::{NoMemory, ONE, Samples, rnd_div, sat, scale};
 
-fn ramp(rt: &HostRuntime) -> Result<Samples, NoMemory> {
-    let mut samples = Samples::new(rt.alloc());
-    for v in [3, -5, 8] {
-        samples.push(v)?;
-    }
-    Ok(samples)
-}
-
-#[test]
-fn halves_go_up(rt: HostRuntime) {
+fn rounds_halves_up() -> bool {
     for (num, den, want) in [
         (1, 2, 1),
         (-1, 2, 0),
@@ -19,14 +11,19 @@ fn halves_go_up(rt: HostRuntime) {
         (7, 3, 2),
         (-7, 3, -2),
     ] {
-        assert_eq!(rt; rnd_div(num, den), want, "{num} over {den}");
+        if rnd_div(num, den) != want {
+            return false;
+        }
     }
+    true
 }
 
 #[test]
-fn products_are_rounded_and_saturated(rt: HostRuntime) {
-    assert_eq!(rt; sat(2_147_483_648), 2_147_483_647);
-    assert_eq!(rt; sat(-2_147_483_649), -2_147_483_648);
+fn halves_go_up(rt: HostRuntime) {
+    assert!(rt; rounds_halves_up());
+}
+
+fn rounds_and_saturates() -> bool {
     for (x, g, want) in [
         (ONE, ONE, ONE),
         (1, ONE / 2, 1),
@@ -34,20 +31,42 @@ fn products_are_rounded_and_saturated(rt: HostRuntime) {
         (3, ONE / 4, 1),
         (1_677_721_600, 2 * ONE, 2_147_483_647),
     ] {
-        assert_eq!(rt; scale(x, g), want, "{x} by {g}");
+        if scale(x, g) != want {
+            return false;
+        }
     }
+    sat(2_147_483_648) == 2_147_483_647 && sat(-2_147_483_649) == -2_147_483_648
 }
 
 #[test]
-fn a_copy_has_memory_of_its_own(rt: HostRuntime) -> Result<(), Fail> {
-    let first = ramp(&rt)?;
+fn products_are_rounded_and_saturated(rt: HostRuntime) {
+    assert!(rt; rounds_and_saturates());
+}
+
+fn ramp(alloc: Global) -> Result<Samples, NoMemory> {
+    let mut samples = Samples::new(alloc);
+    for v in [3, -5, 8] {
+        samples.push(v)?;
+    }
+    Ok(samples)
+}
+
+fn copies_apart(alloc: Global) -> Result<bool, NoMemory> {
+    let first = ramp(alloc)?;
     let mut second = first.copy()?;
     for v in second.as_mut_slice() {
         *v = 1;
     }
-    assert!(rt; first.as_slice() == [3, -5, 8].as_slice());
-    assert!(rt; second.as_slice() == [1, 1, 1].as_slice());
-    assert_eq!(rt; second.len(), 3);
-    assert!(rt; !second.is_empty());
+    Ok(
+        first.as_slice() == [3, -5, 8].as_slice()
+            && second.as_slice() == [1, 1, 1].as_slice()
+            && second.len() == 3
+            && !second.is_empty(),
+    )
+}
+
+#[test]
+fn a_copy_has_memory_of_its_own(rt: HostRuntime) -> Result<(), Fail> {
+    assert!(rt; copies_apart(rt.alloc())?);
     Ok(())
 }

@@ -192,24 +192,38 @@ fn joined(alloc: Global, count: u32, edges: &[Edge]) -> Result<Graph, Refusal> {
     Ok(graph)
 }
 
-#[test]
-fn a_repeated_connection_changes_nothing(rt: HostRuntime) -> Result<(), Fail> {
-    let alloc = rt.alloc();
+fn repeats(alloc: Global) -> Result<bool, Refusal> {
     let mut graph = begin(alloc, 2)?;
     let edge = to_input(1, 0, 0, 0);
-    assert_eq!(rt; connect(&mut graph, edge), Ok(true));
-    assert_eq!(rt; connect(&mut graph, edge), Ok(false));
-    assert!(rt; has(alloc, &graph, &[edge])?);
     let form = Form::Node(NodeId(0));
-    assert_eq!(rt; disconnect(&mut graph, 1, form), Ok(()));
-    assert!(rt; has(alloc, &graph, &[])?);
-    assert_eq!(rt; disconnect(&mut graph, 1, form), Err(Exc::InvalidAccess));
+    Ok(
+        connect(&mut graph, edge)?
+            && !connect(&mut graph, edge)?
+            && has(alloc, &graph, &[edge])?
+            && disconnect(&mut graph, 1, form) == Ok(())
+            && has(alloc, &graph, &[])?
+            && disconnect(&mut graph, 1, form) == Err(Exc::InvalidAccess),
+    )
+}
+
+#[test]
+fn a_repeated_connection_changes_nothing(rt: HostRuntime) -> Result<(), Fail> {
+    assert!(rt; repeats(rt.alloc())?);
     Ok(())
+}
+
+fn takes_away(alloc: Global, edges: &[Edge], form: Form, gone: &[usize]) -> Result<bool, Refusal> {
+    let mut graph = joined(alloc, 4, edges)?;
+    let kept = without(alloc, edges, gone)?;
+    Ok(
+        has(alloc, &graph, edges)?
+            && disconnect(&mut graph, 1, form) == Ok(())
+            && has(alloc, &graph, kept.as_slice())?,
+    )
 }
 
 #[test]
 fn each_form_takes_away_what_it_names(rt: HostRuntime) -> Result<(), Fail> {
-    let alloc = rt.alloc();
     let edges = [
         to_input(1, 0, 2, 0),
         to_input(1, 0, 2, 1),
@@ -232,53 +246,65 @@ fn each_form_takes_away_what_it_names(rt: HostRuntime) -> Result<(), Fail> {
         (Form::ParamOutput(GAIN, 1), &[5]),
     ];
     for (form, gone) in rows {
-        let mut graph = joined(alloc, 4, &edges)?;
-        assert!(rt; has(alloc, &graph, &edges)?);
-        assert_eq!(rt; disconnect(&mut graph, 1, form), Ok(()));
-        let kept = without(alloc, &edges, gone)?;
-        assert!(rt; has(alloc, &graph, kept.as_slice())?, "{form:?}");
+        assert!(rt; takes_away(rt.alloc(), &edges, form, gone)?, "{form:?}");
     }
     Ok(())
+}
+
+// Whether each form that node 1 is disconnected by is answered so, and each connection refused.
+fn refuses(
+    graph: &mut Graph,
+    forms: &[(Form, Result<(), Exc>)],
+    edges: &[Edge],
+) -> Result<bool, Refusal> {
+    for (form, answer) in forms {
+        if disconnect(graph, 1, *form) != *answer {
+            return Ok(false);
+        }
+    }
+    for edge in edges {
+        if connect(graph, *edge) != Err(Refusal::Exc(Exc::IndexSize)) {
+            return Ok(false);
+        }
+    }
+    Ok(disconnect(graph, 2, Form::All) == Ok(()))
+}
+
+fn changes_nothing(alloc: Global) -> Result<bool, Refusal> {
+    let edge = to_input(1, 0, 2, 0);
+    let mut graph = joined(alloc, 3, &[edge])?;
+    let forms = [
+        (Form::Output(2), Err(Exc::IndexSize)),
+        (Form::NodeOutput(NodeId(2), 2), Err(Exc::IndexSize)),
+        (Form::NodeOutputInput(NodeId(2), 2, 0), Err(Exc::IndexSize)),
+        (Form::NodeOutputInput(NodeId(2), 0, 2), Err(Exc::IndexSize)),
+        (Form::NodeOutputInput(NodeId(0), 0, 2), Err(Exc::IndexSize)),
+        (Form::ParamOutput(GAIN, 2), Err(Exc::IndexSize)),
+        (Form::Node(NodeId(1)), Err(Exc::InvalidAccess)),
+        (Form::NodeOutput(NodeId(2), 1), Err(Exc::InvalidAccess)),
+        (
+            Form::NodeOutputInput(NodeId(2), 0, 1),
+            Err(Exc::InvalidAccess),
+        ),
+        (Form::Param(GAIN), Err(Exc::InvalidAccess)),
+        (Form::ParamOutput(GAIN, 0), Err(Exc::InvalidAccess)),
+        (Form::Output(1), Ok(())),
+    ];
+    let edges = [
+        to_input(1, 2, 2, 0),
+        to_input(1, 0, 2, 2),
+        to_param(1, 2, GAIN),
+    ];
+    Ok(refuses(&mut graph, &forms, &edges)? && has(alloc, &graph, &[edge])?)
 }
 
 #[test]
 fn a_refused_call_changes_nothing(rt: HostRuntime) -> Result<(), Fail> {
-    let alloc = rt.alloc();
-    let edge = to_input(1, 0, 2, 0);
-    let mut graph = joined(alloc, 3, &[edge])?;
-    let node = NodeId(2);
-    for (form, answer) in [
-        (Form::Output(2), Err(Exc::IndexSize)),
-        (Form::NodeOutput(node, 2), Err(Exc::IndexSize)),
-        (Form::NodeOutputInput(node, 2, 0), Err(Exc::IndexSize)),
-        (Form::NodeOutputInput(node, 0, 2), Err(Exc::IndexSize)),
-        (Form::NodeOutputInput(NodeId(0), 0, 2), Err(Exc::IndexSize)),
-        (Form::ParamOutput(GAIN, 2), Err(Exc::IndexSize)),
-        (Form::Node(NodeId(1)), Err(Exc::InvalidAccess)),
-        (Form::NodeOutput(node, 1), Err(Exc::InvalidAccess)),
-        (Form::NodeOutputInput(node, 0, 1), Err(Exc::InvalidAccess)),
-        (Form::Param(GAIN), Err(Exc::InvalidAccess)),
-        (Form::ParamOutput(GAIN, 0), Err(Exc::InvalidAccess)),
-        (Form::Output(1), Ok(())),
-    ] {
-        assert_eq!(rt; disconnect(&mut graph, 1, form), answer, "{form:?}");
-    }
-    assert_eq!(rt; disconnect(&mut graph, 2, Form::All), Ok(()));
-    for refused in [
-        to_input(1, 2, 2, 0),
-        to_input(1, 0, 2, 2),
-        to_param(1, 2, GAIN),
-    ] {
-        let answer = Err(Refusal::Exc(Exc::IndexSize));
-        assert_eq!(rt; connect(&mut graph, refused), answer);
-    }
-    assert!(rt; has(alloc, &graph, &[edge])?);
+    assert!(rt; changes_nothing(rt.alloc())?);
     Ok(())
 }
 
-#[test]
-fn connections_of_a_node_keep_their_order(rt: HostRuntime) -> Result<(), Fail> {
-    let alloc = rt.alloc();
+fn keeps_its_order(alloc: Global) -> Result<bool, Refusal> {
     let mut edges = [
         to_input(1, 1, 2, 1),
         to_input(3, 0, 2, 0),
@@ -290,85 +316,148 @@ fn connections_of_a_node_keep_their_order(rt: HostRuntime) -> Result<(), Fail> {
         to_input(3, 1, 1, 0),
     ];
     let mut graph = joined(alloc, 4, &edges)?;
-    assert!(rt; has(alloc, &graph, &edges)?);
-    assert_eq!(rt; disconnect(&mut graph, 1, Form::Node(NodeId(0))), Ok(()));
-    assert_eq!(rt; connect(&mut graph, edges[2]), Ok(true));
-    assert!(rt; !has(alloc, &graph, &edges)?);
+    let was_in_order = has(alloc, &graph, &edges)?;
+    let is_new = disconnect(&mut graph, 1, Form::Node(NodeId(0))) == Ok(())
+        && connect(&mut graph, edges[2])?;
+    let was_moved = !has(alloc, &graph, &edges)?;
     edges[2..].rotate_left(1);
-    assert!(rt; has(alloc, &graph, &edges)?);
-    Ok(())
+    Ok(was_in_order && is_new && was_moved && has(alloc, &graph, &edges)?)
 }
 
 #[test]
-fn there_are_at_most_8192_connections(rt: HostRuntime) -> Result<(), Fail> {
-    let alloc = rt.alloc();
+fn connections_of_a_node_keep_their_order(rt: HostRuntime) -> Result<(), Fail> {
+    assert!(rt; keeps_its_order(rt.alloc())?);
+    Ok(())
+}
+
+// Node 1 has 32 outputs, and each of them is connected to each of 32 inputs of eight nodes.
+fn full(alloc: Global) -> Result<Graph, Refusal> {
     let mut graph = begin(alloc, 1)?;
     add(&mut graph, 1, 32)?;
     for node in 2..10 {
         add(&mut graph, 32, 1)?;
         for output in 0..32 {
             for input in 0..32 {
-                let edge = to_input(1, output, node, input);
-                assert_eq!(rt; connect(&mut graph, edge), Ok(true));
+                connect(&mut graph, to_input(1, output, node, input))?;
             }
         }
     }
-    for refused in [to_input(2, 0, 0, 0), to_param(1, 0, GAIN)] {
-        assert_eq!(rt; connect(&mut graph, refused), Err(AT_LIMIT));
-    }
-    assert_eq!(rt; connect(&mut graph, to_input(1, 31, 9, 31)), Ok(false));
-    let lacking = Err(Refusal::Exc(Exc::IndexSize));
-    assert_eq!(rt; connect(&mut graph, to_input(1, 32, 9, 31)), lacking);
-    assert_eq!(rt; from(alloc, &graph, 1)?.len(), 8_192);
-    assert_eq!(rt; to(alloc, &graph, 9)?.len(), 1_024);
-    assert_eq!(rt; disconnect(&mut graph, 1, Form::Output(0)), Ok(()));
-    assert_eq!(rt; connect(&mut graph, to_input(2, 0, 0, 0)), Ok(true));
+    Ok(graph)
+}
+
+fn refuses_one_more(alloc: Global) -> Result<bool, Refusal> {
+    let mut graph = full(alloc)?;
+    Ok(
+        from(alloc, &graph, 1)?.len() == 8_192
+            && to(alloc, &graph, 9)?.len() == 1_024
+            && connect(&mut graph, to_input(2, 0, 0, 0)) == Err(AT_LIMIT)
+            && connect(&mut graph, to_param(1, 0, GAIN)) == Err(AT_LIMIT)
+            && !connect(&mut graph, to_input(1, 31, 9, 31))?
+            && connect(&mut graph, to_input(1, 32, 9, 31)) == Err(Refusal::Exc(Exc::IndexSize))
+            && disconnect(&mut graph, 1, Form::Output(0)) == Ok(())
+            && connect(&mut graph, to_input(2, 0, 0, 0))?,
+    )
+}
+
+#[test]
+fn there_are_at_most_8192_connections(rt: HostRuntime) -> Result<(), Fail> {
+    assert!(rt; refuses_one_more(rt.alloc())?);
     Ok(())
+}
+
+fn copies_apart(alloc: Global) -> Result<bool, Refusal> {
+    let edge = to_input(1, 0, 2, 0);
+    let other = to_input(2, 1, 0, 1);
+    let first = joined(alloc, 3, &[edge])?;
+    let mut second = first.copy()?;
+    Ok(
+        has(alloc, &second, &[edge])?
+            && first.is_same(&second)
+            && connect(&mut second, other)?
+            && disconnect(&mut second, 1, Form::All) == Ok(())
+            && has(alloc, &first, &[edge])?
+            && has(alloc, &second, &[other])?
+            && !first.is_same(&second),
+    )
 }
 
 #[test]
 fn a_copy_goes_on_by_itself(rt: HostRuntime) -> Result<(), Fail> {
-    let alloc = rt.alloc();
-    let edge = to_input(1, 0, 2, 0);
-    let first = joined(alloc, 3, &[edge])?;
-    let mut second = first.copy()?;
-    assert!(rt; has(alloc, &second, &[edge])?);
-    assert!(rt; first.is_same(&second));
-    assert_eq!(rt; connect(&mut second, to_input(2, 1, 0, 1)), Ok(true));
-    assert_eq!(rt; disconnect(&mut second, 1, Form::All), Ok(()));
-    assert!(rt; has(alloc, &first, &[edge])?);
-    assert!(rt; has(alloc, &second, &[to_input(2, 1, 0, 1)])?);
-    assert!(rt; !first.is_same(&second));
+    assert!(rt; copies_apart(rt.alloc())?);
     Ok(())
+}
+
+// A node with so many inputs as there were nodes before it.
+fn adds(graph: &mut Graph, is_delay: bool) -> Result<bool, NoMemory> {
+    let number = graph.len();
+    if number == u32::MAX {
+        return Ok(false);
+    }
+    graph.reserve()?;
+    graph.add_node(number, 1, is_delay)?;
+    Ok(graph.is_delay(NodeId(number)) == is_delay)
+}
+
+fn adds_in_order(alloc: Global) -> Result<bool, Refusal> {
+    let mut graph = Graph::new(alloc);
+    Ok(
+        graph.len() == 0
+            && adds(&mut graph, false)?
+            && adds(&mut graph, true)?
+            && adds(&mut graph, false)?
+            && graph.len() == 3
+            && connect(&mut graph, to_input(0, 0, 2, 1))?
+            && connect(&mut graph, to_input(0, 0, 1, 1)) == Err(Refusal::Exc(Exc::IndexSize)),
+    )
 }
 
 #[test]
 fn nodes_are_added_in_order(rt: HostRuntime) -> Result<(), Fail> {
-    let mut graph = Graph::new(rt.alloc());
-    for (number, is_delay) in [(0, false), (1, true), (2, false)] {
-        assert_eq!(rt; graph.len(), number);
-        assert_eq!(rt; graph.reserve(), Ok(()));
-        assert_eq!(rt; graph.add_node(number, 1, is_delay), Ok(()));
-    }
-    assert_eq!(rt; graph.len(), 3);
-    for (number, is_delay) in [(0, false), (1, true), (2, false)] {
-        assert_eq!(rt; graph.is_delay(NodeId(number)), is_delay);
-    }
-    assert_eq!(rt; connect(&mut graph, to_input(0, 0, 2, 1)), Ok(true));
-    let lacking = Err(Refusal::Exc(Exc::IndexSize));
-    assert_eq!(rt; connect(&mut graph, to_input(0, 0, 1, 1)), lacking);
+    assert!(rt; adds_in_order(rt.alloc())?);
     Ok(())
 }
 
-// Where one growth is refused, what asked for it can be done again.
-#[test]
-fn what_was_refused_memory_can_be_done_again(rt: HostRuntime) -> Result<(), Fail> {
-    let alloc = rt.alloc();
+// A node and a connection, made again where one growth is refused.
+fn add_again(graph: &mut Graph) -> Result<bool, NoMemory> {
+    let number = graph.len();
+    if add(graph, 2, 2) == Err(NoMemory) {
+        let is_as_before = graph.len() == number;
+        add(graph, 2, 2)?;
+        return Ok(is_as_before);
+    }
+    Ok(true)
+}
+
+fn connect_again(
+    alloc: Global,
+    graph: &mut Graph,
+    edge: Edge,
+    before: &[Edge],
+) -> Result<bool, Refusal> {
+    if connect(graph, edge) == Err(Refusal::NoMemory) {
+        let is_as_before = has(alloc, graph, before)?;
+        connect(graph, edge)?;
+        return Ok(is_as_before);
+    }
+    Ok(true)
+}
+
+fn has_again(alloc: Global, graph: &Graph, edges: &[Edge]) -> Result<bool, NoMemory> {
+    let copy = match graph.copy() {
+        Err(NoMemory) => graph.copy()?,
+        Ok(copy) => copy,
+    };
+    match has(alloc, &copy, edges) {
+        Err(NoMemory) => has(alloc, &copy, edges),
+        seen => seen,
+    }
+}
+
+fn goes_on_after_refusals(alloc: Global) -> Result<bool, Refusal> {
     let mut graph = Graph::new(alloc);
-    for number in 0..5 {
-        if add(&mut graph, 2, 2) == Err(NoMemory) {
-            assert_eq!(rt; graph.len(), number);
-            add(&mut graph, 2, 2)?;
+    for _ in 0..5 {
+        if !add_again(&mut graph)? {
+            return Ok(false);
         }
     }
     let edges = [
@@ -379,19 +468,15 @@ fn what_was_refused_memory_can_be_done_again(rt: HostRuntime) -> Result<(), Fail
         to_input(4, 0, 0, 0),
     ];
     for (place, edge) in edges.iter().enumerate() {
-        if connect(&mut graph, *edge) == Err(Refusal::NoMemory) {
-            assert!(rt; has(alloc, &graph, &edges[..place])?);
-            connect(&mut graph, *edge)?;
+        if !connect_again(alloc, &mut graph, *edge, &edges[..place])? {
+            return Ok(false);
         }
     }
-    let copy = match graph.copy() {
-        Err(NoMemory) => graph.copy()?,
-        Ok(copy) => copy,
-    };
-    let seen = match has(alloc, &copy, &edges) {
-        Err(NoMemory) => has(alloc, &copy, &edges)?,
-        Ok(seen) => seen,
-    };
-    assert!(rt; seen);
+    Ok(has_again(alloc, &graph, &edges)?)
+}
+
+#[test]
+fn what_was_refused_memory_can_be_done_again(rt: HostRuntime) -> Result<(), Fail> {
+    assert!(rt; goes_on_after_refusals(rt.alloc())?);
     Ok(())
 }

@@ -148,30 +148,33 @@ fn put_ends(alloc: Global, text: &mut String, ends: &[End]) -> Result<(), NoMemo
     Ok(())
 }
 
+// Whether this is what is told of so many nodes with these delays and connections.
+fn says(
+    alloc: Global,
+    nodes: u32,
+    delays: &[u32],
+    wires: &[Wire],
+    want: &str,
+) -> Result<bool, Refusal> {
+    let graph = build(alloc, nodes, delays, wires)?;
+    Ok(told(alloc, &graph)?.as_str() == want)
+}
+
 #[test]
 fn ties_choose_among_ready_ends(rt: HostRuntime) -> Result<(), Fail> {
-    let alloc = rt.alloc();
     let wires = [Wire::Audio(1, 0), Wire::Audio(2, 0)];
-    let graph = build(alloc, 2, &[], wires.as_slice())?;
-    assert_eq!(rt;
-        told(alloc, &graph)?.as_str(),
-        "cycle; muted; up 1 2 0; down 2 1 0"
-    );
+    let text = "cycle; muted; up 1 2 0; down 2 1 0";
+    assert!(rt; says(rt.alloc(), 2, &[], &wires, text)?);
 
     // A parameter's connection puts its source first.
     let wires = [Wire::Audio(1, 0), Wire::Param(2, 1)];
-    let graph = build(alloc, 2, &[], wires.as_slice())?;
-    assert_eq!(rt;
-        told(alloc, &graph)?.as_str(),
-        "cycle; muted; up 2 1 0; down 2 1 0"
-    );
+    let text = "cycle; muted; up 2 1 0; down 2 1 0";
+    assert!(rt; says(rt.alloc(), 2, &[], &wires, text)?);
     Ok(())
 }
 
 #[test]
 fn ends_on_a_cycle_are_muted(rt: HostRuntime) -> Result<(), Fail> {
-    let alloc = rt.alloc();
-
     // A constant beside a cycle of two gains.
     let wires = [
         Wire::Audio(1, 2),
@@ -180,19 +183,13 @@ fn ends_on_a_cycle_are_muted(rt: HostRuntime) -> Result<(), Fail> {
         Wire::Audio(2, 0),
         Wire::Audio(1, 0),
     ];
-    let graph = build(alloc, 3, &[], wires.as_slice())?;
-    assert_eq!(rt;
-        told(alloc, &graph)?.as_str(),
-        "cycle; muted 2 3; up 1 0; down 1 0"
-    );
+    let text = "cycle; muted 2 3; up 1 0; down 1 0";
+    assert!(rt; says(rt.alloc(), 3, &[], &wires, text)?);
 
     // A gain connected to itself.
     let wires = [Wire::Audio(1, 1), Wire::Audio(1, 0)];
-    let graph = build(alloc, 1, &[], wires.as_slice())?;
-    assert_eq!(rt;
-        told(alloc, &graph)?.as_str(),
-        "cycle; muted 1; up 0; down 0"
-    );
+    let text = "cycle; muted 1; up 0; down 0";
+    assert!(rt; says(rt.alloc(), 1, &[], &wires, text)?);
 
     // Nodes behind a cycle, which are on none.
     let wires = [
@@ -202,33 +199,22 @@ fn ends_on_a_cycle_are_muted(rt: HostRuntime) -> Result<(), Fail> {
         Wire::Audio(4, 3),
         Wire::Audio(3, 0),
     ];
-    let graph = build(alloc, 4, &[], wires.as_slice())?;
-    assert_eq!(rt;
-        told(alloc, &graph)?.as_str(),
-        "cycle; muted 1 2; up 4 3 0; down 4 3 0"
-    );
+    let text = "cycle; muted 1 2; up 4 3 0; down 4 3 0";
+    assert!(rt; says(rt.alloc(), 4, &[], &wires, text)?);
     Ok(())
 }
 
 #[test]
 fn a_delay_in_a_cycle_is_split(rt: HostRuntime) -> Result<(), Fail> {
-    let alloc = rt.alloc();
-
     // In a ring with a gain.
     let wires = [Wire::Audio(1, 2), Wire::Audio(2, 1), Wire::Audio(2, 0)];
-    let graph = build(alloc, 2, &[2], wires.as_slice())?;
-    assert_eq!(rt;
-        told(alloc, &graph)?.as_str(),
-        "cycle 2; muted; up 2 0 1 2w; down 2 1 2w 0"
-    );
+    let text = "cycle 2; muted; up 2 0 1 2w; down 2 1 2w 0";
+    assert!(rt; says(rt.alloc(), 2, &[2], &wires, text)?);
 
     // Its only cycle leads through its own delayTime.
     let wires = [Wire::Param(1, 1), Wire::Audio(1, 0)];
-    let graph = build(alloc, 1, &[1], wires.as_slice())?;
-    assert_eq!(rt;
-        told(alloc, &graph)?.as_str(),
-        "cycle 1; muted 1; up 0 1w; down 1w 0"
-    );
+    let text = "cycle 1; muted 1; up 0 1w; down 1w 0";
+    assert!(rt; says(rt.alloc(), 1, &[1], &wires, text)?);
 
     // Beside a delay that is in no cycle: that one's writer goes before its reader.
     let wires = [
@@ -237,33 +223,49 @@ fn a_delay_in_a_cycle_is_split(rt: HostRuntime) -> Result<(), Fail> {
         Wire::Audio(2, 0),
         Wire::Audio(1, 0),
     ];
-    let graph = build(alloc, 3, &[1, 2], wires.as_slice())?;
-    assert_eq!(rt;
-        told(alloc, &graph)?.as_str(),
-        "cycle 1; muted; up 1 1w 3 2w 2 0; down 3 2w 2 1 1w 0"
-    );
+    let text = "cycle 1; muted; up 1 1w 3 2w 2 0; down 3 2w 2 1 1w 0";
+    assert!(rt; says(rt.alloc(), 3, &[1, 2], &wires, text)?);
     Ok(())
 }
 
-#[test]
-fn a_chain_is_ordered_from_its_source(rt: HostRuntime) -> Result<(), Fail> {
-    let alloc = rt.alloc();
+// Nodes 1 to 254, each connected to the next one and the last to the destination.
+fn chain(alloc: Global) -> Result<Graph, Refusal> {
     let mut graph = build(alloc, 254, &[], &[])?;
     for node in 1..254u32 {
         connect(&mut graph, Wire::Audio(node, node + 1).edge())?;
     }
     connect(&mut graph, Wire::Audio(254, 0).edge())?;
-    let answers = ask::<Brand>(alloc, &graph, Blank::new(1))?;
-    assert!(rt; answers.marks.muted.is_empty());
-    assert_eq!(rt; answers.up.ends.len(), 255);
-    for (place, end) in answers.up.ends.as_slice().iter().enumerate() {
-        assert_eq!(rt;
-            end.node.0 as usize,
-            if place < 254 { place + 1 } else { 0 }
-        );
+    Ok(graph)
+}
+
+// Whether the ends are those of nodes 1 to 254, and then of the destination.
+fn are_in_chain(ends: &[End]) -> bool {
+    for (place, end) in ends.iter().enumerate() {
+        let node = if place < 254 { place + 1 } else { 0 };
+        if end.node.0 as usize != node {
+            return false;
+        }
     }
-    assert!(rt; answers.down.ends.as_slice() == answers.up.ends.as_slice());
+    ends.len() == 255
+}
+
+fn is_ordered_from_its_source(alloc: Global) -> Result<bool, Refusal> {
+    let answers = ask::<Brand>(alloc, &chain(alloc)?, Blank::new(1))?;
+    Ok(
+        answers.marks.muted.is_empty()
+            && are_in_chain(answers.up.ends.as_slice())
+            && are_in_chain(answers.down.ends.as_slice()),
+    )
+}
+
+#[test]
+fn a_chain_is_ordered_from_its_source(rt: HostRuntime) -> Result<(), Fail> {
+    assert!(rt; is_ordered_from_its_source(rt.alloc())?);
     Ok(())
+}
+
+fn is_tried_as(alloc: Global, graph: &Graph, nodes: &[u32], want: bool) -> Result<bool, NoMemory> {
+    Ok(is_legal_list::<Brand>(alloc, graph, nodes, Blank::new(1))? == want)
 }
 
 #[test]
@@ -288,11 +290,7 @@ fn lists_are_tried(rt: HostRuntime) -> Result<(), Fail> {
         (&[1, 4, 0, 5], false),
         (&[], false),
     ] {
-        assert_eq!(rt;
-            is_legal_list::<Brand>(alloc, &graph, nodes, Blank::new(1))?,
-            want,
-            "{nodes:?}"
-        );
+        assert!(rt; is_tried_as(alloc, &graph, nodes, want)?, "{nodes:?}");
     }
     Ok(())
 }
