@@ -17,6 +17,8 @@ mod numbers;
 #[cfg(test)]
 mod schedules;
 #[cfg(test)]
+mod short_writes;
+#[cfg(test)]
 mod timelines;
 #[cfg(test)]
 mod transcripts;
