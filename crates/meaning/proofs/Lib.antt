@@ -5,6 +5,7 @@ pub mod ValueLaws
 pub mod OrderLaws
 pub mod BlockLaws
 pub mod TapeLaws
+pub mod Successors
 pub mod PastLaws
 pub mod QuantumLaws
 pub mod Rows

@@ -1,29 +1,42 @@
 -- One more quantum after two tapes of one past.
-use Rattle.std.proofs.Common.{ℕ, ℤ, zero, suc, ◌≡◌, ◌+◌, ◌*◌, ◌/◌, ◌<◌, ◌≤◌, length, List, [], ◌∷◌, ◌++◌, true, ◌⊎◌, inl, inr, refl, sym, ◌∙◌, ap, arith, subst, length-append, add-mul}
-use Rattle.std.proofs.Math.Nat.{mul_comm, div-mul-le_self}
-use Rattle.std.specs.Prelude.{if◌then◌else◌, nat_lt}
+use Rattle.std.proofs.Common.{ℕ, ℤ, pos, zero, suc, ◌≡◌, ◌+◌, ◌-◌, ◌*◌, ◌/◌, ◌<◌, ◌≤◌, length, List, [], ◌∷◌, ◌++◌, Bool, true, false, ◌⊎◌, inl, inr, refl, sym, ◌∙◌, ap, arith, subst, length-append, add-mul}
+use mathlib.Core.Path.{fun_ext}
+use Rattle.std.proofs.Math.Nat.{mul_comm}
+use Rattle.std.specs.Prelude.{if◌then◌else◌, nat_lt, nat_le, ◌&&◌}
 use Rattle.std.proofs.lemmas.Nat.{div-mul-add, le-div}
 use Rattle.std.proofs.lemmas.Bool.Decides.{nat_tests}
 use Rattle.wa_base.specs.declared.graph_names.End.{End}
+use Rattle.wa_base.specs.declared.graph_names.ParamId.{ParamId}
 use Rattle.law_base.specs.Members.{IsIn}
 use Rattle.law_base.specs.Heights.{at_height, at_moment, before}
 use Rattle.law_base.proofs.SchemeLaws.{moment-zero}
+use Rattle.node_table.specs.Kinds.{is_delay_kind, remembers}
+use Rattle.node_table.specs.declared.kinds.Kind.{Kind}
+use Rattle.node_table.specs.declared.kinds.Kind.TheVariants.{Destination, Constant, Gain}
 use Rattle.conn_graph.specs.Graph.{Connections}
-use Rattle.conn_graph.specs.Ends.{writer_of, ends, is_delay, height}
-use Rattle.conn_graph.proofs.EndLaws.{has_writer}
+use Rattle.conn_graph.specs.Ends.{writer_of, reader_of, input_end, ends, is_delay, height, muted}
+use Rattle.conn_graph.proofs.EndLaws.{has_end}
 use Rattle.meaning.specs.declared.world.World.{World}
-use Rattle.meaning.specs.World.{plain, node_at}
+use Rattle.meaning.specs.World.{plain, node_at, kind_of}
 use Rattle.meaning.specs.Validity.{IsJoined}
 use Rattle.meaning.specs.Counts.{Counts, world_in, count_rule, count_scheme, count_at, count}
-use Rattle.meaning.specs.Values.{Frame, Values, no_frame, world_at, known_at, equation, value_scheme, value_at, value, frame, frames_before}
-use Rattle.meaning.specs.Pasts.{SamePast}
+use Rattle.meaning.specs.Values.{Frame, Values, no_frame, world_at, known_at, input_value, computed_value, equation, value_scheme, value_at, value, frame, frames_before, param_value}
+use Rattle.meaning.specs.Pasts.{last_world, heard, past}
 use Rattle.meaning.proofs.CountLaws.{count_rule_alike}
-use Rattle.meaning.proofs.Seeing.{LikeFor, SeesFor, equation_sees}
+use Rattle.meaning.proofs.Seeing.{LikeFor, SeesFor, input_like, computed_like, equation_sees}
+use Rattle.meaning.proofs.Successors.{div-le-div, delay_remembers, SamePast}
 use Rattle.meaning.proofs.ValueLaws.{value_suc}
 use Rattle.meaning.proofs.TapeLaws.{world_after, count_before, quantum_below, frame_before}
 
-div-le-div : (a b q : ℕ) → 0 < q → a ≤ b → a / q ≤ b / q
-div-le-div a b q some l = le-div (a / q) b q some (omega (arith, div-mul-le_self a q))
+-- what the writer of a delay carries is what the delay takes in
+writer_carries : (q : ℕ) (kind : Kind) → is_delay_kind kind ≡ true → (tape : List World) (i f : ℕ) → value q tape f (writer_of i) 0 ≡ heard q tape i f
+writer_carries q Destination is tape i f = absurd cc
+writer_carries q (Constant offset) is tape i f = absurd cc
+writer_carries q (Gain gain) is tape i f = absurd cc
+
+-- what an input takes in at a frame, by all that the frame has
+abbrev heard_of : Frame → ℕ → ℕ → ℤ
+heard_of x n c = if muted x.world.graph.value (input_end x.world.graph.value n) then pos 0 else input_value x n 0 c
 
 module _ (q : ℕ) (some : 0 < q) (w : World) (joined : IsJoined (plain w)) (tape tape' : List World) (same : SamePast q w tape tape') where
   abbrev g : Connections
@@ -88,11 +101,16 @@ module _ (q : ℕ) (some : 0 < q) (w : World) (joined : IsJoined (plain w)) (tap
   writer_old : (i n : ℕ) → is_delay g i ≡ true → (node_at w i).attrs.birth ≤ n → n < q * length tape
       → ((frame q longer n).counts (writer_of i) ≡ (frame q longer' n).counts (writer_of i)) × (value q longer n (writer_of i) 0 ≡ value q longer' n (writer_of i) 0)
   writer_old i n is low l =
+      let delay : is_delay_kind (kind_of w i) ≡ true = sym (joined.delays i) ∙ is in
       let frames = old_frames n l in
       let quantum : n / q < length tape = quantum_below q n (length tape) some l in
       let born : (node_at w i).attrs.birth / q ≤ n / q = div-le-div (node_at w i).attrs.birth n q some low in (
-        ap (λ (x : Frame). x.counts (writer_of i)) frames.0 ∙ same.counts i (n / q) is born quantum ∙ sym (ap (λ (x : Frame). x.counts (writer_of i)) frames.1),
-        ap (λ (x : Frame). x.values (writer_of i) 0) frames.0 ∙ same.frames i n is low l ∙ sym (ap (λ (x : Frame). x.values (writer_of i) 0) frames.1),
+        ap (λ (x : Frame). x.counts (writer_of i)) frames.0 ∙ same.counts i (n / q) delay born quantum ∙ sym (ap (λ (x : Frame). x.counts (writer_of i)) frames.1),
+        ap (λ (x : Frame). x.values (writer_of i) 0) frames.0
+            ∙ writer_carries q (kind_of w i) delay tape i n
+            ∙ fun_ext (λ c. same.heard i n c (delay_remembers (kind_of w i) delay) low l)
+            ∙ sym (writer_carries q (kind_of w i) delay tape' i n)
+            ∙ sym (ap (λ (x : Frame). x.values (writer_of i) 0) frames.1),
       )
 
   sees_at : (f : ℕ) → f / q ≡ length tape → AgreeBefore f → (e : End) → SeesFor q f (plain w) e (frames_before q longer f) (frames_before q longer' f)
@@ -161,26 +179,94 @@ module _ (q : ℕ) (some : 0 < q) (w : World) (joined : IsJoined (plain w)) (tap
   pub count_new : (e : End) → count q longer (length tape) e ≡ count q longer' (length tape) e
   count_new e = ap (λ (c : Counts). c e) counts_new
 
+  pub param_new : (f : ℕ) (id : ParamId) → f / q ≡ length tape → id.node.0 < length g.nodes → param_value q longer f id ≡ param_value q longer' f id
+  param_new f id here there =
+      let e : End = reader_of id.node.0 in
+      let agree = frames_new q (omega arith) in
+      let low : q * (f / q) ≤ f = omega arith in
+      let high : f < q * (f / q) + q = omega arith in
+      let before : AgreeBefore f = λ n from to d in_d. agree n from (let top = subst (λ j. f < q * j + q) here high in omega arith) d in_d in
+      ap (λ x. computed_value q f (frames_before q longer f) x id) (frame_new f here (value q longer f))
+      ∙ computed_like q some (plain w) joined f (frames_before q longer f) (frames_before q longer' f) e (has_end g id.node.0 there) (sees_at f here before e)
+      (count q longer (length tape)) (count q longer (length tape)) refl (λ d in_d a. refl)
+      (value q longer f) (value q longer' f) (λ d in_d a. value_new f d here in_d) refl id.name
+      ∙ sym (ap (λ x. computed_value q f (frames_before q longer' f) x id) (frame_new' f here (value q longer' f)))
+
   next_length : q * length longer ≡ q * length tape + q
   next_length = ap (λ n. q * n) (length-append tape (w ∷ [])) ∙ mul_comm q (length tape + 1) ∙ omega (arith, add-mul (length tape) 1 q, mul_comm q (length tape))
 
-  -- Both pasts are longer by the same quantum.
-  pub past_new : SamePast q w longer longer'
-  past_new = record {
-    quanta = length-append tape (w ∷ []) ∙ ap (λ n. n + 1) same.quanta ∙ sym (length-append tape' (w ∷ []));
-    counts = λ i k is low high. elim (quantum_old_or_new k high) [
-      | inl l ↦ ap (λ (c : Counts). c (writer_of i)) (count_before q tape w k l) ∙ same.counts i k is low l
-          ∙ sym (ap (λ (c : Counts). c (writer_of i)) (count_before q tape' w k (subst (λ n. k < n) same.quanta l)))
-      | inr e ↦ subst (λ j. count q longer j (writer_of i) ≡ count q longer' j (writer_of i)) (sym e) (count_new (writer_of i))
-    ];
-    frames = λ i n is low high. elim (old_or_new n) [
-      | inl l ↦ (writer_old i n is low l).1
-      | inr l ↦ ap (λ (v : ℕ → ℕ → ℤ). v 0) (frames_new q (omega arith) n l (subst (λ k. n < k) next_length high) (writer_of i) (has_writer g i is))
-    ];
-  }
+  -- what an input takes in is the same in the frames before, and in those of the new quantum
+  heard_new : (n f c : ℕ) → remembers (kind_of w n) ≡ true → (node_at w n).attrs.birth ≤ f → f < q * length longer → heard q longer n f c ≡ heard q longer' n f c
+  heard_new n f c is low high = elim (old_or_new f) [
+    | inl l ↦
+        let frames = old_frames f l in
+        ap (λ x. heard_of x n c) frames.0 ∙ same.heard n f c is low l ∙ sym (ap (λ x. heard_of x n c) frames.1)
+    | inr l ↦
+        let here : f / q ≡ length tape = subst (λ k. k / q ≡ length tape) (let back : q * length tape + (f - q * length tape) ≡ f = omega arith in back) (quantum_new (f - q * length tape) (let short = subst (λ k. f < k) next_length high in omega arith)) in
+        let e : End = input_end g n in
+        ap (λ x. heard_of x n c) (frame_new f here (value q longer f))
+        ∙ ap (λ x. if muted g e then pos 0 else x)
+        (input_like (plain w) joined (count q longer (length tape)) (count q longer (length tape)) (value q longer f) (value q longer' f) e refl (λ d in_d a. refl) (λ d in_d a. value_new f d here in_d) 0 c)
+        ∙ sym (ap (λ x. heard_of x n c) (frame_new' f here (value q longer' f)))
+  ]
+    where
+      old_or_new : (f : ℕ) → (f < q * length tape) ⊎ (q * length tape ≤ f)
+      old_or_new f = grind arith
+
+  counts_old_or_new : (n k : ℕ) → is_delay_kind (kind_of w n) ≡ true → (node_at w n).attrs.birth / q ≤ k → k < length longer → count q longer k (writer_of n) ≡ count q longer' k (writer_of n)
+  counts_old_or_new n k is low high = elim (quantum_old_or_new k high) [
+    | inl l ↦ ap (λ (c : Counts). c (writer_of n)) (count_before q tape w k l) ∙ same.counts n k is low l
+        ∙ sym (ap (λ (c : Counts). c (writer_of n)) (count_before q tape' w k (subst (λ j. k < j) same.quanta l)))
+    | inr e ↦ subst (λ j. count q longer j (writer_of n) ≡ count q longer' j (writer_of n)) (sym e) (count_new (writer_of n))
+  ]
     where
       quantum_old_or_new : (k : ℕ) → k < length longer → (k < length tape) ⊎ (k ≡ length tape)
       quantum_old_or_new k high = let long : length longer ≡ length tape + 1 = length-append tape (w ∷ []) in grind arith
 
-      old_or_new : (n : ℕ) → (n < q * length tape) ⊎ (q * length tape ≤ n)
-      old_or_new n = grind arith
+  pub same_length : length longer ≡ length longer'
+  same_length = length-append tape (w ∷ []) ∙ ap (λ n. n + 1) same.quanta ∙ sym (length-append tape' (w ∷ []))
+
+  -- what a past has of a node, by the last world, the length, and what there is to have
+  abbrev kept_heard : World → ℕ → (ℕ → ℕ → ℕ → ℤ) → ℕ → ℕ → ℕ → ℤ
+  kept_heard x k h n f c = let node = node_at x n in if remembers node.kind && (nat_le node.attrs.birth f && nat_lt f (q * k)) then h n f c else pos 0
+
+  abbrev kept_counts : World → ℕ → (ℕ → ℕ → ℕ) → ℕ → ℕ → ℕ
+  kept_counts x k h n j = let node = node_at x n in if is_delay_kind node.kind && (nat_le (node.attrs.birth / q) j && nat_lt j k) then h n j else 1
+
+  last_is : last_world longer ≡ plain w
+  last_is = world_after tape w (length longer - 1) (omega (arith, length-append tape (w ∷ [])))
+
+  last_is' : last_world longer' ≡ plain w
+  last_is' = world_after tape' w (length longer' - 1) (omega (arith, length-append tape' (w ∷ [])))
+
+  heard_same : (past q longer).heard ≡ (past q longer').heard
+  heard_same = fun_ext (λ n. fun_ext (λ f. fun_ext (λ c.
+      ap (λ x. kept_heard x (length longer) (heard q longer) n f c) last_is
+      ∙ by_test n f c (remembers (kind_of w n)) (nat_le (node_at w n).attrs.birth f) (nat_lt f (q * length longer)) refl refl refl
+      ∙ ap (λ k. kept_heard (plain w) k (heard q longer') n f c) same_length
+      ∙ sym (ap (λ x. kept_heard x (length longer') (heard q longer') n f c) last_is'))))
+    where
+      by_test : (n f c : ℕ) (a b d : Bool) → remembers (kind_of w n) ≡ a → nat_le (node_at w n).attrs.birth f ≡ b → nat_lt f (q * length longer) ≡ d
+          → (if a && (b && d) then heard q longer n f c else pos 0) ≡ (if a && (b && d) then heard q longer' n f c else pos 0)
+      by_test n f c true true true is low high = heard_new n f c is (let l : (node_at w n).attrs.birth ≤ f = grind (arith, nat_tests) in l) (let h : f < q * length longer = grind (arith, nat_tests) in h)
+      by_test n f c true true false is low high = refl
+      by_test n f c true false d is low high = refl
+      by_test n f c false b d is low high = refl
+
+  counts_same : (past q longer).counts ≡ (past q longer').counts
+  counts_same = fun_ext (λ n. fun_ext (λ j.
+      ap (λ x. kept_counts x (length longer) (λ i k. count q longer k (writer_of i)) n j) last_is
+      ∙ by_test n j (is_delay_kind (kind_of w n)) (nat_le ((node_at w n).attrs.birth / q) j) (nat_lt j (length longer)) refl refl refl
+      ∙ ap (λ k. kept_counts (plain w) k (λ i k. count q longer' k (writer_of i)) n j) same_length
+      ∙ sym (ap (λ x. kept_counts x (length longer') (λ i k. count q longer' k (writer_of i)) n j) last_is')))
+    where
+      by_test : (n j : ℕ) (a b d : Bool) → is_delay_kind (kind_of w n) ≡ a → nat_le ((node_at w n).attrs.birth / q) j ≡ b → nat_lt j (length longer) ≡ d
+          → (if a && (b && d) then count q longer j (writer_of n) else 1) ≡ (if a && (b && d) then count q longer' j (writer_of n) else 1)
+      by_test n j true true true is low high = counts_old_or_new n j is (let l : (node_at w n).attrs.birth / q ≤ j = grind (arith, nat_tests) in l) (let h : j < length longer = grind (arith, nat_tests) in h)
+      by_test n j true true false is low high = refl
+      by_test n j true false d is low high = refl
+      by_test n j false b d is low high = refl
+
+  -- Both pasts are longer by the same quantum.
+  pub past_new : past q longer ≡ past q longer'
+  past_new i = record { quanta = same_length i; heard = heard_same i; counts = counts_same i }

@@ -1,7 +1,7 @@
 -- What the equation of one end sees, of its own frame, of its own quantum, and of the quanta before.
 use Rattle.std.proofs.Common.{ℕ, ℤ, pos, ◌≡◌, ◌*◌, ◌/◌, ◌<◌, ◌≤◌, ◌+ℤ◌, List, Bool, true, false, refl, sym, ◌∙◌, ap, arith, subst}
 use mathlib.Core.Path.{fun_ext}
-use Rattle.std.specs.Prelude.{if◌then◌else◌, nat_lt, ◌==◌}
+use Rattle.std.specs.Prelude.{if◌then◌else◌, nat_lt, ◌==◌, ◌&&◌}
 use Rattle.std.proofs.lemmas.Bool.Decides.{nat_tests}
 use Rattle.wa_base.specs.Numbers.{scale}
 use Rattle.wa_base.specs.declared.graph_names.End.{End}
@@ -14,7 +14,7 @@ use Rattle.law_base.specs.Members.{IsIn}
 use Rattle.law_base.proofs.Members.{same_map}
 use Rattle.channel_mix.specs.Counts.{input_count}
 use Rattle.channel_mix.specs.Mixing.{mix, fan_in}
-use Rattle.node_table.specs.Kinds.{is_delay_kind}
+use Rattle.node_table.specs.Kinds.{is_delay_kind, outputs}
 use Rattle.node_table.specs.declared.kinds.Kind.{Kind}
 use Rattle.node_table.specs.declared.kinds.Kind.TheVariants.{Destination, Constant, Gain}
 use Rattle.conn_graph.specs.declared.edges.Edge.{Edge}
@@ -25,7 +25,7 @@ use Rattle.meaning.specs.declared.world.World.{World}
 use Rattle.meaning.specs.World.{node_at, kind_of, param_id, intrinsic_value, is_k_rate, nominal, sounds_at}
 use Rattle.meaning.specs.Validity.{IsJoined}
 use Rattle.meaning.specs.Counts.{Counts, input_channels}
-use Rattle.meaning.specs.Values.{Frame, Values, seen, mixed_sum, input_value, computed_value, value_by_kind, equation}
+use Rattle.meaning.specs.Values.{Frame, Values, seen, mixed_sum, input_value, computed_value, value_by_kind, has_channel, equation}
 
 -- an end of a node that is no delay is the one at which the node's inputs arrive
 pub plain_end : (w : World) → IsJoined w → (e : End) → IsIn e (ends w.graph.value) → is_delay_kind (kind_of w e.node.0) ≡ false → e ≡ input_end w.graph.value e.node.0
@@ -63,6 +63,32 @@ same_channels w joined s t e is agree i =
     ap (input_count (node_at w e.node.0).attrs.mode (node_at w e.node.0).attrs.count)
     (same_map _ _ (edges_to_input w.graph.value e.node.0 i) (λ x h. let a = input_source w joined e is i x h in agree (reader_of x.from.0) a.0 a.1))
 
+abbrev here : World → Counts → Values → Frame
+here w counts values = record { world = w; counts = counts; values = values }
+
+-- what is carried alike adds up alike
+same_sum : (w : World) (k l : Counts) (u v : Values) (interp : Interp) (to c : ℕ) (xs : List Edge)
+    → ((x : Edge) → IsIn x xs → (k (reader_of x.from.0) ≡ l (reader_of x.from.0)) × (u (reader_of x.from.0) ≡ v (reader_of x.from.0)))
+    → mixed_sum (here w k u) interp to c xs ≡ mixed_sum (here w l v) interp to c xs
+same_sum w k l u v interp to c xs each = ap fan_in (same_map _ _ xs (λ x is.
+    ap (λ from. mix interp from to (u (reader_of x.from.0) x.output) c) (each x is).0
+    ∙ ap (λ (values : ℕ → ℕ → ℤ). mix interp (l (reader_of x.from.0)) to (values x.output) c) (each x is).1))
+
+-- an input depends on the ends that are connected to it
+pub input_like : (w : World) → IsJoined w → (m n : Counts) (s t : Values) (e : End) → e ≡ input_end w.graph.value e.node.0 → AgreeFor w e m n → AgreeFor w e s t → (i c : ℕ)
+    → input_value (here w m s) e.node.0 i c ≡ input_value (here w n t) e.node.0 i c
+unfolding input_value
+input_like w joined m n s t e is agree_counts agree i c =
+    ap (λ to. if nat_lt c to then mixed_sum (here w m s) interp to c edges else pos 0) (same_channels w joined m n e is agree_counts i)
+    ∙ ap (λ x. if nat_lt c (input_channels w n e.node.0 i) then x else pos 0)
+    (same_sum w m n s t interp (input_channels w n e.node.0 i) c edges (λ x k. let a = input_source w joined e is i x k in (agree_counts (reader_of x.from.0) a.0 a.1, agree (reader_of x.from.0) a.0 a.1)))
+  where
+    interp : Interp
+    interp = (node_at w e.node.0).attrs.interp
+
+    edges : List Edge
+    edges = edges_to_input w.graph.value e.node.0 i
+
 -- Two frames look alike to an end: they are one, or both are of this world and agree, in counts and values, on the ends from which an arrow leads to e.
 pub data LikeFor (w : World) (e : End) (x y : Frame) : Type 0 where
   same : x ≡ y → LikeFor w e x y
@@ -74,9 +100,6 @@ pub record SeesFor (q f : ℕ) (w : World) (e : End) (past past' : ℕ → Frame
   pub delays : (g : ℕ) → is_delay w.graph.value e.node.0 ≡ true → (node_at w e.node.0).attrs.birth ≤ g → g < q * (f / q)
       → ((past g).counts (writer_of e.node.0) ≡ (past' g).counts (writer_of e.node.0)) × ((past g).values (writer_of e.node.0) 0 ≡ (past' g).values (writer_of e.node.0) 0)
 
-abbrev here : World → Counts → Values → Frame
-here w counts values = record { world = w; counts = counts; values = values }
-
 module _ (q : ℕ) (some : 0 < q) (w : World) (joined : IsJoined w) (f : ℕ) (past past' : ℕ → Frame) (e : End) (h : IsIn e (ends w.graph.value))
     (sees : SeesFor q f w e past past') (m n : Counts) (own : m e ≡ n e) (agree_counts : AgreeFor w e m n) (s t : Values) (agree : AgreeFor w e s t) where
   -- a frame of this quantum, this one included
@@ -87,34 +110,14 @@ module _ (q : ℕ) (some : 0 < q) (w : World) (joined : IsJoined w) (f : ℕ) (p
       by_test true now = alike m n s t refl refl agree_counts agree
       by_test false other = sees.recent g low (grind (arith, nat_tests))
 
-  same_sum : (k l : Counts) (u v : Values) (interp : Interp) (to c : ℕ) (xs : List Edge)
-      → ((x : Edge) → IsIn x xs → (k (reader_of x.from.0) ≡ l (reader_of x.from.0)) × (u (reader_of x.from.0) ≡ v (reader_of x.from.0)))
-      → mixed_sum (here w k u) interp to c xs ≡ mixed_sum (here w l v) interp to c xs
-  same_sum k l u v interp to c xs each = ap fan_in (same_map _ _ xs (λ x is.
-      ap (λ from. mix interp from to (u (reader_of x.from.0) x.output) c) (each x is).0
-      ∙ ap (λ (values : ℕ → ℕ → ℤ). mix interp (l (reader_of x.from.0)) to (values x.output) c) (each x is).1))
-
   sum_like : (interp : Interp) (to c : ℕ) (xs : List Edge) → ((x : Edge) → IsIn x xs → IsIn (reader_of x.from.0) (ends w.graph.value) × (arrow w.graph.value (reader_of x.from.0) e ≡ true))
       → (x y : Frame) → LikeFor w e x y → mixed_sum x interp to c xs ≡ mixed_sum y interp to c xs
   sum_like interp to c xs arrows x y (same p) = ap (λ z. mixed_sum z interp to c xs) p
   sum_like interp to c xs arrows x y (alike k l u v p r b a) = ap (λ z. mixed_sum z interp to c xs) p
-      ∙ same_sum k l u v interp to c xs (λ z is. let arrow_z = arrows z is in (b (reader_of z.from.0) arrow_z.0 arrow_z.1, a (reader_of z.from.0) arrow_z.0 arrow_z.1))
+      ∙ same_sum w k l u v interp to c xs (λ z is. let arrow_z = arrows z is in (b (reader_of z.from.0) arrow_z.0 arrow_z.1, a (reader_of z.from.0) arrow_z.0 arrow_z.1))
       ∙ sym (ap (λ z. mixed_sum z interp to c xs) r)
 
-  input_like : e ≡ input_end w.graph.value e.node.0 → (i c : ℕ) → input_value (here w m s) e.node.0 i c ≡ input_value (here w n t) e.node.0 i c
-  unfolding input_value
-  input_like is i c =
-      ap (λ to. if nat_lt c to then mixed_sum (here w m s) interp to c edges else pos 0) (same_channels w joined m n e is agree_counts i)
-      ∙ ap (λ x. if nat_lt c (input_channels w n e.node.0 i) then x else pos 0)
-      (same_sum m n s t interp (input_channels w n e.node.0 i) c edges (λ x k. let a = input_source w joined e is i x k in (agree_counts (reader_of x.from.0) a.0 a.1, agree (reader_of x.from.0) a.0 a.1)))
-    where
-      interp : Interp
-      interp = (node_at w e.node.0).attrs.interp
-
-      edges : List Edge
-      edges = edges_to_input w.graph.value e.node.0 i
-
-  computed_like : e ≡ reader_of e.node.0 → (name : ParamName) → computed_value q f past (here w m s) (param_id e.node.0 name) ≡ computed_value q f past' (here w n t) (param_id e.node.0 name)
+  pub computed_like : e ≡ reader_of e.node.0 → (name : ParamName) → computed_value q f past (here w m s) (param_id e.node.0 name) ≡ computed_value q f past' (here w n t) (param_id e.node.0 name)
   unfolding computed_value
   computed_like is name = by_rate (is_k_rate w id)
     where
@@ -133,14 +136,14 @@ module _ (q : ℕ) (some : 0 < q) (w : World) (joined : IsJoined w) (f : ℕ) (p
       by_rate false = same_at f (omega arith) (omega arith)
 
   by_kind : (o c : ℕ) (k : Kind) → kind_of w e.node.0 ≡ k → value_by_kind q f past (here w m s) k e o c ≡ value_by_kind q f past' (here w n t) k e o c
-  by_kind o c Destination is = input_like (plain_end w joined e h (ap is_delay_kind is)) 0 c
+  by_kind o c Destination is = input_like w joined m n s t e (plain_end w joined e h (ap is_delay_kind is)) agree_counts agree 0 c
   by_kind o c (Constant offset) is = ap (λ x. if sounds_at w e.node.0 f then x else pos 0) (computed_like (plain_reader w joined e h (ap is_delay_kind is)) param.Offset)
   by_kind o c (Gain gain) is =
-      ap (λ x. scale x (computed_value q f past (here w m s) (param_id e.node.0 param.Gain))) (input_like (plain_end w joined e h (ap is_delay_kind is)) 0 c)
+      ap (λ x. scale x (computed_value q f past (here w m s) (param_id e.node.0 param.Gain))) (input_like w joined m n s t e (plain_end w joined e h (ap is_delay_kind is)) agree_counts agree 0 c)
       ∙ ap (scale (input_value (here w n t) e.node.0 0 c)) (computed_like (plain_reader w joined e h (ap is_delay_kind is)) param.Gain)
 
   pub equation_sees : equation q f past (here w m s) e ≡ equation q f past' (here w n t) e
   unfolding equation
   equation_sees = fun_ext (λ o. fun_ext (λ c.
-      ap (λ k. if muted w.graph.value e then pos 0 else if nat_lt c k then value_by_kind q f past (here w m s) (kind_of w e.node.0) e o c else pos 0) own
-      ∙ ap (λ x. if muted w.graph.value e then pos 0 else if nat_lt c (n e) then x else pos 0) (by_kind o c _ refl)))
+      ap (λ k. if muted w.graph.value e then pos 0 else if nat_lt o (outputs (kind_of w e.node.0)) && nat_lt c k then value_by_kind q f past (here w m s) (kind_of w e.node.0) e o c else pos 0) own
+      ∙ ap (λ x. if muted w.graph.value e then pos 0 else if has_channel w n e o c then x else pos 0) (by_kind o c _ refl)))

@@ -1,16 +1,18 @@
 -- What is said of the definitions. Each law holds for every size of a quantum from 1 to 1,024 frames.
 use Rattle.std.specs.Prelude.{ℕ, suc, ◌+◌, ◌*◌, ◌/◌, ◌≡◌, ◌<◌, ◌≤◌, length, List, [], ◌∷◌, ◌++◌, All}
 use Rattle.wa_base.specs.declared.graph_names.End.{End}
+use Rattle.wa_base.specs.declared.graph_names.ParamId.{ParamId}
 use Rattle.law_base.specs.Members.{IsIn}
 use Rattle.conn_graph.specs.Ends.{ends, height}
 use Rattle.conn_graph.specs.Orders.{IsLegalOrder}
 use Rattle.meaning.specs.declared.world.World.{World}
 use Rattle.meaning.specs.Validity.{IsValid}
 use Rattle.meaning.specs.Counts.{world_in, count_at, count}
-use Rattle.meaning.specs.Values.{silence, equation, world_at, value_at, value, frame, frames_before, frame_at}
+use Rattle.meaning.specs.Values.{silence, equation, world_at, value_at, value, frame, frames_before, frame_at, param_value}
 use Rattle.meaning.specs.Orders.{values_by}
 use Rattle.meaning.specs.Blocks.{blocks_along}
-use Rattle.meaning.specs.Pasts.{SamePast}
+use Rattle.meaning.specs.Worlds.{IsRegular}
+use Rattle.meaning.specs.Pasts.{past}
 
 -- whether an end is one of the world in force at a frame
 abbrev pub IsEndAt : ℕ → List World → ℕ → End → Type 0
@@ -43,9 +45,10 @@ BlockLaw = (q : ℕ) → 0 < q → q ≤ 1024 → (tape : List World) → All Is
     (m : ℕ) → m < q → (e : End) → IsIn e (ends (world_in tape j).graph.value) →
     blocks_along q (frame q tape) (q * j) (world_in tape j) (count q tape j) order (λ m. silence) m e ≡ value q tape (q * j + m) e
 
--- A quantum after two tapes of one past is the same, and their pasts stay the same.
+-- A quantum after two tapes of one past is the same in counts, values and parameters, and their pasts stay the same.
 abbrev pub PastLaw : Type 0
-PastLaw = (q : ℕ) → 0 < q → q ≤ 1024 → (w : World) (tape tape' : List World) → IsValid w → SamePast q w tape tape' →
+PastLaw = (q : ℕ) → 0 < q → q ≤ 1024 → (w : World) (tape tape' : List World) → IsRegular q (tape ++ w ∷ []) → IsRegular q (tape' ++ w ∷ []) → past q tape ≡ past q tape' →
     ((e : End) → IsIn e (ends w.graph.value) → count q (tape ++ w ∷ []) (length tape) e ≡ count q (tape' ++ w ∷ []) (length tape) e)
     × ((f : ℕ) (e : End) → f / q ≡ length tape → IsIn e (ends w.graph.value) → value q (tape ++ w ∷ []) f e ≡ value q (tape' ++ w ∷ []) f e)
-    × SamePast q w (tape ++ w ∷ []) (tape' ++ w ∷ [])
+    × ((f : ℕ) (id : ParamId) → f / q ≡ length tape → id.node.0 < length w.graph.value.nodes → param_value q (tape ++ w ∷ []) f id ≡ param_value q (tape' ++ w ∷ []) f id)
+    × (past q (tape ++ w ∷ []) ≡ past q (tape' ++ w ∷ []))

@@ -1,13 +1,41 @@
 -- What of a tape matters to the quanta after it.
-use Rattle.std.specs.Prelude.{ℕ, ◌≡◌, ◌*◌, ◌/◌, ◌<◌, ◌≤◌, length, List, true}
-use Rattle.conn_graph.specs.Ends.{writer_of, is_delay}
+use Rattle.std.specs.Prelude.{ℕ, ℤ, pos, ◌-◌, ◌*◌, ◌/◌, length, List, Bool, ◌&&◌, nat_le, nat_lt, if◌then◌else◌}
+use Rattle.node_table.specs.Kinds.{is_delay_kind, remembers}
+use Rattle.node_table.specs.declared.nodes.Node.{Node}
+use Rattle.conn_graph.specs.Ends.{writer_of, input_end, muted}
 use Rattle.meaning.specs.declared.world.World.{World}
 use Rattle.meaning.specs.World.{node_at}
-use Rattle.meaning.specs.Counts.{count}
-use Rattle.meaning.specs.Values.{value}
+use Rattle.meaning.specs.Counts.{world_in, count}
+use Rattle.meaning.specs.Values.{input_value, world_at, frame}
 
--- Two tapes are as long, and each delay of the world took in the same in both, from its birth on.
-pub record SamePast (q : ℕ) (w : World) (tape tape' : List World) : Type 0 where
-  pub quanta : length tape ≡ length tape'
-  pub counts : (i k : ℕ) → is_delay w.graph.value i ≡ true → (node_at w i).attrs.birth / q ≤ k → k < length tape → count q tape k (writer_of i) ≡ count q tape' k (writer_of i)
-  pub frames : (i g : ℕ) → is_delay w.graph.value i ≡ true → (node_at w i).attrs.birth ≤ g → g < q * length tape → value q tape g (writer_of i) 0 ≡ value q tape' g (writer_of i) 0
+-- the world in force in the last quantum of a tape
+abbrev pub last_world : List World → World
+last_world tape = world_in tape (length tape - 1)
+
+-- channel c of what the input of node n takes in at frame f; an end that is muted takes in nothing
+abbrev pub heard : ℕ → List World → ℕ → ℕ → ℕ → ℤ
+heard q tape n f c =
+    let g = (world_at q tape f).graph.value in
+    if muted g (input_end g n) then pos 0 else input_value (frame q tape f) n 0 c
+
+-- whether frame f lies between the birth of a node and the end of the tape
+abbrev pub is_lived : ℕ → List World → Node → ℕ → Bool
+is_lived q tape node f = nat_le node.attrs.birth f && nat_lt f (q * length tape)
+
+-- whether quantum k does
+abbrev pub is_lived_quantum : ℕ → List World → Node → ℕ → Bool
+is_lived_quantum q tape node k = nat_le (node.attrs.birth / q) k && nat_lt k (length tape)
+
+-- The past of a tape: how many quanta it has; what the nodes that remember took in, channel by channel, at each frame of their lives; and with how many channels the delays did so in each quantum.
+pub record Past : Type 0 where
+  pub quanta : ℕ
+  pub heard : ℕ → ℕ → ℕ → ℤ
+  pub counts : ℕ → ℕ → ℕ
+
+-- It is a past of the nodes of the last world. For all others, and out of their lives, it has nothing.
+abbrev pub past : ℕ → List World → Past
+past q tape = record {
+  quanta = length tape;
+  heard = λ n f c. let node = node_at (last_world tape) n in if remembers node.kind && is_lived q tape node f then heard q tape n f c else pos 0;
+  counts = λ n k. let node = node_at (last_world tape) n in if is_delay_kind node.kind && is_lived_quantum q tape node k then count q tape k (writer_of n) else 1;
+}

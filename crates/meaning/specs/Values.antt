@@ -1,5 +1,5 @@
 -- What each end carries at each frame.
-use Rattle.std.specs.Prelude.{ℕ, ℤ, pos, ◌+ℤ◌, ◌*◌, ◌/◌, List, map, nat_lt, ◌==◌, if◌then◌else◌}
+use Rattle.std.specs.Prelude.{ℕ, ℤ, pos, ◌+ℤ◌, ◌*◌, ◌/◌, List, map, Bool, nat_lt, ◌==◌, ◌&&◌, if◌then◌else◌}
 use Rattle.wa_base.specs.Numbers.{scale}
 use Rattle.wa_base.specs.declared.graph_names.End.{End}
 use Rattle.wa_base.specs.declared.graph_names.Interp.{Interp}
@@ -8,6 +8,7 @@ use Rattle.wa_base.specs.declared.graph_names.ParamId.{ParamId}
 use Rattle.wa_base.specs.declared.graph_names.ParamName.TheVariants as param
 use Rattle.law_base.specs.Heights.{Scheme, at_moment}
 use Rattle.channel_mix.specs.Mixing.{mix, fan_in}
+use Rattle.node_table.specs.Kinds.{outputs}
 use Rattle.node_table.specs.declared.kinds.Kind.{Kind}
 use Rattle.node_table.specs.declared.kinds.Kind.TheVariants.{Destination, Constant, Gain}
 use Rattle.conn_graph.specs.declared.edges.Edge.{Edge}
@@ -71,11 +72,15 @@ value_by_kind q f past here (Constant offset) e o c =
 value_by_kind q f past here (Gain gain) e o c =
     scale (input_value here e.node.0 0 c) (computed_value q f past here (param_id e.node.0 param.Gain))
 
--- Each end's equation at frame f, from the frames before and from this frame one height below. A muted end is silent, and so is a channel that an end lacks.
+-- whether an end has channel c of output o
+abbrev pub has_channel : World → Counts → End → ℕ → ℕ → Bool
+has_channel w counts e o c = nat_lt o (outputs (kind_of w e.node.0)) && nat_lt c (counts e)
+
+-- Each end's equation at frame f, from the frames before and from this frame one height below. A muted end is silent, and so are an output and a channel that an end lacks.
 unfoldable pub equation : ℕ → ℕ → (ℕ → Frame) → Frame → Values
 equation q f past here = λ e o c.
     if muted here.world.graph.value e then pos 0 else
-    if nat_lt c (here.counts e) then value_by_kind q f past here (kind_of here.world e.node.0) e o c else pos 0
+    if has_channel here.world here.counts e o c then value_by_kind q f past here (kind_of here.world e.node.0) e o c else pos 0
 
 -- ---- the recursion over frame and height
 
@@ -117,3 +122,7 @@ module _ (q : ℕ) (tape : List World) where
   -- frame f, with the values of height h
   abbrev pub frame_at : ℕ → ℕ → Frame
   frame_at f h = record { world = world_at f; counts = count q tape (f / q); values = value_at f h }
+
+  -- the computed value of a parameter at frame f, with all values at full height
+  abbrev pub param_value : ℕ → ParamId → ℤ
+  param_value f id = computed_value q f (frames_before f) (frame f) id

@@ -1,6 +1,7 @@
 -- The worlds that a session has, one after the other.
 use Rattle.std.specs.Prelude.{ℕ, suc, ◌-◌, ◌*◌, ◌≡◌, ◌<◌, ◌≤◌, ◌⊎◌, length, List, [], ◌∷◌, map, All}
 use Rattle.wa_base.specs.declared.contexts.ContextSpec.{ContextSpec}
+use Rattle.node_table.specs.Kinds.{lasting}
 use Rattle.node_table.specs.Nodes.{destination_of}
 use Rattle.meaning.specs.declared.world.World.{World}
 use Rattle.meaning.specs.Lists.{listed}
@@ -18,10 +19,10 @@ first_world spec = record {
   scheds = listed [];
 }
 
--- A node stays in the next world with its number, its kind and its birth.
+-- A node stays in the next world with its number, with what lasts of its kind, and with its birth.
 pub record Stays (i : ℕ) (w w' : World) : Type 0 where
   pub there : i < length w'.nodes
-  pub kind : (node_at w' i).kind ≡ (node_at w i).kind
+  pub kind : lasting (node_at w' i).kind ≡ lasting (node_at w i).kind
   pub birth : (node_at w' i).attrs.birth ≡ (node_at w i).attrs.birth
 
 -- Node i is new in world j of a tape.

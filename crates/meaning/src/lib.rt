@@ -7,8 +7,6 @@ ghost use Rattle.meaning.specs.Laws.{RecursionLaw, HeightLaw, FixpointLaw, Order
 mod listed;
 mod params;
 mod scheds;
-#[cfg(test)]
-mod tests;
 mod world;
 
 pub use conn_graph::muting_law;

@@ -22,10 +22,26 @@ outputs Destination = 1
 outputs (Constant offset) = 1
 outputs (Gain gain) = 1
 
+-- whether each output has one channel, whatever comes in
+abbrev pub is_mono : Kind → Bool
+is_mono Destination = false
+is_mono (Constant offset) = true
+is_mono (Gain gain) = false
+
 abbrev pub is_delay_kind : Kind → Bool
 is_delay_kind Destination = false
 is_delay_kind (Constant offset) = false
 is_delay_kind (Gain gain) = false
+
+-- what of a kind stays as long as its node is there
+abbrev pub lasting : Kind → Kind
+lasting kind = kind
+
+-- whether what the input of a node took in matters to later quanta
+abbrev pub remembers : Kind → Bool
+remembers Destination = false
+remembers (Constant offset) = false
+remembers (Gain gain) = false
 
 -- the value with which a parameter was created, where the kind has it
 abbrev pub param_base : Kind → ParamName → Option ℤ

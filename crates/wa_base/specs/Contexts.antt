@@ -10,6 +10,12 @@ state_word Suspended = codes "suspended"
 state_word Running = codes "running"
 state_word Closed = codes "closed"
 
+-- ---- render quanta
+
+-- the number of frames of a render quantum
+abbrev pub quantum_of : ContextSpec → ℕ
+quantum_of spec = 128
+
 -- ---- ranges
 
 abbrev pub has_channels : ContextSpec → Bool
