@@ -1,57 +1,26 @@
 -- What a connection adds to sums, and what the connections to a target add up to.
-use Rattle.std.proofs.Common.{ℕ, ℤ, pos, suc, ◌≡◌, ◌+◌, ◌-◌, ◌*◌, ◌<◌, ◌≤◌, ◌+ℤ◌, length, List, ◌∷◌, map, drop, filter, slice_index_or, Bool, true, false, cond, refl, ◌∙◌, ap, arith}
-use mathlib.Core.Path.{fun_ext}
-use Rattle.std.specs.Prelude.{if◌then◌else◌, nat_lt, slice_range}
-use Rattle.std.proofs.lemmas.List.{get_or-take, get_or-drop, get_or_past, get_or_default, length-drop, length-take-le}
+use Rattle.std.proofs.Common.{ℕ, ℤ, pos, zero, suc, ◌≡◌, ◌+◌, ◌<◌, ◌≤◌, ◌+ℤ◌, length, List, [], ◌∷◌, map, drop, filter, slice_index_or, Bool, true, false, cond, slice_set, ◌⊎◌, inl, inr, refl, sym, ◌∙◌, ap, ap₂, arith, subst}
+use Rattle.std.specs.Prelude.{if◌then◌else◌, nat_lt}
+use Rattle.std.proofs.lemmas.List.{get_or-set_same, get_or-set_other}
 use Rattle.std.proofs.lemmas.Int.{ints}
 use Rattle.std.proofs.Math.Seq.{drop-cons}
-use Rattle.std.proofs.lemmas.Bool.Decides.{nat_tests}
-use Rattle.wa_base.specs.declared.graph_names.Interp.{Interp}
-use Rattle.channel_mix.specs.Blocks.{frame_at}
-use Rattle.channel_mix.specs.Mixing.{mix, total}
+use Rattle.wa_base.specs.declared.graph_names.End.{End}
+use Rattle.channel_mix.specs.Mixing.{total}
 use Rattle.conn_graph.specs.declared.edges.Edge.{Edge}
 use Rattle.conn_graph.specs.declared.edges.Target.{Target}
-use Rattle.conn_graph.specs.declared.edges.Target.TheVariants.{Input}
-use Rattle.meaning.specs.declared.world.World.{World}
-use Rattle.meaning.specs.Values.{part}
-use Rattle.quantum_render.specs.Blocks.{cell, frame_in, HasRoom, leads_to}
+use Rattle.quantum_render.specs.Blocks.{BlockView, no_block, at, slot, block_of, lanes_of, IsSilent, Writes}
+use Rattle.quantum_render.specs.Connections.{leads_to}
+use Rattle.quantum_render.proofs.Slots.{slot_apart}
 
--- what a place past the end of a list of connections reads
-abbrev pub no_edge : Edge
-no_edge = record { from = record { 0 = 0 }; output = 0; to = Input (record { 0 = 0 }) 0 }
+-- the number of lanes at a place
+pub lanes_at : (blocks : List BlockView) (k : ℕ) → slice_index_or (lanes_of blocks) k 0 ≡ (slice_index_or blocks k no_block).lanes
+lanes_at [] k = refl
+lanes_at (b ∷ bs) zero = refl
+lanes_at (b ∷ bs) (suc k) = lanes_at bs k
 
-abbrev region : List ℤ → ℕ → ℕ → List ℤ
-region blocks node count = slice_range blocks (node * 4096) (node * 4096 + count * 128)
-
-length-region : (blocks : List ℤ) (node count : ℕ) → node * 4096 + count * 128 ≤ length blocks → length (region blocks node count) ≡ count * 128
-length-region blocks node count within =
-    let rest : length (drop (node * 4096) blocks) ≡ length blocks - node * 4096 = length-drop (node * 4096) blocks in
-    length-take-le (node * 4096 + count * 128 - node * 4096) (drop (node * 4096) blocks) (omega arith) ∙ omega arith
-
--- a frame of the region has the node's cells, and nothing past its channels
-region_frame : (blocks : List ℤ) (node count m : ℕ) → node * 4096 + count * 128 ≤ length blocks → m < 128
-    → frame_at 128 (region blocks node count) m ≡ (λ c. if nat_lt c count then cell blocks node c m else pos 0)
-region_frame blocks node count m within l = fun_ext (λ c. by_test c (nat_lt c count) refl)
-  where
-    by_test : (c : ℕ) (b : Bool) → nat_lt c count ≡ b → slice_index_or (region blocks node count) (c * 128 + m) (pos 0) ≡ (if b then cell blocks node c m else pos 0)
-    by_test c true t =
-        let low : c < count = grind (arith, nat_tests) in
-        get_or-take (node * 4096 + count * 128 - node * 4096) (drop (node * 4096) blocks) (c * 128 + m) (pos 0) (omega arith)
-        ∙ get_or-drop (node * 4096) blocks (c * 128 + m) (pos 0)
-    by_test c false t =
-        let high : count ≤ c = grind (arith, nat_tests) in
-        let long = length-region blocks node count within in
-        get_or_past (region blocks node count) (c * 128 + m) (pos 0) (omega arith)
-
--- what mixing adds is the connection's part
-pub part_is : (w : World) (blocks : List ℤ) (counts : List ℕ) → HasRoom blocks counts → (interp : Interp) (to c m : ℕ) (e : Edge) → e.from.0 < length counts → m < 128
-    → mix interp (slice_index_or counts e.from.0 0) to (frame_at 128 (region blocks e.from.0 (slice_index_or counts e.from.0 0)) m) c ≡ part (frame_in w blocks counts m) interp to c e
-part_is w blocks counts room interp to c m e there l =
-    let same : slice_index_or counts e.from.0 0 ≡ slice_index_or counts e.from.0 1 = get_or_default counts e.from.0 0 1 there in
-    let few : slice_index_or counts e.from.0 1 ≤ 32 = room.high e.from.0 there in
-    let long = room.room in
-    ap (λ n. mix interp n to (frame_at 128 (region blocks e.from.0 n) m) c) same
-    ∙ ap (λ (frame : ℕ → ℤ). mix interp (slice_index_or counts e.from.0 1) to frame c) (region_frame blocks e.from.0 (slice_index_or counts e.from.0 1) m (omega arith) l)
+-- where the numbers of lanes stay, each end keeps its own
+pub lanes_kept : (old new : List BlockView) → lanes_of new ≡ lanes_of old → (e : End) → (block_of new e).lanes ≡ (block_of old e).lanes
+lanes_kept old new same e = sym (lanes_at new (slot e)) ∙ ap (λ ns. slice_index_or ns (slot e) 0) same ∙ lanes_at old (slot e)
 
 -- the sum over the connections from a place on, by the one at that place
 pub total_step : (target : Target) (f : Edge → ℤ) (es : List Edge) (i : ℕ) (d : Edge) → i < length es
@@ -66,3 +35,26 @@ total_step target f es i d l =
         ≡ (if b then f (slice_index_or es i d) else pos 0) +ℤ total (map f (filter (leads_to target) (drop (i + 1) es)))
     by_test true = refl
     by_test false = let x : ℤ = total (map f (filter (leads_to target) (drop (i + 1) es))) in omega (arith, ints)
+
+-- a list of one item
+pub one_item : {X : Type 0} (xs : List X) (d : X) → 1 ≤ length xs → length xs < 2 → xs ≡ slice_index_or xs 0 d ∷ []
+one_item [] d low high = absurd (omega arith)
+one_item (x ∷ []) d low high = refl
+one_item (x ∷ y ∷ ys) d low high = absurd (omega arith)
+
+-- ---- writing one end's block
+
+same_lanes : (old : List BlockView) (k : ℕ) (b : BlockView) → b.lanes ≡ (slice_index_or old k no_block).lanes → lanes_of (slice_set old k b) ≡ lanes_of old
+same_lanes [] k b e = refl
+same_lanes (x ∷ xs) zero b e = ap (λ (n : ℕ). n ∷ lanes_of xs) e
+same_lanes (x ∷ xs) (suc k) b e = ap (λ ns. x.lanes ∷ ns) (same_lanes xs k b e)
+
+pub writes_one : (old : List BlockView) (e : End) (k : ℕ) (b : BlockView) → k ≡ slot e → b.lanes ≡ (block_of old e).lanes → Writes old (slice_set old k b) e
+writes_one old e k b here lanes = record {
+  lanes = same_lanes old k b (lanes ∙ ap (λ j. (slice_index_or old j no_block).lanes) (sym here));
+  others = λ d apart. get_or-set_other old k (slot d) b no_block (λ same. slot_apart d e apart (same ∙ here));
+}
+
+-- its values are those that were written
+pub written : (old : List BlockView) (e : End) (k : ℕ) (b : BlockView) → k ≡ slot e → slot e < length old → block_of (slice_set old k b) e ≡ b
+written old e k b here there = ap (λ j. slice_index_or (slice_set old k b) j no_block) (sym here) ∙ get_or-set_same old k b no_block (subst (λ j. j < length old) (sym here) there)

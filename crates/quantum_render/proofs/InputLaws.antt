@@ -15,12 +15,13 @@ use Rattle.node_table.specs.declared.kinds.Kind.{Kind}
 use Rattle.node_table.specs.Nodes.{attrs_at, kind_at}
 use Rattle.conn_graph.specs.declared.edges.Edge.{Edge}
 use Rattle.conn_graph.specs.declared.edges.Target.TheVariants.{Input}
+use Rattle.conn_graph.specs.Ends.{reader_of}
 use Rattle.meaning.specs.declared.world.World.{World}
 use Rattle.meaning.specs.World.{plain, no_node, node_at, kind_of}
 use Rattle.meaning.specs.Counts.{input_channels}
-use Rattle.meaning.specs.Values.{part, mixed_sum, input_value}
-use Rattle.quantum_render.specs.Blocks.{cell, counts_in, frame_in, leads_to}
-use Rattle.quantum_render.specs.Levels.{into}
+use Rattle.meaning.specs.Values.{Frame, part, mixed_sum, input_value}
+use Rattle.quantum_render.specs.Blocks.{BlockView, block_of, carried, counts_in, frame_of}
+use Rattle.quantum_render.specs.Connections.{into, leads_to}
 use Rattle.quantum_render.proofs.Sources.{input_sources}
 
 mapped_at : {X Y : Type 0} (f : X → Y) (xs : List X) (i : ℕ) (d : X) (y : Y) → i < length xs → option_map f (slice_get xs i) ≡ Some y → f (slice_index_or xs i d) ≡ y
@@ -35,49 +36,47 @@ attrs_are w i attrs l e = mapped_at (λ (n : Node). n.attrs) w.nodes i no_node a
 pub kind_is : (w : World) (i : ℕ) (kind : Kind) → i < length w.nodes → kind_at w.nodes i ≡ Some kind → kind_of w i ≡ kind
 kind_is w i kind l e = mapped_at (λ (n : Node). n.kind) w.nodes i no_node kind l e
 
-pub input_is : (w : World) (blocks : List ℤ) (counts : List ℕ) (node c m to : ℕ) (edges : List Edge) (interp : Interp) (sum : ℤ) → c < to
-    → edges ≡ into w.graph.value node → to ≡ input_channels (plain w) (counts_in counts) node 0 → (node_at w node).attrs.interp ≡ interp
-    → sum ≡ total (map (part (frame_in (plain w) blocks counts m) interp to c) (filter (leads_to (Input (record { 0 = node }) 0)) edges))
-    → sat sum ≡ input_value (frame_in (plain w) blocks counts m) node 0 c
-unfolding input_value
-input_is w blocks counts node c m to edges interp sum low here channels mixes is =
-    ap sat is
-    ∙ ap (λ es. mixed_sum (frame_in (plain w) blocks counts m) interp to c es) (ap (λ es. filter (leads_to (Input (record { 0 = node }) 0)) es) here ∙ input_sources w.graph.value node 0)
-    ∙ ap (λ i. mixed_sum (frame_in (plain w) blocks counts m) i to c (filter (λ e. leads_to (Input (record { 0 = node }) 0) e) w.graph.value.edges)) (sym mixes)
-    ∙ ap (λ b. if b then mixed_sum (frame_in (plain w) blocks counts m) (node_at w node).attrs.interp to c (filter (λ e. leads_to (Input (record { 0 = node }) 0) e) w.graph.value.edges) else pos 0) (sym inside)
-    ∙ ap (λ n. if nat_lt c n then mixed_sum (frame_in (plain w) blocks counts m) (node_at w node).attrs.interp n c (filter (λ e. leads_to (Input (record { 0 = node }) 0) e) w.graph.value.edges) else pos 0) channels
-  where
-    inside : nat_lt c to ≡ true
-    inside = grind (arith, nat_tests)
-
--- ---- one connection, which has the input's number of channels
-
-sat_of_fix : (x : ℤ) → FitsSigned w32 x → sat x ≡ x
+-- saturating a Fix changes nothing
+pub sat_of_fix : (x : ℤ) → FitsSigned w32 x → sat x ≡ x
 sat_of_fix (pos n) fits = let k = fits.sfits in ap pos (omega arith)
 sat_of_fix (negsuc n) fits = let k = fits.sfits in ap negsuc (omega arith)
 
-part_of_equal : (w : World) (blocks : List ℤ) (counts : List ℕ) (interp : Interp) (to c m : ℕ) (e : Edge) → c < to → slice_index_or counts e.from.0 1 ≡ to
-    → part (frame_in w blocks counts m) interp to c e ≡ cell blocks e.from.0 c m
-part_of_equal w blocks counts interp to c m e low channels =
-    ap (λ n. mix interp n to frame c) channels ∙ mix_same interp to frame c low ∙ ap (λ b. if b then cell blocks e.from.0 c m else pos 0) inside
-  where
-    frame : ℕ → ℤ
-    frame = λ i. if nat_lt i (slice_index_or counts e.from.0 1) then cell blocks e.from.0 i m else pos 0
+module _ (w : World) (blocks : List BlockView) (counts : List ℕ) (node input c m to : ℕ) (low : c < to) (edges : List Edge) (here : edges ≡ into w.graph.value node)
+    (channels : to ≡ input_channels (plain w) (counts_in counts) node input) where
+  abbrev x : Frame
+  x = frame_of (plain w) blocks counts m
 
-    inside : nat_lt c (slice_index_or counts e.from.0 1) ≡ true
-    inside = grind (arith, nat_tests)
+  pub input_is : (interp : Interp) (sum : ℤ) → (node_at w node).attrs.interp ≡ interp
+      → sum ≡ total (map (part x interp to c) (filter (leads_to (Input (record { 0 = node }) input)) edges))
+      → sat sum ≡ input_value x node input c
+  unfolding input_value
+  input_is interp sum mixes is =
+      ap sat is
+      ∙ ap (λ es. mixed_sum x interp to c es) (ap (λ es. filter (leads_to (Input (record { 0 = node }) input)) es) here ∙ input_sources w.graph.value node input)
+      ∙ ap (λ i. mixed_sum x i to c (filter (λ e. leads_to (Input (record { 0 = node }) input) e) w.graph.value.edges)) (sym mixes)
+      ∙ ap (λ b. if b then mixed_sum x (node_at w node).attrs.interp to c (filter (λ e. leads_to (Input (record { 0 = node }) input) e) w.graph.value.edges) else pos 0) (sym inside)
+      ∙ ap (λ n. if nat_lt c n then mixed_sum x (node_at w node).attrs.interp n c (filter (λ e. leads_to (Input (record { 0 = node }) input) e) w.graph.value.edges) else pos 0) channels
+    where
+      inside : nat_lt c to ≡ true
+      inside = grind (arith, nat_tests)
 
-pub lone_input : (w : World) (blocks : List ℤ) (counts : List ℕ) (node c m to : ℕ) (edges : List Edge) (e : Edge) (x : ℤ) → c < to
-    → edges ≡ into w.graph.value node → to ≡ input_channels (plain w) (counts_in counts) node 0 → edges ≡ e ∷ [] → leads_to (Input (record { 0 = node }) 0) e ≡ true
-    → slice_index_or counts e.from.0 1 ≡ to → FitsSigned w32 x → x ≡ cell blocks e.from.0 c m
-    → x ≡ input_value (frame_in (plain w) blocks counts m) node 0 c
-lone_input w blocks counts node c m to edges e x low here channels lone leads same fits is =
-    sym (sat_of_fix x fits)
-    ∙ input_is w blocks counts node c m to edges (node_at w node).attrs.interp x low here channels refl
-    (is ∙ sym (part_of_equal (plain w) blocks counts (node_at w node).attrs.interp to c m e low same) ∙ sym (+ℤ_idr (parts e)) ∙ sym (ap (λ es. total (map parts es)) kept))
-  where
-    parts : Edge → ℤ
-    parts = part (frame_in (plain w) blocks counts m) (node_at w node).attrs.interp to c
+  -- ---- one connection, which has the input's number of channels
 
-    kept : filter (leads_to (Input (record { 0 = node }) 0)) edges ≡ e ∷ []
-    kept = ap (λ es. filter (leads_to (Input (record { 0 = node }) 0)) es) lone ∙ ap (λ b. cond b (e ∷ []) []) leads
+  part_of_equal : (interp : Interp) (e : Edge) → counts_in counts (reader_of e.from.0) ≡ to
+      → part x interp to c e ≡ carried (block_of blocks (reader_of e.from.0)) to e.output m c
+  part_of_equal interp e same =
+      ap (λ n. mix interp n to (carried (block_of blocks (reader_of e.from.0)) n e.output m) c) same
+      ∙ mix_same interp to (carried (block_of blocks (reader_of e.from.0)) to e.output m) c low
+
+  pub lone_input : (e : Edge) (v : ℤ) → edges ≡ e ∷ [] → leads_to (Input (record { 0 = node }) input) e ≡ true → counts_in counts (reader_of e.from.0) ≡ to
+      → FitsSigned w32 v → v ≡ carried (block_of blocks (reader_of e.from.0)) to e.output m c → v ≡ input_value x node input c
+  lone_input e v lone leads same fits is =
+      sym (sat_of_fix v fits)
+      ∙ input_is (node_at w node).attrs.interp v refl
+      (is ∙ sym (part_of_equal (node_at w node).attrs.interp e same) ∙ sym (+ℤ_idr (parts e)) ∙ sym (ap (λ es. total (map parts es)) kept))
+    where
+      parts : Edge → ℤ
+      parts = part x (node_at w node).attrs.interp to c
+
+      kept : filter (leads_to (Input (record { 0 = node }) input)) edges ≡ e ∷ []
+      kept = ap (λ es. filter (leads_to (Input (record { 0 = node }) input)) es) lone ∙ ap (λ b. cond b (e ∷ []) []) leads

@@ -1,23 +1,39 @@
 -- The level of a parameter, from what its connections carry.
-use Rattle.std.proofs.Common.{ℕ, ℤ, pos, ◌≡◌, ◌+◌, ◌*◌, ◌<◌, ◌+ℤ◌, List, [], ◌∷◌, map, filter, slice_index_or, Bool, true, false, cond, ◌||◌, refl, sym, ◌∙◌, ap, arith}
-use Rattle.std.specs.Prelude.{if◌then◌else◌}
+use Rattle.std.proofs.Common.{ℕ, ℤ, pos, ◌≡◌, ◌+◌, ◌-◌, ◌*◌, ◌/◌, ◌<◌, ◌+ℤ◌, List, [], ◌∷◌, map, filter, Bool, true, false, cond, ◌||◌, refl, sym, ◌∙◌, ap, arith}
+use Rattle.std.specs.Prelude.{if◌then◌else◌, nat_lt, ◌==◌}
+use Rattle.std.proofs.Math.Nat.{mul_comm}
+use Rattle.std.proofs.lemmas.Nat.{div-mul-add}
+use Rattle.std.proofs.lemmas.Bool.Decides.{nat_tests}
 use Rattle.std.specs.List.{list_any}
 use Rattle.wa_base.specs.Numbers.{sat}
 use Rattle.wa_base.specs.declared.graph_names.Interp.TheVariants.{Speakers}
 use Rattle.wa_base.specs.declared.graph_names.ParamId.{ParamId}
-use Rattle.channel_mix.specs.Blocks.{sample}
 use Rattle.channel_mix.specs.Mixing.{total}
 use Rattle.node_table.specs.declared.kinds.Kind.{Kind}
 use Rattle.node_table.specs.declared.kinds.Kind.TheVariants.{Destination, Constant, Gain}
 use Rattle.conn_graph.specs.declared.edges.Edge.{Edge}
 use Rattle.conn_graph.specs.declared.edges.Target.{Target}
 use Rattle.conn_graph.specs.declared.edges.Target.TheVariants.{Param}
+use Rattle.conn_graph.specs.Graph.{edges_to_param}
 use Rattle.meaning.specs.declared.world.World.{World}
 use Rattle.meaning.specs.World.{kind_of, intrinsic_value, is_k_rate, nominal}
-use Rattle.meaning.specs.Values.{part, mixed_sum}
-use Rattle.quantum_render.specs.Blocks.{frame_in, leads_to}
-use Rattle.quantum_render.specs.Levels.{into, taken_at, level}
+use Rattle.meaning.specs.Values.{Frame, seen, part, mixed_sum, computed_value}
+use Rattle.meaning.specs.Blocks.{with_drafts, drafted}
+use Rattle.quantum_render.specs.Blocks.{BlockView, counts_in, drafts_of, frame_of}
+use Rattle.quantum_render.specs.Connections.{into, leads_to}
+use Rattle.quantum_render.specs.Sites.{IsBegun}
 use Rattle.quantum_render.proofs.Sources.{param_sources}
+
+-- the frame of the quantum at which a parameter is taken: at k-rate the first one
+abbrev pub taken_at : World → ParamId → ℕ → ℕ
+taken_at w id m = if is_k_rate w id then 0 else m
+
+-- the level at frame m of the quantum that begins at `first`, from the blocks alone
+abbrev pub level_of : World → List BlockView → List ℕ → ParamId → ℕ → ℕ → ℤ
+level_of w blocks counts id first m =
+    let k = taken_at w id m in
+    nominal (kind_of w id.node.0)
+    (intrinsic_value w id (first + k) +ℤ mixed_sum (frame_of w blocks counts k) Speakers 1 0 (edges_to_param w.graph.value id))
 
 -- the nominal range of every parameter that there is, is that of a Fix
 nominal_is : (kind : Kind) (x : ℤ) → sat x ≡ nominal kind x
@@ -33,20 +49,19 @@ taken_low w id m l = by_rate (is_k_rate w id)
     by_rate false = l
 
 -- from one sum for each frame, of which the one that is taken is used
-pub level_is : (w : World) (blocks : List ℤ) (counts : List ℕ) (id : ParamId) (first m : ℕ) (edges : List Edge) (sums : List ℤ) (value : ℤ) (b : Bool) → m < 128
+pub level_is : (w : World) (blocks : List BlockView) (counts : List ℕ) (id : ParamId) (first m : ℕ) (edges : List Edge) (sums : ℕ → ℤ) (value : ℤ) (b : Bool) → m < 128
     → edges ≡ into w.graph.value id.node.0
     → ((frame : ℕ) → intrinsic_value w id frame ≡ value)
     → is_k_rate w id ≡ b
-    → ((k : ℕ) → k < 128 → sample 128 sums 0 k ≡ total (map (part (frame_in w blocks counts k) Speakers 1 0) (filter (leads_to (Param id)) edges)))
-    → sat (value +ℤ sat (slice_index_or sums (if b then 0 else m) (pos 0))) ≡ level w blocks counts id first m
+    → ((k : ℕ) → k < 128 → sums k ≡ total (map (part (frame_of w blocks counts k) Speakers 1 0) (filter (leads_to (Param id)) edges)))
+    → sat (value +ℤ sat (sums (if b then 0 else m))) ≡ level_of w blocks counts id first m
 level_is w blocks counts id first m edges sums value b l here intrinsic rate each =
     let k : ℕ = taken_at w id m in
-    let carried : slice_index_or sums k (pos 0) ≡ total (map (part (frame_in w blocks counts k) Speakers 1 0) (filter (leads_to (Param id)) edges)) =
-    ap (λ i. slice_index_or sums i (pos 0)) (let same : k ≡ 0 * 128 + k = omega arith in same) ∙ each k (taken_low w id m l) in
+    let carried = each k (taken_low w id m l) in
     let sources = ap (λ es. filter (leads_to (Param id)) es) here ∙ param_sources w.graph.value id in
-    ap (λ (r : Bool). sat (value +ℤ sat (slice_index_or sums (if r then 0 else m) (pos 0)))) (sym rate)
-    ∙ ap (λ x. sat (value +ℤ sat x)) (carried ∙ ap (λ es. total (map (part (frame_in w blocks counts k) Speakers 1 0) es)) sources)
-    ∙ ap (λ x. sat (x +ℤ mixed_sum (frame_in w blocks counts k) Speakers 1 0 (filter (λ e. leads_to (Param id) e) w.graph.value.edges))) (sym (intrinsic (first + k)))
+    ap (λ (r : Bool). sat (value +ℤ sat (sums (if r then 0 else m)))) (sym rate)
+    ∙ ap (λ x. sat (value +ℤ sat x)) (carried ∙ ap (λ es. total (map (part (frame_of w blocks counts k) Speakers 1 0) es)) sources)
+    ∙ ap (λ x. sat (x +ℤ mixed_sum (frame_of w blocks counts k) Speakers 1 0 (filter (λ e. leads_to (Param id) e) w.graph.value.edges))) (sym (intrinsic (first + k)))
     ∙ nominal_is (kind_of w id.node.0) _
 
 -- without a connection to a target nothing leads to it
@@ -59,12 +74,59 @@ unreached target (e ∷ es) h = by_test (leads_to target e) h (unreached target 
     by_test false k below = below k
 
 -- then the level is the intrinsic value
-pub level_unreached : (w : World) (blocks : List ℤ) (counts : List ℕ) (id : ParamId) (first m : ℕ) (edges : List Edge) (value : ℤ) (b : Bool) → m < 128
+pub level_unreached : (w : World) (blocks : List BlockView) (counts : List ℕ) (id : ParamId) (first m : ℕ) (edges : List Edge) (value : ℤ) (b : Bool) → m < 128
     → edges ≡ into w.graph.value id.node.0
     → ((frame : ℕ) → intrinsic_value w id frame ≡ value)
     → is_k_rate w id ≡ b
     → list_any (leads_to (Param id)) edges ≡ false
-    → sat (value +ℤ sat (pos 0)) ≡ level w blocks counts id first m
+    → sat (value +ℤ sat (pos 0)) ≡ level_of w blocks counts id first m
 level_unreached w blocks counts id first m edges value b l here intrinsic rate none =
-    level_is w blocks counts id first m edges [] value b l here intrinsic rate
-    (λ k low. ap (λ es. total (map (part (frame_in w blocks counts k) Speakers 1 0) es)) (sym (unreached (Param id) edges none)))
+    level_is w blocks counts id first m edges (λ k. pos 0) value b l here intrinsic rate
+    (λ k low. ap (λ es. total (map (part (frame_of w blocks counts k) Speakers 1 0) es)) (sym (unreached (Param id) edges none)))
+
+-- ---- the level is the computed value, whatever the frames before the quantum were
+
+module _ (w : World) (blocks : List BlockView) (counts : List ℕ) (before : ℕ → Frame) (first m : ℕ) (begun : IsBegun first) (l : m < 128) where
+  abbrev past : ℕ → Frame
+  past = with_drafts before first w (counts_in counts) (drafts_of blocks counts)
+
+  abbrev here : Frame
+  here = frame_of w blocks counts m
+
+  quantum_first : 128 * ((first + m) / 128) ≡ first
+  quantum_first =
+      let j : ℕ = first / 128 in
+      ap (λ f. 128 * ((f + m) / 128)) (sym begun.whole ∙ mul_comm 128 j) ∙ ap (λ k. 128 * k) (div-mul-add j 128 m l) ∙ begun.whole
+
+  -- the first frame of the quantum, as frame m of it sees it
+  seen_first : seen (first + m) past here first ≡ frame_of w blocks counts 0
+  seen_first = by_test (first == first + m) refl
+    where
+      by_test : (b : Bool) → (first == first + m) ≡ b → (if b then here else past first) ≡ frame_of w blocks counts 0
+      by_test true same = let none : m ≡ 0 = grind (arith, nat_tests) in ap (frame_of w blocks counts) none
+      by_test false other =
+          let not_before : nat_lt first first ≡ false = grind (arith, nat_tests) in
+          let none : first - first ≡ 0 = omega arith in
+          ap (λ b. if b then before first else drafted w (counts_in counts) (drafts_of blocks counts (first - first))) not_before ∙ ap (frame_of w blocks counts) none
+
+  -- and the frame itself
+  seen_here : seen (first + m) past here (first + m) ≡ here
+  seen_here = ap (λ b. if b then here else past (first + m)) same
+    where
+      same : (first + m == first + m) ≡ true
+      same = grind (arith, nat_tests)
+
+  pub computed_is : (id : ParamId) → level_of w blocks counts id first m ≡ computed_value 128 (first + m) past here id
+  unfolding computed_value
+  computed_is id = by_rate (is_k_rate w id)
+    where
+      at : ℕ → Frame → ℤ
+      at g x = nominal (kind_of w id.node.0) (intrinsic_value w id g +ℤ mixed_sum x Speakers 1 0 (edges_to_param w.graph.value id))
+
+      by_rate : (b : Bool) → at (first + (if b then 0 else m)) (frame_of w blocks counts (if b then 0 else m))
+          ≡ (let g : ℕ = if b then 128 * ((first + m) / 128) else first + m in at g (seen (first + m) past here g))
+      by_rate true =
+          ap (λ g. at g (frame_of w blocks counts 0)) (let e : first + 0 ≡ first = omega arith in e)
+          ∙ ap (at first) (sym seen_first)
+          ∙ ap (λ g. at g (seen (first + m) past here g)) (sym quantum_first)
+      by_rate false = ap (at (first + m)) (sym seen_here)

@@ -1,13 +1,16 @@
+pub mod Slots
 pub mod Connections
 pub mod Made
 pub mod Sources
 pub mod InputLaws
 pub mod LevelLaws
-pub mod RenderedLaws
+pub mod Orders
 pub mod PassLaws
 pub mod CountingLaws
 pub mod CountPass
 pub mod Passing
 pub mod Parts
 pub mod OutLaws
+pub mod Rendering
 pub mod ParamPlaces
+pub mod Holding

@@ -1,9 +1,7 @@
 -- Lists that are made item by item.
-use Rattle.std.proofs.Common.{ℕ, ℤ, pos, ◌≡◌, ◌+◌, ◌-◌, ◌*◌, ◌<◌, ◌++◌, length, List, take, drop, slice_index_or, slice_set, ◌⊎◌, inl, inr, sym, ◌∙◌, arith, subst}
-use Rattle.std.specs.Prelude.{slice_range}
-use Rattle.std.proofs.lemmas.List.{get_or-set_same, get_or-set_other, get_or-take}
+use Rattle.std.proofs.Common.{ℕ, zero, suc, ℤ, pos, ◌≡◌, ◌+◌, ◌*◌, ◌<◌, ◌≤◌, ◌++◌, [], ◌∷◌, length, List, take, slice_index_or, slice_set, ◌⊎◌, inl, inr, refl, sym, ap, ◌∙◌, arith, subst}
+use Rattle.std.proofs.lemmas.List.{get_or-set_same, get_or-set_other, append_assoc}
 use Rattle.std.proofs.Math.Seq.{take-append_seam}
-use Rattle.channel_mix.specs.Blocks.{sample}
 
 -- the first i items are those of f
 abbrev pub IsMade : (ℕ → ℤ) → ℕ → List ℤ → Type 0
@@ -18,10 +16,24 @@ made_more f i xs x made l is k low = elim (here_or_before k i low) [
     here_or_before : (k i : ℕ) → k < i + 1 → (k ≡ i) ⊎ (k < i)
     here_or_before k i low = grind arith
 
--- the first channels of a block by themselves
-pub sample_prefix : (block : List ℤ) (count c m : ℕ) → c < count → m < 128 → sample 128 (slice_range block 0 (count * 128)) c m ≡ sample 128 block c m
-sample_prefix block count c m low now = get_or-take (count * 128 - 0) (drop 0 block) (c * 128 + m) (pos 0) (omega arith)
-
 -- a list that was written over as a whole
 pub rewritten : (n : ℕ) (new rest : List ℤ) → length new ≡ n → take n (new ++ rest) ≡ new
 rewritten n new rest e = subst (λ k. take k (new ++ rest) ≡ new) e (take-append_seam new rest)
+
+-- the front of a longer list that was written over
+pub front : (len : ℕ) (xs rest : List ℤ) → length xs ≤ len → take (length xs) (take len (xs ++ rest)) ≡ xs
+front len [] rest l = refl
+front zero (x ∷ xs) rest l = absurd (omega arith)
+front (suc len) (x ∷ xs) rest l = ap (λ ys. x ∷ ys) (front len xs rest (omega arith))
+
+pub front_is : (n len : ℕ) (xs mid rest : List ℤ) → length xs ≡ n → n ≤ len → take n (take len ((xs ++ mid) ++ rest)) ≡ xs
+front_is n len xs mid rest e l =
+    ap (λ ys. take n (take len ys)) (append_assoc xs mid rest)
+    ∙ subst (λ k. take k (take len (xs ++ (mid ++ rest))) ≡ xs) e (front len xs (mid ++ rest) (rw e l))
+
+-- what was written, and its first channel
+pub front_at : (n len : ℕ) (xs mid rest : List ℤ) (k : ℕ) → length xs ≡ n → n ≤ len → slice_index_or (take n (take len ((xs ++ mid) ++ rest))) k (pos 0) ≡ slice_index_or xs k (pos 0)
+front_at n len xs mid rest k e l = ap (λ ys. slice_index_or ys k (pos 0)) (front_is n len xs mid rest e l)
+
+pub front_first : (n len : ℕ) (xs mid rest : List ℤ) (m : ℕ) → length xs ≡ n → n ≤ len → slice_index_or (take n (take len ((xs ++ mid) ++ rest))) (0 * 128 + m) (pos 0) ≡ slice_index_or xs m (pos 0)
+front_first n len xs mid rest m e l = front_at n len xs mid rest (0 * 128 + m) e l ∙ ap (λ k. slice_index_or xs k (pos 0)) (let same : 0 * 128 + m ≡ m = omega arith in same)

@@ -1,89 +1,84 @@
 -- Rendering a quantum along a legal order.
-use Rattle.std.proofs.Common.{ℕ, ℤ, suc, pos, ◌≡◌, ◌+◌, ◌*◌, ◌<◌, ◌≤◌, length, List, [], ◌∷◌, ◌++◌, drop, slice_index_or, Bool, true, false, inl, inr, refl, sym, ◌∙◌, ap, arith, subst}
+use Rattle.std.proofs.Common.{ℕ, suc, pos, ◌≡◌, ◌+◌, ◌*◌, ◌<◌, ◌≤◌, length, List, [], ◌∷◌, ◌++◌, drop, slice_index_or, Bool, true, false, inl, inr, refl, sym, ◌∙◌, ap, arith, subst}
 use mathlib.Core.Path.{fun_ext}
 use Rattle.std.specs.Prelude.{if◌then◌else◌, nat_lt}
 use Rattle.std.proofs.Math.ListN.{drop_of_length-le}
 use Rattle.std.proofs.lemmas.Bool.Decides.{nat_tests}
+use Rattle.std.proofs.lemmas.List.{length-map}
 use Rattle.wa_base.specs.declared.graph_names.End.{End}
 use Rattle.law_base.specs.Members.{IsIn}
-use Rattle.node_table.specs.declared.kinds.Kind.{Kind}
-use Rattle.node_table.specs.declared.kinds.Kind.TheVariants.{Destination, Constant, Gain}
+use Rattle.node_table.specs.Kinds.{outputs}
 use Rattle.conn_graph.specs.declared.edges.Edge.{Edge}
 use Rattle.conn_graph.specs.Ends.{ends, muted}
 use Rattle.conn_graph.specs.Orders.{IsLegalAfter}
-use Rattle.conn_graph.proofs.EndLaws.{end_is}
 use Rattle.meaning.specs.declared.world.World.{World}
 use Rattle.meaning.specs.World.{plain, kind_of}
-use Rattle.meaning.specs.Validity.{IsJoined}
-use Rattle.meaning.specs.Counts.{count_rule, count_by_kind}
-use Rattle.meaning.specs.Values.{value}
+use Rattle.meaning.specs.Validity.{IsValid, IsJoined}
+use Rattle.meaning.specs.Counts.{Counts, count_rule, count_by_kind}
+use Rattle.meaning.specs.Values.{frame, value_by_kind, value}
+use Rattle.meaning.specs.Blocks.{with_drafts}
 use Rattle.meaning.proofs.OrderLaws.{all_known}
-use Rattle.meaning.proofs.QuantumLaws.{AreRight, count_right, muted_one, muted_right}
-use Rattle.quantum_render.specs.Blocks.{cell, counts_in, drafts_in, HasRoom, Writes}
+use Rattle.meaning.proofs.QuantumLaws.{AreRight, count_right, muted_right}
+use Rattle.quantum_render.specs.Blocks.{BlockView, at, shown, slot, block_of, lanes_of, counts_in, drafts_of, frame_of, IsSilent, Writes}
+use Rattle.quantum_render.specs.Fits.{AreFit}
 use Rattle.quantum_render.specs.Plans.{IsPlan, AreCounted}
-use Rattle.quantum_render.specs.Renders.{rendered, HasCount}
-use Rattle.quantum_render.proofs.Sources.{IsIn-get_or}
+use Rattle.quantum_render.specs.Sites.{SiteView}
+use Rattle.quantum_render.specs.Renders.{Renders}
+use Rattle.quantum_render.proofs.Slots.{slot_low}
+use Rattle.quantum_render.proofs.Sources.{IsIn-get_or, end_low}
+use Rattle.quantum_render.proofs.Connections.{lanes_kept}
 use Rattle.quantum_render.proofs.PassLaws.{one_more_right}
-use Rattle.quantum_render.proofs.CountPass.{no_end, next_in_order}
+use Rattle.quantum_render.proofs.Orders.{no_end, next_in_order}
 
-pub room_of : (w : World) (counts : List ℕ) (blocks : List ℤ) → AreCounted w counts → length blocks ≡ length counts * 4096 → HasRoom blocks counts
-room_of w counts blocks counted long = record { room = long; low = counted.low; high = counted.high }
+-- where lanes stay, blocks still fit
+pub still_fit : (w : World) (counts : List ℕ) (old new : List BlockView) → lanes_of new ≡ lanes_of old → AreFit w counts old → AreFit w counts new
+still_fit w counts old new same fit = record {
+  places = sym (length-map new (λ (b : BlockView). b.lanes)) ∙ ap length same ∙ length-map old (λ (b : BlockView). b.lanes) ∙ fit.places;
+  lanes = λ e is. lanes_kept old new same e ∙ fit.lanes e is;
+}
 
--- an unmuted end has the count that its kind asks for
-pub has_count : (w : World) → IsJoined (plain w) → (counts : List ℕ) → AreCounted w counts → (x : End) → IsIn x (ends w.graph.value) → muted w.graph.value x ≡ false
-    → HasCount (plain w) counts (kind_of w x.node.0) x.node.0
+-- the channels of an unmuted end are those that its kind asks for
+has_count : (w : World) → IsJoined (plain w) → (counts : List ℕ) (tape : List World) → AreCounted 128 w counts tape → (x : End) → IsIn x (ends w.graph.value) → muted w.graph.value x ≡ false
+    → counts_in counts x ≡ count_by_kind 128 (plain w) (length tape) (λ k e. 1) (counts_in counts) (kind_of w x.node.0) x
 unfolding count_rule
-has_count w joined counts counted x in_x unmuted = by_kind (kind_of w x.node.0) own
-  where
-    own : slice_index_or counts x.node.0 1 ≡ count_by_kind 128 (plain w) 0 (λ k e. 1) (counts_in counts) (kind_of w x.node.0) x
-    own = counted.counted [] x in_x
-        ∙ sym (count_right 128 (omega arith) w joined [] (λ k e. 1) (counts_in counts) x in_x (λ d in_d a. counted.counted [] d in_d))
-        ∙ ap (λ b. if b then 1 else count_by_kind 128 (plain w) 0 (λ k e. 1) (counts_in counts) (kind_of w x.node.0) x) unmuted
-
-    by_kind : (kind : Kind) → slice_index_or counts x.node.0 1 ≡ count_by_kind 128 (plain w) 0 (λ k e. 1) (counts_in counts) kind x → HasCount (plain w) counts kind x.node.0
-    by_kind Destination e = e
-    by_kind (Constant offset) e = e
-    by_kind (Gain gain) e = e
+has_count w joined counts tape counted x in_x unmuted =
+    counted x in_x
+    ∙ sym (count_right 128 (omega arith) w joined tape (λ k e. 1) (counts_in counts) x in_x (λ d in_d a. counted d in_d))
+    ∙ ap (λ b. if b then 1 else count_by_kind 128 (plain w) (length tape) (λ k e. 1) (counts_in counts) (kind_of w x.node.0) x) unmuted
 
 -- after so many ends of an order the known ends have their values
-pub record Passing (w : World) (order : List End) (i : ℕ) (counts : List ℕ) (first : ℕ) (blocks : List ℤ) : Type 0 where
+pub record Passing (w : World) (order : List End) (i : ℕ) (counts : List ℕ) (first : ℕ) (blocks : List BlockView) : Type 0 where
   pub done : List End
   pub legal : IsLegalAfter w.graph.value done (drop i order)
-  pub right : (tape : List World) → first ≡ 128 * length tape → AreRight 128 (tape ++ w ∷ []) (length tape) w (drafts_in blocks counts) done
-  pub room : length blocks ≡ length counts * 4096
+  pub fit : AreFit w counts blocks
+  pub right : (tape : List World) → first ≡ 128 * length tape → AreCounted 128 w counts tape → AreRight 128 (tape ++ w ∷ []) (length tape) w (drafts_of blocks counts) done
 
-pub passing_begins : (w : World) → IsJoined (plain w) → (order mute : List End) (sources : List (List Edge)) → IsPlan w order mute sources → (counts : List ℕ) → AreCounted w counts → (first : ℕ) (blocks : List ℤ)
-    → length blocks ≡ length counts * 4096
-    → ((i m : ℕ) (d : End) → i < length mute → m < 128 → cell blocks (slice_index_or mute i d).node.0 0 m ≡ pos 0) → Passing w order 0 counts first blocks
-passing_begins w joined order mute sources plan counts counted first blocks long silent = record {
+pub passing_begins : (w : World) → IsJoined (plain w) → (order mute : List End) (sources : List (List Edge)) → IsPlan w order mute sources → (counts : List ℕ) (first : ℕ) (blocks : List BlockView)
+    → AreFit w counts blocks → ((i : ℕ) (d : End) → i < length mute → IsSilent blocks (slice_index_or mute i d)) → Passing w order 0 counts first blocks
+passing_begins w joined order mute sources plan counts first blocks fit silent = record {
   done = [];
   legal = plan.legal;
-  right = λ tape begins m l d in_d known. elim known [
+  fit = fit;
+  right = λ tape begins counted m l d in_d known. elim known [
     | inr none ↦ absurd none
-    | inl k ↦ quiet tape d in_d k m l ∙ muted_right 128 (omega arith) w joined tape m l d in_d (inl k)
+    | inl k ↦ quiet d in_d k m l ∙ muted_right 128 (omega arith) w joined tape m l d in_d (inl k)
   ];
-  room = long;
 }
   where
-    at_place : (d : End) (xs : List End) → IsIn d xs → ((i m : ℕ) (e : End) → i < length xs → m < 128 → cell blocks (slice_index_or xs i e).node.0 0 m ≡ pos 0) → (m : ℕ) → m < 128 → cell blocks d.node.0 0 m ≡ pos 0
-    at_place d [] h each m l = absurd h
-    at_place d (x ∷ xs) (inl same) each m l = ap (λ (e : End). cell blocks e.node.0 0 m) same ∙ each 0 m no_end (omega arith) l
-    at_place d (x ∷ xs) (inr h) each m l = at_place d xs h (λ i k e low now. each (suc i) k e (omega arith) now) m l
+    at_place : (d : End) (xs : List End) → IsIn d xs → ((i : ℕ) (e : End) → i < length xs → IsSilent blocks (slice_index_or xs i e)) → IsSilent blocks d
+    at_place d [] h each = absurd h
+    at_place d (x ∷ xs) (inl is) each = subst (IsSilent blocks) (sym is) (each 0 no_end (omega arith))
+    at_place d (x ∷ xs) (inr h) each = at_place d xs h (λ i e low. each (suc i) e (omega arith))
 
-    quiet : (tape : List World) (d : End) → IsIn d (ends w.graph.value) → muted w.graph.value d ≡ true → (m : ℕ) → m < 128 → drafts_in blocks counts m d ≡ (λ o c. pos 0)
-    quiet tape d in_d k m l = fun_ext (λ o. fun_ext (λ c. by_channel c (nat_lt c (counts_in counts d)) refl))
+    quiet : (d : End) → IsIn d (ends w.graph.value) → muted w.graph.value d ≡ true → (m : ℕ) → m < 128 → drafts_of blocks counts m d ≡ (λ o c. pos 0)
+    quiet d in_d k m l = fun_ext (λ o. fun_ext (λ c. by_lane c (o * counts_in counts d + c) (nat_lt c (counts_in counts d)) (nat_lt (o * counts_in counts d + c) (block_of blocks d).lanes) refl))
       where
-        one : counts_in counts d ≡ 1
-        one = counted.counted tape d in_d ∙ muted_one 128 (omega arith) w joined tape d in_d k
+        by_lane : (c lane : ℕ) (a b : Bool) → nat_lt lane (block_of blocks d).lanes ≡ b → (if a then if b then at (block_of blocks d) lane m else pos 0 else pos 0) ≡ pos 0
+        by_lane c lane false b t = refl
+        by_lane c lane true false t = refl
+        by_lane c lane true true t = at_place d mute (plan.all d in_d k) silent lane m (let low : lane < (block_of blocks d).lanes = grind (arith, nat_tests) in low) l
 
-        by_channel : (c : ℕ) (b : Bool) → nat_lt c (counts_in counts d) ≡ b → (if b then cell blocks d.node.0 c m else pos 0) ≡ pos 0
-        by_channel c false t = refl
-        by_channel c true t =
-            let single : counts_in counts d ≡ 1 = one in
-            let zeroth : c ≡ 0 = grind (arith, nat_tests) in
-            ap (λ n. cell blocks d.node.0 n m) zeroth ∙ at_place d mute (plan.all d in_d k) silent m l
-
-module _ (w : World) (joined : IsJoined (plain w)) (order : List End) (i : ℕ) (counts : List ℕ) (counted : AreCounted w counts) (first : ℕ) (blocks : List ℤ)
+module _ (w : World) (joined : IsJoined (plain w)) (order : List End) (i : ℕ) (counts : List ℕ) (first : ℕ) (blocks : List BlockView)
     (c : Passing w order i counts first blocks) (l : i < length order) where
   abbrev x : End
   x = slice_index_or order i no_end
@@ -91,34 +86,33 @@ module _ (w : World) (joined : IsJoined (plain w)) (order : List End) (i : ℕ) 
   pub next : IsLegalAfter w.graph.value c.done (x ∷ drop (i + 1) order)
   next = next_in_order w order c.done i c.legal l
 
-  pub next_there : x.node.0 < length counts
-  next_there = subst (λ k. x.node.0 < k) (sym counted.nodes) (end_is w.graph.value x next.0).0
+  abbrev pub site_of : List Edge → SiteView
+  site_of edges = record { world = w; end = x; into = edges; counts = counts; first = first }
 
-  pub next_count : HasCount (plain w) counts (kind_of w x.node.0) x.node.0
-  next_count = has_count w joined counts counted x next.0 next.1
+  pub passing_goes_on : (edges : List Edge) (blocks' : List BlockView) → Writes blocks blocks' x → Renders (site_of edges) blocks blocks' (kind_of w x.node.0) → Passing w order (i + 1) counts first blocks'
+  passing_goes_on edges blocks' writes renders =
+      let fit' = still_fit w counts blocks blocks' writes.lanes c.fit in
+      record {
+        done = x ∷ c.done;
+        legal = next.4;
+        fit = fit';
+        right = λ tape begins counted.
+            one_more_right w joined tape blocks blocks' counts counted c.done (c.right tape begins counted) x next.0 next.1 next.3 (fit'.lanes x next.0) writes
+            (subst (λ f. (o k m : ℕ) → o < outputs (kind_of w x.node.0) → k < counts_in counts x → m < 128 → at (block_of blocks' x) (o * counts_in counts x + k) m
+            ≡ value_by_kind 128 (f + m) (with_drafts (frame 128 (tape ++ w ∷ [])) f (plain w) (counts_in counts) (drafts_of blocks counts)) (frame_of (plain w) blocks counts m) (kind_of w x.node.0) x o k) begins
+            (renders (length tape) (λ k e. 1) (has_count w joined counts tape counted x next.0 next.1) (frame 128 (tape ++ w ∷ []))));
+      }
 
-  pub passing_goes_on : (blocks' : List ℤ) → Writes blocks blocks' x.node.0 (slice_index_or counts x.node.0 1) (rendered (plain w) blocks counts first (kind_of w x.node.0) x.node.0)
-      → Passing w order (i + 1) counts first blocks'
-  passing_goes_on blocks' writes = record {
-    done = x ∷ c.done;
-    legal = next.4;
-    right = λ tape begins.
-        one_more_right w joined tape blocks blocks' counts (sym counted.nodes) (room_of w counts blocks counted c.room) (counted.counted tape) c.done (c.right tape begins) x next.0 next.1 next.3
-        (subst (λ f. Writes blocks blocks' x.node.0 (slice_index_or counts x.node.0 1) (rendered (plain w) blocks counts f (kind_of w x.node.0) x.node.0)) begins writes);
-    room = writes.length ∙ c.room;
-  }
-
-pub passing_ends : (w : World) (order : List End) (i : ℕ) (counts : List ℕ) (first : ℕ) (blocks : List ℤ) → Passing w order i counts first blocks → length order ≤ i
-    → (tape : List World) → first ≡ 128 * length tape → (m : ℕ) (d : End) → m < 128 → IsIn d (ends w.graph.value)
-    → drafts_in blocks counts m d ≡ value 128 (tape ++ w ∷ []) (128 * length tape + m) d
-passing_ends w order i counts first blocks c l tape begins m d now in_d =
+pub passing_ends : (w : World) (order : List End) (i : ℕ) (counts : List ℕ) (first : ℕ) (blocks : List BlockView) → Passing w order i counts first blocks → length order ≤ i
+    → (tape : List World) → first ≡ 128 * length tape → AreCounted 128 w counts tape → (m : ℕ) (d : End) → m < 128 → IsIn d (ends w.graph.value)
+    → drafts_of blocks counts m d ≡ value 128 (tape ++ w ∷ []) (128 * length tape + m) d
+passing_ends w order i counts first blocks c l tape begins counted m d now in_d =
     let legal : IsLegalAfter w.graph.value c.done [] = subst (IsLegalAfter w.graph.value c.done) (drop_of_length-le order l) c.legal in
-    c.right tape begins m now d in_d (all_known w.graph.value c.done legal d in_d)
+    c.right tape begins counted m now d in_d (all_known w.graph.value c.done legal d in_d)
 
--- the muted ends of a plan have their rooms
-pub mute_room : (w : World) (order mute : List End) (sources : List (List Edge)) → IsPlan w order mute sources → (counts : List ℕ) → AreCounted w counts → (blocks : List ℤ)
-    → length blocks ≡ length counts * 4096 → (i : ℕ) (d : End) → i < length mute → (slice_index_or mute i d).node.0 * 4096 + 4096 ≤ length blocks
-mute_room w order mute sources plan counts counted blocks long i d l =
+-- the muted ends of a plan have their places
+pub mute_there : (w : World) → IsValid w → (order mute : List End) (sources : List (List Edge)) → IsPlan w order mute sources → (counts : List ℕ) (blocks : List BlockView) → AreFit w counts blocks
+    → (i : ℕ) (d : End) → i < length mute → slot (slice_index_or mute i d) < length blocks
+mute_there w valid order mute sources plan counts blocks fit i d l =
     let e : End = slice_index_or mute i d in
-    let there : e.node.0 < length counts = subst (λ k. e.node.0 < k) (sym counted.nodes) (end_is w.graph.value e (plan.only e (IsIn-get_or mute i d l))).0 in
-    omega arith
+    subst (λ k. slot e < k) (sym fit.places) (slot_low e (length w.nodes) (end_low w valid e (plan.only e (IsIn-get_or mute i d l)).0))

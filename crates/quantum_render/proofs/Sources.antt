@@ -1,23 +1,33 @@
 -- The connections that lead to a target are among those that lead to its node.
-use Rattle.std.proofs.Common.{ℕ, zero, suc, ◌≡◌, ◌+◌, ◌<◌, ◌≤◌, length, List, [], ◌∷◌, ◌++◌, filter, take, slice_index_or, slice_set, Bool, true, false, cond, inl, inr, refl, sym, ◌∙◌, ap, arith}
+use Rattle.std.proofs.Common.{ℕ, zero, suc, ◌≡◌, ◌+◌, ◌*◌, ◌<◌, ◌≤◌, length, List, [], ◌∷◌, ◌++◌, map, filter, take, slice_index_or, slice_set, Bool, true, false, cond, inl, inr, refl, sym, ◌∙◌, ap, arith, subst}
 use Rattle.std.specs.Prelude.{◌==◌}
 use Rattle.std.proofs.lemmas.Bool.Decides.{nat_tests}
 use Rattle.std.proofs.lemmas.List.{length-map, append-nil, take_more, get_or-set_same, get_or-set_other}
 use Rattle.std.proofs.lemmas.List.Elements.{filter-append}
+use Rattle.wa_base.specs.declared.graph_names.End.{End}
 use Rattle.wa_base.specs.declared.graph_names.ParamId.{ParamId}
 use Rattle.law_base.specs.Members.{IsIn}
 use Rattle.law_base.proofs.Members.{IsIn-filter}
 use Rattle.law_base.proofs.Tests.{and_parts}
+use Rattle.node_table.specs.Kinds.{outputs}
+use Rattle.node_table.specs.declared.nodes.Node.{Node}
 use Rattle.conn_graph.specs.declared.edges.Edge.{Edge}
+use Rattle.conn_graph.specs.declared.edges.Ports.{Ports}
 use Rattle.conn_graph.specs.declared.edges.Target.{Target}
 use Rattle.conn_graph.specs.declared.edges.Target.TheVariants.{Input, Param}
 use Rattle.conn_graph.specs.Cells.{enters}
 use Rattle.conn_graph.specs.Edges.{target_node, is_input, is_param}
-use Rattle.conn_graph.specs.Graph.{Connections, IsGraph, edges_to_input, edges_to_param}
+use Rattle.conn_graph.specs.Ends.{reader_of, ends}
+use Rattle.conn_graph.specs.Graph.{Connections, no_ports, ports_at, HasPlace, IsGraph, edges_to_input, edges_to_param}
+use Rattle.conn_graph.proofs.EndLaws.{end_is, has_end}
 use Rattle.meaning.specs.declared.world.World.{World}
+use Rattle.meaning.specs.World.{no_node, kind_of}
 use Rattle.meaning.specs.Validity.{ports_of, IsValid}
-use Rattle.quantum_render.specs.Blocks.{leads_to, ComeFrom}
-use Rattle.quantum_render.specs.Levels.{into}
+use Rattle.quantum_render.specs.Blocks.{BlockView, slot, block_of, counts_in}
+use Rattle.quantum_render.specs.Connections.{into, leads_to, no_edge}
+use Rattle.quantum_render.specs.Fits.{AreInRange, AreFit, IsSource}
+use Rattle.quantum_render.specs.Sites.{IsSite}
+use Rattle.quantum_render.proofs.Slots.{slot_low, output_low}
 
 filter_within : {X : Type 0} (p q : X → Bool) → ((x : X) → p x ≡ true → q x ≡ true) → (xs : List X) → filter p (filter q xs) ≡ filter p xs
 filter_within p q each [] = refl
@@ -49,10 +59,10 @@ IsIn-get_or [] i d l = absurd (omega arith)
 IsIn-get_or (x ∷ xs) zero d l = inl refl
 IsIn-get_or (x ∷ xs) (suc i) d l = inr (IsIn-get_or xs i d (omega arith))
 
-pub into_comes : (g : Connections) (n : ℕ) → IsGraph g → ComeFrom (length g.nodes) (into g n)
-into_comes g n whole i d l =
+pub into_places : (g : Connections) (n : ℕ) → IsGraph g → (i : ℕ) (d : Edge) → i < length (into g n) → HasPlace g (slice_index_or (into g n) i d)
+into_places g n whole i d l =
     let e : Edge = slice_index_or (into g n) i d in
-    (whole.places e (IsIn-filter (λ x. target_node x.to == n) g.edges e (IsIn-get_or (into g n) i d l)).0).from
+    whole.places e (IsIn-filter (λ x. target_node x.to == n) g.edges e (IsIn-get_or (into g n) i d l)).0
 
 length-filter_low : {X : Type 0} (p : X → Bool) (xs : List X) → length (filter p xs) ≤ length xs
 length-filter_low p [] = omega arith
@@ -68,6 +78,68 @@ into_few g n whole = let few = whole.few in let low = length-filter_low (λ (e :
 -- as many ports as nodes
 pub same_nodes : (w : World) → IsValid w → length w.graph.value.nodes ≡ length w.nodes
 same_nodes w valid = ap length valid.ports ∙ length-map w.nodes ports_of
+
+-- the ports of a node are those of its kind
+pub outputs_are : (w : World) → IsValid w → (n : ℕ) → n < length w.nodes → (ports_at w.graph.value n).outputs ≡ outputs (kind_of w n)
+outputs_are w valid n l = ap (λ (ports : List Ports). (slice_index_or ports n no_ports).outputs) valid.ports ∙ of_nodes w.nodes n l
+  where
+    of_nodes : (nodes : List Node) (i : ℕ) → i < length nodes → (slice_index_or (map ports_of nodes) i no_ports).outputs ≡ outputs (slice_index_or nodes i no_node).kind
+    of_nodes [] i l = absurd (omega arith)
+    of_nodes (x ∷ xs) zero l = refl
+    of_nodes (x ∷ xs) (suc i) l = of_nodes xs i (omega arith)
+
+-- an end is of a node that is there
+pub end_low : (w : World) → IsValid w → (e : End) → IsIn e (ends w.graph.value) → e.node.0 < length w.nodes
+end_low w valid e is = subst (λ k. e.node.0 < k) (same_nodes w valid) (end_is w.graph.value e is).0
+
+-- the connections of a site come from ends that are there
+pub source_there : (w : World) (e : End) (edges : List Edge) (counts : List ℕ) (first : ℕ) → IsSite w e edges counts first → (i : ℕ) (d : Edge) → i < length edges
+    → HasPlace w.graph.value (slice_index_or edges i d)
+source_there w e edges counts first site i d l =
+    subst (λ (es : List Edge). HasPlace w.graph.value (slice_index_or es i d)) (sym site.into)
+    (into_places w.graph.value e.node.0 site.valid.graph i d (subst (λ (es : List Edge). i < length es) site.into l))
+
+-- and so do all that lead to a node
+pub into_slots : (w : World) → IsValid w → (n : ℕ) (counts : List ℕ) → length counts ≡ 2 * length w.nodes → (edges : List Edge) → edges ≡ into w.graph.value n → (i : ℕ) (d : Edge) → i < length edges
+    → slot (reader_of (slice_index_or edges i d).from.0) < length counts
+into_slots w valid n counts places edges here i d l =
+    let x : Edge = slice_index_or edges i d in
+    let place = subst (λ (es : List Edge). HasPlace w.graph.value (slice_index_or es i d)) (sym here) (into_places w.graph.value n valid.graph i d (subst (λ (es : List Edge). i < length es) here l)) in
+    subst (λ k. slot (reader_of x.from.0) < k) (sym places) (slot_low (reader_of x.from.0) (length w.nodes) (subst (λ k. x.from.0 < k) (same_nodes w valid) place.from))
+
+pub source_slot : (w : World) (e : End) (edges : List Edge) (counts : List ℕ) (first : ℕ) → IsSite w e edges counts first → (i : ℕ) (d : Edge) → i < length edges
+    → slot (reader_of (slice_index_or edges i d).from.0) < length counts
+source_slot w e edges counts first site i d l = into_slots w site.valid e.node.0 counts site.range.places edges site.into i d l
+
+-- and from outputs that their blocks have
+pub source_is : (w : World) (e : End) (edges : List Edge) (counts : List ℕ) (first : ℕ) (blocks : List BlockView) → IsSite w e edges counts first → AreFit w counts blocks
+    → (i : ℕ) (d : Edge) → i < length edges → IsSource counts blocks (slice_index_or edges i d)
+source_is w e edges counts first blocks site fit i d l =
+    let x : Edge = slice_index_or edges i d in
+    let source : End = reader_of x.from.0 in
+    let place = source_there w e edges counts first site i d l in
+    let node : x.from.0 < length w.nodes = subst (λ k. x.from.0 < k) (same_nodes w site.valid) place.from in
+    let there : slot source < length counts = source_slot w e edges counts first site i d l in
+    let long = site.range.places in
+    let wide = fit.places in
+    record {
+      block = omega arith;
+      count = there;
+      low = site.range.low (slot source) there;
+      high = site.range.high (slot source) there;
+      lanes = subst (λ n. x.output * counts_in counts source + counts_in counts source ≤ n) (sym (fit.lanes source (has_end w.graph.value x.from.0 place.from)))
+          (output_low x.output (outputs (kind_of w x.from.0)) (counts_in counts source) (subst (λ n. x.output < n) (outputs_are w site.valid x.from.0 node) place.output));
+    }
+
+pub site_few : (w : World) (e : End) (edges : List Edge) (counts : List ℕ) (first : ℕ) → IsSite w e edges counts first → length edges ≤ 8192
+site_few w e edges counts first site = subst (λ (es : List Edge). length es ≤ 8192) (sym site.into) (into_few w.graph.value e.node.0 site.valid.graph)
+
+-- a site's end has its place
+pub site_slot : (w : World) (e : End) (edges : List Edge) (counts : List ℕ) (first : ℕ) → IsSite w e edges counts first → slot e < length counts
+site_slot w e edges counts first site = subst (λ k. slot e < k) (sym site.range.places) (slot_low e (length w.nodes) (end_low w site.valid e site.there))
+
+pub place_within : (w : World) (e : End) (edges : List Edge) (counts : List ℕ) (first : ℕ) → IsSite w e edges counts first → (k : ℕ) → k ≡ slot e → k < length counts
+place_within w e edges counts first site k here = subst (λ j. j < length counts) (sym here) (site_slot w e edges counts first site)
 
 -- ---- the connections to each node, one connection after another
 

@@ -1,43 +1,80 @@
--- The values of a quantum of 128 frames in one list: each node has room for 32 channels, one after another.
-use Rattle.std.specs.Prelude.{ℕ, ℤ, pos, ◌+◌, ◌*◌, ◌≡◌, ◌≤◌, ◌<◌, List, slice_index_or, length, nat_lt, if◌then◌else◌, Bool, All}
-use Rattle.conn_graph.specs.declared.edges.Edge.{Edge}
-use Rattle.conn_graph.specs.declared.edges.Target.{Target}
-use Rattle.conn_graph.specs.Edges.{same_target}
+-- The values of a quantum of 128 frames: a block for each end.
+use Rattle.std.specs.Prelude.{ℕ, ℤ, pos, ◌+◌, ◌*◌, ◌/◌, ◌≡◌, ◌≤◌, ◌<◌, List, [], map, slice_index_or, nat_lt, if◌then◌else◌, Bool, true, false, take}
+use Rattle.std.specs.List.{range_with_len}
+use Rattle.wa_base.specs.declared.graph_names.End.{End}
+use Rattle.channel_mix.specs.Blocks.{sample}
 use Rattle.meaning.specs.declared.world.World.{World}
 use Rattle.meaning.specs.Counts.{Counts}
 use Rattle.meaning.specs.Values.{Frame}
 use Rattle.meaning.specs.Blocks.{Drafts, drafted}
 
--- channel c of a node at frame m
-abbrev pub cell : List ℤ → ℕ → ℕ → ℕ → ℤ
-cell blocks node c m = slice_index_or blocks (node * 4096 + (c * 128 + m)) (pos 0)
+-- What contracts see of a block: its number of lanes, for how many values more there is room, and its values, lane after lane.
+pub record BlockView : Type 0 where
+  pub lanes : ℕ
+  pub spare : ℕ
+  pub values : List ℤ
 
--- the number of channels of each end, by its node
+-- for so many values there is room
+abbrev pub room_of : BlockView → ℕ
+room_of block = block.lanes * 128 + block.spare
+
+-- the values of a block that holds one for each lane, or one for each frame of each lane
+abbrev pub all_values : Bool → ℕ → List ℤ → List ℤ
+all_values true lanes held = map (λ k. slice_index_or held (k / 128) (pos 0)) (range_with_len 0 (lanes * 128))
+all_values false lanes held = take (lanes * 128) held
+
+-- what holds of every block
+pub record IsBlock (number cells : ℕ) : Type 0 where
+  pub high : number ≤ 32
+  pub room : number * 128 ≤ cells
+
+-- stands where there is no end
+abbrev pub no_block : BlockView
+no_block = record { lanes = 0; spare = 0; values = [] }
+
+-- a lane of a block at frame m
+abbrev pub at : BlockView → ℕ → ℕ → ℤ
+at block lane m = sample 128 block.values lane m
+
+-- frame m of a block, as a function from lane to value
+abbrev pub shown : BlockView → ℕ → ℕ → ℤ
+shown block m = λ lane. if nat_lt lane block.lanes then at block lane m else pos 0
+
+-- ---- outputs and channels
+
+-- The lanes of a block are the channels of the end's output 0, then those of output 1, and so on: here output o at frame m, where each output has so many channels.
+abbrev pub carried : BlockView → ℕ → ℕ → ℕ → ℕ → ℤ
+carried block channels o m = λ c. if nat_lt c channels then shown block m (o * channels + c) else pos 0
+
+-- ---- ends
+
+-- each node has two places: one for a writer, and one for the end that every node has
+abbrev pub slot : End → ℕ
+slot e = 2 * e.node.0 + (if e.writer then 0 else 1)
+
+abbrev pub block_of : List BlockView → End → BlockView
+block_of blocks e = slice_index_or blocks (slot e) no_block
+
+-- the number of lanes at each place
+abbrev pub lanes_of : List BlockView → List ℕ
+lanes_of blocks = map (λ b. b.lanes) blocks
+
+-- the number of channels of each end, by its place
 abbrev pub counts_in : List ℕ → Counts
-counts_in counts = λ e. slice_index_or counts e.node.0 1
+counts_in counts = λ e. slice_index_or counts (slot e) 1
 
--- the values of each frame m
-abbrev pub drafts_in : List ℤ → List ℕ → Drafts
-drafts_in blocks counts = λ m e o c. if nat_lt c (counts_in counts e) then cell blocks e.node.0 c m else pos 0
+-- what each end carries at each frame m: output o, channel c
+abbrev pub drafts_of : List BlockView → List ℕ → Drafts
+drafts_of blocks counts = λ m e o. carried (block_of blocks e) (counts_in counts e) o m
 
-abbrev pub frame_in : World → List ℤ → List ℕ → ℕ → Frame
-frame_in w blocks counts m = drafted w (counts_in counts) (drafts_in blocks counts m)
+abbrev pub frame_of : World → List BlockView → List ℕ → ℕ → Frame
+frame_of w blocks counts m = drafted w (counts_in counts) (drafts_of blocks counts m)
 
--- each node has its room, and 1 to 32 channels
-pub record HasRoom (blocks : List ℤ) (counts : List ℕ) : Type 0 where
-  pub room : length blocks ≡ length counts * 4096
-  pub low : (node : ℕ) → node < length counts → 1 ≤ slice_index_or counts node 1
-  pub high : (node : ℕ) → node < length counts → slice_index_or counts node 1 ≤ 32
+-- the lanes of an end are silent
+abbrev pub IsSilent : List BlockView → End → Type 0
+IsSilent blocks e = (lane m : ℕ) → lane < (block_of blocks e).lanes → m < 128 → at (block_of blocks e) lane m ≡ pos 0
 
--- each connection comes from a node that is there
-abbrev pub ComeFrom : ℕ → List Edge → Type 0
-ComeFrom nodes edges = All (λ (e : Edge). e.from.0 < nodes) edges
-
-abbrev pub leads_to : Target → Edge → Bool
-leads_to target e = same_target target e.to
-
--- the first channels of one node are written, and no other node's
-pub record Writes (old new : List ℤ) (node count : ℕ) (value : ℕ → ℕ → ℤ) : Type 0 where
-  pub length : length new ≡ length old
-  pub own : (c m : ℕ) → c < count → m < 128 → cell new node c m ≡ value c m
-  pub others : (n c m : ℕ) → (n ≡ node → ⊥) → c < 32 → m < 128 → cell new n c m ≡ cell old n c m
+-- The block of one end is written, and no other's. All keep their number of lanes.
+pub record Writes (old new : List BlockView) (e : End) : Type 0 where
+  pub lanes : lanes_of new ≡ lanes_of old
+  pub others : (d : End) → (d ≡ e → ⊥) → block_of new d ≡ block_of old d

@@ -1,5 +1,10 @@
+pub mod Connections
 pub mod Blocks
-pub mod Levels
+pub mod Held
+pub mod Fits
+pub mod Sums
+pub mod Sites
+pub mod Benches
 pub mod Renders
 pub mod Plans
 pub mod Stands

@@ -1,26 +1,28 @@
--- The values of one node in a quantum, from the blocks of the ends that are connected to it.
-use Rattle.std.specs.Prelude.{ℕ, ℤ, pos, ◌+◌, ◌≡◌, List, slice_index_or, if◌then◌else◌}
-use Rattle.wa_base.specs.Numbers.{scale}
-use Rattle.wa_base.specs.declared.graph_names.ParamName.TheVariants as param
+-- What an end carries in a quantum: the meaning of a frame, over the blocks of the ends before it in an order.
+use Rattle.std.specs.Prelude.{ℕ, ℤ, ◌+◌, ◌*◌, ◌≡◌, ◌<◌, List}
+use Rattle.wa_base.specs.declared.graph_names.End.{End}
+use Rattle.node_table.specs.Kinds.{outputs}
 use Rattle.node_table.specs.declared.kinds.Kind.{Kind}
-use Rattle.node_table.specs.declared.kinds.Kind.TheVariants.{Destination, Constant, Gain}
 use Rattle.meaning.specs.declared.world.World.{World}
-use Rattle.meaning.specs.World.{param_id, sounds_at}
-use Rattle.meaning.specs.Counts.{input_channels}
-use Rattle.meaning.specs.Values.{input_value}
-use Rattle.quantum_render.specs.Blocks.{counts_in, frame_in}
-use Rattle.quantum_render.specs.Levels.{level}
+use Rattle.meaning.specs.World.{plain}
+use Rattle.meaning.specs.Counts.{Counts, count_by_kind}
+use Rattle.meaning.specs.Values.{Frame, value_by_kind}
+use Rattle.meaning.specs.Blocks.{with_drafts}
+use Rattle.quantum_render.specs.Blocks.{BlockView, at, block_of, counts_in, drafts_of, frame_of}
+use Rattle.quantum_render.specs.Sites.{SiteView}
 
--- channel c at frame m of the quantum that begins at `first`
-abbrev pub rendered : World → List ℤ → List ℕ → ℕ → Kind → ℕ → ℕ → ℕ → ℤ
-rendered w blocks counts first Destination node c m = input_value (frame_in w blocks counts m) node 0 c
-rendered w blocks counts first (Constant offset) node c m =
-    if sounds_at w node (first + m) then level w blocks counts (param_id node param.Offset) first m else pos 0
-rendered w blocks counts first (Gain gain) node c m =
-    scale (input_value (frame_in w blocks counts m) node 0 c) (level w blocks counts (param_id node param.Gain) first m)
+-- the frames that an equation sees: those before the quantum, and of the quantum what the blocks have
+abbrev pub past_of : SiteView → List BlockView → (ℕ → Frame) → ℕ → Frame
+past_of s blocks before = with_drafts before s.first (plain s.world) (counts_in s.counts) (drafts_of blocks s.counts)
 
--- a node has the number of channels that its kind asks for
-abbrev pub HasCount : World → List ℕ → Kind → ℕ → Type 0
-HasCount w counts Destination node = slice_index_or counts node 1 ≡ input_channels w (counts_in counts) node 0
-HasCount w counts (Constant offset) node = slice_index_or counts node 1 ≡ 1
-HasCount w counts (Gain gain) node = slice_index_or counts node 1 ≡ input_channels w (counts_in counts) node 0
+abbrev pub here_of : SiteView → List BlockView → ℕ → Frame
+here_of s blocks m = frame_of (plain s.world) blocks s.counts m
+
+-- The number of channels of a site's end is what its kind asks for, in quantum j and with these channels in the quanta before.
+abbrev pub HasCount : SiteView → ℕ → (ℕ → Counts) → Kind → Type 0
+HasCount s j earlier kind = counts_in s.counts s.end ≡ count_by_kind 128 (plain s.world) j earlier (counts_in s.counts) kind s.end
+
+-- The new block of a site's end has the values of its kind, whatever the frames before the quantum were.
+abbrev pub Renders : SiteView → List BlockView → List BlockView → Kind → Type 0
+Renders s old new kind = (j : ℕ) (earlier : ℕ → Counts) → HasCount s j earlier kind → (before : ℕ → Frame) (o c m : ℕ) → o < outputs kind → c < counts_in s.counts s.end → m < 128 →
+    at (block_of new s.end) (o * counts_in s.counts s.end + c) m ≡ value_by_kind 128 (s.first + m) (past_of s old before) (here_of s old m) kind s.end o c

@@ -1,12 +1,17 @@
 -- What a renderer stands for.
-use Rattle.std.specs.Prelude.{ℕ, ℤ, ◌≡◌, ◌<◌, ◌≤◌, ◌+◌, ◌-◌, ◌*◌, List, length}
+use Rattle.std.specs.Prelude.{ℕ, ℤ, ◌≡◌, ◌<◌, ◌≤◌, ◌+◌, ◌-◌, ◌*◌, ◌++◌, ◌∷◌, [], List, length}
+use Rattle.wa_base.specs.Contexts.{quantum_of}
 use Rattle.wa_base.specs.declared.contexts.ContextSpec.{ContextSpec}
 use Rattle.wa_base.specs.declared.graph_names.End.{End}
 use Rattle.wa_base.specs.declared.graph_names.Tie.{Tie}
 use Rattle.conn_graph.specs.declared.edges.Edge.{Edge}
+use Rattle.channel_mix.specs.Blocks.{sample as channel_sample}
 use Rattle.meaning.specs.declared.world.World.{World}
 use Rattle.meaning.specs.Rendered.{sample}
-use Rattle.quantum_render.specs.Blocks.{cell}
+use Rattle.meaning.specs.Worlds.{IsRegular}
+use Rattle.meaning.specs.Pasts.{Past, past}
+use Rattle.quantum_render.specs.Blocks.{BlockView}
+use Rattle.quantum_render.specs.Fits.{AreInRange, AreFit}
 use Rattle.quantum_render.specs.Plans.{IsPlan, AreCounted}
 
 -- What contracts see of a renderer. Callers read the context and the number of quanta.
@@ -20,34 +25,43 @@ pub record RendererView : Type 0 where
   pub order : List End
   pub muted : List End
   pub into : List (List Edge)
-  -- the channels of each node, and the blocks of the last quantum
+  -- the channels of each end in the next quantum
   pub counts : List ℕ
-  pub blocks : List ℤ
+  -- the block of each end
+  pub blocks : List BlockView
+  -- what the destination carried in the last quantum
+  pub out : List ℤ
 
--- The renderer went through as many quanta as the tape has, and the destination's blocks are the meaning of its last quantum.
-pub record StandsFor (r : RendererView) (tape : List World) : Type 0 where
-  pub quanta : r.quanta ≡ length tape
-  pub blocks : 0 < length tape → (c m : ℕ) → c < r.spec.channels → m < 128 → cell r.blocks 0 c m ≡ sample 128 tape (128 * (length tape - 1) + m) c
+-- What a renderer remembers of a past: the number of its quanta. No kind of node remembers more.
+pub record Remembers (r : RendererView) (p : Past) : Type 0 where
+  pub quanta : r.quanta ≡ p.quanta
 
--- after `prepare`, `counts` and `grow` over a world
+-- A renderer stands for the tapes whose past it remembers: those of the worlds that it went through.
+abbrev pub StandsFor : RendererView → List World → Type 0
+StandsFor r tape = Remembers r (past (quantum_of r.spec) tape)
+
+-- A renderer shows the meaning of a tape's last quantum: what the destination carried in it.
+abbrev pub Shows : RendererView → List World → Type 0
+Shows r tape = (c m : ℕ) → c < r.spec.channels → m < quantum_of r.spec →
+    channel_sample (quantum_of r.spec) r.out c m ≡ sample (quantum_of r.spec) tape (quantum_of r.spec * (length tape - 1) + m) c
+
+-- ---- after `prepare`, `counts` and `grow` over a world
+
 pub record IsPrepared (r : RendererView) (w : World) : Type 0 where
   pub plan : IsPlan w r.order r.muted r.into
-  pub nodes : length r.counts ≡ length w.nodes
+  pub places : length r.counts ≡ 2 * length w.nodes
 
+-- The channels are those of the quantum after each tape for which the renderer stands.
 pub record IsCounted (r : RendererView) (w : World) : Type 0 where
   pub plan : IsPlan w r.order r.muted r.into
-  pub counted : AreCounted w r.counts
+  pub range : AreInRange w r.counts
+  pub counted : (tape : List World) → StandsFor r tape → IsRegular (quantum_of r.spec) (tape ++ w ∷ []) → AreCounted (quantum_of r.spec) w r.counts tape
 
 pub record IsGrown (r : RendererView) (w : World) : Type 0 where
-  pub plan : IsPlan w r.order r.muted r.into
-  pub counted : AreCounted w r.counts
-  pub room : length r.blocks ≡ length r.counts * 4096
+  pub counted : IsCounted r w
+  pub blocks : AreFit w r.counts r.blocks
 
 -- what holds of every renderer
-pub record IsWhole (most quanta : ℕ) (blocks hear summed carry level : List ℤ) : Type 0 where
+pub record IsWhole (most : ℕ) (last : List ℤ) : Type 0 where
   pub channels : most ≤ 32
-  pub out : 0 < quanta → 4096 ≤ length blocks
-  pub heard : length hear ≡ 4096
-  pub sums : length summed ≡ 4096
-  pub carried : length carry ≡ 128
-  pub levels : length level ≡ 128
+  pub out : length last ≡ 4096

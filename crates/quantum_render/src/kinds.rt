@@ -1,171 +1,82 @@
-ghost use Rattle.std.specs.Prelude.{◌≡◌, ◌≤◌, ◌<◌, ◌+◌, ◌*◌, ◌^◌, ℕ, pos, length, slice_index_or, Some, FitsSigned, nat_lt, IfSome, IsNone, if◌then◌else◌};
-ghost use Rattle.std.specs.Int.{w32};
-ghost use Rattle.wa_base.specs.Numbers.{sat as saturated, scale as scaled};
-ghost use Rattle.channel_mix.specs.Blocks.{sample};
+ghost use Rattle.std.specs.Prelude.{◌≡◌, ◌<◌, ◌-◌, ◌^◌, ℕ, ℤ, Some};
 ghost use Rattle.sched_source.specs.Schedule.{is_between};
+ghost use Rattle.node_table.specs.declared.kinds.Kind.TheVariants.{Destination, Constant, Gain};
+ghost use Rattle.meaning.specs.Validity.{IsValid};
+ghost use Rattle.meaning.specs.World.{kind_of, sounds_at};
 ghost use Rattle.quantum_render.specs.Blocks.{Writes};
+ghost use Rattle.quantum_render.specs.Fits.{AreFit};
+ghost use Rattle.quantum_render.specs.Renders.{Renders};
 
-use crate::gather::{QUANTUM, ROOM};
-use wa_base::{Fix, ONE, sat, scale};
+use crate::bench::Bench;
+use crate::block::Block;
+use crate::places::play_place;
+use crate::site::{Site, slot};
+use node_table::Kind;
+use wa_base::ParamName;
 
-// Copies values, each of which is a Fix.
-pub(crate) fn copy_values(block: &mut [Fix], values: &[Fix])
-    requires { length values.now ≡ length block.old }
-    ensures length { length block.new ≡ length block.old }
-    ensures values { (k : ℕ) → k < length block.old → slice_index_or block.new k (pos 0) ≡ slice_index_or values.now k (pos 0) }
-    ensures fit { (k : ℕ) → k < length block.old → FitsSigned w32 (slice_index_or values.now k (pos 0)) }
-{
-    for (k, value) in block.iter_mut().enumerate() {
-        *value = values[k];
+// What each kind of node does in a quantum: a line of the table, and a function that takes an input
+// and levels and leaves the block of its end.
+impl Bench {
+    // Renders an end for one quantum, from the blocks of the ends that are connected to it.
+    pub(crate) fn render(&mut self, blocks: &mut [Block], site: &Site)
+        requires { AreFit site.now.world site.now.counts blocks.old }
+        ensures writes { Writes blocks.old blocks.new site.now.end }
+        ensures renders { Renders site.now blocks.old blocks.new (kind_of site.now.world site.now.end.node.0) }
+    {
+        match site.world.nodes.kind(site.end.node) {
+            Kind::Destination => self.render_destination(blocks, site),
+            Kind::Constant { .. } => self.render_constant(blocks, site),
+            Kind::Gain { .. } => self.render_gain(blocks, site),
+        }
+    }
+
+    fn render_destination(&mut self, blocks: &mut [Block], site: &Site)
+        requires fit { AreFit site.now.world site.now.counts blocks.old }
+        requires kind { kind_of site.now.world site.now.end.node.0 ≡ Destination }
+        ensures writes { Writes blocks.old blocks.new site.now.end }
+        ensures renders { Renders site.now blocks.old blocks.new Destination }
+    {
+        self.take_input(blocks, site, 0, site.channels());
+        blocks[slot(site.end)].copy(&self.heard);
+    }
+
+    fn render_constant(&mut self, blocks: &mut [Block], site: &Site)
+        requires fit { AreFit site.now.world site.now.counts blocks.old }
+        requires kind { (offset : ℤ) × (kind_of site.now.world site.now.end.node.0 ≡ Constant offset) }
+        ensures writes { Writes blocks.old blocks.new site.now.end }
+        ensures renders { (offset : ℤ) → Renders site.now blocks.old blocks.new (Constant offset) }
+    {
+        self.take_levels(blocks, site, ParamName::Offset);
+        let (start, end) = span(site);
+        self.levels.sound(start, end, site.first);
+        blocks[slot(site.end)].copy(&self.levels);
+    }
+
+    fn render_gain(&mut self, blocks: &mut [Block], site: &Site)
+        requires fit { AreFit site.now.world site.now.counts blocks.old }
+        requires kind { (gain : ℤ) × (kind_of site.now.world site.now.end.node.0 ≡ Gain gain) }
+        ensures writes { Writes blocks.old blocks.new site.now.end }
+        ensures renders { (gain : ℤ) → Renders site.now blocks.old blocks.new (Gain gain) }
+    {
+        self.take_input(blocks, site, 0, site.channels());
+        self.take_levels(blocks, site, ParamName::Gain);
+        blocks[slot(site.end)].scale(&self.heard, &self.levels);
     }
 }
 
-// Saturates sums.
-pub(crate) fn saturate(block: &mut [Fix], sums: &[i64])
-    requires { length sums.now ≡ length block.old }
-    ensures length { length block.new ≡ length block.old }
-    ensures values { (k : ℕ) → k < length block.old → slice_index_or block.new k (pos 0) ≡ saturated (slice_index_or sums.now k (pos 0)) }
+// The frame from which a source sounds, and the one before which it ends; past all frames where
+// there is none.
+fn span(site: &Site) -> (u64, u64)
+    ensures { (frame : ℕ) → frame < 2 ^ 64 - 1 → is_between (Some result.0) (Some result.1) frame ≡ sounds_at site.now.world site.now.end.node.0 frame }
 {
-    for (k, value) in block.iter_mut().enumerate() {
-        *value = sat(sums[k]);
+    match play_place(site.world, site.end.node, site.near) {
+        Some(place) => {
+            let sched = site.world.scheds.at(place).sched;
+            (
+                sched.start_frame().unwrap_or(u64::MAX),
+                sched.end_frame().unwrap_or(u64::MAX),
+            )
+        }
+        None => (u64::MAX, u64::MAX),
     }
-}
-
-// Writes the block of a node.
-pub(crate) fn write_block(blocks: &mut [Fix], node: usize, count: usize, values: &[Fix])
-    requires count { count ≤ 32 }
-    requires node { node * 4096 + 4096 ≤ length blocks.old }
-    requires values { length values.now ≡ count * 128 }
-    ensures { Writes blocks.old blocks.new node count (λ c m. sample 128 values.now c m) }
-{
-    let first = node * ROOM;
-    copy_values(&mut blocks[first..first + count * QUANTUM], values);
-}
-
-// What an input carries, multiplied by one gain.
-pub(crate) fn write_scaled(blocks: &mut [Fix], node: usize, count: usize, heard: &[Fix], gain: Fix)
-    requires count { count ≤ 32 }
-    requires node { node * 4096 + 4096 ≤ length blocks.old }
-    requires heard { length heard.now ≡ count * 128 }
-    ensures { Writes blocks.old blocks.new node count (λ c m. scaled (sample 128 heard.now c m) gain) }
-{
-    let first = node * ROOM;
-    scale_all(&mut blocks[first..first + count * QUANTUM], heard, gain);
-}
-
-fn scale_all(block: &mut [Fix], heard: &[Fix], gain: Fix)
-    requires { length heard.now ≡ length block.old }
-    ensures length { length block.new ≡ length block.old }
-    ensures values { (k : ℕ) → k < length block.old → slice_index_or block.new k (pos 0) ≡ scaled (slice_index_or heard.now k (pos 0)) gain }
-{
-    if gain == ONE {
-        copy_values(block, heard);
-    } else {
-        multiply(block, heard, gain);
-    }
-}
-
-fn multiply(block: &mut [Fix], heard: &[Fix], gain: Fix)
-    requires { length heard.now ≡ length block.old }
-    ensures length { length block.new ≡ length block.old }
-    ensures values { (k : ℕ) → k < length block.old → slice_index_or block.new k (pos 0) ≡ scaled (slice_index_or heard.now k (pos 0)) gain }
-{
-    for (k, value) in block.iter_mut().enumerate() {
-        *value = scale(heard[k], gain);
-    }
-}
-
-// What an input carries, multiplied by the gain of each frame.
-pub(crate) fn write_scaled_by_frame(
-    blocks: &mut [Fix],
-    node: usize,
-    count: usize,
-    heard: &[Fix],
-    gains: &[Fix],
-)
-    requires count { count ≤ 32 }
-    requires node { node * 4096 + 4096 ≤ length blocks.old }
-    requires heard { length heard.now ≡ count * 128 }
-    requires gains { length gains.now ≡ 128 }
-    ensures { Writes blocks.old blocks.new node count (λ c m. scaled (sample 128 heard.now c m) (slice_index_or gains.now m (pos 0))) }
-{
-    let first = node * ROOM;
-    scale_channels(
-        &mut blocks[first..first + count * QUANTUM],
-        count,
-        heard,
-        gains,
-    );
-}
-
-fn scale_channels(block: &mut [Fix], count: usize, heard: &[Fix], gains: &[Fix])
-    requires count { count ≤ 32 }
-    requires block { length block.old ≡ count * 128 }
-    requires heard { length heard.now ≡ count * 128 }
-    requires gains { length gains.now ≡ 128 }
-    ensures length { length block.new ≡ count * 128 }
-    ensures values { (c m : ℕ) → c < count → m < 128 → sample 128 block.new c m ≡ scaled (sample 128 heard.now c m) (slice_index_or gains.now m (pos 0)) }
-{
-    for channel in 0..count {
-        let first = channel * QUANTUM;
-        scale_channel(
-            &mut block[first..first + QUANTUM],
-            &heard[first..first + QUANTUM],
-            gains,
-        );
-    }
-}
-
-fn scale_channel(block: &mut [Fix], heard: &[Fix], gains: &[Fix])
-    requires heard { length heard.now ≡ length block.old }
-    requires gains { length gains.now ≡ length block.old }
-    ensures length { length block.new ≡ length block.old }
-    ensures values { (k : ℕ) → k < length block.old → slice_index_or block.new k (pos 0) ≡ scaled (slice_index_or heard.now k (pos 0)) (slice_index_or gains.now k (pos 0)) }
-{
-    for (k, value) in block.iter_mut().enumerate() {
-        *value = scale(heard[k], gains[k]);
-    }
-}
-
-// One level for each frame, where there is one for all of them.
-pub(crate) fn spread(levels: &mut [Fix], steady: Option<Fix>)
-    ensures length { length levels.new ≡ length levels.old }
-    ensures steady { IfSome steady (λ level. (m : ℕ) → m < length levels.old → slice_index_or levels.new m (pos 0) ≡ level) }
-    ensures other { IsNone steady → levels.new ≡ levels.old }
-{
-    if let Some(level) = steady {
-        levels.fill(level);
-    }
-}
-
-// Silences the levels of the frames before `start` and from `end` on.
-pub(crate) fn sound(levels: &mut [Fix], start: u64, end: u64, first: u64)
-    requires levels { length levels.old ≡ 128 }
-    requires time { first ≤ 2 ^ 62 }
-    ensures length { length levels.new ≡ 128 }
-    ensures values { (m : ℕ) → m < 128 → slice_index_or levels.new m (pos 0) ≡ (if is_between (Some start) (Some end) (first + m) then slice_index_or levels.old m (pos 0) else pos 0) }
-{
-    let from = frames_until(start, first);
-    let to = frames_until(end, first).max(from);
-    silence(levels, 0, from);
-    silence(levels, to, QUANTUM);
-}
-
-fn silence(levels: &mut [Fix], from: usize, to: usize)
-    requires from { from ≤ to }
-    requires to { to ≤ length levels.old }
-    ensures length { length levels.new ≡ length levels.old }
-    ensures before { (k : ℕ) → k < from → slice_index_or levels.new k (pos 0) ≡ slice_index_or levels.old k (pos 0) }
-    ensures within { (k : ℕ) → from ≤ k → k < to → slice_index_or levels.new k (pos 0) ≡ pos 0 }
-    ensures after { (k : ℕ) → to ≤ k → slice_index_or levels.new k (pos 0) ≡ slice_index_or levels.old k (pos 0) }
-{
-    levels[from..to].fill(0);
-}
-
-// How many frames of a quantum lie before a frame.
-fn frames_until(frame: u64, first: u64) -> usize
-    ensures within { result ≤ 128 }
-    ensures before { (m : ℕ) → m < 128 → nat_lt (first + m) frame ≡ nat_lt m result }
-{
-    frame.saturating_sub(first).min(QUANTUM as u64) as usize
 }

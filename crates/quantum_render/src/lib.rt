@@ -1,16 +1,19 @@
 //! Renders one quantum of 128 frames after another.
 #![tactic(auto)]
 
+mod bench;
+mod block;
+mod blocks;
 mod counting;
-mod gather;
+mod held;
+mod kernels;
 mod kinds;
 mod levels;
-mod nodes;
 mod pass;
 mod places;
 mod plan;
 mod renderer;
-#[cfg(test)]
-mod tests;
+mod site;
+mod sums;
 
 pub use renderer::Renderer;

@@ -1,14 +1,21 @@
-ghost use Rattle.std.specs.Prelude.{◌≡◌, ◌<◌, ◌++◌, ℕ, [], length, filter, slice_index_or, IfOk, OnOk};
+ghost use Rattle.std.specs.Prelude.{◌≡◌, ◌<◌, ◌≤◌, ◌^◌, ◌++◌, ℕ, [], length, filter, slice_index_or, IfOk, OnOk};
 ghost use Rattle.law_base.specs.Members.{IsIn};
 ghost use Rattle.conn_graph.specs.declared.edges.Edge.{Edge as an_edge};
 ghost use Rattle.conn_graph.specs.Edges.{target_node};
 ghost use Rattle.conn_graph.specs.Cells.{leaves, enters};
 ghost use Rattle.cycle_order.specs.Choices.{chosen_order};
-ghost use Rattle.quantum_render.specs.Levels.{into as leads_into};
-ghost use Rattle.quantum_render.specs.Plans.{IsPlanOf};
+ghost use Rattle.conn_graph.specs.Ends.{ends};
+ghost use Rattle.quantum_render.specs.Connections.{into as leads_into};
+ghost use Rattle.quantum_render.specs.Fits.{AreInRange};
+ghost use Rattle.quantum_render.specs.Sites.{IsBegun};
+ghost use Rattle.meaning.specs.Validity.{IsValid};
+ghost use Rattle.quantum_render.specs.Plans.{IsPlan, IsPlanOf};
 
+use crate::places::{Near, places};
+use crate::site::Site;
 use conn_graph::{Edge, Graph};
 use cycle_order::{Ends, order, survey};
+use meaning::World;
 use std::alloc::Global;
 use std::marker::Model;
 use std::sync::ledger::Ledger;
@@ -24,6 +31,7 @@ pub(crate) struct Plan {
     muted: Ends,
     // For each node, the connections that lead to it.
     into: Vec<Items<Edge>>,
+    near: Vec<Near>,
 }
 
 impl Model for Plan {
@@ -54,20 +62,23 @@ impl Plan {
             order: Ends::new(alloc),
             muted: Ends::new(alloc),
             into: Vec::new(alloc),
+            near: Vec::new(alloc),
         }
     }
 
-    // Surveys and orders a graph.
+    // Surveys and orders the graph of a world.
     fn of<L: Ledger>(
         alloc: Global,
-        graph: &Graph,
+        world: &World,
         tie: Tie,
         steps: &mut Steps<L>,
     ) -> Result<Plan, NoMemory>
-        ensures plan { IfOk result (λ plan. IsPlanOf graph.now.value plan.order plan.muted plan.into) }
-        ensures order { IfOk result (λ plan. plan.order ≡ chosen_order graph.now.value tie) }
+        ensures plan { IfOk result (λ plan. IsPlan world.now plan.order plan.muted plan.into) }
+        ensures order { IfOk result (λ plan. plan.order ≡ chosen_order world.now.graph.value tie) }
         ensures tie { IfOk result (λ plan. plan.tie ≡ tie) }
     {
+        let graph = &world.graph;
+        let near = places(alloc, world)?;
         let marks = survey(alloc, graph, steps)?;
         let ordered = order(alloc, graph, &marks, tie, steps)?;
         let all = connections(alloc, graph, steps)?;
@@ -79,24 +90,25 @@ impl Plan {
             order: ordered.ends,
             muted: marks.muted,
             into,
+            near,
         })
     }
 
-    // Makes this the plan of a graph. As long as the graph stays, so does its plan.
+    // Makes this the plan of a world. As long as the graph stays, so does its plan.
     pub(crate) fn follow<L: Ledger>(
         &mut self,
         alloc: Global,
-        graph: &Graph,
+        world: &World,
         steps: &mut Steps<L>,
     ) -> Result<(), NoMemory>
-        ensures plan { OnOk result (IsPlanOf graph.now.value self.new.order self.new.muted self.new.into) }
-        ensures order { OnOk result (self.new.order ≡ chosen_order graph.now.value self.old.tie) }
+        ensures plan { OnOk result (IsPlan world.now self.new.order self.new.muted self.new.into) }
+        ensures order { OnOk result (self.new.order ≡ chosen_order world.now.graph.value self.old.tie) }
         ensures tie { self.new.tie ≡ self.old.tie }
     {
-        if self.graph.is_same(graph) {
+        if self.graph.is_same(&world.graph) {
             return Ok(());
         }
-        *self = Plan::of(alloc, graph, self.tie, steps)?;
+        *self = Plan::of(alloc, world, self.tie, steps)?;
         Ok(())
     }
 
@@ -110,6 +122,35 @@ impl Plan {
         ensures { result.now ≡ self.now.muted }
     {
         self.muted.as_slice()
+    }
+
+    // An end with the connections that lead to its node.
+    pub(crate) fn site<'a>(
+        &'a self,
+        world: &'a World,
+        counts: &'a [u32],
+        end: End,
+        first: u64,
+    ) -> Site<'a>
+        requires valid { IsValid world.now }
+        requires plan { IsPlan world.now self.now.order self.now.muted self.now.into }
+        requires range { AreInRange world.now counts.now }
+        requires there { IsIn end (ends world.now.graph.value) }
+        requires begun { IsBegun first }
+        ensures world { result.world ≡ world.now }
+        ensures counts { result.counts ≡ counts.now }
+        ensures end { result.end ≡ end }
+        ensures first { result.first ≡ first }
+    {
+        let node = end.node.0 as usize;
+        Site {
+            world,
+            end,
+            into: self.into[node].as_slice(),
+            counts,
+            first,
+            near: self.near.get(node).copied().unwrap_or(Near::START),
+        }
     }
 
     pub(crate) fn sources(&self) -> &[Items<Edge>]

@@ -1,21 +1,25 @@
-ghost use Rattle.std.specs.Prelude.{◌≡◌, ◌<◌, ◌≤◌, ◌+◌, ◌-◌, ◌*◌, ◌^◌, ◌++◌, ◌∷◌, [], ℕ, List, pos, length, slice_index_or, IfOk, OnOk};
-ghost use Rattle.wa_base.specs.Contexts.{IsSupported};
+ghost use Rattle.std.specs.Prelude.{◌≡◌, ◌<◌, ◌≤◌, ◌+◌, ◌-◌, ◌*◌, ◌^◌, ◌++◌, ◌∷◌, ◌↔◌, [], ℕ, List, pos, length, slice_index_or, IfOk, OnOk};
+ghost use Rattle.wa_base.specs.Contexts.{IsSupported, quantum_of};
 ghost use Rattle.meaning.specs.declared.world.World.{World as a_world};
 ghost use Rattle.meaning.specs.Rendered.{sample};
 ghost use Rattle.meaning.specs.Validity.{IsValid};
 ghost use Rattle.meaning.specs.Worlds.{IsRegular};
 ghost use Rattle.cycle_order.specs.Choices.{chosen_order};
-ghost use Rattle.quantum_render.specs.Stands.{StandsFor, IsPrepared, IsCounted, IsGrown};
+ghost use Rattle.quantum_render.specs.Stands.{StandsFor, Shows, IsPrepared, IsCounted, IsGrown};
 
+use crate::bench::Bench;
+use crate::block::{Block, QUANTUM};
+use crate::blocks::fit_blocks;
 use crate::counting::count_channels;
-use crate::gather::{QUANTUM, ROOM};
 use crate::pass::render_quantum;
 use crate::plan::Plan;
+use crate::site::{reader, slot};
+use crate::sums::CHANNELS;
 use meaning::World;
 use std::alloc::Global;
 use std::marker::Model;
 use std::sync::ledger::Ledger;
-use wa_base::{ContextSpec, Fix, NoMemory, Steps, Tie};
+use wa_base::{ContextSpec, Fix, NoMemory, NodeId, Steps, Tie};
 
 /// Renders one quantum of 128 frames after another (the rendering loop of the recommendation).
 ///
@@ -28,11 +32,9 @@ pub struct Renderer {
     quanta: u64,
     plan: Plan,
     counts: Vec<u32>,
-    blocks: Vec<Fix>,
-    heard: Vec<Fix>,
-    sums: Vec<i64>,
-    carried: Vec<i64>,
-    levels: Vec<Fix>,
+    blocks: Vec<Block>,
+    bench: Bench,
+    out: Vec<Fix>,
 }
 
 impl Model for Renderer {
@@ -49,9 +51,10 @@ impl Model for Renderer {
       into = r.plan.into;
       counts = r.counts.items;
       blocks = r.blocks.items;
+      out = r.out.items;
     } };
 
-    ghost invariant = { λ r. IsWhole r.spec.channels r.quanta r.blocks.items r.heard.items r.sums.items r.carried.items r.levels.items };
+    ghost invariant = { λ r. IsWhole r.spec.channels r.out.items };
 }
 
 impl Renderer {
@@ -69,10 +72,8 @@ impl Renderer {
             plan: Plan::new(alloc, tie),
             counts: Vec::new(alloc),
             blocks: Vec::new(alloc),
-            heard: vec![in alloc; 0; ROOM]?,
-            sums: vec![in alloc; 0; ROOM]?,
-            carried: vec![in alloc; 0; QUANTUM]?,
-            levels: vec![in alloc; 0; QUANTUM]?,
+            bench: Bench::new(alloc)?,
+            out: vec![in alloc; 0; CHANNELS * QUANTUM]?,
         })
     }
 
@@ -88,25 +89,25 @@ impl Renderer {
         requires spec { world.now.spec ≡ self.old.spec }
         ensures ok { OnOk result (IsPrepared self.new world.now) }
         ensures order { OnOk result (self.new.order ≡ chosen_order world.now.graph.value self.old.tie) }
-        ensures stands { (tape : List a_world) → StandsFor self.old tape → StandsFor self.new tape }
+        ensures stands { (tape : List a_world) → StandsFor self.old tape ↔ StandsFor self.new tape }
         ensures spec { self.new.spec ≡ self.old.spec }
         ensures tie { self.new.tie ≡ self.old.tie }
         ensures quanta { self.new.quanta ≡ self.old.quanta }
     {
-        self.plan.follow(self.alloc, &world.graph, steps)?;
-        self.counts.resize(world.nodes.len() as usize, 1)?;
+        self.plan.follow(self.alloc, world, steps)?;
+        self.counts.resize(2 * world.nodes.len() as usize, 1)?;
         Ok(())
     }
 
-    /// Counts the channels of each node in the next quantum.
+    /// Counts the channels of each end in the next quantum.
     pub fn counts<L: Ledger>(&mut self, world: &World, first: u64, steps: &mut Steps<L>)
         requires valid { IsValid world.now }
         requires spec { world.now.spec ≡ self.old.spec }
         requires prepared { IsPrepared self.old world.now }
-        requires first { first ≡ 128 * self.old.quanta }
+        requires first { first ≡ quantum_of self.old.spec * self.old.quanta }
         requires time { first ≤ 2 ^ 62 }
         ensures counted { IsCounted self.new world.now }
-        ensures stands { (tape : List a_world) → StandsFor self.old tape → StandsFor self.new tape }
+        ensures stands { (tape : List a_world) → StandsFor self.old tape ↔ StandsFor self.new tape }
         ensures spec { self.new.spec ≡ self.old.spec }
         ensures tie { self.new.tie ≡ self.old.tie }
         ensures quanta { self.new.quanta ≡ self.old.quanta }
@@ -126,13 +127,12 @@ impl Renderer {
         requires spec { world.now.spec ≡ self.old.spec }
         requires counted { IsCounted self.old world.now }
         ensures ok { OnOk result (IsGrown self.new world.now) }
-        ensures stands { (tape : List a_world) → StandsFor self.old tape → StandsFor self.new tape }
+        ensures stands { (tape : List a_world) → StandsFor self.old tape ↔ StandsFor self.new tape }
         ensures spec { self.new.spec ≡ self.old.spec }
         ensures tie { self.new.tie ≡ self.old.tie }
         ensures quanta { self.new.quanta ≡ self.old.quanta }
     {
-        self.blocks.resize(self.counts.len() * ROOM, 0)?;
-        Ok(())
+        fit_blocks(self.alloc, &mut self.blocks, world, self.counts.as_slice())
     }
 
     /// Renders the next quantum, which begins at frame `first`. It takes no memory.
@@ -140,37 +140,31 @@ impl Renderer {
         requires valid { IsValid world.now }
         requires spec { world.now.spec ≡ self.old.spec }
         requires grown { IsGrown self.old world.now }
-        requires first { first ≡ 128 * self.old.quanta }
+        requires first { first ≡ quantum_of self.old.spec * self.old.quanta }
         requires time { first ≤ 2 ^ 62 }
-        ensures stands { (tape : List a_world) → StandsFor self.old tape → IsRegular 128 (tape ++ world.now ∷ []) → StandsFor self.new (tape ++ world.now ∷ []) }
+        ensures stands { (tape : List a_world) → StandsFor self.old tape → IsRegular (quantum_of self.old.spec) (tape ++ world.now ∷ []) → StandsFor self.new (tape ++ world.now ∷ []) }
+        ensures shows { (tape : List a_world) → StandsFor self.old tape → IsRegular (quantum_of self.old.spec) (tape ++ world.now ∷ []) → Shows self.new (tape ++ world.now ∷ []) }
         ensures spec { self.new.spec ≡ self.old.spec }
         ensures tie { self.new.tie ≡ self.old.tie }
         ensures quanta { self.new.quanta ≡ self.old.quanta + 1 }
     {
-        render_quantum(
-            self.blocks.as_mut_slice(),
-            self.heard.as_mut_slice(),
-            self.sums.as_mut_slice(),
-            self.carried.as_mut_slice(),
-            self.levels.as_mut_slice(),
-            self.counts.as_slice(),
-            world,
-            self.plan.order(),
-            self.plan.muted(),
-            self.plan.sources(),
-            first,
-        );
+        let blocks = self.blocks.as_mut_slice();
+        let counts = self.counts.as_slice();
+        render_quantum(blocks, &mut self.bench, &self.plan, world, counts, first);
+        let blocks: &[Block] = &*blocks;
+        blocks[slot(reader(NodeId(0)))].copy_out(self.out.as_mut_slice());
         self.quanta += 1;
     }
 
-    /// The destination's block of the last pass: the 128 samples of a channel.
+    /// The destination's block of the last pass: the samples of a channel, one for each frame of a
+    /// quantum. Before the first pass it is silent.
     pub fn out(&self, channel: u32) -> &[Fix]
-        requires some { 0 < self.now.quanta }
-        requires channel { channel < self.now.spec.channels }
-        ensures length { length result.now ≡ 128 }
-        ensures values { (tape : List a_world) → StandsFor self.now tape → (m : ℕ) → m < 128 → slice_index_or result.now m (pos 0) ≡ sample 128 tape (128 * (length tape - 1) + m) channel }
+        requires { channel < self.now.spec.channels }
+        ensures length { length result.now ≡ quantum_of self.now.spec }
+        ensures values { (tape : List a_world) → Shows self.now tape → (m : ℕ) → m < quantum_of self.now.spec →
+            slice_index_or result.now m (pos 0) ≡ sample (quantum_of self.now.spec) tape (quantum_of self.now.spec * (length tape - 1) + m) channel }
     {
         let first = channel as usize * QUANTUM;
-        &self.blocks[first..first + QUANTUM]
+        &self.out[first..first + QUANTUM]
     }
 }

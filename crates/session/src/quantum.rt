@@ -4,7 +4,7 @@ ghost use Rattle.meaning.specs.declared.world.World.{World as a_world};
 ghost use Rattle.meaning.specs.World.{plain};
 ghost use Rattle.meaning.specs.Validity.{IsValid};
 ghost use Rattle.meaning.specs.Worlds.{IsRegular};
-ghost use Rattle.quantum_render.specs.Stands.{StandsFor};
+ghost use Rattle.quantum_render.specs.Stands.{StandsFor, Shows};
 ghost use Rattle.session.specs.Frames.{WritesBelow};
 ghost use Rattle.session.specs.Rows.{samples_of};
 ghost use Rattle.session.specs.Session.{quantum};
@@ -58,6 +58,7 @@ fn render_quantum(renderer: &mut Renderer, world: &World, first: u64) -> Result<
     requires first { first ≡ quantum * renderer.old.quanta }
     requires time { first ≤ 33554560 }
     ensures stands { (tape : List a_world) → StandsFor renderer.old tape → IsRegular quantum (tape ++ world.now ∷ []) → OnOk result (StandsFor renderer.new (tape ++ world.now ∷ [])) }
+    ensures shows { (tape : List a_world) → StandsFor renderer.old tape → IsRegular quantum (tape ++ world.now ∷ []) → OnOk result (Shows renderer.new (tape ++ world.now ∷ [])) }
     ensures quanta { OnOk result (renderer.new.quanta ≡ renderer.old.quanta + 1) }
     ensures spec { renderer.new.spec ≡ renderer.old.spec }
     ensures err { OnErr result (renderer.new.quanta ≡ renderer.old.quanta) }
@@ -80,6 +81,7 @@ fn render_counted<L: Ledger>(
     requires first { first ≡ quantum * renderer.old.quanta }
     requires time { first ≤ 33554560 }
     ensures stands { (tape : List a_world) → StandsFor renderer.old tape → IsRegular quantum (tape ++ world.now ∷ []) → OnOk result (StandsFor renderer.new (tape ++ world.now ∷ [])) }
+    ensures shows { (tape : List a_world) → StandsFor renderer.old tape → IsRegular quantum (tape ++ world.now ∷ []) → OnOk result (Shows renderer.new (tape ++ world.now ∷ [])) }
     ensures quanta { OnOk result (renderer.new.quanta ≡ renderer.old.quanta + 1) }
     ensures spec { renderer.new.spec ≡ renderer.old.spec }
     ensures err { OnErr result (renderer.new.quanta ≡ renderer.old.quanta) }
@@ -96,12 +98,11 @@ fn render_counted<L: Ledger>(
 // Copies the last quantum, which began at `first`, into samples that stand channel after channel.
 // What lies past the length is left out.
 fn copy_out(renderer: &Renderer, spec: ContextSpec, first: u64, samples: &mut [Fix])
-    requires some { 0 < renderer.now.quanta }
     requires context { spec ≡ renderer.now.spec }
     requires supported { IsSupported spec }
     requires first { first < spec.length }
     requires room { length samples.old ≡ spec.channels * spec.length }
-    ensures { (tape : List a_world) → StandsFor renderer.now tape → first + quantum ≡ quantum * length tape
+    ensures { (tape : List a_world) → Shows renderer.now tape → first + quantum ≡ quantum * length tape
         → WritesBelow samples.old samples.new spec tape first (first + quantum) spec.channels }
 {
     let count = QUANTUM.min(spec.length - first) as usize;

@@ -218,10 +218,7 @@ impl Session {
         } = self;
         let spec = control.spec();
         lines.push_reserved(Line::Complete(spec.length));
-        let rendered = renderer.is_some().then(|| Rendered {
-            spec,
-            samples: Samples::from(samples),
-        });
+        let rendered = rendered_if(renderer.is_some(), spec, samples);
         Outcome {
             lines,
             end: EndWord::Completed,
@@ -234,5 +231,19 @@ impl Session {
         ensures { result ≡ self.now.told.machine.state }
     {
         self.control.state()
+    }
+}
+
+// What a session with audio rendered.
+fn rendered_if(audio: bool, spec: ContextSpec, samples: Vec<Fix>) -> Option<Rendered>
+    ensures { result ≡ (if audio then Some (record { spec = spec; samples = samples.items }) else None) }
+{
+    if audio {
+        Some(Rendered {
+            spec,
+            samples: Samples::from(samples),
+        })
+    } else {
+        None
     }
 }

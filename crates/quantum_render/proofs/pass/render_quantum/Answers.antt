@@ -1,11 +1,56 @@
-use Rattle.std.proofs.Common.{arith}
-use Rattle.std.proofs.lemmas.List.{get_or_default}
-use Rattle.quantum_render.proofs.OutLaws.{out_is}
-use Rattle.quantum_render.proofs.Sources.{same_nodes}
+use Rattle.std.proofs.Common.{ℕ, ◌≡◌, ◌<◌, ◌≤◌, List, length, slice_index_or, sym, ◌∙◌, ap, subst}
+use Rattle.wa_base.specs.declared.graph_names.End.{End}
+use Rattle.law_base.specs.Members.{IsIn}
+use Rattle.conn_graph.specs.Ends.{ends}
+use Rattle.meaning.specs.World.{kind_of}
+use Rattle.meaning.proofs.Joined.{joined}
+use Rattle.quantum_render.specs.Blocks.{slot, IsSilent, Writes}
+use Rattle.quantum_render.specs.Fits.{AreFit}
+use Rattle.quantum_render.specs.Sites.{SiteView}
+use Rattle.quantum_render.specs.Renders.{Renders}
+use Rattle.quantum_render.proofs.Orders.{no_end}
+use Rattle.quantum_render.proofs.Passing.{still_fit, passing_begins, next, passing_goes_on, passing_ends, mute_there}
+use Rattle.quantum_render.proofs.Rendering.{site_here}
 use Rattle.quantum_render.proofs.pass.render_quantum.Goals as goal
 
-pub returns-clause-out : goal.returns-clause-out
-returns-clause-out c tape begins channel m few now =
-    out_is c.args.world.now c.requires.valid tape c.pass_along.new.blocks c.quiet_rest.new.blocks c.args.counts.now _ channel m
-    (get_or_default c.args.counts.now 0 0 1 (let a = same_nodes c.args.world.now c.requires.valid in let b = c.requires.valid.nodes.some in let d = c.requires.counted.nodes in omega arith))
-    (c.pass_along.ensures.values tape begins) c.quiet_rest.ensures.had c.quiet_rest.ensures.rest few now
+pub hush-requires : goal.hush-requires
+hush-requires c =
+    subst (λ (ms : List End). (i : ℕ) (d : End) → i < length ms → slot (slice_index_or ms i d) < length c.args.blocks.now) (sym c.muted.ensures)
+    (mute_there c.args.world.now c.requires.valid c.args.plan.now.order c.args.plan.now.muted c.args.plan.now.into c.requires.plan c.args.counts.now c.args.blocks.now c.requires.fit)
+
+pub loop-end-init : goal.loop-end-init
+loop-end-init c = record {
+  passing = passing_begins c.args.world.now (joined c.args.world.now c.requires.valid) c.args.plan.now.order c.args.plan.now.muted c.args.plan.now.into c.requires.plan
+      c.args.counts.now c.args.first c.hush.new.blocks (still_fit c.args.world.now c.args.counts.now c.args.blocks.now c.hush.new.blocks c.hush.ensures.lanes c.requires.fit)
+      (subst (λ (ms : List End). (i : ℕ) (d : End) → i < length ms → IsSilent c.hush.new.blocks (slice_index_or ms i d)) c.muted.ensures c.hush.ensures.silent);
+}
+
+pub site-site-requires-clause-there : goal.site-site-requires-clause-there
+site-site-requires-clause-there c =
+    subst (λ (order : List End). IsIn (slice_index_or order c.loop-end.end-index no_end) (ends c.args.world.now.graph.value)) (sym c.order-end-items.ensures)
+    (next c.args.world.now (joined c.args.world.now c.requires.valid) c.args.plan.now.order c.loop-end.end-index c.args.counts.now c.args.first c.loop-end.blocks c.loop-end.invariant.passing
+    (subst (λ (order : List End). c.loop-end.end-index < length order) c.order-end-items.ensures c.loop-end-test.true)).0
+
+pub render-requires : goal.render-requires
+render-requires c =
+    subst (λ (x : SiteView). AreFit x.world x.counts c.loop-end.blocks) (sym (site_here c.site-site.result c.args.world.now _ c.args.counts.now c.args.first c.site-site.ensures.world c.site-site.ensures.end c.site-site.ensures.counts c.site-site.ensures.first))
+    c.loop-end.invariant.passing.fit
+
+pub loop-end-preserved : goal.loop-end-preserved
+loop-end-preserved c =
+    let place = c.order-end-items.ensures in
+    let here = site_here c.site-site.result c.args.world.now (slice_index_or c.args.plan.now.order c.loop-end.end-index no_end) c.args.counts.now c.args.first
+    c.site-site.ensures.world (c.site-site.ensures.end ∙ ap (λ (order : List End). slice_index_or order c.loop-end.end-index no_end) place) c.site-site.ensures.counts c.site-site.ensures.first in
+    record {
+      passing = passing_goes_on c.args.world.now (joined c.args.world.now c.requires.valid) c.args.plan.now.order c.loop-end.end-index c.args.counts.now c.args.first c.loop-end.blocks c.loop-end.invariant.passing
+          (subst (λ (order : List End). c.loop-end.end-index < length order) place c.loop-end-test.true) c.site-site.result.into c.render.new.blocks
+          (subst (λ (x : SiteView). Writes c.loop-end.blocks c.render.new.blocks x.end) here c.render.ensures.writes)
+          (subst (λ (x : SiteView). Renders x c.loop-end.blocks c.render.new.blocks (kind_of x.world x.end.node.0)) here c.render.ensures.renders);
+    }
+
+pub returns : goal.returns
+returns c = record {
+  fit = c.loop-end.invariant.passing.fit;
+  values = passing_ends c.args.world.now c.args.plan.now.order c.loop-end.end-index c.args.counts.now c.args.first c.loop-end.blocks c.loop-end.invariant.passing
+      (subst (λ (order : List End). length order ≤ c.loop-end.end-index) c.order-end-items.ensures c.loop-end-test.false);
+}

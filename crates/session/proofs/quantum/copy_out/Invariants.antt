@@ -1,9 +1,9 @@
 use Rattle.std.proofs.Common.{◌≡◌, ◌+◌, ◌*◌, List, length}
 use Rattle.meaning.specs.declared.world.World.{World}
-use Rattle.quantum_render.specs.Stands.{StandsFor}
+use Rattle.quantum_render.specs.Stands.{Shows}
 use Rattle.session.specs.Frames.{WritesBelow}
 use Rattle.session.proofs.quantum.copy_out.Given as goal
 
 abbrev pub invariant-loop-channel : goal.invariant-loop-channel
 invariant-loop-channel l =
-    (tape : List World) → StandsFor l.renderer tape → l.first + 128 ≡ 128 * length tape → WritesBelow l.initial.samples l.samples l.spec tape l.first (l.first + 128) l.channel
+    (tape : List World) → Shows l.renderer tape → l.first + 128 ≡ 128 * length tape → WritesBelow l.initial.samples l.samples l.spec tape l.first (l.first + 128) l.channel

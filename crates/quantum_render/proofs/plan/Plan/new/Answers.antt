@@ -12,7 +12,7 @@ unfolding ends
 empty = record {
   legal = λ d m u. m;
   all = λ d m u. m;
-  only = λ d m. m;
+  only = λ d m. absurd m;
   nodes = refl;
   each = λ n l. absurd (omega arith);
 }

@@ -18,7 +18,7 @@ unfolding muted_ends
 plan_is g order mute sources legal marks nodes each = record {
   legal = legal;
   all = λ d in_d m. subst (IsIn d) (sym marks) (IsIn-filter_from (muted g) (ends g) d in_d m);
-  only = λ d in_d. (IsIn-filter (muted g) (ends g) d (subst (IsIn d) marks in_d)).0;
+  only = λ d in_d. IsIn-filter (muted g) (ends g) d (subst (IsIn d) marks in_d);
   nodes = nodes;
   each = λ n l. each n (subst (λ k. n < k) nodes l);
 }
@@ -27,7 +27,7 @@ pub returns : goal.returns
 returns g c =
     let nodes = c.in_ok-into.ensures.length ∙ c.len.ensures.number in
     record {
-      plan = plan_is c.args.graph.now.value _ _ _ c.in_ok-ordered.ensures.legal c.in_ok-marks.ensures.muted nodes
+      plan = plan_is c.args.world.now.graph.value _ _ _ c.in_ok-ordered.ensures.legal c.in_ok-marks.ensures.muted nodes
           (λ n l. c.in_ok-into.ensures.each n (subst (λ k. n < k) (sym c.len.ensures.number) l) ∙ ap (λ es. filter (enters n) es) (c.as_slice.ensures.value ∙ c.in_ok-all.ensures));
       order = c.in_ok-ordered.ensures.tie;
       tie = refl;
@@ -37,7 +37,7 @@ pub invariant_of-result : goal.invariant_of-result
 invariant_of-result g c =
     let nodes = c.in_ok-into.ensures.length ∙ c.len.ensures.number in
     rw c.in_ok-kept.ensures (
-      plan_is c.args.graph.now.value _ _ _ c.in_ok-ordered.ensures.legal c.in_ok-marks.ensures.muted nodes
+      plan_is c.args.world.now.graph.value _ _ _ c.in_ok-ordered.ensures.legal c.in_ok-marks.ensures.muted nodes
           (λ n l. c.in_ok-into.ensures.each n (subst (λ k. n < k) (sym c.len.ensures.number) l) ∙ ap (λ es. filter (enters n) es) (c.as_slice.ensures.value ∙ c.in_ok-all.ensures)),
       c.in_ok-ordered.ensures.tie,
     )

@@ -1,0 +1,58 @@
+-- What is written where one end's block is written.
+use Rattle.std.proofs.Common.{ℕ, ℤ, ◌≡◌, ◌+◌, ◌*◌, ◌<◌, ◌≤◌, length, List, slice_index_or, slice_set, true, sym, ◌∙◌, ap, arith, subst}
+use Rattle.std.proofs.lemmas.List.{get_or_default}
+use Rattle.wa_base.specs.declared.graph_names.End.{End}
+use Rattle.law_base.specs.Members.{IsIn}
+use Rattle.node_table.specs.Kinds.{outputs, is_mono}
+use Rattle.conn_graph.specs.declared.edges.Edge.{Edge}
+use Rattle.conn_graph.specs.Ends.{ends}
+use Rattle.meaning.specs.declared.world.World.{World}
+use Rattle.meaning.specs.World.{kind_of}
+use Rattle.quantum_render.specs.Blocks.{BlockView, no_block, at, room_of, slot, block_of, counts_in, Writes}
+use Rattle.quantum_render.specs.Fits.{AreFit}
+use Rattle.quantum_render.specs.Sites.{SiteView, IsSite}
+use Rattle.quantum_render.proofs.Slots.{slot_low, slot-half, lane-only}
+use Rattle.quantum_render.proofs.Sources.{end_low, site_slot}
+use Rattle.quantum_render.proofs.Connections.{writes_one, written}
+
+-- a site whose fields are known but for its connections
+pub site_here : (s : SiteView) (w : World) (e : End) (counts : List ℕ) (first : ℕ) → s.world ≡ w → s.end ≡ e → s.counts ≡ counts → s.first ≡ first
+    → s ≡ (let x : SiteView = record { world = w; end = e; into = s.into; counts = counts; first = first } in x)
+site_here s w e counts first world end channels begins = λ i. record { world = world i; end = end i; into = s.into; counts = channels i; first = begins i }
+
+-- the fields of a site are those that contracts see
+pub site_is : (s : SiteView) (w : World) (e : End) (edges : List Edge) (counts : List ℕ) (first : ℕ) → IsSite w e edges counts first
+    → (let x : SiteView = record { world = w; end = e; into = edges; counts = counts; first = first } in x) ≡ s → IsSite s.world s.end s.into s.counts s.first
+site_is s w e edges counts first site same = subst (λ (x : SiteView). IsSite x.world x.end x.into x.counts x.first) same site
+
+module _ (s : SiteView) (site : IsSite s.world s.end s.into s.counts s.first) (old : List BlockView) (fit : AreFit s.world s.counts old) (k : ℕ) (here : k ≡ slot s.end) where
+  pub slot_within : slot s.end < length old
+  slot_within = subst (λ n. slot s.end < n) (sym fit.places) (slot_low s.end (length s.world.nodes) (end_low s.world site.valid s.end site.there))
+
+  pub own_within : k < length old
+  own_within = subst (λ j. j < length old) (sym here) slot_within
+
+  module _ (single : outputs (kind_of s.world s.end.node.0) ≡ 1) where
+    own_lanes : (block_of old s.end).lanes ≡ counts_in s.counts s.end
+    own_lanes = fit.lanes s.end site.there ∙ ap (λ n. n * counts_in s.counts s.end) single ∙ omega arith
+
+    -- of one output there is room for the end's channels
+    pub own_room : (d : BlockView) → counts_in s.counts s.end * 128 ≤ room_of (slice_index_or old k d)
+    own_room d =
+        let same : slice_index_or old k d ≡ block_of old s.end = get_or_default old k d no_block own_within ∙ ap (λ j. slice_index_or old j no_block) here in
+        let lanes : (slice_index_or old k d).lanes ≡ counts_in s.counts s.end = ap (λ (x : BlockView). x.lanes) same ∙ own_lanes in
+        omega arith
+
+    pub mono_own : is_mono (kind_of s.world s.end.node.0) ≡ true → counts_in s.counts s.end ≡ 1
+    mono_own is = site.range.mono (slot s.end) (site_slot s.world s.end s.into s.counts s.first site) (subst (λ n. is_mono (kind_of s.world n) ≡ true) (sym (slot-half s.end)) is)
+
+    pub writes_own : (b : BlockView) → b.lanes ≡ counts_in s.counts s.end → Writes old (slice_set old k b) s.end
+    writes_own b lanes = writes_one old s.end k b here (lanes ∙ sym own_lanes)
+
+    -- and its lanes are the channels
+    pub renders_own : (b : BlockView) (value : ℕ → ℕ → ℤ) → ((c m : ℕ) → c < counts_in s.counts s.end → m < 128 → at b c m ≡ value m c)
+        → (o c m : ℕ) → o < 1 → c < counts_in s.counts s.end → m < 128 → at (block_of (slice_set old k b) s.end) (o * counts_in s.counts s.end + c) m ≡ value m c
+    renders_own b value each o c m output low now =
+        ap (λ (x : BlockView). at x (o * counts_in s.counts s.end + c) m) (written old s.end k b here slot_within)
+        ∙ ap (λ lane. at b lane m) (lane-only o (counts_in s.counts s.end) c output)
+        ∙ each c m low now

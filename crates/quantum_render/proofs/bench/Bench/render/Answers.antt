@@ -1,0 +1,58 @@
+use Rattle.std.proofs.Common.{◌≡◌, ◌<◌, length, Some, sym, ◌∙◌, subst}
+use Rattle.node_table.specs.Nodes.{kind_at}
+use Rattle.node_table.specs.declared.kinds.Kind.{Kind}
+use Rattle.node_table.specs.declared.kinds.Kind.TheVariants.{Destination, Constant, Gain}
+use Rattle.meaning.specs.World.{kind_of}
+use Rattle.quantum_render.specs.Sites.{SiteView, IsSite}
+use Rattle.quantum_render.specs.Renders.{Renders}
+use Rattle.quantum_render.proofs.InputLaws.{kind_is}
+use Rattle.quantum_render.proofs.Sources.{end_low}
+use Rattle.quantum_render.proofs.Rendering.{site_is}
+use Rattle.quantum_render.proofs.bench.Bench.render.Goals as goal
+
+-- the kind of a site's node is the one that the table gives
+kind_of_site : (s : SiteView) → IsSite s.world s.end s.into s.counts s.first → (kind : Kind) → kind_at s.world.nodes s.end.node.0 ≡ Some kind → kind_of s.world s.end.node.0 ≡ kind
+kind_of_site s site kind is = kind_is s.world s.end.node.0 kind (end_low s.world site.valid s.end site.there) is
+
+pub kind-requires : goal.kind-requires
+kind-requires c = end_low c.site.inside.world.now c.site.invariant.valid c.site.inside.end c.site.invariant.there
+
+pub render_destination-requires-clause-kind : goal.render_destination-requires-clause-kind
+render_destination-requires-clause-kind c =
+    kind_of_site c.args.site.now (site_is c.args.site.now _ _ _ _ _ c.site.invariant c.site.view_is) c.kind.result.now
+    (subst (λ (x : SiteView). kind_at x.world.nodes x.end.node.0 ≡ Some c.kind.result.now) c.site.view_is c.kind.ensures.value) ∙ c.in-Destination.is
+
+pub render_constant-requires-clause-kind : goal.render_constant-requires-clause-kind
+render_constant-requires-clause-kind c = (
+  c.in-Constant.offset,
+  kind_of_site c.args.site.now (site_is c.args.site.now _ _ _ _ _ c.site.invariant c.site.view_is) c.kind.result.now
+      (subst (λ (x : SiteView). kind_at x.world.nodes x.end.node.0 ≡ Some c.kind.result.now) c.site.view_is c.kind.ensures.value) ∙ c.in-Constant.is,
+)
+
+pub render_gain-requires-clause-kind : goal.render_gain-requires-clause-kind
+render_gain-requires-clause-kind c = (
+  c.in-Gain.gain,
+  kind_of_site c.args.site.now (site_is c.args.site.now _ _ _ _ _ c.site.invariant c.site.view_is) c.kind.result.now
+      (subst (λ (x : SiteView). kind_at x.world.nodes x.end.node.0 ≡ Some c.kind.result.now) c.site.view_is c.kind.ensures.value) ∙ c.in-Gain.is,
+)
+
+pub returns-in-Destination-clause-renders : goal.returns-in-Destination-clause-renders
+returns-in-Destination-clause-renders c =
+    subst (Renders c.args.site.now c.args.blocks.now c.render_destination.new.blocks)
+    (sym (kind_of_site c.args.site.now (site_is c.args.site.now _ _ _ _ _ c.site.invariant c.site.view_is) c.kind.result.now
+    (subst (λ (x : SiteView). kind_at x.world.nodes x.end.node.0 ≡ Some c.kind.result.now) c.site.view_is c.kind.ensures.value) ∙ c.in-Destination.is))
+    c.render_destination.ensures.renders
+
+pub returns-in-Constant-clause-renders : goal.returns-in-Constant-clause-renders
+returns-in-Constant-clause-renders c =
+    subst (Renders c.args.site.now c.args.blocks.now c.render_constant.new.blocks)
+    (sym (kind_of_site c.args.site.now (site_is c.args.site.now _ _ _ _ _ c.site.invariant c.site.view_is) c.kind.result.now
+    (subst (λ (x : SiteView). kind_at x.world.nodes x.end.node.0 ≡ Some c.kind.result.now) c.site.view_is c.kind.ensures.value) ∙ c.in-Constant.is))
+    (c.render_constant.ensures.renders c.in-Constant.offset)
+
+pub returns-in-Gain-clause-renders : goal.returns-in-Gain-clause-renders
+returns-in-Gain-clause-renders c =
+    subst (Renders c.args.site.now c.args.blocks.now c.render_gain.new.blocks)
+    (sym (kind_of_site c.args.site.now (site_is c.args.site.now _ _ _ _ _ c.site.invariant c.site.view_is) c.kind.result.now
+    (subst (λ (x : SiteView). kind_at x.world.nodes x.end.node.0 ≡ Some c.kind.result.now) c.site.view_is c.kind.ensures.value) ∙ c.in-Gain.is))
+    (c.render_gain.ensures.renders c.in-Gain.gain)

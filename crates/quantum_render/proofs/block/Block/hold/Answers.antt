@@ -1,0 +1,13 @@
+use Rattle.std.proofs.Common.{rules, ◌∙◌, arith, FitsSigned}
+use Rattle.std.specs.Int.{w32}
+use Rattle.std.proofs.lemmas.Int.{to_z-of_z}
+use Rattle.quantum_render.proofs.Holding.{steady_is}
+use Rattle.quantum_render.proofs.block.Block.hold.Goals as goal
+
+pub returns-clause-values : goal.returns-clause-values
+returns-clause-values c m now =
+    let room = c.self.invariant.room in
+    let wide = rw (← c.self.view_is) at c.requires in
+    let long = c.fill.ensures.length in
+    let fits : FitsSigned w32 c.args.value = search rules in
+    steady_is 1 _ c.fill.new.block _ _ 0 m (omega arith) now (omega arith) (omega arith) ∙ c.fill.ensures.values 0 (omega arith) ∙ to_z-of_z _ _ fits

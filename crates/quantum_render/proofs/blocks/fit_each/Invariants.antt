@@ -1,0 +1,12 @@
+use Rattle.std.proofs.Common.{ℕ, ◌≡◌, ◌<◌, ◌*◌, ◌/◌, length, slice_index_or}
+use Rattle.node_table.specs.Kinds.{outputs}
+use Rattle.meaning.specs.World.{kind_of}
+use Rattle.quantum_render.specs.Blocks.{no_block}
+use Rattle.quantum_render.proofs.blocks.fit_each.Given as goal
+
+-- the blocks so far have their lanes
+abbrev pub invariant-loop-i : goal.invariant-loop-i
+invariant-loop-i l = record {
+  length : length l.blocks ≡ length l.counts;
+  each : (k : ℕ) → k < l.i → (slice_index_or l.blocks k no_block).lanes ≡ outputs (kind_of l.world (k / 2)) * slice_index_or l.counts k 1;
+}

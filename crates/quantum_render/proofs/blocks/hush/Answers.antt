@@ -1,0 +1,11 @@
+use Rattle.std.proofs.Common.{rules, ◌∙◌}
+use Rattle.quantum_render.proofs.Orders.{no_end}
+use Rattle.quantum_render.proofs.PassLaws.{silent_more}
+use Rattle.quantum_render.proofs.blocks.hush.Goals as goal
+
+pub loop-end-preserved : goal.loop-end-preserved
+loop-end-preserved c = record {
+  length = search rules;
+  lanes = c.hush_end.ensures.writes.lanes ∙ c.loop-end.invariant.lanes;
+  silent = silent_more c.loop-end.blocks c.hush_end.new.blocks c.args.muted.now c.loop-end.end-index no_end c.hush_end.ensures.writes c.hush_end.ensures.silent c.loop-end-test.true c.loop-end.invariant.silent;
+}

@@ -1,0 +1,39 @@
+use Rattle.std.proofs.Common.{ℕ, false, ◌≡◌, ◌<◌, length, Some, inl, inr, sym, ◌∙◌, ap, arith, subst}
+use Rattle.wa_base.specs.declared.graph_names.End.{End}
+use Rattle.node_table.specs.Kinds.{is_mono}
+use Rattle.node_table.specs.declared.kinds.Kind.{Kind}
+use Rattle.meaning.specs.World.{plain, kind_of}
+use Rattle.meaning.specs.Counts.{count_by_kind}
+use Rattle.quantum_render.specs.Blocks.{counts_in}
+use Rattle.quantum_render.proofs.InputLaws.{kind_is}
+use Rattle.quantum_render.proofs.Sources.{end_low}
+use Rattle.quantum_render.proofs.counting.count_of.Goals as goal
+
+pub kind-requires : goal.kind-requires
+kind-requires c = end_low c.args.world.now c.requires.valid c.args.end c.requires.there
+
+pub input_count-requires-clause-node : goal.input_count-requires-clause-node
+input_count-requires-clause-node c = end_low c.args.world.now c.requires.valid c.args.end c.requires.there
+
+pub returns-in-Constant-clause-value : goal.returns-in-Constant-clause-value
+returns-in-Constant-clause-value c j earlier =
+    ap (λ (k : Kind). count_by_kind 128 (plain c.args.world.now) j earlier (counts_in c.args.counts.now) k c.args.end)
+    (sym (kind_is c.args.world.now c.args.end.node.0 c.kind.result.now (end_low c.args.world.now c.requires.valid c.args.end c.requires.there) c.kind.ensures.value ∙ c.in-Constant.is))
+
+pub returns-in-Destination-clause-value : goal.returns-in-Destination-clause-value
+returns-in-Destination-clause-value c j earlier =
+    let table = kind_is c.args.world.now c.args.end.node.0 c.kind.result.now (end_low c.args.world.now c.requires.valid c.args.end c.requires.there) c.kind.ensures.value in
+    let counted : Kind → ℕ = λ k. count_by_kind 128 (plain c.args.world.now) j earlier (counts_in c.args.counts.now) k c.args.end in
+    c.input_count.ensures.value ∙ elim c.in-Destination.is [
+      | inl is ↦ ap counted (sym (table ∙ is))
+      | inr is ↦ ap counted (sym (table ∙ is.1))
+    ]
+
+-- a kind that counts its input is not always mono
+pub returns-in-Destination-clause-mono : goal.returns-in-Destination-clause-mono
+returns-in-Destination-clause-mono c mono =
+    let table = kind_is c.args.world.now c.args.end.node.0 c.kind.result.now (end_low c.args.world.now c.requires.valid c.args.end c.requires.there) c.kind.ensures.value in
+    elim c.in-Destination.is [
+      | inl is ↦ let none : is_mono (kind_of c.args.world.now c.args.end.node.0) ≡ false = ap is_mono (table ∙ is) in absurd cc
+      | inr is ↦ let none : is_mono (kind_of c.args.world.now c.args.end.node.0) ≡ false = ap is_mono (table ∙ is.1) in absurd cc
+    ]

@@ -1,7 +1,0 @@
-use Rattle.std.proofs.Common.{pos, slice_index_or}
-use Rattle.wa_base.specs.Numbers.{sat}
-use Rattle.quantum_render.proofs.Made.{IsMade}
-use Rattle.quantum_render.proofs.kinds.saturate.Given as goal
-
-abbrev pub invariant-loop-k : goal.invariant-loop-k
-invariant-loop-k l = IsMade (λ k. sat (slice_index_or l.sums k (pos 0))) l.k l.block

@@ -1,0 +1,18 @@
+use Rattle.std.proofs.Common.{ℕ, ◌≡◌, ◌<◌, ◌≤◌, ◌+ℤ◌, map, drop, filter}
+use Rattle.channel_mix.specs.Mixing.{total}
+use Rattle.meaning.specs.declared.world.World.{World}
+use Rattle.meaning.specs.Values.{part}
+use Rattle.quantum_render.specs.Blocks.{frame_of}
+use Rattle.quantum_render.specs.Connections.{leads_to}
+use Rattle.quantum_render.specs.Sums.{sum_at}
+use Rattle.quantum_render.proofs.sums.Sums.gather.Given as goal
+
+-- what the sums have, and what is left to be added, are the whole
+abbrev pub invariant-loop-edge : goal.invariant-loop-edge
+invariant-loop-edge l = record {
+  count : l.self.count ≡ l.inlet.count;
+  added : l.self.added ≤ l.edge-index;
+  sums : (w : World) (c m : ℕ) → c < l.inlet.count → m < 128 →
+      sum_at l.self c m +ℤ total (map (part (frame_of w l.blocks l.site.counts m) l.inlet.interp l.inlet.count c) (filter (leads_to l.inlet.target) (drop l.edge-index l.edge-items)))
+      ≡ total (map (part (frame_of w l.blocks l.site.counts m) l.inlet.interp l.inlet.count c) (filter (leads_to l.inlet.target) l.edge-items));
+}

@@ -1,4 +1,0 @@
-use Rattle.quantum_render.proofs.tests.destination_that_hears_nothing_is_silent.Given as goal
-
-abbrev pub ghosts-loudest : goal.ghosts-loudest
-ghosts-loudest g a = record { name = a.blank.name; parts = a.blank.parts }

@@ -1,0 +1,42 @@
+-- An end in its world, at a quantum.
+use Rattle.std.specs.Prelude.{ℕ, ◌≡◌, ◌≤◌, ◌<◌, ◌^◌, ◌*◌, ◌/◌, List, [], ◌∷◌, length, slice_index_or, true}
+use Rattle.wa_base.specs.declared.graph_names.End.{End}
+use Rattle.law_base.specs.Members.{IsIn}
+use Rattle.conn_graph.specs.declared.edges.Edge.{Edge}
+use Rattle.conn_graph.specs.Ends.{reader_of, ends}
+use Rattle.meaning.specs.declared.world.World.{World}
+use Rattle.meaning.specs.Validity.{IsValid}
+use Rattle.quantum_render.specs.declared.sums.Inlet.{Inlet}
+use Rattle.quantum_render.specs.Blocks.{counts_in}
+use Rattle.quantum_render.specs.Connections.{into as leads_into, leads_to}
+use Rattle.quantum_render.specs.Fits.{AreInRange}
+
+-- what contracts see of a site
+pub record SiteView : Type 0 where
+  pub world : World
+  pub end : End
+  -- the connections that lead to the end's node
+  pub into : List Edge
+  -- the channels of each end
+  pub counts : List ℕ
+  -- the first frame of the quantum
+  pub first : ℕ
+
+-- a quantum begins at a multiple of its frames
+pub record IsBegun (begin : ℕ) : Type 0 where
+  pub whole : 128 * (begin / 128) ≡ begin
+  pub time : begin ≤ 2 ^ 62
+
+-- what holds of every site
+pub record IsSite (w : World) (e : End) (edges : List Edge) (counts : List ℕ) (begin : ℕ) : Type 0 where
+  pub valid : IsValid w
+  pub there : IsIn e (ends w.graph.value)
+  pub into : edges ≡ leads_into w.graph.value e.node.0
+  pub range : AreInRange w counts
+  pub begun : IsBegun begin
+
+-- A connection is the only one to a node, leads to the inlet and has its number of channels.
+pub record IsLone (s : SiteView) (inlet : Inlet) (edge : Edge) : Type 0 where
+  pub only : leads_into s.world.graph.value s.end.node.0 ≡ edge ∷ []
+  pub leads : leads_to inlet.target edge ≡ true
+  pub count : counts_in s.counts (reader_of edge.from.0) ≡ inlet.count

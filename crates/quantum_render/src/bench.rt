@@ -1,0 +1,118 @@
+ghost use Rattle.std.specs.Prelude.{[], ◌∷◌, true, ◌≡◌, ◌≤◌, ◌<◌, ◌+◌, ◌*◌, ◌^◌, ◌+ℤ◌, ℕ, pos, length, slice_index_or, IfSome};
+ghost use Rattle.wa_base.specs.Numbers.{sat as saturated};
+ghost use Rattle.meaning.specs.World.{plain, param_id};
+ghost use Rattle.meaning.specs.Counts.{input_channels};
+ghost use Rattle.meaning.specs.Values.{Frame as a_frame, input_value, computed_value};
+ghost use Rattle.quantum_render.specs.Blocks.{at, counts_in};
+ghost use Rattle.quantum_render.specs.Fits.{AreFit};
+ghost use Rattle.quantum_render.specs.Sites.{IsLone};
+ghost use Rattle.quantum_render.specs.Renders.{past_of, here_of};
+
+use crate::block::Block;
+use crate::levels::{automation, is_reached};
+use crate::site::{Site, reader, slot};
+use crate::sums::{CHANNELS, Inlet, Sums};
+use conn_graph::{Edge, Target};
+use std::alloc::Global;
+use std::marker::Model;
+use wa_base::{Interp, NoMemory, ParamId, ParamName, Rate};
+
+// What is at hand while an end is rendered, one end after another: what its input carries, the
+// levels of its parameter, and the sums that both are made of.
+#[derive(Drop)]
+pub(crate) struct Bench {
+    pub heard: Block,
+    pub levels: Block,
+    sums: Sums,
+}
+
+impl Model for Bench {
+    ghost use Rattle.quantum_render.specs.Benches.{BenchView, IsBench};
+
+    ghost Value = { BenchView };
+
+    ghost view = { λ b. record { heard = b.heard; levels = b.levels } };
+
+    ghost invariant = { λ b. IsBench (record { heard = b.heard; levels = b.levels }) };
+}
+
+impl Bench {
+    pub(crate) fn new(alloc: Global) -> Result<Bench, NoMemory> {
+        Ok(Bench {
+            heard: Block::new(alloc, CHANNELS)?,
+            levels: Block::new(alloc, 1)?,
+            sums: Sums::new(alloc)?,
+        })
+    }
+
+    // Hears what an input carries, mixed to so many channels.
+    pub(crate) fn take_input(&mut self, blocks: &[Block], site: &Site, input: u32, channels: usize)
+        requires low { 1 ≤ channels }
+        requires high { channels ≤ 32 }
+        requires fit { AreFit site.now.world site.now.counts blocks.now }
+        ensures lanes { self.new.heard.lanes ≡ channels }
+        ensures input { channels ≡ input_channels (plain site.now.world) (counts_in site.now.counts) site.now.end.node.0 input →
+            (c m : ℕ) → c < channels → m < 128 → at self.new.heard c m ≡ input_value (here_of site.now blocks.now m) site.now.end.node.0 input c }
+    {
+        let node = site.end.node;
+        let inlet = Inlet {
+            target: Target::Input { node, input },
+            count: channels,
+            interp: site.world.nodes.attrs(node).interp,
+        };
+        if let Some(edge) = lone_connection(site, inlet) {
+            let source = &blocks[slot(reader(edge.from))];
+            self.heard
+                .copy_output(source, edge.output as usize, channels);
+            return;
+        }
+        self.sums.gather(blocks, site, inlet);
+        self.heard.saturate(&self.sums);
+    }
+
+    // Takes the computed values of a parameter of the end's node.
+    pub(crate) fn take_levels(&mut self, blocks: &[Block], site: &Site, name: ParamName)
+        requires { AreFit site.now.world site.now.counts blocks.now }
+        ensures heard { self.new.heard ≡ self.old.heard }
+        ensures levels { (before : ℕ → a_frame) (m : ℕ) → m < 128 →
+            at self.new.levels 0 m ≡ computed_value 128 (site.now.first + m) (past_of site.now blocks.now before) (here_of site.now blocks.now m) (param_id site.now.end.node.0 name) }
+    {
+        let id = ParamId {
+            node: site.end.node,
+            name,
+        };
+        let (value, rate) = automation(site.world, id, site.near);
+        let target = Target::Param(id);
+        if !is_reached(site.into, target) {
+            self.levels.hold(value);
+            return;
+        }
+        let inlet = Inlet {
+            target,
+            count: 1,
+            interp: Interp::Speakers,
+        };
+        self.sums.gather(blocks, site, inlet);
+        self.levels.follow(value, &self.sums);
+        match rate {
+            Rate::A => {}
+            Rate::K => self.levels.hold_first(),
+        }
+    }
+}
+
+// The connection to a site's node, where there is one alone, it leads to the inlet, and it has the
+// inlet's number of channels: then the inlet carries what the connection does.
+fn lone_connection(site: &Site, inlet: Inlet) -> Option<Edge>
+    ensures { IfSome result (λ edge. IsLone site.now inlet edge) }
+{
+    let [edge] = site.into else {
+        return None;
+    };
+    let channels = site.counts[slot(reader(edge.from))] as usize;
+    if inlet.target.is_same(edge.to) && channels == inlet.count {
+        Some(*edge)
+    } else {
+        None
+    }
+}

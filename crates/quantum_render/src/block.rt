@@ -1,0 +1,341 @@
+ghost use Rattle.std.specs.Prelude.{◌≡◌, ◌≤◌, ◌<◌, ◌*◌, ◌+◌, ◌^◌, ◌+ℤ◌, ℕ, pos, Some, length, slice_index_or, OnOk, IfOk, FitsSigned, if◌then◌else◌};
+ghost use Rattle.std.specs.Int.{w32};
+ghost use Rattle.wa_base.specs.Numbers.{sat as saturated, scale as scaled};
+ghost use Rattle.sched_source.specs.Schedule.{is_between};
+ghost use Rattle.channel_mix.specs.Blocks.{sample};
+ghost use Rattle.quantum_render.specs.Blocks.{at, shown, carried, room_of, lanes_of};
+ghost use Rattle.quantum_render.specs.Sums.{sum_at};
+ghost use Rattle.quantum_render.specs.Held.{IsHeld, IsCarried};
+
+use crate::held::Held;
+use crate::kernels::{
+    copy_values, fill, is_silent, is_throughout, level_of, move_on, saturate, scale_all,
+    scale_channels, scale_steady, silence, sound, spread,
+};
+use crate::sums::Sums;
+use std::alloc::Global;
+use std::marker::Model;
+use wa_base::{Fix, NoMemory};
+
+// The frames of a render quantum.
+pub(crate) const QUANTUM: usize = 128;
+
+// The values of a quantum of 128 frames, on each of up to 32 lanes: one for each channel of each
+// output of an end. Contracts read a lane at frame m as `at`.
+#[derive(Drop)]
+pub(crate) struct Block {
+    lanes: usize,
+    // Whether each lane has one value, which it has at all frames.
+    steady: bool,
+    values: Vec<Fix>,
+}
+
+impl Model for Block {
+    ghost use Rattle.std.specs.Prelude.{◌*◌, ◌-◌, vec_len};
+    ghost use Rattle.quantum_render.specs.Blocks.{BlockView, IsBlock, all_values};
+
+    ghost Value = { BlockView };
+
+    ghost view = { λ b. record { lanes = b.lanes; spare = vec_len b.values - b.lanes * 128; values = all_values b.steady b.lanes b.values.items } };
+
+    ghost invariant = { λ b. IsBlock b.lanes (vec_len b.values) };
+}
+
+impl Block {
+    // No lane, and no room.
+    pub(crate) fn empty(alloc: Global) -> Block {
+        Block {
+            lanes: 0,
+            steady: true,
+            values: Vec::new(alloc),
+        }
+    }
+
+    // One silent lane, with room for so many.
+    pub(crate) fn new(alloc: Global, room: usize) -> Result<Block, NoMemory>
+        requires low { 1 ≤ room }
+        requires high { room ≤ 32 }
+        ensures lanes { IfOk result (λ block. block.lanes ≡ 1) }
+        ensures room { IfOk result (λ block. room_of block ≡ room * 128) }
+    {
+        Ok(Block {
+            lanes: 1,
+            steady: true,
+            values: vec![in alloc; 0; room * QUANTUM]?,
+        })
+    }
+
+    // Takes the memory for so many lanes, and has them. Their values may be any.
+    pub(crate) fn fit(&mut self, lanes: usize) -> Result<(), NoMemory>
+        requires { lanes ≤ 32 }
+        ensures { OnOk result (self.new.lanes ≡ lanes) }
+    {
+        if self.values.len() < lanes * QUANTUM {
+            self.values.resize(lanes * QUANTUM, 0)?;
+        }
+        self.lanes = lanes;
+        Ok(())
+    }
+
+    // The number of lanes.
+    pub(crate) fn lanes(&self) -> usize
+        ensures lanes { result ≡ self.now.lanes }
+        ensures high { result ≤ 32 }
+    {
+        self.lanes
+    }
+
+    // All values.
+    pub(crate) fn held(&self) -> Held<'_>
+        ensures { IsHeld self.now result }
+    {
+        if self.steady {
+            Held::Steady(&self.values[0..self.lanes])
+        } else {
+            Held::Moving(&self.values[0..self.lanes * QUANTUM])
+        }
+    }
+
+    // All values of one output, where each has so many channels.
+    pub(crate) fn output(&self, output: usize, channels: usize) -> Held<'_>
+        requires { output * channels + channels ≤ self.now.lanes }
+        ensures { IsCarried (carried self.now channels output) channels result }
+    {
+        let values = self.values.as_slice();
+        let first = output * channels;
+        let end = first + channels;
+        if self.steady {
+            Held::Steady(&values[first..end])
+        } else {
+            Held::Moving(&values[first * QUANTUM..end * QUANTUM])
+        }
+    }
+
+    // Writes the lanes into room for 32, with silence for those that are not there.
+    pub(crate) fn copy_out(&self, out: &mut [Fix])
+        requires { length out.old ≡ 4096 }
+        ensures length { length out.new ≡ 4096 }
+        ensures values { (lane m : ℕ) → lane < 32 → m < 128 → sample 128 out.new lane m ≡ shown self.now m lane }
+    {
+        let filled = self.lanes() * QUANTUM;
+        match self.held() {
+            Held::Steady(held) => spread(&mut out[0..filled], held),
+            Held::Moving(values) => copy_values(&mut out[0..filled], values),
+        }
+        silence(out, filled, out.len());
+    }
+
+    // Silences the lanes.
+    pub(crate) fn silence(&mut self)
+        ensures lanes { self.new.lanes ≡ self.old.lanes }
+        ensures values { (lane m : ℕ) → lane < self.old.lanes → m < 128 → at self.new lane m ≡ pos 0 }
+    {
+        self.steady = true;
+        fill(&mut self.values[0..self.lanes], 0);
+    }
+
+    // Becomes one lane with the same value at all frames.
+    pub(crate) fn hold(&mut self, value: Fix)
+        requires { 128 ≤ room_of self.old }
+        ensures lanes { self.new.lanes ≡ 1 }
+        ensures room { room_of self.new ≡ room_of self.old }
+        ensures values { (m : ℕ) → m < 128 → at self.new 0 m ≡ value }
+    {
+        self.lanes = 1;
+        self.steady = true;
+        fill(&mut self.values[0..1], value);
+    }
+
+    // Becomes one lane: at each frame the sum there, added to a value.
+    pub(crate) fn follow(&mut self, value: Fix, sums: &Sums)
+        requires room { 128 ≤ room_of self.old }
+        requires mono { sums.now.count ≡ 1 }
+        ensures lanes { self.new.lanes ≡ 1 }
+        ensures room { room_of self.new ≡ room_of self.old }
+        ensures values { (m : ℕ) → m < 128 → at self.new 0 m ≡ saturated (value +ℤ saturated (sum_at sums.now 0 m)) }
+    {
+        match sums.steady() {
+            Some(held) => self.hold(level_of(value, held[0])),
+            None => self.follow_moving(value, sums),
+        }
+    }
+
+    fn follow_moving(&mut self, value: Fix, sums: &Sums)
+        requires room { 128 ≤ room_of self.old }
+        requires mono { sums.now.count ≡ 1 }
+        ensures lanes { self.new.lanes ≡ 1 }
+        ensures room { room_of self.new ≡ room_of self.old }
+        ensures values { (m : ℕ) → m < 128 → at self.new 0 m ≡ saturated (value +ℤ saturated (sum_at sums.now 0 m)) }
+    {
+        self.lanes = 1;
+        self.steady = false;
+        sums.levels(0, &mut self.values[0..QUANTUM], value);
+    }
+
+    // Of one lane, holds the value of the first frame.
+    pub(crate) fn hold_first(&mut self)
+        requires mono { self.old.lanes ≡ 1 }
+        ensures lanes { self.new.lanes ≡ 1 }
+        ensures room { room_of self.new ≡ room_of self.old }
+        ensures values { (m : ℕ) → m < 128 → at self.new 0 m ≡ at self.old 0 0 }
+    {
+        let value = self.values[0];
+        self.hold(value);
+    }
+
+    // Of one lane, silences the frames before `start` and from `end` on.
+    pub(crate) fn sound(&mut self, start: u64, end: u64, first: u64)
+        requires mono { self.old.lanes ≡ 1 }
+        requires time { first ≤ 2 ^ 62 }
+        ensures lanes { self.new.lanes ≡ 1 }
+        ensures room { room_of self.new ≡ room_of self.old }
+        ensures values { (m : ℕ) → m < 128 → at self.new 0 m ≡ (if is_between (Some start) (Some end) (first + m) then at self.old 0 m else pos 0) }
+    {
+        if is_throughout(start, end, first) {
+            return;
+        }
+        if is_silent(start, end, first) {
+            self.hold(0);
+            return;
+        }
+        self.sound_in_part(start, end, first);
+    }
+
+    fn sound_in_part(&mut self, start: u64, end: u64, first: u64)
+        requires mono { self.old.lanes ≡ 1 }
+        requires time { first ≤ 2 ^ 62 }
+        ensures lanes { self.new.lanes ≡ 1 }
+        ensures room { room_of self.new ≡ room_of self.old }
+        ensures values { (m : ℕ) → m < 128 → at self.new 0 m ≡ (if is_between (Some start) (Some end) (first + m) then at self.old 0 m else pos 0) }
+    {
+        move_on(&mut self.values[0..QUANTUM], self.steady);
+        self.steady = false;
+        sound(&mut self.values[0..QUANTUM], start, end, first);
+    }
+
+    // Becomes what the sums are, saturated.
+    pub(crate) fn saturate(&mut self, sums: &Sums)
+        requires { sums.now.count * 128 ≤ room_of self.old }
+        ensures lanes { self.new.lanes ≡ sums.now.count }
+        ensures room { room_of self.new ≡ room_of self.old }
+        ensures values { (lane m : ℕ) → lane < sums.now.count → m < 128 → at self.new lane m ≡ saturated (sum_at sums.now lane m) }
+    {
+        self.lanes = sums.count();
+        match sums.steady() {
+            Some(held) => {
+                self.steady = true;
+                saturate(&mut self.values[0..self.lanes], held);
+            }
+            None => {
+                self.steady = false;
+                sums.settle(&mut self.values[0..self.lanes * QUANTUM]);
+            }
+        }
+    }
+
+    // Becomes what another block is.
+    pub(crate) fn copy(&mut self, other: &Block)
+        requires { other.now.lanes * 128 ≤ room_of self.old }
+        ensures lanes { self.new.lanes ≡ other.now.lanes }
+        ensures room { room_of self.new ≡ room_of self.old }
+        ensures values { (lane m : ℕ) → lane < other.now.lanes → m < 128 → at self.new lane m ≡ at other.now lane m }
+    {
+        let lanes = other.lanes();
+        match other.held() {
+            Held::Steady(held) => self.copy_steady(held),
+            Held::Moving(values) => self.copy_moving(values, lanes),
+        }
+    }
+
+    // Becomes what an output of another block is.
+    pub(crate) fn copy_output(&mut self, other: &Block, output: usize, channels: usize)
+        requires output { output * channels + channels ≤ other.now.lanes }
+        requires few { channels ≤ 32 }
+        requires room { channels * 128 ≤ room_of self.old }
+        ensures lanes { self.new.lanes ≡ channels }
+        ensures room { room_of self.new ≡ room_of self.old }
+        ensures values { (c m : ℕ) → c < channels → m < 128 → at self.new c m ≡ carried other.now channels output m c }
+        ensures fit { (c m : ℕ) → c < channels → m < 128 → FitsSigned w32 (carried other.now channels output m c) }
+    {
+        match other.output(output, channels) {
+            Held::Steady(held) => self.copy_steady(held),
+            Held::Moving(values) => self.copy_moving(values, channels),
+        }
+    }
+
+    fn copy_steady(&mut self, held: &[Fix])
+        requires few { length held.now ≤ 32 }
+        requires room { length held.now * 128 ≤ room_of self.old }
+        ensures lanes { self.new.lanes ≡ length held.now }
+        ensures room { room_of self.new ≡ room_of self.old }
+        ensures values { (lane m : ℕ) → lane < length held.now → m < 128 → at self.new lane m ≡ slice_index_or held.now lane (pos 0) }
+        ensures fit { (lane : ℕ) → lane < length held.now → FitsSigned w32 (slice_index_or held.now lane (pos 0)) }
+    {
+        self.lanes = held.len();
+        self.steady = true;
+        copy_values(&mut self.values[0..self.lanes], held);
+    }
+
+    fn copy_moving(&mut self, values: &[Fix], lanes: usize)
+        requires length { length values.now ≡ lanes * 128 }
+        requires few { lanes ≤ 32 }
+        requires room { lanes * 128 ≤ room_of self.old }
+        ensures lanes { self.new.lanes ≡ lanes }
+        ensures room { room_of self.new ≡ room_of self.old }
+        ensures values { (lane m : ℕ) → lane < lanes → m < 128 → at self.new lane m ≡ sample 128 values.now lane m }
+        ensures fit { (lane m : ℕ) → lane < lanes → m < 128 → FitsSigned w32 (sample 128 values.now lane m) }
+    {
+        self.lanes = lanes;
+        self.steady = false;
+        copy_values(&mut self.values[0..lanes * QUANTUM], values);
+    }
+
+    // Becomes what another block is, multiplied at each frame by the gain there.
+    pub(crate) fn scale(&mut self, other: &Block, gains: &Block)
+        requires room { other.now.lanes * 128 ≤ room_of self.old }
+        requires mono { gains.now.lanes ≡ 1 }
+        ensures lanes { self.new.lanes ≡ other.now.lanes }
+        ensures room { room_of self.new ≡ room_of self.old }
+        ensures values { (lane m : ℕ) → lane < other.now.lanes → m < 128 → at self.new lane m ≡ scaled (at other.now lane m) (at gains.now 0 m) }
+    {
+        match gains.held() {
+            Held::Steady(held) => self.scale_by(other, held[0]),
+            Held::Moving(gains) => self.scale_by_frame(other, gains),
+        }
+    }
+
+    fn scale_by(&mut self, other: &Block, gain: Fix)
+        requires room { other.now.lanes * 128 ≤ room_of self.old }
+        ensures lanes { self.new.lanes ≡ other.now.lanes }
+        ensures room { room_of self.new ≡ room_of self.old }
+        ensures values { (lane m : ℕ) → lane < other.now.lanes → m < 128 → at self.new lane m ≡ scaled (at other.now lane m) gain }
+    {
+        self.lanes = other.lanes();
+        match other.held() {
+            Held::Steady(held) => {
+                self.steady = true;
+                scale_all(&mut self.values[0..self.lanes], held, gain);
+            }
+            Held::Moving(values) => {
+                self.steady = false;
+                scale_all(&mut self.values[0..self.lanes * QUANTUM], values, gain);
+            }
+        }
+    }
+
+    fn scale_by_frame(&mut self, other: &Block, gains: &[Fix])
+        requires room { other.now.lanes * 128 ≤ room_of self.old }
+        requires gains { length gains.now ≡ 128 }
+        ensures lanes { self.new.lanes ≡ other.now.lanes }
+        ensures room { room_of self.new ≡ room_of self.old }
+        ensures values { (lane m : ℕ) → lane < other.now.lanes → m < 128 → at self.new lane m ≡ scaled (at other.now lane m) (slice_index_or gains.now m (pos 0)) }
+    {
+        self.lanes = other.lanes();
+        self.steady = false;
+        let values = &mut self.values[0..self.lanes * QUANTUM];
+        match other.held() {
+            Held::Steady(held) => scale_steady(values, held, gains),
+            Held::Moving(heard) => scale_channels(values, self.lanes, heard, gains),
+        }
+    }
+}

@@ -1,0 +1,61 @@
+ghost use Rattle.std.specs.Prelude.{◌≡◌, ◌≤◌, ◌<◌, ◌*◌, ℕ, length, slice_index_or, OnOk};
+ghost use Rattle.wa_base.specs.declared.graph_names.End.{End as an_end};
+ghost use Rattle.meaning.specs.Validity.{IsValid};
+ghost use Rattle.quantum_render.specs.Blocks.{slot as slot_of, lanes_of, no_block, IsSilent, Writes};
+ghost use Rattle.quantum_render.specs.Fits.{AreInRange, AreFit};
+
+use crate::block::Block;
+use crate::site::slot;
+use meaning::World;
+use std::alloc::Global;
+use wa_base::{End, NoMemory, NodeId};
+
+// Makes two blocks for each node, with the lanes of its ends. Their values may be any.
+pub(crate) fn fit_blocks(
+    alloc: Global,
+    blocks: &mut Vec<Block>,
+    world: &World,
+    counts: &[u32],
+) -> Result<(), NoMemory>
+    requires valid { IsValid world.now }
+    requires range { AreInRange world.now counts.now }
+    ensures { OnOk result (AreFit world.now counts.now blocks.new.items) }
+{
+    blocks.truncate(counts.len());
+    for _ in blocks.len()..counts.len() {
+        blocks.push(Block::empty(alloc))?;
+    }
+    fit_each(blocks.as_mut_slice(), world, counts)
+}
+
+fn fit_each(blocks: &mut [Block], world: &World, counts: &[u32]) -> Result<(), NoMemory>
+    requires valid { IsValid world.now }
+    requires length { length blocks.old ≡ length counts.now }
+    requires range { AreInRange world.now counts.now }
+    ensures { OnOk result (AreFit world.now counts.now blocks.new) }
+{
+    for (i, block) in blocks.iter_mut().enumerate() {
+        let outputs = world.nodes.kind(NodeId(i as u32 / 2)).outputs();
+        block.fit(outputs as usize * counts[i] as usize)?;
+    }
+    Ok(())
+}
+
+// Silences the lanes of each end.
+pub(crate) fn hush(blocks: &mut [Block], muted: &[End])
+    requires { (i : ℕ) (d : an_end) → i < length muted.now → slot_of (slice_index_or muted.now i d) < length blocks.old }
+    ensures lanes { lanes_of blocks.new ≡ lanes_of blocks.old }
+    ensures silent { (i : ℕ) (d : an_end) → i < length muted.now → IsSilent blocks.new (slice_index_or muted.now i d) }
+{
+    for end in muted {
+        hush_end(blocks, *end);
+    }
+}
+
+fn hush_end(blocks: &mut [Block], end: End)
+    requires { slot_of end < length blocks.old }
+    ensures writes { Writes blocks.old blocks.new end }
+    ensures silent { IsSilent blocks.new end }
+{
+    blocks[slot(end)].silence();
+}

@@ -1,0 +1,60 @@
+ghost use Rattle.std.specs.Prelude.{◌≡◌, ◌≤◌};
+ghost use Rattle.conn_graph.specs.Ends.{reader_of};
+ghost use Rattle.quantum_render.specs.Blocks.{slot as slot_of, counts_in};
+
+use crate::places::Near;
+use conn_graph::Edge;
+use meaning::World;
+use std::marker::Model;
+use wa_base::{End, NodeId};
+
+// The place of an end among the blocks and the counts.
+pub(crate) fn slot(end: End) -> usize
+    ensures { result ≡ slot_of end }
+{
+    2 * end.node.0 as usize + if end.writer { 0 } else { 1 }
+}
+
+// The end from which a node's connections leave.
+pub(crate) fn reader(node: NodeId) -> End
+    ensures { result ≡ reader_of node.0 }
+{
+    End {
+        node,
+        writer: false,
+    }
+}
+
+// An end of a node of a valid world with the connections that lead to the node, in the quantum that
+// begins at a frame.
+#[derive(Drop)]
+pub(crate) struct Site<'a> {
+    pub world: &'a World,
+    pub end: End,
+    pub into: &'a [Edge],
+    // The channels of each end, by its slot.
+    pub counts: &'a [u32],
+    pub first: u64,
+    pub near: Near,
+}
+
+impl<'a> Model for Site<'a> {
+    ghost use Rattle.quantum_render.specs.Sites.{SiteView, IsSite};
+
+    ghost Value = { SiteView };
+
+    ghost view = { λ s. record { world = s.world.now; end = s.end; into = s.into.now; counts = s.counts.now; first = s.first } };
+
+    ghost invariant = { λ s. IsSite s.world.now s.end s.into.now s.counts.now s.first };
+}
+
+impl Site<'_> {
+    // The number of channels of the end.
+    pub(crate) fn channels(&self) -> usize
+        ensures count { result ≡ counts_in self.now.counts self.now.end }
+        ensures low { 1 ≤ result }
+        ensures high { result ≤ 32 }
+    {
+        self.counts[slot(self.end)] as usize
+    }
+}

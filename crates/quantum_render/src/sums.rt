@@ -1,0 +1,206 @@
+ghost use Rattle.std.specs.Prelude.{◌≡◌, ◌≤◌, ◌<◌, ◌+◌, ◌*◌, ◌^◌, ◌+ℤ◌, ℕ, pos, length, slice_index_or, map, filter, if◌then◌else◌, All, take, drop, IfOk, IfSome};
+ghost use Rattle.channel_mix.specs.Blocks.{sample, frame_at};
+ghost use Rattle.wa_base.specs.Numbers.{sat as saturated};
+ghost use Rattle.channel_mix.specs.Mixing.{mix, total};
+ghost use Rattle.meaning.specs.declared.world.World.{World as world};
+ghost use Rattle.meaning.specs.Values.{part};
+ghost use Rattle.quantum_render.specs.Blocks.{frame_of};
+ghost use Rattle.quantum_render.specs.Connections.{leads_to};
+ghost use Rattle.quantum_render.specs.Fits.{IsSource, AreFit};
+ghost use Rattle.quantum_render.specs.Sums.{sum_at};
+
+use crate::block::{Block, QUANTUM};
+use crate::held::Held;
+use crate::kernels::{clear_unless, each_level, fill, level_of, settle};
+use crate::site::{Site, reader, slot};
+use channel_mix::mix_add;
+use conn_graph::{Edge, Target};
+use std::alloc::Global;
+use std::marker::Model;
+use wa_base::{Fix, Interp, NoMemory, sat};
+
+// The greatest number of channels.
+pub(crate) const CHANNELS: usize = 32;
+
+// What connections carry, mixed to 1 to 32 channels and added up exactly: a sum for each channel at
+// each frame. It has room for as many connections as a graph may have.
+#[derive(Drop)]
+pub(crate) struct Sums {
+    count: usize,
+    added: usize,
+    // What is the same at all frames, a sum for each channel.
+    held: Vec<i64>,
+    // Whether there is more, which is in `moving`.
+    moves: bool,
+    moving: Vec<i64>,
+}
+
+impl Model for Sums {
+    ghost use Rattle.std.specs.Prelude.{take};
+    ghost use Rattle.quantum_render.specs.Sums.{SumsView, AreSums, moving_sums};
+
+    ghost Value = { SumsView };
+
+    ghost view = { λ s. record { count = s.count; added = s.added; held = take s.count s.held.items; moving = moving_sums s.moves s.count s.moving.items } };
+
+    ghost invariant = { λ s. AreSums s.count s.added s.moves s.held.items s.moving.items };
+}
+
+// How an input or a parameter takes what connections carry.
+#[derive(Clone, Copy)]
+pub(crate) struct Inlet {
+    pub target: Target,
+    pub count: usize,
+    pub interp: Interp,
+}
+
+impl Sums {
+    pub(crate) fn new(alloc: Global) -> Result<Sums, NoMemory> {
+        Ok(Sums {
+            count: 1,
+            added: 0,
+            held: vec![in alloc; 0; CHANNELS]?,
+            moves: false,
+            moving: vec![in alloc; 0; CHANNELS * QUANTUM]?,
+        })
+    }
+
+    // The number of channels.
+    pub(crate) fn count(&self) -> usize
+        ensures count { result ≡ self.now.count }
+        ensures low { 1 ≤ result }
+        ensures high { result ≤ 32 }
+    {
+        self.count
+    }
+
+    // The sum of each channel, where it is the same at all frames.
+    pub(crate) fn steady(&self) -> Option<&[i64]>
+        ensures { IfSome result (λ held. (length held.now ≡ self.now.count) × (1 ≤ length held.now) × ((c m : ℕ) → c < self.now.count → m < 128 → sum_at self.now c m ≡ slice_index_or held.now c (pos 0))) }
+    {
+        if self.moves {
+            None
+        } else {
+            Some(&self.held[0..self.count])
+        }
+    }
+
+    // Writes all sums, saturated.
+    pub(crate) fn settle(&self, values: &mut [Fix])
+        requires { length values.old ≡ self.now.count * 128 }
+        ensures length { length values.new ≡ length values.old }
+        ensures values { (c m : ℕ) → c < self.now.count → m < 128 → sample 128 values.new c m ≡ saturated (sum_at self.now c m) }
+    {
+        for channel in 0..self.count() {
+            let first = channel * QUANTUM;
+            self.settle_channel(channel, &mut values[first..first + QUANTUM]);
+        }
+    }
+
+    fn settle_channel(&self, channel: usize, values: &mut [Fix])
+        requires channel { channel < self.now.count }
+        requires length { length values.old ≡ 128 }
+        ensures length { length values.new ≡ length values.old }
+        ensures values { (m : ℕ) → m < length values.old → slice_index_or values.new m (pos 0) ≡ saturated (sum_at self.now channel m) }
+    {
+        let held = self.held[channel];
+        if self.moves {
+            let first = channel * QUANTUM;
+            settle(values, held, &self.moving[first..first + QUANTUM]);
+        } else {
+            fill(values, sat(held));
+        }
+    }
+
+    // Writes the sums of a channel, each added to a value.
+    pub(crate) fn levels(&self, channel: usize, levels: &mut [Fix], value: Fix)
+        requires channel { channel < self.now.count }
+        requires length { length levels.old ≡ 128 }
+        ensures length { length levels.new ≡ length levels.old }
+        ensures values { (m : ℕ) → m < length levels.old → slice_index_or levels.new m (pos 0) ≡ saturated (value +ℤ saturated (sum_at self.now channel m)) }
+    {
+        let held = self.held[channel];
+        if self.moves {
+            let first = channel * QUANTUM;
+            each_level(levels, value, held, &self.moving[first..first + QUANTUM]);
+        } else {
+            fill(levels, level_of(value, held));
+        }
+    }
+
+    // No connection yet, and so many channels.
+    fn clear(&mut self, count: usize)
+        requires low { 1 ≤ count }
+        requires high { count ≤ 32 }
+        ensures count { self.new.count ≡ count }
+        ensures added { self.new.added ≡ 0 }
+        ensures sums { (c m : ℕ) → c < count → m < 128 → sum_at self.new c m ≡ pos 0 }
+    {
+        self.count = count;
+        self.added = 0;
+        self.moves = false;
+        self.held[0..count].fill(0);
+    }
+
+    fn add_steady(&mut self, held: &[Fix], interp: Interp)
+        requires added { self.old.added < 8192 }
+        ensures count { self.new.count ≡ self.old.count }
+        ensures added { self.new.added ≡ self.old.added + 1 }
+        ensures sums { (c m : ℕ) → c < self.old.count → m < 128 →
+            sum_at self.new c m ≡ sum_at self.old c m +ℤ mix interp (length held.now) self.old.count (λ i. slice_index_or held.now i (pos 0)) c }
+    {
+        let sums = &mut self.held[0..self.count];
+        mix_add(sums, self.count, held, held.len(), interp);
+        self.added += 1;
+    }
+
+    fn add_moving(&mut self, values: &[Fix], from: usize, interp: Interp)
+        requires added { self.old.added < 8192 }
+        requires length { length values.now ≡ from * 128 }
+        ensures count { self.new.count ≡ self.old.count }
+        ensures added { self.new.added ≡ self.old.added + 1 }
+        ensures sums { (c m : ℕ) → c < self.old.count → m < 128 →
+            sum_at self.new c m ≡ sum_at self.old c m +ℤ mix interp from self.old.count (frame_at 128 values.now m) c }
+    {
+        let sums = &mut self.moving[0..self.count * QUANTUM];
+        clear_unless(sums, self.moves);
+        mix_add(sums, self.count, values, from, interp);
+        self.moves = true;
+        self.added += 1;
+    }
+
+    // Adds what a connection carries, if it leads to the inlet.
+    fn hear(&mut self, blocks: &[Block], counts: &[u32], edge: &Edge, inlet: Inlet)
+        requires added { self.old.added < 8192 }
+        requires count { self.old.count ≡ inlet.count }
+        requires source { IsSource counts.now blocks.now edge.now }
+        ensures count { self.new.count ≡ inlet.count }
+        ensures added { self.new.added ≤ self.old.added + 1 }
+        ensures sums { (w : world) (c m : ℕ) → c < inlet.count → m < 128 →
+            sum_at self.new c m ≡ sum_at self.old c m +ℤ (if leads_to inlet.target edge.now then part (frame_of w blocks.now counts.now m) inlet.interp inlet.count c edge.now else pos 0) }
+    {
+        if inlet.target.is_same(edge.to) {
+            let place = slot(reader(edge.from));
+            let channels = counts[place] as usize;
+            match blocks[place].output(edge.output as usize, channels) {
+                Held::Steady(held) => self.add_steady(held, inlet.interp),
+                Held::Moving(values) => self.add_moving(values, channels, inlet.interp),
+            }
+        }
+    }
+
+    // Adds up what the connections of a site to an inlet carry.
+    pub(crate) fn gather(&mut self, blocks: &[Block], site: &Site, inlet: Inlet)
+        requires low { 1 ≤ inlet.count }
+        requires high { inlet.count ≤ 32 }
+        requires fit { AreFit site.now.world site.now.counts blocks.now }
+        ensures count { self.new.count ≡ inlet.count }
+        ensures sums { (w : world) (c m : ℕ) → c < inlet.count → m < 128 →
+            sum_at self.new c m ≡ total (map (part (frame_of w blocks.now site.now.counts m) inlet.interp inlet.count c) (filter (leads_to inlet.target) site.now.into)) }
+    {
+        self.clear(inlet.count);
+        for edge in site.into {
+            self.hear(blocks, site.counts, edge, inlet);
+        }
+    }
+}
