@@ -1,0 +1,10 @@
+//! Tests of the outside: sources, sinks and stores in memory, and the adapters on real files. A crate
+//! with tests is proved twice, so they stand apart.
+#![tactic(auto)]
+
+#[cfg(test)]
+mod adapters;
+#[cfg(test)]
+mod memory;
+#[cfg(test)]
+mod short_writes;
