@@ -1,11 +1,11 @@
 -- Loops that add a value to each sum.
-use Rattle.std.proofs.Common.{◌≡◌, ◌≢◌, ◌<◌, ◌≤◌, ◌+◌, ◌^◌, ℕ, ℤ, pos, ◌+ℤ◌, List, length, set, get_or, to_z, of_z, ap₂, subst, inl, inr, ◌-◌, ◌∙◌, rules, arith, below_more, get_or-set_same, get_or-set_other}
+use Rattle.std.proofs.Common.{◌≡◌, ◌≢◌, ◌<◌, ◌≤◌, ◌+◌, ◌^◌, ℕ, ℤ, pos, ◌+ℤ◌, List, length, set, get_or, to_z, of_z, ap₂, subst, inl, inr, sym, ◌-◌, ◌∙◌, rules, arith, below_more, get_or-set_same, get_or-set_other}
 use Rattle.std.specs.Prelude.{All, take, drop}
 use borrow.Rule.Slice.PartMut.{put_mid}
 use Rattle.std.specs.Int.{w64}
 use Rattle.std.proofs.lemmas.Bool.{cases_lt}
 use Rattle.std.proofs.lemmas.Int.{ints}
-use Rattle.std.proofs.lemmas.List.{places}
+use Rattle.std.proofs.lemmas.List.{places, get_or_past}
 use Rattle.std.proofs.lemmas.List.Elements.{All-get_or, All-from_get_or}
 use Rattle.channel_mix.specs.Blocks.{IsWithin, Adds}
 
@@ -71,6 +71,14 @@ adds_part values more i n m old now ys long room same there so_far part are =
     }
 
 -- ---- once all is added
+
+-- all sums at once
+pub adds_whole : (values : ℕ → ℤ) (old new : List ℤ) → length new ≡ length old → Adds values old new → AddsBelow values (length old) old new
+adds_whole values old new long adds = record {
+  sums = adds.sums;
+  small = adds.small;
+  rest = λ k h. get_or_past new k (pos 0) (omega arith) ∙ sym (get_or_past old k (pos 0) h);
+}
 
 pub adds_room : (values : ℕ → ℤ) (n bound : ℕ) (old new : List ℤ) → length new ≡ length old → length old ≤ n → AddsBelow values n old new
     → All (IsWithin bound) old → All (IsWithin (bound + 2 ^ 34)) new

@@ -24,6 +24,11 @@ pub fn mix_add(acc: &mut [i64], to: usize, src: &[i32], from: usize, interp: Int
         sample frames acc.new c k ≡ sample frames acc.old c k +ℤ mix interp from to (frame_at frames src.now k) c }
     ensures room { (bound : ℕ) → All (IsWithin bound) acc.old → All (IsWithin (bound + 2 ^ 34)) acc.new }
 {
+    // Equal counts pass through.
+    if from == to {
+        add_channel(acc, src);
+        return;
+    }
     let frames = acc.len() / to;
     for channel in 0..to {
         let first = channel * frames;
