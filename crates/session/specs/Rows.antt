@@ -1,21 +1,21 @@
 -- The samples that a session renders.
 use Rattle.std.specs.Prelude.{ℕ, ◌*◌, ◌/◌, ◌%◌, ℤ, pos, List, map, slice_index_or, ◌+◌}
 use Rattle.std.specs.List.{range_with_len}
+use Rattle.wa_base.specs.Contexts.{quantum_of}
 use Rattle.wa_base.specs.declared.contexts.ContextSpec.{ContextSpec}
 use Rattle.meaning.specs.declared.world.World.{World}
 use Rattle.meaning.specs.Rendered.{sample}
-use Rattle.session.specs.Session.{quantum}
 
 -- channel after channel: the sample at a place is that of channel place / length at frame place mod length
 abbrev pub sample_in : List World → ContextSpec → ℕ → ℤ
-sample_in tape spec place = sample quantum tape (place % spec.length) (place / spec.length)
+sample_in tape spec place = sample (quantum_of spec) tape (place % spec.length) (place / spec.length)
 
 unfoldable pub samples_of : List World → ContextSpec → List ℤ
 samples_of tape spec = map (sample_in tape spec) (range_with_len 0 (spec.channels * spec.length))
 
 -- frame after frame: the sample at a place is that of channel place mod channels at frame place / channels
 abbrev pub frame_sample_in : List World → ContextSpec → ℕ → ℤ
-frame_sample_in tape spec place = sample quantum tape (place / spec.channels) (place % spec.channels)
+frame_sample_in tape spec place = sample (quantum_of spec) tape (place / spec.channels) (place % spec.channels)
 
 unfoldable pub frames_of : List World → ContextSpec → List ℤ
 frames_of tape spec = map (frame_sample_in tape spec) (range_with_len 0 (spec.channels * spec.length))

@@ -1,7 +1,7 @@
 -- A whole session, without a sample in it.
 use Rattle.std.specs.Prelude.{ℕ, zero, suc, ◌+◌, ◌-◌, ◌*◌, ◌/◌, ◌==◌, List, [], ◌∷◌, ◌++◌, filter, if◌then◌else◌, unwrap_or, Option, Some, None}
 use Rattle.wa_base.specs.declared.contexts.ContextSpec.{ContextSpec}
-use Rattle.wa_base.specs.Contexts.{is_supported}
+use Rattle.wa_base.specs.Contexts.{quantum_of, is_supported}
 use Rattle.wa_base.specs.declared.contexts.State.TheVariants as state
 use Rattle.wa_base.specs.declared.exceptions.Exc.TheVariants.{NotSupported}
 use Rattle.script_ast.specs.declared.call_list.Call.{Call}
@@ -18,10 +18,6 @@ use Rattle.meaning.specs.Worlds.{first_world}
 use Rattle.session.specs.Changes.{ends_by, after}
 use Rattle.session.specs.Machine.{Machine}
 use Rattle.session.specs.Step.{step}
-
--- the size of a render quantum, in frames
-abbrev pub quantum : ℕ
-quantum = 128
 
 -- a machine, and the lines so far
 pub record Told : Type 0 where
@@ -56,13 +52,13 @@ ended_lines names now (play ∷ plays) =
 
 -- the lines that a quantum adds
 abbrev pub lines_after : Machine → List Line
-lines_after machine = ended_lines machine.first_names (machine.now + quantum) machine.world.scheds.items
+lines_after machine = ended_lines machine.first_names (machine.now + quantum_of machine.world.spec) machine.world.scheds.items
 
 -- the machine after one render quantum
 abbrev pub machine_after : Machine → Machine
 machine_after machine = record machine {
-  now = machine.now + quantum;
-  world = after machine.now (machine.now + quantum) machine.world;
+  now = machine.now + quantum_of machine.world.spec;
+  world = after machine.now (machine.now + quantum_of machine.world.spec) machine.world;
 }
 
 abbrev pub after_quantum : Told → Told
@@ -95,7 +91,7 @@ closing told ordinal = record { machine = closed_machine told.machine; lines = t
 
 -- as many quanta as reach the length from a frame on
 abbrev pub quanta_from : ℕ → ContextSpec → ℕ
-quanta_from frame spec = (spec.length - frame + (quantum - 1)) / quantum
+quanta_from frame spec = (spec.length - frame + (quantum_of spec - 1)) / quantum_of spec
 
 -- as many quanta as are left
 abbrev pub quanta_left : Machine → ℕ

@@ -1,5 +1,6 @@
 -- What contracts see of a session.
 use Rattle.std.specs.Prelude.{ℕ, ◌≡◌, ◌≤◌, ◌*◌, ◌++◌, ◌∷◌, [], ℤ, List, length, map, Bool, Option, IsTrue, IsSome, IfSome}
+use Rattle.wa_base.specs.Contexts.{quantum_of}
 use Rattle.wa_base.specs.declared.contexts.ContextSpec.{ContextSpec}
 use Rattle.meaning.specs.declared.world.World.{World}
 use Rattle.meaning.specs.World.{plain}
@@ -7,7 +8,7 @@ use Rattle.meaning.specs.Worlds.{IsRegular}
 use Rattle.quantum_render.specs.Stands.{RendererView, StandsFor}
 use Rattle.session.specs.Machine.{Machine}
 use Rattle.session.specs.Rows.{samples_of}
-use Rattle.session.specs.Session.{Told, quantum, first_told}
+use Rattle.session.specs.Session.{Told, first_told}
 
 -- the machine and the lines, whether there is audio, the samples, and with audio the renderer
 pub record SessionView : Type 0 where
@@ -25,7 +26,7 @@ HasRoom audio machine samples = IsTrue audio → IsSome machine.started → leng
 -- a renderer of a context went through the quanta before a frame
 pub record IsAt (spec : ContextSpec) (now : ℕ) (renderer : RendererView) : Type 0 where
   pub context : renderer.spec ≡ spec
-  pub quanta : now ≡ quantum * renderer.quanta
+  pub quanta : now ≡ quantum_of spec * renderer.quanta
 
 pub record IsSound (audio : Bool) (machine : Machine) (room : ℕ) (samples : List ℤ) (renderer : Option RendererView) : Type 0 where
   pub line : 1 ≤ room
@@ -42,8 +43,8 @@ pub record Renders (tape : List World) (renderer : RendererView) : Type 0 where
 
 -- The session stands for a tape: so many quanta were rendered, the machine's world can be the next one, the samples are those of the tape, and the renderer stands for it.
 pub record Stands (view : SessionView) (tape : List World) : Type 0 where
-  pub time : view.told.machine.now ≡ quantum * length tape
-  pub regular : IsRegular quantum (tape ++ view.told.machine.world ∷ [])
+  pub time : view.told.machine.now ≡ quantum_of view.told.machine.world.spec * length tape
+  pub regular : IsRegular (quantum_of view.told.machine.world.spec) (tape ++ view.told.machine.world ∷ [])
   pub samples : IsTrue view.audio → IsSome view.told.machine.started → view.samples ≡ samples_of tape view.told.machine.world.spec
   pub renders : IfSome view.renderer (Renders tape)
 

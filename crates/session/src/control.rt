@@ -1,7 +1,7 @@
 ghost use Rattle.std.specs.Prelude.{◌≡◌, ◌<◌, ◌≤◌, ◌+◌, ◌==◌, nat_le, if◌then◌else◌, false, true, length, slice_get, option_and_then, Some, IfOk, IfSome, IsSome, OnOk, OnErr};
 ghost use Rattle.std.specs.List.{position};
 ghost use Rattle.std.specs.Result.{result_err};
-ghost use Rattle.wa_base.specs.Contexts.{IsSupported};
+ghost use Rattle.wa_base.specs.Contexts.{IsSupported, quantum_of};
 ghost use Rattle.node_table.specs.Kinds.{is_destination};
 ghost use Rattle.conn_graph.specs.Edges.{form_node};
 ghost use Rattle.script_ast.specs.Ranges.{IsInRange, IsNewName};
@@ -9,7 +9,7 @@ ghost use Rattle.meaning.specs.World.{plain};
 ghost use Rattle.meaning.specs.Validity.{IsValid};
 ghost use Rattle.session.specs.Changes.{Grows};
 ghost use Rattle.session.specs.Machine.{Machine, IsInState};
-ghost use Rattle.session.specs.Session.{first_machine, lines_after, machine_after, closed_machine, quantum};
+ghost use Rattle.session.specs.Session.{first_machine, lines_after, machine_after, closed_machine};
 ghost use Rattle.session.specs.Step as spec;
 ghost use Rattle.session.specs.Step.{Steps, KeepsTime, KeepsStart};
 
@@ -362,7 +362,7 @@ impl Control {
     /// The current value of a parameter without events is its creation value in each quantum.
     pub fn end_quantum(&mut self) -> bool
         requires { self.old.state ≡ State.Running }
-        ensures closes { result ≡ nat_le self.old.world.spec.length (self.old.now + quantum) }
+        ensures closes { result ≡ nat_le self.old.world.spec.length (self.old.now + quantum_of self.old.world.spec) }
         ensures machine { self.new ≡ (if result then closed_machine (machine_after self.old) else machine_after self.old) }
         ensures valid { IsValid self.new.world }
     {

@@ -1,5 +1,5 @@
 ghost use Rattle.std.specs.Prelude.{◌≡◌, ◌≤◌, ◌<◌, ◌+◌, ◌*◌, ◌++◌, ◌∷◌, [], List, length, is_some, IfSome, OnOk, OnErr};
-ghost use Rattle.wa_base.specs.Contexts.{IsSupported};
+ghost use Rattle.wa_base.specs.Contexts.{IsSupported, quantum_of};
 ghost use Rattle.meaning.specs.declared.world.World.{World as a_world};
 ghost use Rattle.meaning.specs.World.{plain};
 ghost use Rattle.meaning.specs.Validity.{IsValid};
@@ -7,7 +7,6 @@ ghost use Rattle.meaning.specs.Worlds.{IsRegular};
 ghost use Rattle.quantum_render.specs.Stands.{StandsFor, Shows};
 ghost use Rattle.session.specs.Frames.{WritesBelow};
 ghost use Rattle.session.specs.Rows.{samples_of};
-ghost use Rattle.session.specs.Session.{quantum};
 ghost use Rattle.session.specs.View.{IsAt, Renders};
 
 use meaning::World;
@@ -33,10 +32,10 @@ pub(crate) fn render_audio(
     requires running { first < world.now.spec.length }
     requires room { IfSome renderer.old (λ _. length samples.old ≡ world.now.spec.channels * world.now.spec.length) }
     ensures audio { is_some renderer.new ≡ is_some renderer.old }
-    ensures ok { OnOk result (IfSome renderer.new (IsAt world.now.spec (first + quantum))) }
-    ensures renders { (tape : List a_world) → IfSome renderer.old (Renders tape) → IsRegular quantum (tape ++ plain world.now ∷ [])
+    ensures ok { OnOk result (IfSome renderer.new (IsAt world.now.spec (first + quantum_of world.now.spec))) }
+    ensures renders { (tape : List a_world) → IfSome renderer.old (Renders tape) → IsRegular (quantum_of world.now.spec) (tape ++ plain world.now ∷ [])
         → OnOk result (IfSome renderer.new (Renders (tape ++ plain world.now ∷ []))) }
-    ensures samples { (tape : List a_world) → IfSome renderer.old (Renders tape) → IsRegular quantum (tape ++ plain world.now ∷ []) → first ≡ quantum * length tape
+    ensures samples { (tape : List a_world) → IfSome renderer.old (Renders tape) → IsRegular (quantum_of world.now.spec) (tape ++ plain world.now ∷ []) → first ≡ quantum_of world.now.spec * length tape
         → samples.old ≡ samples_of tape world.now.spec → OnOk result (IfSome renderer.new (λ _. samples.new ≡ samples_of (tape ++ plain world.now ∷ []) world.now.spec)) }
     ensures err { OnErr result (IfSome renderer.new (IsAt world.now.spec first)) }
     ensures err_renders { (tape : List a_world) → IfSome renderer.old (Renders tape) → OnErr result (IfSome renderer.new (Renders tape)) }
@@ -55,10 +54,10 @@ pub(crate) fn render_audio(
 fn render_quantum(renderer: &mut Renderer, world: &World, first: u64) -> Result<(), NoMemory>
     requires valid { IsValid world.now }
     requires spec { world.now.spec ≡ renderer.old.spec }
-    requires first { first ≡ quantum * renderer.old.quanta }
+    requires first { first ≡ quantum_of renderer.old.spec * renderer.old.quanta }
     requires time { first ≤ 33554560 }
-    ensures stands { (tape : List a_world) → StandsFor renderer.old tape → IsRegular quantum (tape ++ world.now ∷ []) → OnOk result (StandsFor renderer.new (tape ++ world.now ∷ [])) }
-    ensures shows { (tape : List a_world) → StandsFor renderer.old tape → IsRegular quantum (tape ++ world.now ∷ []) → OnOk result (Shows renderer.new (tape ++ world.now ∷ [])) }
+    ensures stands { (tape : List a_world) → StandsFor renderer.old tape → IsRegular (quantum_of world.now.spec) (tape ++ world.now ∷ []) → OnOk result (StandsFor renderer.new (tape ++ world.now ∷ [])) }
+    ensures shows { (tape : List a_world) → StandsFor renderer.old tape → IsRegular (quantum_of world.now.spec) (tape ++ world.now ∷ []) → OnOk result (Shows renderer.new (tape ++ world.now ∷ [])) }
     ensures quanta { OnOk result (renderer.new.quanta ≡ renderer.old.quanta + 1) }
     ensures spec { renderer.new.spec ≡ renderer.old.spec }
     ensures err { OnErr result (renderer.new.quanta ≡ renderer.old.quanta) }
@@ -78,10 +77,10 @@ fn render_counted<L: Ledger>(
     requires some { 0 < L.parts }
     requires valid { IsValid world.now }
     requires spec { world.now.spec ≡ renderer.old.spec }
-    requires first { first ≡ quantum * renderer.old.quanta }
+    requires first { first ≡ quantum_of renderer.old.spec * renderer.old.quanta }
     requires time { first ≤ 33554560 }
-    ensures stands { (tape : List a_world) → StandsFor renderer.old tape → IsRegular quantum (tape ++ world.now ∷ []) → OnOk result (StandsFor renderer.new (tape ++ world.now ∷ [])) }
-    ensures shows { (tape : List a_world) → StandsFor renderer.old tape → IsRegular quantum (tape ++ world.now ∷ []) → OnOk result (Shows renderer.new (tape ++ world.now ∷ [])) }
+    ensures stands { (tape : List a_world) → StandsFor renderer.old tape → IsRegular (quantum_of world.now.spec) (tape ++ world.now ∷ []) → OnOk result (StandsFor renderer.new (tape ++ world.now ∷ [])) }
+    ensures shows { (tape : List a_world) → StandsFor renderer.old tape → IsRegular (quantum_of world.now.spec) (tape ++ world.now ∷ []) → OnOk result (Shows renderer.new (tape ++ world.now ∷ [])) }
     ensures quanta { OnOk result (renderer.new.quanta ≡ renderer.old.quanta + 1) }
     ensures spec { renderer.new.spec ≡ renderer.old.spec }
     ensures err { OnErr result (renderer.new.quanta ≡ renderer.old.quanta) }
@@ -102,8 +101,8 @@ fn copy_out(renderer: &Renderer, spec: ContextSpec, first: u64, samples: &mut [F
     requires supported { IsSupported spec }
     requires first { first < spec.length }
     requires room { length samples.old ≡ spec.channels * spec.length }
-    ensures { (tape : List a_world) → Shows renderer.now tape → first + quantum ≡ quantum * length tape
-        → WritesBelow samples.old samples.new spec tape first (first + quantum) spec.channels }
+    ensures { (tape : List a_world) → Shows renderer.now tape → first + quantum_of spec ≡ quantum_of spec * length tape
+        → WritesBelow samples.old samples.new spec tape first (first + quantum_of spec) spec.channels }
 {
     let count = QUANTUM.min(spec.length - first) as usize;
     for channel in 0..spec.channels {
