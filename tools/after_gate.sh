@@ -54,6 +54,20 @@ for program in "$top/crates/waplay/out/waplay" "$top/crates/waplay/out/waplay.by
         saw $? "$program: $(cat differences)"
     done
 
+    # A long run of 1,101 quanta, and a long script of 100,003 calls.
+    for script in long_run long_script; do
+        python3 - "$script" >"$script.json" <<'END'
+import json, sys
+calls = [{"op": "createConstantSource", "as": "a"}, {"op": "connect", "from": "a", "to": "destination"}]
+calls += [{"op": "readTime"}] * (100000 if sys.argv[1] == "long_script" else 0)
+calls += [{"op": "start", "node": "a", "when": 5}] * (sys.argv[1] == "long_run") + [{"op": "startRendering"}]
+context = {"channels": 1, "length": 140801 if sys.argv[1] == "long_run" else 128, "rate": 48000}
+print(json.dumps({"version": 1, "context": context, "calls": calls}))
+END
+        WAPLAY=$program "$top/tools/compare.sh" "$script.json" >differences
+        saw $? "$program, $script: $(cat differences)"
+    done
+
     # Status 2: words that have no reading.
     cp "$constant.json" in
     echo "$usage" >wanted
