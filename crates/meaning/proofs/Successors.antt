@@ -1,6 +1,6 @@
 -- What a world sees of the past of a tape that it comes after.
-use Rattle.std.proofs.Common.{ℕ, ℤ, pos, suc, ◌≡◌, ◌+◌, ◌-◌, ◌*◌, ◌/◌, ◌<◌, ◌≤◌, length, List, [], ◌∷◌, ◌++◌, Bool, true, false, ◌⊎◌, inl, inr, refl, sym, ◌∙◌, ap, arith, subst, length-append}
-use Rattle.std.specs.Prelude.{if◌then◌else◌, nat_lt, nat_le, ◌&&◌}
+use Rattle.std.proofs.Common.{ℕ, pos, suc, ◌≡◌, ◌+◌, ◌-◌, ◌*◌, ◌/◌, ◌<◌, ◌≤◌, length, List, [], ◌∷◌, ◌++◌, true, false, ◌⊎◌, inl, inr, refl, sym, ◌∙◌, ap, arith, subst, length-append}
+use Rattle.std.specs.Prelude.{if◌then◌else◌, nat_lt, nat_le}
 use Rattle.std.proofs.Math.Nat.{div-mul-le_self}
 use Rattle.std.proofs.lemmas.List.{get_or_past}
 use Rattle.std.proofs.lemmas.Nat.{le-div}
@@ -15,7 +15,7 @@ use Rattle.meaning.specs.declared.world.World.{World}
 use Rattle.meaning.specs.World.{plain, no_node, node_at, kind_of}
 use Rattle.meaning.specs.Counts.{world_in, count}
 use Rattle.meaning.specs.Worlds.{Stays, IsRegular}
-use Rattle.meaning.specs.Pasts.{last_world, heard, is_lived, is_lived_quantum, past}
+use Rattle.meaning.specs.Pasts.{last_world, heard, past}
 use Rattle.meaning.proofs.TapeLaws.{world_before, world_after}
 
 pub div-le-div : (a b q : ℕ) → 0 < q → a ≤ b → a / q ≤ b / q

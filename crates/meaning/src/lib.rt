@@ -40,7 +40,8 @@ pub fn block_law()
     ensures { BlockLaw }
 {}
 
-/// Of the quanta before, a quantum reads only what the delays took in.
+/// Of the quanta before, a quantum reads only their past: after two regular tapes of one past it has
+/// the same counts, values and parameters, and it leaves one past.
 pub fn past_law()
     ensures { PastLaw }
 {}

@@ -1,6 +1,6 @@
 -- What a connection adds to sums, and what the connections to a target add up to.
-use Rattle.std.proofs.Common.{ℕ, ℤ, pos, zero, suc, ◌≡◌, ◌+◌, ◌<◌, ◌≤◌, ◌+ℤ◌, length, List, [], ◌∷◌, map, drop, filter, slice_index_or, Bool, true, false, cond, slice_set, ◌⊎◌, inl, inr, refl, sym, ◌∙◌, ap, ap₂, arith, subst}
-use Rattle.std.specs.Prelude.{if◌then◌else◌, nat_lt}
+use Rattle.std.proofs.Common.{ℕ, ℤ, pos, zero, suc, ◌≡◌, ◌+◌, ◌<◌, ◌≤◌, ◌+ℤ◌, length, List, [], ◌∷◌, map, drop, filter, slice_index_or, Bool, true, false, cond, slice_set, refl, sym, ◌∙◌, ap, arith, subst}
+use Rattle.std.specs.Prelude.{if◌then◌else◌}
 use Rattle.std.proofs.lemmas.List.{get_or-set_same, get_or-set_other}
 use Rattle.std.proofs.lemmas.Int.{ints}
 use Rattle.std.proofs.Math.Seq.{drop-cons}
@@ -8,7 +8,7 @@ use Rattle.wa_base.specs.declared.graph_names.End.{End}
 use Rattle.channel_mix.specs.Mixing.{total}
 use Rattle.conn_graph.specs.declared.edges.Edge.{Edge}
 use Rattle.conn_graph.specs.declared.edges.Target.{Target}
-use Rattle.quantum_render.specs.Blocks.{BlockView, no_block, at, slot, block_of, lanes_of, IsSilent, Writes}
+use Rattle.quantum_render.specs.Blocks.{BlockView, no_block, slot, block_of, lanes_of, Writes}
 use Rattle.quantum_render.specs.Connections.{leads_to}
 use Rattle.quantum_render.proofs.Slots.{slot_apart}
 

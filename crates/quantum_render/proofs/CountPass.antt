@@ -1,5 +1,5 @@
 -- Counting the channels along a legal order.
-use Rattle.std.proofs.Common.{ℕ, suc, ◌≡◌, ◌+◌, ◌*◌, ◌/◌, ◌<◌, ◌≤◌, length, List, [], ◌∷◌, ◌++◌, drop, slice_index_or, slice_set, Bool, true, false, inl, inr, refl, sym, ◌∙◌, ap, arith, subst}
+use Rattle.std.proofs.Common.{ℕ, ◌≡◌, ◌+◌, ◌*◌, ◌/◌, ◌<◌, ◌≤◌, length, List, [], ◌∷◌, ◌++◌, drop, slice_index_or, slice_set, Bool, true, false, inl, inr, refl, sym, ◌∙◌, ap, arith, subst}
 use Rattle.std.specs.Prelude.{if◌then◌else◌, ◌==◌}
 use Rattle.std.proofs.Math.ListN.{drop_of_length-le}
 use Rattle.std.proofs.lemmas.List.{get_or-set_same, get_or-set_other, length-set}
@@ -14,7 +14,7 @@ use Rattle.conn_graph.specs.Orders.{IsLegalAfter, IsLegalOrder}
 use Rattle.conn_graph.proofs.EndLaws.{same_end_is}
 use Rattle.meaning.specs.declared.world.World.{World}
 use Rattle.meaning.specs.World.{plain, kind_of}
-use Rattle.meaning.specs.Validity.{IsValid, IsJoined}
+use Rattle.meaning.specs.Validity.{IsValid}
 use Rattle.meaning.specs.Counts.{Counts, count_rule, count_by_kind, count}
 use Rattle.meaning.proofs.Joined.{joined}
 use Rattle.meaning.proofs.OrderLaws.{IsKnown, known_before, known_source, all_known}

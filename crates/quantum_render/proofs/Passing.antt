@@ -14,12 +14,12 @@ use Rattle.conn_graph.specs.Orders.{IsLegalAfter}
 use Rattle.meaning.specs.declared.world.World.{World}
 use Rattle.meaning.specs.World.{plain, kind_of}
 use Rattle.meaning.specs.Validity.{IsValid, IsJoined}
-use Rattle.meaning.specs.Counts.{Counts, count_rule, count_by_kind}
+use Rattle.meaning.specs.Counts.{count_rule, count_by_kind}
 use Rattle.meaning.specs.Values.{frame, value_by_kind, value}
 use Rattle.meaning.specs.Blocks.{with_drafts}
 use Rattle.meaning.proofs.OrderLaws.{all_known}
 use Rattle.meaning.proofs.QuantumLaws.{AreRight, count_right, muted_right}
-use Rattle.quantum_render.specs.Blocks.{BlockView, at, shown, slot, block_of, lanes_of, counts_in, drafts_of, frame_of, IsSilent, Writes}
+use Rattle.quantum_render.specs.Blocks.{BlockView, at, slot, block_of, lanes_of, counts_in, drafts_of, frame_of, IsSilent, Writes}
 use Rattle.quantum_render.specs.Fits.{AreFit}
 use Rattle.quantum_render.specs.Plans.{IsPlan, AreCounted}
 use Rattle.quantum_render.specs.Sites.{SiteView}

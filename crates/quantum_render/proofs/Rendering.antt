@@ -2,10 +2,8 @@
 use Rattle.std.proofs.Common.{ℕ, ℤ, ◌≡◌, ◌+◌, ◌*◌, ◌<◌, ◌≤◌, length, List, slice_index_or, slice_set, true, sym, ◌∙◌, ap, arith, subst}
 use Rattle.std.proofs.lemmas.List.{get_or_default}
 use Rattle.wa_base.specs.declared.graph_names.End.{End}
-use Rattle.law_base.specs.Members.{IsIn}
 use Rattle.node_table.specs.Kinds.{outputs, is_mono}
 use Rattle.conn_graph.specs.declared.edges.Edge.{Edge}
-use Rattle.conn_graph.specs.Ends.{ends}
 use Rattle.meaning.specs.declared.world.World.{World}
 use Rattle.meaning.specs.World.{kind_of}
 use Rattle.quantum_render.specs.Blocks.{BlockView, no_block, at, room_of, slot, block_of, counts_in, Writes}

@@ -23,9 +23,9 @@ use Rattle.conn_graph.proofs.EndLaws.{end_is, has_end}
 use Rattle.meaning.specs.declared.world.World.{World}
 use Rattle.meaning.specs.World.{no_node, kind_of}
 use Rattle.meaning.specs.Validity.{ports_of, IsValid}
-use Rattle.quantum_render.specs.Blocks.{BlockView, slot, block_of, counts_in}
-use Rattle.quantum_render.specs.Connections.{into, leads_to, no_edge}
-use Rattle.quantum_render.specs.Fits.{AreInRange, AreFit, IsSource}
+use Rattle.quantum_render.specs.Blocks.{BlockView, slot, counts_in}
+use Rattle.quantum_render.specs.Connections.{into, leads_to}
+use Rattle.quantum_render.specs.Fits.{AreFit, IsSource}
 use Rattle.quantum_render.specs.Sites.{IsSite}
 use Rattle.quantum_render.proofs.Slots.{slot_low, output_low}
 

@@ -1,9 +1,7 @@
 -- What an end carries in a quantum: the meaning of a frame, over the blocks of the ends before it in an order.
-use Rattle.std.specs.Prelude.{ℕ, ℤ, ◌+◌, ◌*◌, ◌≡◌, ◌<◌, List}
-use Rattle.wa_base.specs.declared.graph_names.End.{End}
+use Rattle.std.specs.Prelude.{ℕ, ◌+◌, ◌*◌, ◌≡◌, ◌<◌, List}
 use Rattle.node_table.specs.Kinds.{outputs}
 use Rattle.node_table.specs.declared.kinds.Kind.{Kind}
-use Rattle.meaning.specs.declared.world.World.{World}
 use Rattle.meaning.specs.World.{plain}
 use Rattle.meaning.specs.Counts.{Counts, count_by_kind}
 use Rattle.meaning.specs.Values.{Frame, value_by_kind}

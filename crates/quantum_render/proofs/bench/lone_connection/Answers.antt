@@ -1,10 +1,10 @@
-use Rattle.std.proofs.Common.{◌≡◌, ◌<◌, ◌∷◌, [], length, slice_index_or, true, sym, ◌∙◌, ap, arith, subst}
+use Rattle.std.proofs.Common.{◌≡◌, ◌<◌, ◌∷◌, [], length, slice_index_or, sym, ◌∙◌, ap, arith, subst}
 use Rattle.std.proofs.lemmas.List.{get_or_default}
 use Rattle.std.proofs.lemmas.Bool.Decides.{nat_tests}
 use Rattle.conn_graph.specs.declared.edges.Edge.{Edge}
 use Rattle.conn_graph.specs.Ends.{reader_of}
 use Rattle.quantum_render.specs.Blocks.{slot, counts_in}
-use Rattle.quantum_render.specs.Connections.{into, leads_to, no_edge}
+use Rattle.quantum_render.specs.Connections.{into, no_edge}
 use Rattle.quantum_render.specs.Sites.{SiteView}
 use Rattle.quantum_render.proofs.Sources.{source_slot}
 use Rattle.quantum_render.proofs.Connections.{one_item}

@@ -1,5 +1,4 @@
-use Rattle.std.proofs.Common.{ℕ, ◌≡◌, ◌+◌, ◌*◌, ◌/◌, ◌<◌, length, slice_index_or, sym, ◌∙◌, ap, arith, subst}
-use Rattle.wa_base.specs.declared.graph_names.End.{End}
+use Rattle.std.proofs.Common.{◌*◌, length, ◌∙◌, ap, arith}
 use Rattle.node_table.specs.Kinds.{outputs}
 use Rattle.meaning.specs.World.{kind_of}
 use Rattle.quantum_render.specs.Blocks.{slot, counts_in}

@@ -1,6 +1,6 @@
-use Rattle.std.proofs.Common.{◌≡◌, ◌<◌, length, slice_index_or, sym, ◌∙◌, ap, subst}
+use Rattle.std.proofs.Common.{◌<◌, slice_index_or, ◌∙◌, ap, subst}
 use Rattle.std.proofs.lemmas.List.{get_or_default}
-use Rattle.quantum_render.specs.Blocks.{BlockView, no_block, at, slot, block_of, IsSilent}
+use Rattle.quantum_render.specs.Blocks.{BlockView, no_block, at}
 use Rattle.quantum_render.proofs.Connections.{writes_one, written}
 use Rattle.quantum_render.proofs.blocks.hush_end.Goals as goal
 

@@ -1,9 +1,6 @@
-use Rattle.std.proofs.Common.{ℕ, rules, [], ◌≡◌, ◌+◌, ◌<◌, length, List, slice_index_or, slice_set, sym, ◌∙◌, ap, subst}
+use Rattle.std.proofs.Common.{rules, [], ◌+◌, ◌<◌, length, slice_index_or, slice_set, sym, ◌∙◌, subst}
 use Rattle.std.proofs.lemmas.List.{get_or_default}
 use Rattle.wa_base.specs.declared.graph_names.End.{End}
-use Rattle.law_base.specs.Members.{IsIn}
-use Rattle.quantum_render.specs.Blocks.{slot}
-use Rattle.quantum_render.specs.Connections.{into}
 use Rattle.quantum_render.proofs.Sources.{same_nodes, end_low}
 use Rattle.quantum_render.proofs.Orders.{no_end}
 use Rattle.quantum_render.proofs.CountPass.{Counting, counting_begins, next, next_slot, counting_goes_on, counting_ends}

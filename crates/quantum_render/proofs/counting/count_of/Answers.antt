@@ -1,5 +1,4 @@
-use Rattle.std.proofs.Common.{ℕ, false, ◌≡◌, ◌<◌, length, Some, inl, inr, sym, ◌∙◌, ap, arith, subst}
-use Rattle.wa_base.specs.declared.graph_names.End.{End}
+use Rattle.std.proofs.Common.{ℕ, false, ◌≡◌, inl, inr, sym, ◌∙◌, ap}
 use Rattle.node_table.specs.Kinds.{is_mono}
 use Rattle.node_table.specs.declared.kinds.Kind.{Kind}
 use Rattle.meaning.specs.World.{plain, kind_of}

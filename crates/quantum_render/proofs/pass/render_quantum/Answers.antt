@@ -1,4 +1,4 @@
-use Rattle.std.proofs.Common.{ℕ, ◌≡◌, ◌<◌, ◌≤◌, List, length, slice_index_or, sym, ◌∙◌, ap, subst}
+use Rattle.std.proofs.Common.{ℕ, ◌<◌, ◌≤◌, List, length, slice_index_or, sym, ◌∙◌, ap, subst}
 use Rattle.wa_base.specs.declared.graph_names.End.{End}
 use Rattle.law_base.specs.Members.{IsIn}
 use Rattle.conn_graph.specs.Ends.{ends}

@@ -1,7 +1,6 @@
-use Rattle.std.proofs.Common.{◌≡◌, ◌<◌, length, Some, sym, ◌∙◌, subst}
+use Rattle.std.proofs.Common.{◌≡◌, Some, sym, ◌∙◌, subst}
 use Rattle.node_table.specs.Nodes.{kind_at}
 use Rattle.node_table.specs.declared.kinds.Kind.{Kind}
-use Rattle.node_table.specs.declared.kinds.Kind.TheVariants.{Destination, Constant, Gain}
 use Rattle.meaning.specs.World.{kind_of}
 use Rattle.quantum_render.specs.Sites.{SiteView, IsSite}
 use Rattle.quantum_render.specs.Renders.{Renders}

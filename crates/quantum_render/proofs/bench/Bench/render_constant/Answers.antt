@@ -1,8 +1,8 @@
-use Rattle.std.proofs.Common.{ℕ, pos, ◌≡◌, ◌+◌, ◌<◌, ◌≤◌, ◌*◌, slice_index_or, sym, ◌∙◌, ap, arith, subst}
+use Rattle.std.proofs.Common.{pos, ◌≡◌, ◌+◌, ◌<◌, ◌≤◌, ◌*◌, slice_index_or, sym, ◌∙◌, ap, arith, subst}
 use Rattle.std.specs.Prelude.{if◌then◌else◌}
 use Rattle.node_table.specs.Kinds.{outputs, is_mono}
 use Rattle.meaning.specs.World.{sounds_at}
-use Rattle.quantum_render.specs.Blocks.{BlockView, at, slot, counts_in, room_of}
+use Rattle.quantum_render.specs.Blocks.{BlockView, at, slot, room_of}
 use Rattle.quantum_render.specs.Benches.{BenchView}
 use Rattle.quantum_render.specs.Sites.{SiteView}
 use Rattle.quantum_render.proofs.Rendering.{site_is, own_within, own_room, mono_own, writes_own, renders_own}

@@ -1,4 +1,4 @@
-use Rattle.std.proofs.Common.{ℕ, ◌≡◌, ◌<◌, ◌≤◌, ◌*◌, slice_index_or, sym, ◌∙◌, ap, subst}
+use Rattle.std.proofs.Common.{◌≡◌, ◌<◌, ◌≤◌, ◌*◌, slice_index_or, sym, ◌∙◌, ap, subst}
 use Rattle.node_table.specs.Kinds.{outputs}
 use Rattle.quantum_render.specs.Blocks.{BlockView, at, slot, counts_in, room_of}
 use Rattle.quantum_render.specs.Benches.{BenchView}

@@ -1,4 +1,4 @@
-use Rattle.std.proofs.Common.{ℕ, ◌≡◌, ◌<◌, ◌≤◌, ◌*◌, slice_index_or, sym, ◌∙◌, ap, ap₂, subst}
+use Rattle.std.proofs.Common.{◌≡◌, ◌<◌, ◌≤◌, ◌*◌, slice_index_or, sym, ◌∙◌, ap, ap₂, subst}
 use Rattle.wa_base.specs.Numbers.{scale}
 use Rattle.node_table.specs.Kinds.{outputs}
 use Rattle.quantum_render.specs.Blocks.{BlockView, at, slot, counts_in, room_of}

@@ -1,4 +1,4 @@
-use Rattle.std.proofs.Common.{ℕ, ◌≡◌, ◌+◌, ◌*◌, ◌<◌, ◌≤◌, ◌∷◌, [], List, length, map, filter, slice_index_or, true, Some, refl, sym, ◌∙◌, ap, arith, subst}
+use Rattle.std.proofs.Common.{◌≡◌, ◌+◌, ◌*◌, ◌<◌, ◌≤◌, ◌∷◌, [], List, length, map, filter, slice_index_or, true, Some, sym, ◌∙◌, ap, arith, subst}
 use Rattle.std.proofs.lemmas.List.{get_or_default}
 use Rattle.channel_mix.specs.Mixing.{total}
 use Rattle.node_table.specs.declared.nodes.Attrs.{Attrs}
@@ -8,7 +8,7 @@ use Rattle.conn_graph.specs.declared.edges.Target.TheVariants.{Input}
 use Rattle.conn_graph.specs.Ends.{reader_of}
 use Rattle.meaning.specs.Values.{part}
 use Rattle.meaning.specs.World.{plain}
-use Rattle.quantum_render.specs.Blocks.{BlockView, no_block, slot, block_of, carried, counts_in, frame_of}
+use Rattle.quantum_render.specs.Blocks.{BlockView, no_block, slot, block_of, carried, frame_of}
 use Rattle.quantum_render.specs.Connections.{into, leads_to, no_edge}
 use Rattle.quantum_render.specs.Fits.{AreFit, IsSource}
 use Rattle.quantum_render.specs.Sums.{sum_at}

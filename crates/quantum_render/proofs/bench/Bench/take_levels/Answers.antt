@@ -1,4 +1,4 @@
-use Rattle.std.proofs.Common.{ℕ, ℤ, rules, ◌≡◌, ◌+◌, ◌+ℤ◌, map, filter, true, false, sym, ◌∙◌, ap, arith, subst, FitsSigned}
+use Rattle.std.proofs.Common.{ℕ, ℤ, rules, ◌≡◌, ◌+ℤ◌, map, filter, true, false, sym, ◌∙◌, ap, arith, subst, FitsSigned}
 use Rattle.std.specs.Int.{w32}
 use Rattle.std.proofs.Math.IntN.{+ℤ_idr}
 use Rattle.std.proofs.lemmas.Int.{to_z-of_z}

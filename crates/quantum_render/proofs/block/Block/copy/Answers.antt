@@ -1,4 +1,4 @@
-use Rattle.std.proofs.Common.{length, ◌<◌, ◌≤◌, sym, ◌∙◌, arith, subst}
+use Rattle.std.proofs.Common.{◌<◌, sym, ◌∙◌, arith, subst}
 use Rattle.quantum_render.proofs.block.Block.copy.Goals as goal
 
 pub copy_steady-requires-clause-few : goal.copy_steady-requires-clause-few

@@ -1,4 +1,4 @@
-use Rattle.std.proofs.Common.{ℕ, ℤ, ◌≡◌, ◌<◌, ◌≤◌, length, sym, ◌∙◌, ap, arith, subst, FitsSigned}
+use Rattle.std.proofs.Common.{ℕ, ℤ, ◌<◌, ◌≤◌, sym, ◌∙◌, ap, subst, FitsSigned}
 use Rattle.std.specs.Int.{w32}
 use Rattle.quantum_render.proofs.block.Block.copy_output.Goals as goal
 

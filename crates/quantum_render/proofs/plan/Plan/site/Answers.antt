@@ -1,4 +1,4 @@
-use Rattle.std.proofs.Common.{rules, ◌≡◌, ◌<◌, ◌∙◌, length, [], slice_index_or, sym, subst, ap}
+use Rattle.std.proofs.Common.{rules, ◌<◌, ◌∙◌, [], sym, subst}
 use Rattle.std.proofs.lemmas.List.{get_or_default}
 use Rattle.quantum_render.specs.Plans.{PlanView, IsPlan}
 use Rattle.quantum_render.proofs.Sources.{same_nodes, end_low}

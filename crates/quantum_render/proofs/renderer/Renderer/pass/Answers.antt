@@ -1,4 +1,4 @@
-use Rattle.std.proofs.Common.{ℕ, slice_index_or, List, ◌≡◌, ◌+◌, ◌-◌, ◌*◌, ◌/◌, ◌<◌, ◌≤◌, ◌++◌, ◌∷◌, [], length, sym, ◌∙◌, ap, arith, subst, length-append}
+use Rattle.std.proofs.Common.{ℕ, slice_index_or, List, ◌≡◌, ◌+◌, ◌-◌, ◌*◌, ◌<◌, ◌++◌, ◌∷◌, [], length, sym, ◌∙◌, ap, arith, subst, length-append}
 use Rattle.std.proofs.lemmas.List.{get_or_default}
 use Rattle.wa_base.specs.declared.contexts.ContextSpec.{ContextSpec}
 use Rattle.channel_mix.specs.Blocks.{sample as channel_sample}
@@ -6,9 +6,8 @@ use Rattle.conn_graph.specs.Ends.{reader_of}
 use Rattle.meaning.specs.declared.world.World.{World}
 use Rattle.meaning.specs.Rendered.{sample}
 use Rattle.quantum_render.specs.Blocks.{BlockView, no_block, shown, slot, block_of}
-use Rattle.quantum_render.specs.Fits.{AreFit}
 use Rattle.quantum_render.specs.Plans.{AreCounted}
-use Rattle.quantum_render.specs.Stands.{RendererView, IsGrown}
+use Rattle.quantum_render.specs.Stands.{RendererView}
 use Rattle.quantum_render.proofs.Made.{rewritten}
 use Rattle.quantum_render.proofs.OutLaws.{destination_lanes, out_is}
 use Rattle.quantum_render.proofs.renderer.Renderer.pass.Goals as goal

@@ -1,4 +1,4 @@
-use Rattle.std.proofs.Common.{ℕ, rules, ◌≡◌, ◌<◌, ◌≤◌, length, slice_index_or, sym, ◌∙◌, ap, arith, subst}
+use Rattle.std.proofs.Common.{rules, ◌<◌, ◌≤◌, slice_index_or, sym, ◌∙◌, ap, arith, subst}
 use Rattle.std.proofs.lemmas.List.{get_or_default}
 use Rattle.quantum_render.specs.Blocks.{counts_in}
 use Rattle.quantum_render.specs.Sites.{SiteView}

@@ -6,7 +6,7 @@ use Rattle.channel_mix.specs.Mixing.{total}
 use Rattle.std.proofs.lemmas.Int.{ints}
 use Rattle.conn_graph.specs.declared.edges.Edge.{Edge}
 use Rattle.meaning.specs.Values.{part}
-use Rattle.quantum_render.specs.Blocks.{BlockView, frame_of}
+use Rattle.quantum_render.specs.Blocks.{frame_of}
 use Rattle.quantum_render.specs.Connections.{leads_to, no_edge}
 use Rattle.quantum_render.specs.Fits.{AreFit}
 use Rattle.quantum_render.specs.Sums.{sum_at}
