@@ -8,8 +8,6 @@ mod quantum;
 mod rendered;
 mod replay;
 mod session;
-#[cfg(test)]
-mod tests;
 
 pub use rendered::Rendered;
 pub use replay::{Outcome, run};

@@ -1,9 +1,11 @@
 ghost use Rattle.std.specs.Prelude.{◌≡◌, IfOk};
 ghost use Rattle.script_ast.specs.Ranges.{IsInRange};
+ghost use Rattle.script_ast.specs.WellFormed.{IsWellFormed};
 
-use crate::{Options, Session, Stop, Turn};
 use io_edge::MemFiles;
-use script_ast::{Call, Op};
+use script_ast::{Call, Op, Script};
+use script_json::{ScriptErr, read};
+use session::{Options, Outcome, Session, Stop, Turn, run};
 use std::alloc::Global;
 use std::test::Fail;
 use transcript::{EndWord, Lines, text};
@@ -147,6 +149,70 @@ fn call_again(alloc: Global, session: &mut Session, ordinal: u32) -> Result<(), 
     }
 }
 
+fn begin_again(alloc: Global) -> Result<Session, Refusal> {
+    match begin(alloc, 1, 100) {
+        Err(Refusal::NoMemory) => begin(alloc, 1, 100),
+        begun => begun,
+    }
+}
+
+fn advance_again(session: &mut Session) -> Result<Option<Turn>, NoMemory> {
+    match advance(session) {
+        Err(NoMemory) => advance(session),
+        turn => turn,
+    }
+}
+
+// All calls, and the quantum after them.
+fn replay_again(alloc: Global, session: &mut Session) -> Result<Option<Turn>, Stop> {
+    for ordinal in 1..9 {
+        call_again(alloc, session, ordinal)?;
+    }
+    Ok(advance_again(session)?)
+}
+
+fn is_done(turn: Option<Turn>, session: &Session) -> bool {
+    turn == Some(Turn::Done(8)) && session.started() == Some(8) && session.state() == State::Closed
+}
+
+// Where one growth is refused, the call or the quantum that asked for it can be made again. Of what
+// the session then has told and rendered its contracts alone speak.
+#[test]
+fn what_was_refused_memory_can_be_done_again(rt: HostRuntime) -> Result<(), Fail> {
+    let mut session = begin_again(rt.alloc())?;
+    let turn = replay_again(rt.alloc(), &mut session)?;
+    assert!(rt; is_done(turn, &session));
+    Ok(())
+}
+
+// The calls of `op_of`, as a script.
+const SCRIPT: &str =
+    "{\"version\":1,\"context\":{\"channels\":1,\"length\":100,\"rate\":48000},\"calls\":[{\"op\":\"createConstantSource\",\"as\":\"c\"},{\"op\":\"createGain\",\"as\":\"g\",\"gain\":8388608},{\"op\":\"connect\",\"from\":\"c\",\"to\":\"g\"},{\"op\":\"connect\",\"from\":\"g\",\"to\":\"destination\"},{\"op\":\"start\",\"node\":\"c\"},{\"op\":\"stop\",\"node\":\"c\",\"when\":1},{\"op\":\"disconnect\",\"from\":\"c\",\"to\":\"destination\"},{\"op\":\"startRendering\"}]}";
+
+const LINES: &[u8] =
+    b"1 ok\n2 ok\n3 ok\n4 ok\n5 ok\n6 ok\n7 throw InvalidAccessError\n8 pending\nended 1 c\n8 resolved\ncomplete 100\nend completed\n";
+
+// A script that is read a second time where memory for it was refused.
+fn script_again(alloc: Global, text: &str) -> Result<Script, ScriptErr>
+    ensures { IfOk result IsWellFormed }
+{
+    match read(alloc, text.as_bytes()) {
+        Err(ScriptErr::NoMemory) => read(alloc, text.as_bytes()),
+        script => script,
+    }
+}
+
+// A script that is run a second time where memory for it was refused.
+fn run_again(alloc: Global, script: &Script) -> Result<Outcome, Stop>
+    requires { IsWellFormed script.now }
+{
+    let mut files = MemFiles::new(alloc);
+    match run(alloc, script, WITH_AUDIO, &mut files) {
+        Err(Stop::NoMemory) => run(alloc, script, WITH_AUDIO, &mut files),
+        outcome => outcome,
+    }
+}
+
 fn text_again(alloc: Global, lines: &Lines, end: EndWord) -> Result<Bytes, NoMemory> {
     match text(alloc, lines, &end) {
         Err(NoMemory) => text(alloc, lines, &end),
@@ -154,27 +220,12 @@ fn text_again(alloc: Global, lines: &Lines, end: EndWord) -> Result<Bytes, NoMem
     }
 }
 
-// Where one growth is refused, the call or the quantum that asked for it can be made again, and all
-// is as if nothing had been refused.
 #[test]
-fn what_was_refused_memory_can_be_done_again(rt: HostRuntime) -> Result<(), Fail> {
-    let mut session = match begin(rt.alloc(), 1, 100) {
-        Err(Refusal::NoMemory) => begin(rt.alloc(), 1, 100)?,
-        begun => begun?,
-    };
-    for ordinal in 1..9 {
-        call_again(rt.alloc(), &mut session, ordinal)?;
-    }
-    let turn = match advance(&mut session) {
-        Err(NoMemory) => advance(&mut session)?,
-        Ok(turn) => turn,
-    };
-    assert_eq!(rt; turn, Some(Turn::Done(8)));
-    let outcome = session.completed();
+fn a_script_that_was_refused_memory_can_be_run_again(rt: HostRuntime) -> Result<(), Fail> {
+    let script = script_again(rt.alloc(), SCRIPT)?;
+    let outcome = run_again(rt.alloc(), &script)?;
     let lines = text_again(rt.alloc(), &outcome.lines, outcome.end)?;
-    let want =
-        b"1 ok\n2 ok\n3 ok\n4 ok\n5 ok\n6 ok\n7 throw InvalidAccessError\n8 pending\nended 1 c\n8 resolved\ncomplete 100\nend completed\n";
-    assert!(rt; lines.as_slice() == want.as_slice());
+    assert!(rt; lines.as_slice() == LINES);
     let mut samples = [0; 100];
     samples[0] = HALF;
     assert!(rt;

@@ -1,0 +1,5 @@
+//! Tests of session over its public calls. A crate with tests is proved twice, so they stand apart.
+#![tactic(auto)]
+
+#[cfg(test)]
+mod sessions;
