@@ -29,7 +29,7 @@ text = open(sys.argv[1]).read()
 tests = [open(path).read() for path in sys.argv[2:]]
 literal = text.replace("\"", "\\\"").rstrip("\n")
 sys.exit(not any(form in test for form in (text, literal) for test in tests))' \
-        "$1" "$top"/crates/*/src/*.rt "$top"/crates/*/src/*/*.rt
+        "$1" "$top"/crates/*_tests/src/*.rt
 }
 
 if [ $# -eq 0 ]; then

@@ -5,8 +5,6 @@
 mod fault_line;
 mod replay;
 mod status;
-#[cfg(test)]
-mod tests;
 mod wav_file;
 mod words;
 

@@ -1,8 +1,5 @@
-mod graphs;
-mod spelling;
-
-use crate::{Status, run};
 use io_edge::{MemFiles, MemSink, MemSource};
+use replay_top::{Status, run};
 use std::alloc::{AllocError, Global};
 use std::test::Fail;
 use wa_base::{Bytes, NoMemory};
@@ -95,26 +92,27 @@ const HEADER_OF_32: [u8; 44] = [
     0x60, 0x00, 0x18, 0x00, 0x64, 0x61, 0x74, 0x61, 0x80, 0x06, 0x01, 0x00,
 ];
 
-// The numbers of the calls that fail; 0 is no call.
+/// The numbers of the calls that fail; 0 is no call.
 #[derive(Clone, Copy)]
-struct Failing {
-    read: u64,
-    write: u64,
-    append: u64,
+pub struct Failing {
+    pub read: u64,
+    pub write: u64,
+    pub append: u64,
 }
 
-const NONE: Failing = Failing {
+/// No call fails.
+pub const NONE: Failing = Failing {
     read: 0,
     write: 0,
     append: 0,
 };
 
-// What a run left edge.
+/// What a run left.
 #[derive(Drop)]
-struct Left {
-    status: Status,
-    text: Vec<u8>,
-    file: Option<Vec<u8>>,
+pub struct Left {
+    pub status: Status,
+    pub text: Vec<u8>,
+    pub file: Option<Vec<u8>>,
 }
 
 fn words_of(alloc: Global, words: &[&str]) -> Result<Vec<String>, AllocError> {
@@ -171,9 +169,8 @@ fn left_by(alloc: Global, status: Status, edge: &Edge) -> Result<Left, NoMemory>
     })
 }
 
-// A call for each step: the proof of a function costs the more the more values it holds where a call
-// may refuse.
-fn replay(
+/// What a run with these words, this script and these faults left.
+pub fn replay(
     alloc: Global,
     words: &[&str],
     script: &[u8],
@@ -317,7 +314,8 @@ fn is_refused(
     Ok(left.status == status && left.text.as_slice() == text.as_bytes() && left.file.is_none())
 }
 
-fn leaves_no_file(
+/// Whether a run of the script has this status, writes this text, and touches no file.
+pub fn leaves_no_file(
     alloc: Global,
     script: &str,
     status: Status,
@@ -461,8 +459,8 @@ fn faults_leave_what_came_before_them(rt: HostRuntime) -> Result<(), Fail> {
     Ok(())
 }
 
-// The lines of so many calls that are accepted, from the first on.
-fn accepted(alloc: Global, count: u32) -> Result<Vec<u8>, AllocError> {
+/// The lines of so many calls that are accepted, from the first on.
+pub fn accepted(alloc: Global, count: u32) -> Result<Vec<u8>, AllocError> {
     let mut lines = Vec::new(alloc);
     for number in 0..count {
         let line = format!(in alloc; "{} ok\n", number.wrapping_add(1))?;

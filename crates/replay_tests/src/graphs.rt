@@ -1,5 +1,5 @@
-use super::{Left, NONE, accepted, leaves_no_file, replay};
-use crate::Status;
+use crate::runs::{Left, NONE, accepted, leaves_no_file, replay};
+use replay_top::Status;
 use std::alloc::{AllocError, Global};
 use std::test::Fail;
 use wa_base::NoMemory;

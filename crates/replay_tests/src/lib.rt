@@ -1,0 +1,10 @@
+//! Tests of the top call, over a source, a sink and a store in memory, and of every word of a
+//! transcript. A crate with tests is proved twice, so they stand apart.
+#![tactic(auto)]
+
+#[cfg(test)]
+mod graphs;
+#[cfg(test)]
+mod runs;
+#[cfg(test)]
+mod spelling;
