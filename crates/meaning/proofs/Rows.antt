@@ -203,6 +203,11 @@ centre-source : map (value 2 (centre ∷ []) 0 (reader_of 1) 0) (0 ∷ 1 ∷ [])
 unfolding context constant gain to_input to_gain line started stopped world at_height before at_moment state reaches form mix intrinsic_at ends in_cycle arrow height muted count_rule count_at count input_value computed_value equation value_at value centre
 centre-source = refl
 
+-- and so is an output that it does not have
+centre-output : map (λ o. value 2 (centre ∷ []) 0 (reader_of 1) o 0) (0 ∷ 1 ∷ []) ≡ pos 5 ∷ pos 0 ∷ []
+unfolding context constant gain to_input to_gain line started stopped world at_height before at_moment state reaches form mix intrinsic_at ends in_cycle arrow height muted count_rule count_at count input_value computed_value equation value_at value centre
+centre-output = refl
+
 -- ---- the gain is mono in the first quantum, and in the second it is stereo with a silent right channel
 stereo : Node → World
 stereo node = world 2 (constant (pos 16777216) ∷ node ∷ []) (to_input 1 2 ∷ to_input 2 0 ∷ [])
