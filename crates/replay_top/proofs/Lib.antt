@@ -1,4 +1,7 @@
+mod Completeness
 mod Ends
 mod FaultLines
+mod FrameRows
 mod Outcomes
+mod Starting
 mod WavParts

@@ -18,6 +18,7 @@ use Rattle.session.proofs.Interleaving.{interleaved_rendered}
 use Rattle.replay_top.specs.Answer.{answer_to_end, answer_to_session}
 use Rattle.replay_top.specs.Outcome.{answer_to_rendering}
 use Rattle.replay_top.specs.WavFile.{IsWritable}
+use Rattle.replay_top.proofs.FrameRows.{wav-rows}
 
 pub length-samples_of : (tape : List World) (spec : ContextSpec) → length (samples_of tape spec) ≡ spec.channels * spec.length
 unfolding samples_of
@@ -49,7 +50,7 @@ answer_at : (end : EndWord) (out text : List ℕ) (spec : ContextSpec) (tape : L
     → answer_to_rendering out text (if completes end then Some (record { spec = spec; samples = samples_of tape spec }) else None) ≡ answer_to_end end out text spec tape
 answer_at Completed out text spec tape ranges =
     let frames = interleaved_rendered tape spec ranges.channels_low ranges.length_low in
-    rw frames refl
+    rw (frames, wav-rows tape spec) refl
 answer_at (Stalled frame) out text spec tape ranges = refl
 answer_at Idle out text spec tape ranges = refl
 answer_at (Refused exception) out text spec tape ranges = refl

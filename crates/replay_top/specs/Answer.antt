@@ -1,5 +1,6 @@
 -- The answer of the program to a command line and a script.
 use Rattle.std.specs.Prelude.{ℕ, List, [], length, nat_lt, if◌then◌else◌, Option, Some, None, Result, Ok, Err}
+use Rattle.wa_base.specs.Contexts.{quantum_of}
 use Rattle.wa_base.specs.declared.contexts.ContextSpec.{ContextSpec}
 use Rattle.script_ast.specs.declared.call_list.Script.{Script}
 use Rattle.script_json.specs.Script.{script_of}
@@ -7,11 +8,12 @@ use Rattle.script_json.specs.declared.faults.ScriptErr.{ScriptErr}
 use Rattle.transcript.specs.Text.{text_of}
 use Rattle.transcript.specs.declared.lines.EndWord.{EndWord}
 use Rattle.transcript.specs.declared.lines.EndWord.TheVariants.{Completed, Stalled, Idle, Refused}
-use Rattle.session.specs.Rows.{frames_of}
+use Rattle.wav_io.specs.WavText.{wav_bytes}
 use Rattle.session.specs.Session.{Played, session_of}
 use Rattle.meaning.specs.declared.world.World.{World}
+use Rattle.meaning.specs.Rendered.{rows}
 use Rattle.replay_top.specs.FaultLine.{fault_line}
-use Rattle.replay_top.specs.WavFile.{wav_of}
+use Rattle.replay_top.specs.WavFile.{bits}
 use Rattle.replay_top.specs.Words.{usage, out_of}
 use Rattle.replay_top.specs.declared.status.Status.{Status}
 use Rattle.replay_top.specs.declared.status.Status.TheVariants.{Rendered, Unrendered, BadWords, BadScript, ScriptTooLong}
@@ -37,9 +39,9 @@ without_file status text = record { status = status; text = text; file = None }
 abbrev pub with_wav : List ℕ → List ℕ → List ℕ → Answer
 with_wav out text wav = record { status = Rendered; text = text; file = Some (record { path = out; bytes = wav }) }
 
--- a session that completed has a WAV file with every frame of its tape; one that ended otherwise has none
+-- a session that completed has a WAV file with a row for each frame of its tape; one that ended otherwise has none
 abbrev pub answer_to_end : EndWord → List ℕ → List ℕ → ContextSpec → List World → Answer
-answer_to_end Completed out text spec tape = with_wav out text (wav_of spec (frames_of tape spec))
+answer_to_end Completed out text spec tape = with_wav out text (wav_bytes spec.rate spec.channels bits (rows (quantum_of spec) tape spec))
 answer_to_end (Stalled frame) out text spec tape = without_file Unrendered text
 answer_to_end Idle out text spec tape = without_file Unrendered text
 answer_to_end (Refused exception) out text spec tape = without_file Unrendered text

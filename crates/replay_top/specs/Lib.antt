@@ -1,6 +1,7 @@
 pub mod Answer
 pub mod ExitStatus
 pub mod FaultLine
+pub mod Laws
 pub mod Outcome
 pub mod Run
 pub mod WavFile
