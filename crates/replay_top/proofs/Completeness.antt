@@ -1,5 +1,5 @@
 -- Where the answer of the program is Rendered.
-use Rattle.std.proofs.Common.{ℕ, ◌≡◌, ◌≤◌, ◌<◌, List, [], length, Bool, true, false, ◌||◌, Option, Some, None, Result, Ok, Err, refl, sym, ◌∙◌, ap, arith, subst}
+use Rattle.std.proofs.Common.{ℕ, ◌≡◌, ◌≤◌, List, [], length, Bool, true, false, ◌||◌, Option, Some, None, Result, Ok, Err, refl, sym, ◌∙◌, ap, arith}
 use Rattle.std.specs.Prelude.{is_some, if◌then◌else◌, nat_lt}
 use Rattle.std.specs.List.{list_any}
 use Rattle.std.proofs.lemmas.Bool.Decides.{nat_tests}
@@ -13,12 +13,11 @@ use Rattle.script_json.specs.Script.{script_of}
 use Rattle.script_json.specs.declared.faults.ScriptErr.{ScriptErr}
 use Rattle.transcript.specs.declared.lines.EndWord.{EndWord}
 use Rattle.transcript.specs.declared.lines.EndWord.TheVariants.{Completed, Stalled, Idle, Refused}
-use Rattle.session.specs.Session.{Played, Told, session_of, replayed, rendered, main_list, first_told, held_by}
+use Rattle.session.specs.Session.{Told, session_of, replayed, rendered, main_list, first_told, held_by}
 use Rattle.session.specs.Step.{is_start}
-use Rattle.replay_top.specs.Answer.{max_script, without_file, answer_to_end, answer_to_session, answer_to_script, answer_to_bytes, answer_to_out, answer}
+use Rattle.replay_top.specs.Answer.{max_script, without_file, answer_to_end, answer_to_script, answer_to_bytes, answer_to_out, answer}
 use Rattle.replay_top.specs.Laws.{Renders, IsRendered}
 use Rattle.replay_top.specs.Words.{out_of}
-use Rattle.replay_top.specs.declared.status.Status.{Status}
 use Rattle.replay_top.specs.declared.status.Status.TheVariants.{Rendered, ScriptTooLong}
 use Rattle.replay_top.proofs.Starting.{calls_start}
 

@@ -1,5 +1,5 @@
 -- What a session hands over can be written, and the answer to it is the session's.
-use Rattle.std.proofs.Common.{◌≡◌, ◌≤◌, ◌*◌, ℕ, List, length, Some, None, true, if◌then◌else◌, arith, refl, inl, inr}
+use Rattle.std.proofs.Common.{◌≡◌, ◌*◌, ℕ, List, length, Some, None, true, if◌then◌else◌, arith, refl, inl, inr}
 use Rattle.std.specs.Prelude.{IfSome}
 use Rattle.std.proofs.lemmas.Bool.{cases_Bool}
 use Rattle.std.proofs.lemmas.Bool.Decides.{nat_tests}

@@ -1,5 +1,5 @@
 -- Which calls start the rendering.
-use Rattle.std.proofs.Common.{ℕ, ℤ, ◌≡◌, List, [], ◌∷◌, Bool, true, false, ◌||◌, Option, Some, None, refl, sym, ◌∙◌, ap}
+use Rattle.std.proofs.Common.{ℕ, ℤ, ◌≡◌, List, [], ◌∷◌, Bool, true, false, ◌||◌, Option, Some, None, refl, ◌∙◌, ap}
 use Rattle.std.specs.Prelude.{is_some, if◌then◌else◌, ◌==◌}
 use Rattle.std.specs.List.{list_any}
 use Rattle.wa_base.specs.declared.contexts.State.{State}
@@ -20,7 +20,7 @@ use Rattle.meaning.specs.declared.scheds.Play.{Play}
 use Rattle.session.specs.Changes.{rescheduled}
 use Rattle.session.specs.Machine.{Machine}
 use Rattle.session.specs.Session.{Told, after_calls, after_call}
-use Rattle.session.specs.Step.{Stepped, is_start, unless, stays, throws, rejects, step_op, create, with_created, connect, connect_edge, edge_of, with_connections, disconnect, disconnect_to, disconnect_form, form_of, node_named, play_named, with_play, start_source, stop_source, start_rendering, resume}
+use Rattle.session.specs.Step.{Stepped, is_start, unless, stays, throws, rejects, step_op, with_created, connect, connect_edge, edge_of, with_connections, disconnect, disconnect_to, disconnect_form, form_of, node_named, play_named, with_play, start_source, stop_source, resume}
 
 -- a step that leaves alone whether rendering was started
 abbrev Leaves : Machine → Stepped → Type 0

@@ -1,5 +1,5 @@
 -- What is said of the answer of the program.
-use Rattle.std.specs.Prelude.{ℕ, ◌≡◌, ◌≤◌, ◌↔◌, List, length, true, Option, Some, Result, Ok}
+use Rattle.std.specs.Prelude.{ℕ, ◌≡◌, ◌≤◌, ◌↔◌, List, length, true, Some, Ok}
 use Rattle.std.specs.List.{list_any}
 use Rattle.wa_base.specs.Contexts.{is_supported}
 use Rattle.script_ast.specs.declared.call_list.Call.{Call}

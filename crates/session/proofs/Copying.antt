@@ -1,18 +1,17 @@
 -- The blocks of a quantum, copied into samples that stand channel after channel.
 use Rattle.std.proofs.Common.{◌≡◌, ◌<◌, ◌≤◌, ◌+◌, ◌-◌, ◌*◌, ◌/◌, ◌%◌, ◌&&◌, ◌++◌, ℕ, ℤ, pos, Bool, List, length, take, drop, slice_index_or, true, false, nat_lt, refl, sym, ap, ◌∙◌, inl, inr, arith, get_or-take, get_or-drop, length-take}
-use Rattle.std.specs.Prelude.{nat_le, min, if◌then◌else◌}
+use Rattle.std.specs.Prelude.{nat_le, min}
 use Rattle.std.proofs.lemmas.Bool.{cases_lt, cases_eq}
 use Rattle.std.proofs.lemmas.Bool.Decides.{nat_tests}
 use Rattle.std.proofs.lemmas.List.{get_or_append_left}
 use Rattle.std.proofs.lemmas.Nat.{div-mul-add, mod-mul-add, mul-add-lt}
-use Rattle.std.proofs.Math.Nat.{div-add-mod', mul_comm}
+use Rattle.std.proofs.Math.Nat.{div-add-mod'}
 use Rattle.std.proofs.Math.Seq.{get_or-append_right}
 use borrow.Rule.Slice.PartMut.{put_mid}
 use Rattle.wa_base.specs.declared.contexts.ContextSpec.{ContextSpec}
 use Rattle.meaning.specs.declared.world.World.{World}
 use Rattle.meaning.specs.Rendered.{sample}
 use Rattle.session.specs.Frames.{is_place_of, WritesBelow}
-use Rattle.session.specs.Rows.{sample_in}
 
 -- ---- an element of a list with a part written over
 

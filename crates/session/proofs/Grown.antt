@@ -1,5 +1,5 @@
 -- What a call leaves of a world.
-use Rattle.std.proofs.Common.{ℕ, zero, suc, ◌≡◌, ◌<◌, length, slice_index_or, List, [], ◌∷◌, ◌++◌, None, false, refl, sym, ◌∙◌, ap, arith}
+use Rattle.std.proofs.Common.{ℕ, zero, suc, ◌≡◌, ◌<◌, slice_index_or, [], ◌∷◌, None, false, refl, sym, ◌∙◌, arith}
 use Rattle.std.proofs.lemmas.List.{append-nil}
 use Rattle.node_table.specs.Kinds.{is_destination}
 use Rattle.node_table.specs.Nodes.{creation_refusal, node_of}

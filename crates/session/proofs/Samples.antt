@@ -1,6 +1,6 @@
 -- The samples of a tape, and of a tape with one world more.
-use Rattle.std.proofs.Common.{◌≡◌, ◌<◌, ◌≤◌, ◌+◌, ◌-◌, ◌*◌, ◌/◌, ◌%◌, ◌&&◌, ℕ, zero, suc, ℤ, pos, List, [], ◌∷◌, ◌++◌, length, map, replicate, slice_index_or, true, false, nat_lt, refl, sym, ap, ◌∙◌, inl, inr, arith, length-append}
-use Rattle.std.specs.Prelude.{nat_le, if◌then◌else◌}
+use Rattle.std.proofs.Common.{◌≡◌, ◌<◌, ◌≤◌, ◌+◌, ◌*◌, ◌/◌, ◌%◌, ℕ, zero, suc, ℤ, pos, List, [], ◌∷◌, ◌++◌, length, map, replicate, slice_index_or, true, false, nat_lt, refl, sym, ap, ◌∙◌, inl, inr, arith, length-append}
+use Rattle.std.specs.Prelude.{nat_le}
 use Rattle.std.specs.List.{range_with_len}
 use Rattle.std.proofs.lemmas.Bool.{cases_lt}
 use Rattle.std.proofs.lemmas.Bool.Decides.{nat_tests}
@@ -16,7 +16,7 @@ use Rattle.meaning.specs.Counts.{world_in}
 use Rattle.meaning.specs.Values.{Values, silence, value_scheme, known_at, value_at, value}
 use Rattle.meaning.specs.Rendered.{sample}
 use Rattle.meaning.proofs.TapeLaws.{value_same, world_before}
-use Rattle.session.specs.Frames.{is_place_of, WritesBelow}
+use Rattle.session.specs.Frames.{WritesBelow}
 use Rattle.session.specs.Rows.{sample_in, samples_of}
 use Rattle.session.proofs.Tapes.{plain_world}
 

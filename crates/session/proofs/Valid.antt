@@ -1,11 +1,10 @@
 -- Worlds stay valid.
-use Rattle.std.proofs.Common.{ℕ, zero, suc, ◌≡◌, ◌+◌, ◌<◌, ◌≤◌, ◌^◌, ◌-◌, length, List, [], ◌∷◌, ◌++◌, map, filter, slice_index_or, slice_set, ℤ, Bool, true, false, not, cond, Option, Some, None, ◌⊎◌, inl, inr, refl, sym, ◌∙◌, ap, arith, subst, length-append}
-use Rattle.std.specs.Prelude.{◌↔◌, ◌==◌, if◌then◌else◌, IsSome, nat_lt, nat_le}
+use Rattle.std.proofs.Common.{ℕ, ◌≡◌, ◌+◌, ◌<◌, length, List, [], ◌∷◌, ◌++◌, map, filter, slice_index_or, ℤ, Bool, true, false, Option, Some, None, inl, inr, refl, sym, ◌∙◌, ap, arith, subst, length-append}
+use Rattle.std.specs.Prelude.{◌↔◌, if◌then◌else◌, IsSome, nat_lt, nat_le}
 use Rattle.std.proofs.lemmas.Bool.{cases_lt}
 use Rattle.std.proofs.lemmas.Bool.Decides.{nat_tests}
 use Rattle.std.proofs.lemmas.List.{append-nil, get_or_append_left, length-map, map-append}
-use Rattle.std.proofs.Math.Seq.{get_or-append_seam, map-set_same}
-use Rattle.wa_base.specs.Contexts.{IsSupported}
+use Rattle.std.proofs.Math.Seq.{get_or-append_seam}
 use Rattle.wa_base.specs.declared.exceptions.Exc.TheVariants.{NotSupported}
 use Rattle.wa_base.specs.declared.features.Feature.TheVariants.{NodeLimit}
 use Rattle.wa_base.specs.declared.graph_names.ParamId.{ParamId}
@@ -21,17 +20,15 @@ use Rattle.node_table.specs.declared.kinds.Kind.TheVariants.{Destination, Consta
 use Rattle.node_table.specs.declared.nodes.Node.{Node}
 use Rattle.conn_graph.specs.declared.edges.Edge.{Edge}
 use Rattle.conn_graph.specs.declared.edges.Form.{Form}
-use Rattle.conn_graph.specs.declared.edges.Target.{Target}
-use Rattle.conn_graph.specs.declared.edges.Target.TheVariants.{Input, Param as to_param}
-use Rattle.conn_graph.specs.Edges.{is_named}
+use Rattle.conn_graph.specs.declared.edges.Target.TheVariants.{Param as to_param}
 use Rattle.conn_graph.specs.Graph.{Connections, IsGraph, has_edge, with_edge, connected, disconnected}
 use Rattle.conn_graph.proofs.Graphs.{IsGraph-with_node}
 use Rattle.meaning.specs.declared.world.World.{World}
 use Rattle.meaning.specs.declared.params.Param.{Param}
 use Rattle.meaning.specs.declared.scheds.Play.{Play}
-use Rattle.meaning.specs.World.{plain, node_at, kind_of, no_node, is_source, param_id}
-use Rattle.meaning.specs.Validity.{IsValid, HasNodes, HasParams, HasScheds, IsOther, ports_of, param_ids, play_nodes}
-use Rattle.session.specs.Changes.{param_of, new_param, new_params, new_play, new_plays, created, with_graph, with_plays}
+use Rattle.meaning.specs.World.{plain, no_node, is_source, param_id}
+use Rattle.meaning.specs.Validity.{IsValid, HasNodes, HasParams, HasScheds, ports_of, param_ids, play_nodes}
+use Rattle.session.specs.Changes.{param_of, new_params, new_plays, created, with_graph, with_plays}
 use Rattle.session.specs.Step.{edge_of}
 
 -- validity rests on what a world has, and of its schedules on whose they are

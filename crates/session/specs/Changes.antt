@@ -1,5 +1,5 @@
 -- What calls and quanta change in a world.
-use Rattle.std.specs.Prelude.{ℕ, ℤ, ◌≡◌, ◌+◌, nat_le, List, [], ◌∷◌, ◌++◌, length, map, slice_set, All, Bool, true, false, not, ◌&&◌, if◌then◌else◌, Option, None, Some}
+use Rattle.std.specs.Prelude.{ℕ, ℤ, ◌≡◌, nat_le, List, [], ◌∷◌, ◌++◌, length, map, All, Bool, true, false, not, ◌&&◌, if◌then◌else◌, Option, None, Some}
 use Rattle.std.specs.Option.{option_map_or}
 use Rattle.wa_base.specs.declared.graph_names.ParamName.{ParamName}
 use Rattle.wa_base.specs.declared.graph_names.ParamName.TheVariants as param

@@ -1,7 +1,8 @@
 -- A whole session, without a sample in it.
-use Rattle.std.specs.Prelude.{ℕ, zero, suc, ◌+◌, ◌-◌, ◌*◌, ◌/◌, ◌==◌, List, [], ◌∷◌, ◌++◌, filter, if◌then◌else◌, unwrap_or, Option, Some, None}
+use Rattle.std.specs.Prelude.{ℕ, zero, suc, ◌+◌, ◌-◌, ◌/◌, ◌==◌, List, [], ◌∷◌, ◌++◌, filter, if◌then◌else◌, unwrap_or, Bool, true, false, Option, Some, None}
 use Rattle.wa_base.specs.declared.contexts.ContextSpec.{ContextSpec}
 use Rattle.wa_base.specs.Contexts.{quantum_of, is_supported}
+use Rattle.wa_base.specs.declared.contexts.State.{State}
 use Rattle.wa_base.specs.declared.contexts.State.TheVariants as state
 use Rattle.wa_base.specs.declared.exceptions.Exc.TheVariants.{NotSupported}
 use Rattle.script_ast.specs.declared.call_list.Call.{Call}
@@ -88,6 +89,26 @@ closed_machine machine = record machine { state = state.Closed }
 
 abbrev pub closing : Told → ℕ → Told
 closing told ordinal = record { machine = closed_machine told.machine; lines = told.lines ++ line.Call ordinal Resolved ∷ [] }
+
+-- ---- the end
+
+-- whether the context is closed
+abbrev pub has_closed : State → Bool
+has_closed state.Suspended = false
+has_closed state.Running = false
+has_closed state.Closed = true
+
+-- how a session ends whose context is in a state: it completed, or rendering was never started
+abbrev pub end_of : State → EndWord
+end_of state.Suspended = Idle
+end_of state.Running = Idle
+end_of state.Closed = Completed
+
+-- the complete event comes last
+abbrev pub lines_at_end : Told → List Line
+lines_at_end told = if has_closed told.machine.state then told.lines ++ line.Complete told.machine.world.spec.length ∷ [] else told.lines
+
+-- ---- all quanta
 
 -- as many quanta as reach the length from a frame on
 abbrev pub quanta_from : ℕ → ContextSpec → ℕ

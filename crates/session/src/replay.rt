@@ -1,5 +1,5 @@
 ghost use Rattle.std.specs.Prelude.{◌≡◌, ◌++◌, List, [], IsSome, IfOk, IfSome, IsErrOf, OnOk, Some};
-ghost use Rattle.script_ast.specs.WellFormed.{IsWellFormed, AreCallsAfter};
+ghost use Rattle.script_ast.specs.WellFormed.{AreCallsAfter};
 ghost use Rattle.wa_base.specs.Contexts.{IsSupported};
 ghost use Rattle.session.specs.Rendering.{rendering_of};
 ghost use Rattle.session.specs.Session.{after_calls, after_quanta, closing, held_by, quanta_left, replayed as replayed_of, session_of, worlds_of};
@@ -37,7 +37,7 @@ pub fn run<F: Files>(
     options: Options,
     files: &mut F,
 ) -> Result<Outcome, Stop>
-    requires { IsWellFormed script.now }
+    requires { AreCallsAfter 0 script.now.calls }
     ensures lines { IfOk result (λ outcome. outcome.lines.items ≡ (session_of script.now).lines) }
     ensures end { IfOk result (λ outcome. outcome.end ≡ (session_of script.now).end) }
     ensures rendered { IfOk result (λ outcome. outcome.rendered ≡ rendering_of options.audio script.now.context (session_of script.now)) }

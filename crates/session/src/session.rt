@@ -1,8 +1,8 @@
-ghost use Rattle.std.specs.Prelude.{◌≡◌, ◌↔◌, ◌≤◌, ◌<◌, ◌*◌, ℕ, Some, ◌⊎◌, nat_le, ◌∷◌, ◌++◌, [], List, true, false, length, replicate, pos, IsTrue, IsSome, IsNone, IfOk, IfSome, IfErr, IsErrOf, OnOk, OnErr, Ok, if◌then◌else◌};
+ghost use Rattle.std.specs.Prelude.{◌≡◌, ◌↔◌, ◌≤◌, ◌<◌, ◌*◌, ℕ, Some, ◌⊎◌, nat_le, ◌∷◌, ◌++◌, [], List, true, false, length, replicate, pos, IsTrue, IsSome, IsNone, IfOk, IfSome, IfErr, IsErrOf, OnOk, OnErr, Ok, ◌&&◌, if◌then◌else◌};
 ghost use Rattle.script_ast.specs.Ranges.{IsInRange};
 ghost use Rattle.session.specs.Machine.{IsInState};
 ghost use Rattle.wa_base.specs.Contexts.{IsSupported};
-ghost use Rattle.session.specs.Session.{after_call, after_quantum, closing};
+ghost use Rattle.session.specs.Session.{after_call, after_quantum, closing, has_closed, end_of, lines_at_end};
 ghost use Rattle.wa_base.specs.Contexts.{is_supported as supports};
 ghost use Rattle.session.specs.Step.{is_start, KeepsTime};
 ghost use Rattle.session.specs.View.{IsFirst, IsAsBefore, Stands};
@@ -190,6 +190,20 @@ impl Session {
         ensures supported { IsSupported self.now.told.machine.world.spec }
     {
         self.control.started()
+    }
+
+    /// The outcome of a session as it stands. Where its context closed, the line of the complete
+    /// event comes last, and with audio the samples are handed over.
+    pub fn finish(self) -> Outcome
+        requires { self.told.machine.state ≡ State.Running → ⊥ }
+        ensures lines { result.lines.items ≡ lines_at_end self.told }
+        ensures end { result.end ≡ end_of self.told.machine.state }
+        ensures rendered { result.rendered ≡ (if self.audio && has_closed self.told.machine.state then Some (record { spec = self.told.machine.world.spec; samples = self.samples }) else None) }
+    {
+        match self.control.state() {
+            State::Closed => self.completed(),
+            State::Suspended | State::Running => self.idle(),
+        }
     }
 
     // The outcome of a session in which rendering was not started.

@@ -59,6 +59,37 @@ fn a_session_goes_call_by_call(rt: HostRuntime) -> Result<(), Fail> {
     Ok(())
 }
 
+// The end of a session that was advanced so many times after its start, and how many samples it has;
+// None where its context still runs.
+fn end_after(alloc: Global, turns: u32) -> Result<Option<(EndWord, Option<usize>)>, Fail> {
+    let mut session = begin(alloc, 2, 200)?;
+    if turns > 0 {
+        start_rendering(alloc, &mut session, 7)?;
+    }
+    for _ in 0..turns {
+        advance(&mut session)?;
+    }
+    if session.state() == State::Running {
+        return Ok(None);
+    }
+    let outcome = session.finish();
+    let samples = outcome.rendered.map(|rendered| rendered.samples.len());
+    Ok(Some((outcome.end, samples)))
+}
+
+#[test]
+fn a_session_that_was_not_started_ends_idle(rt: HostRuntime) -> Result<(), Fail> {
+    assert_eq!(rt; end_after(rt.alloc(), 0)?, Some((EndWord::Idle, None)));
+    Ok(())
+}
+
+#[test]
+fn a_session_that_reached_its_length_hands_over_its_samples(rt: HostRuntime) -> Result<(), Fail> {
+    let completed = (EndWord::Completed, Some(400));
+    assert_eq!(rt; end_after(rt.alloc(), 2)?, Some(completed));
+    Ok(())
+}
+
 #[test]
 fn contexts_out_of_range_are_refused(rt: HostRuntime) {
     for (channels, length, want) in [

@@ -1,5 +1,4 @@
-use Rattle.std.proofs.Common.{◌≡◌, ◌+◌, ◌*◌, ◌++◌, ◌∷◌, [], List, length, arith, length-append}
-use Rattle.meaning.specs.World.{plain}
+use Rattle.std.proofs.Common.{◌≡◌, ◌+◌, ◌*◌, ◌++◌, ◌∷◌, [], length, arith, length-append}
 use Rattle.session.proofs.Standing.{length_worlds, raw_regular, renders_more, samples_more}
 use Rattle.session.proofs.quantum.render_audio.Goals as goal
 

@@ -1,6 +1,6 @@
-use Rattle.std.proofs.Common.{◌≡◌, false, nat_eq, ◌⊎◌, inl, inr, refl, sym, ap, arith}
+use Rattle.std.proofs.Common.{◌≡◌, false, nat_eq, ◌⊎◌, inl, inr, refl, ap, arith}
 use Rattle.std.proofs.lemmas.Bool.Decides.{nat_tests}
-use Rattle.conn_graph.specs.Graph.{Connections, connected, connect_refusal}
+use Rattle.conn_graph.specs.Graph.{Connections, connected}
 use Rattle.meaning.specs.World.{plain}
 use Rattle.session.specs.Machine.{Machine, machine_of}
 use Rattle.session.specs.Step.{with_connections, edge_of}

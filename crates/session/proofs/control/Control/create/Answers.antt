@@ -3,7 +3,6 @@ use Rattle.name_book.specs.Book.{bound, first_named}
 use Rattle.name_book.specs.declared.book.Object.TheVariants.{Node}
 use Rattle.session.specs.Steady.{IsSteady}
 use Rattle.session.specs.Machine.{Machine, machine_of}
-use Rattle.session.specs.Step.{with_created}
 use Rattle.session.proofs.Grown.{grows_created}
 use Rattle.session.proofs.NewNames.{is_not_destination}
 use Rattle.session.proofs.Stepping.{refused, created_machine, steady_created}

@@ -2,10 +2,8 @@ use Rattle.std.proofs.Common.{◌≡◌, ◌+◌, true, false, refl, ap, subst, 
 use Rattle.std.specs.Prelude.{nat_le}
 use Rattle.std.proofs.lemmas.Bool.Decides.{nat_tests}
 use Rattle.wa_base.specs.declared.contexts.State.TheVariants.{Running, Closed}
-use Rattle.meaning.specs.Validity.{IsValid}
-use Rattle.session.specs.Machine.{Machine, IsInState, machine_of}
+use Rattle.session.specs.Machine.{IsInState}
 use Rattle.session.specs.Session.{closed_machine}
-use Rattle.session.specs.Steady.{IsSteady}
 use Rattle.session.proofs.Stepping.{steady_after, after_is}
 use Rattle.session.proofs.control.Control.end_quantum.Goals as goal
 use Rattle.session.proofs.control.Control.end_quantum.Goals.{then-self, else-self}

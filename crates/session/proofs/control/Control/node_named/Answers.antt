@@ -1,4 +1,4 @@
-use Rattle.std.proofs.Common.{length, ◌∙◌, ap, sym}
+use Rattle.std.proofs.Common.{length}
 use Rattle.session.proofs.Named.{node_there}
 use Rattle.session.proofs.Stepping.{steady_created}
 use Rattle.session.proofs.control.Control.node_named.Goals as goal

@@ -1,4 +1,4 @@
-use Rattle.std.proofs.Common.{refl, sym, ap, ◌∙◌, subst}
+use Rattle.std.proofs.Common.{sym}
 use Rattle.session.proofs.Standing.{first_session, renders_none}
 use Rattle.session.proofs.session.Session.new.Goals as goal
 use Rattle.session.proofs.session.Session.new.Goals.{then-options+in_ok-new, else-options}
