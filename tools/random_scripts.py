@@ -463,6 +463,7 @@ def main():
     if words.print is not None:
         print(json.dumps(script_of(words.seed, words.print)))
     elif words.loads:
+        os.makedirs(words.loads, exist_ok=True)
         for name, load in LOADS.items():
             with open(os.path.join(words.loads, name + ".json"), "w") as file:
                 json.dump(load(), file)
