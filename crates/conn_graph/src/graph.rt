@@ -98,7 +98,13 @@ impl Graph {
         Ok(true)
     }
 
-    fn connect_refusal(&self, edge: Edge) -> Option<Exc>
+    /// The exception with which `connect` would refuse now, and `None` where it would not refuse and
+    /// could fail for want of memory alone.
+    ///
+    /// The refusals come in the order of `connect`: `IndexSize` for an output or an input that the
+    /// node does not have, then `NotSupported` with `ConnectionLimit` for a new connection where
+    /// there are 8,192. Nothing changes.
+    pub fn connect_refusal(&self, edge: Edge) -> Option<Exc>
         requires from { edge.from.0 < length self.now.value.nodes }
         requires to { target_node edge.to < length self.now.value.nodes }
         ensures { result ≡ spec.connect_refusal self.now.value edge }
@@ -143,7 +149,12 @@ impl Graph {
         Ok(())
     }
 
-    fn disconnect_refusal(&self, from: NodeId, form: Form) -> Option<Exc>
+    /// The exception with which `disconnect` would refuse now, and `None` where it would succeed.
+    ///
+    /// The refusals come in the order of `disconnect`: `IndexSize` for an output and for an input
+    /// that the node does not have, then `InvalidAccess` where a form with a target names no
+    /// connection. Nothing changes.
+    pub fn disconnect_refusal(&self, from: NodeId, form: Form) -> Option<Exc>
         requires from { from.0 < length self.now.value.nodes }
         requires to { IfSome (form_node form) (λ node. node < length self.now.value.nodes) }
         ensures { result ≡ spec.disconnect_refusal self.now.value from.0 form }
