@@ -1,7 +1,8 @@
 -- Ends, arrows, cycles and muting.
-use Rattle.std.specs.Prelude.{ℕ, suc, List, [], ◌∷◌, ◌++◌, Bool, true, false, not, length, ◌&&◌, ◌||◌, ◌==◌, if◌then◌else◌}
+use Rattle.std.specs.Prelude.{ℕ, suc, ◌≡◌, ◌<◌, ◌⊎◌, ◌↔◌, List, [], ◌∷◌, ◌++◌, Bool, true, false, not, length, ◌&&◌, ◌||◌, ◌==◌, if◌then◌else◌}
 use Rattle.std.specs.List.{list_any}
 use Rattle.wa_base.specs.declared.graph_names.End.{End}
+use Rattle.law_base.specs.Members.{IsIn}
 use Rattle.law_base.specs.Reaching.{reaches}
 use Rattle.conn_graph.specs.declared.edges.Ports.{Ports}
 use Rattle.conn_graph.specs.declared.edges.Target.{Target}
@@ -67,3 +68,17 @@ height g = length (ends g)
 -- an end is muted where it reaches itself
 unfoldable pub muted : Connections → End → Bool
 muted g e = reaches (arrow g) (ends g) (height g) e e
+
+-- one end comes before another where its node has a smaller number, or where both are of one node and it is the writer
+abbrev pub comes_before : End → End → Type 0
+comes_before a b = (a.node.0 < b.node.0) ⊎ ((a.node.0 ≡ b.node.0) × (a.writer ≡ true) × (b.writer ≡ false))
+
+-- each end comes before the next one
+abbrev pub AreAscending : List End → Type 0
+AreAscending [] = Unit {0}
+AreAscending (a ∷ []) = Unit {0}
+AreAscending (a ∷ b ∷ es) = comes_before a b × AreAscending (b ∷ es)
+
+-- The list of ends is in order of node number, the writer first. An end stands in it where its node is there and, if it is a writer, that node is a delay.
+abbrev pub EndsOrderLaw : Type 0
+EndsOrderLaw = (g : Connections) → AreAscending (ends g) × ((e : End) → IsIn e (ends g) ↔ ((e.node.0 < length g.nodes) × (e.writer ≡ true → is_delay g e.node.0 ≡ true)))
