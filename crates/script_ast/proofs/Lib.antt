@@ -1,1 +1,3 @@
 mod Constants
+mod HolderRows
+pub mod Nesting

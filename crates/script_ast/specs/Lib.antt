@@ -1,5 +1,6 @@
 pub mod Entries
 pub mod Fields
+pub mod Holders
 pub mod OpNames
 pub mod Ranges
 pub mod WellFormed

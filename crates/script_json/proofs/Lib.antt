@@ -2,7 +2,9 @@ mod CallSteps
 mod DepthLaws
 mod FormLaws
 mod HeadSteps
+mod NestedLaws
 mod Outcomes
+mod PlacedLaws
 mod Rows
 mod Trees
 mod WellFormedLaws

@@ -1,15 +1,14 @@
 -- A script that is read is well-formed.
-use Rattle.std.proofs.Common.{◌≡◌, ◌≤◌, ◌+◌, ℕ, suc, List, [], ◌∷◌, ◌++◌, length, refl, Ok, Option, Some, None, Bool, true, false, arith, ℤ, pos, negsuc, neg_ℤ, T}
-use Rattle.std.specs.Prelude.{◌≤ℤ◌, flat_map, filter_map, is_some, option_map, option_and_then, unwrap_or, int_le, nat_abs, ◌&&◌, if◌then◌else◌, bytes_eq}
+use Rattle.std.proofs.Common.{◌≡◌, ◌≤◌, ◌+◌, ◌⊎◌, ℕ, suc, List, [], ◌∷◌, ◌++◌, length, refl, Ok, Option, Some, None, Bool, true, false, arith, ℤ, pos, negsuc, neg_ℤ, T}
+use Rattle.std.specs.Prelude.{◌≤ℤ◌, flat_map, filter_map, is_some, option_map, option_and_then, unwrap_or, int_le, nat_abs, ◌&&◌, if◌then◌else◌}
 use Rattle.std.specs.List.{cons_option}
 use Rattle.std.specs.Int.Signed.{le_z_yes}
 use Rattle.std.proofs.lemmas.Grind.{flat_map-append}
 use Rattle.std.proofs.lemmas.Int.{ints}
 use Rattle.std.proofs.lemmas.List.Elements.{filter_map-append}
-use Rattle.serde_json.specs.Data.{Data, null, boolean, number, string, array, object, Items, no_items, item, Members, no_members, member}
+use Rattle.serde_json.specs.Data.{Data, Items}
 use Rattle.serde_json.specs.Find.{as_object, as_str}
 use Rattle.wa_base.specs.declared.contexts.ContextSpec.{ContextSpec}
-use Rattle.script_ast.specs.Fields.{field_word}
 use Rattle.script_ast.specs.Ranges.{IsFix, IsTime, IsTimeIfSome, IsCount, IsCountIfSome, IsNewName, IsInRange, is_new_name}
 use Rattle.script_ast.specs.WellFormed.{IsCallAt, AreCallsAfter, IsWellFormed}
 use Rattle.script_ast.specs.declared.call_list.Call.{Call}
@@ -23,7 +22,8 @@ use Rattle.script_ast.specs.declared.op_names.OpName.{OpName}
 use Rattle.script_ast.specs.declared.op_names.OpName.TheVariants.{CreateConstantSource, CreateGain, Connect, Disconnect, Start, Stop, StartRendering, Resume, ReadState, ReadTime, LeftOut}
 use Rattle.script_json.proofs.CallSteps.{both_none, length-calls, outcome_ok}
 use Rattle.script_json.proofs.FormLaws.{disconnect_form}
-use Rattle.script_json.specs.Calls.{Placed, placed, held_by, then_calls, list_calls, has_then, call_faults, call_of, name_in, name_faults, op_faults, op_in}
+use Rattle.script_json.proofs.PlacedLaws.{placed_all}
+use Rattle.script_json.specs.Calls.{Placed, placed, has_then, call_faults, call_of, name_in, name_faults, op_faults, op_in}
 use Rattle.script_json.specs.Fields.{field_faults, cause_faults, member_faults, member_at, number_in, number_within, given_number, time_or_null_in, count_in, count_or_null_in, text_in}
 use Rattle.script_json.specs.Outcome.{outcome}
 use Rattle.script_json.specs.Reading.{placed_at, calls_read}
@@ -169,9 +169,9 @@ after_good n call (Some c) calls place good rest = (rw place at good, rest)
 abbrev AreGoodAfter : ℕ → List Placed → Type 0
 AreGoodAfter n calls = flat_map call_faults calls ≡ [] → AreCallsAfter n (filter_map call_of calls)
 
-item_good : (d : Data) (n holder : ℕ) (held rest : List Placed) → holder ≤ n → AreGoodAfter (n + 1) held → AreGoodAfter (n + 1 + length held) rest
+item_good : (d : Data) (n holder : ℕ) (held rest : List Placed) → holder ≤ n → (held ≡ []) ⊎ (has_then (name_in d) ≡ true) → AreGoodAfter (n + 1) held → AreGoodAfter (n + 1 + length held) rest
     → AreGoodAfter n (placed_at (n + 1) holder d ∷ held ++ rest)
-item_good d n holder held rest early held_good rest_good none =
+item_good d n holder held rest early none_or held_good rest_good none =
     let this = both_none (call_faults (placed_at (n + 1) holder d)) (flat_map call_faults (held ++ rest)) none in
     let others = both_none (flat_map call_faults held) (flat_map call_faults rest) (rw (flat_map-append call_faults held rest) at this.1) in
     let count = length-calls held others.0 in
@@ -180,43 +180,8 @@ item_good d n holder held rest early held_good rest_good none =
     after_good n (placed_at (n + 1) holder d) (call_of (placed_at (n + 1) holder d)) _ refl (good_call (placed_at (n + 1) holder d) near this.0)
     (rw (filter_map-append call_of held rest) both)
 
-held_good_if : (b : Bool) (n : ℕ) (calls : List Placed) → AreGoodAfter n calls → AreGoodAfter n (if b then calls else [])
-held_good_if true n calls h = h
-held_good_if false n calls h = λ none. tt
-
-then_good_if : (b : Bool) (d : Data) (ms : Members) (n : ℕ) → AreGoodAfter n (list_calls d n) → AreGoodAfter n (then_calls ms n)
-    → AreGoodAfter n (if b then list_calls d n else then_calls ms n)
-then_good_if true d ms n first second = first
-then_good_if false d ms n first second = second
-
-mutual
-  unfolding placed
-
-  pub placed_good : (ds : Items) (n holder : ℕ) → holder ≤ n → AreGoodAfter n (placed ds n holder)
-  placed_good no_items n holder early = λ none. tt
-  placed_good (item d ds) n holder early =
-      let later : holder ≤ n + 1 + length (held_by d (n + 1)) = omega arith in
-      item_good d n holder (held_by d (n + 1)) (placed ds (n + 1 + length (held_by d (n + 1))) holder) early (held_good d (n + 1)) (placed_good ds (n + 1 + length (held_by d (n + 1))) holder later)
-
-  held_good : (d : Data) (n : ℕ) → AreGoodAfter n (held_by d n)
-  held_good null n = λ none. tt
-  held_good (boolean b) n = λ none. tt
-  held_good (number x) n = λ none. tt
-  held_good (string s) n = λ none. tt
-  held_good (array ds) n = λ none. tt
-  held_good (object ms) n = held_good_if (has_then (name_in (object ms))) n (then_calls ms n) (then_good ms n)
-
-  then_good : (ms : Members) (n : ℕ) → AreGoodAfter n (then_calls ms n)
-  then_good no_members n = λ none. tt
-  then_good (member key d ms) n = then_good_if (bytes_eq (field_word field.Then) key) d ms n (list_good d n) (then_good ms n)
-
-  list_good : (d : Data) (n : ℕ) → AreGoodAfter n (list_calls d n)
-  list_good null n = λ none. tt
-  list_good (boolean b) n = λ none. tt
-  list_good (number x) n = λ none. tt
-  list_good (string s) n = λ none. tt
-  list_good (array ds) n = let here : n ≤ n = omega arith in placed_good ds n n here
-  list_good (object ms) n = λ none. tt
+placed_good : (ds : Items) (n holder : ℕ) → holder ≤ n → AreGoodAfter n (placed ds n holder)
+placed_good ds n holder early = placed_all (λ (n holder : ℕ) (calls : List Placed). AreGoodAfter n calls) (λ n holder none. tt) item_good ds n holder early
 
 pub read_well_formed : (d : Data) (context : ContextSpec) (ds : Items) (calls : List Call) → outcome (head_faults d) (context_of (context_in d)) ≡ Ok context
     → calls_read [] (placed ds 0 0) ≡ Ok calls → IsWellFormed (record { context = context; calls = calls })

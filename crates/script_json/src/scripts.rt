@@ -1,6 +1,7 @@
 ghost use Rattle.std.specs.Prelude.{◌≡◌, ◌≢◌, ◌≤◌, Ok, Err, IfOk, IfErr};
 ghost use Rattle.serde_json.specs.Data.{depth};
 ghost use Rattle.serde_json.specs.View.{view, items_view};
+ghost use Rattle.script_ast.specs.Holders.{AreNested};
 ghost use Rattle.script_ast.specs.WellFormed.{IsWellFormed};
 ghost use Rattle.script_json.specs.Outcome.{outcome};
 ghost use Rattle.script_json.specs.Script.{context_in, context_of, main_list, head_faults, script_faults, script_in, script_of};
@@ -25,6 +26,7 @@ pub fn read(alloc: Global, bytes: &[u8]) -> Result<Script, ScriptErr>
     ensures ok { IfOk result (λ script. script_of bytes.now ≡ Ok script) }
     ensures fault { IfErr result (λ e. e ≢ ScriptErr.NoMemory → script_of bytes.now ≡ Err e) }
     ensures well_formed { IfOk result (λ script. IsWellFormed script) }
+    ensures nested { IfOk result (λ script. AreNested script.calls) }
 {
     let value = parse(alloc, bytes)?;
     read_script(alloc, &value)
@@ -37,6 +39,7 @@ fn read_script(alloc: Global, value: &Value) -> Result<Script, ScriptErr>
     ensures fault { IfErr result (λ e. e ≢ ScriptErr.NoMemory
         → outcome (script_faults (view value.now)) (script_in (view value.now)) ≡ Err e) }
     ensures well_formed { IfOk result (λ script. IsWellFormed script) }
+    ensures nested { IfOk result (λ script. AreNested script.calls) }
 {
     let context = read_context(value)?;
     let mut calls = Calls::new(alloc);
