@@ -2,6 +2,7 @@
 #![tactic(auto)]
 
 mod call_list;
+mod clocks;
 pub mod entries;
 mod fields;
 mod op_names;
@@ -9,6 +10,7 @@ mod operations;
 mod paths;
 
 pub use call_list::{Call, Calls, Script};
+pub use clocks::Clock;
 pub use entries::{Fallback, Kind, Row, fallback_in};
 pub use fields::Field;
 pub use op_names::{LeftOutName, OP_NAMES, OpName, is_built};

@@ -11,6 +11,7 @@ use Rattle.serde_json.specs.Data.{Data, null, boolean, number, string, array, ob
 use Rattle.serde_json.specs.View.{view, items_view}
 use Rattle.serde_json.specs.declared.value.Value.{Value}
 use Rattle.script_ast.specs.declared.call_list.Call.{Call}
+use Rattle.script_ast.specs.declared.clocks.Clock.{Clock}
 use Rattle.script_json.proofs.Outcomes.{outcome_none, outcome_some}
 use Rattle.std.proofs.lemmas.Grind.{flat_map-append}
 use Rattle.std.proofs.lemmas.List.Elements.{filter_map-append}
@@ -47,42 +48,42 @@ pub outcome_of_none : {A B : Type 0} (xs : List ScriptErr) (x y : A) (value : B)
 outcome_of_none [] x y value h = refl
 outcome_of_none (fault ∷ faults) x y value h = cc
 
-read_object : (call : Placed) (b : Bool) → (if b then name_faults call.ordinal call.value (name_in call.value) else WrongKind call.ordinal field.Call ∷ []) ≡ [] → b ≡ true
-read_object call true h = refl
-read_object call false h = cc
+read_object : (clock : Clock) (call : Placed) (b : Bool) → (if b then name_faults clock call.ordinal call.value (name_in call.value) else WrongKind call.ordinal field.Call ∷ []) ≡ [] → b ≡ true
+read_object clock call true h = refl
+read_object clock call false h = cc
 
 -- ---- one call
 
 -- the fault of a field is the call's first
-pub op_fault : (n : ℕ) (d : Data) (name : OpName) (e : ScriptErr) → outcome {A = ⊤} (fields_faults n d (fields_of name)) tt ≡ Err e
-    → outcome {A = ⊤} (op_faults n d name) tt ≡ Err e
-op_fault n d name e h = outcome_some _ _ tt e h
+pub op_fault : (clock : Clock) (n : ℕ) (d : Data) (name : OpName) (e : ScriptErr) → outcome {A = ⊤} (fields_faults clock n d (fields_of name)) tt ≡ Err e
+    → outcome {A = ⊤} (op_faults clock n d name) tt ≡ Err e
+op_fault clock n d name e h = outcome_some _ _ tt e h
 
 -- where no field has a fault, the first is one of several fields together
-pub op_joint : (n : ℕ) (d : Data) (name : OpName) (done : ⊤) → outcome {A = ⊤} (fields_faults n d (fields_of name)) tt ≡ Ok done
-    → outcome {A = ⊤} (op_faults n d name) tt ≡ outcome {A = ⊤} (joint_faults n d name) tt
-op_joint n d name done h = outcome_none _ _ tt done h
+pub op_joint : (clock : Clock) (n : ℕ) (d : Data) (name : OpName) (done : ⊤) → outcome {A = ⊤} (fields_faults clock n d (fields_of name)) tt ≡ Ok done
+    → outcome {A = ⊤} (op_faults clock n d name) tt ≡ outcome {A = ⊤} (joint_faults n d name) tt
+op_joint clock n d name done h = outcome_none _ _ tt done h
 
-pub call_read-no_object : (n holder : ℕ) (d : Data) → is_some (as_object d) ≡ false → call_read (placed_at n holder d) ≡ Err (WrongKind n field.Call)
+pub call_read-no_object : (clock : Clock) (n holder : ℕ) (d : Data) → is_some (as_object d) ≡ false → call_read clock (placed_at n holder d) ≡ Err (WrongKind n field.Call)
 unfolding call_read call_faults
-call_read-no_object n holder d is_object = rw is_object refl
+call_read-no_object clock n holder d is_object = rw is_object refl
 
-pub call_read-unknown : (n holder : ℕ) (d : Data) → is_some (as_object d) ≡ true → name_in d ≡ None → call_read (placed_at n holder d) ≡ Err (UnknownOp n)
+pub call_read-unknown : (clock : Clock) (n holder : ℕ) (d : Data) → is_some (as_object d) ≡ true → name_in d ≡ None → call_read clock (placed_at n holder d) ≡ Err (UnknownOp n)
 unfolding call_read call_faults
-call_read-unknown n holder d is_object name = rw (is_object, name) refl
+call_read-unknown clock n holder d is_object name = rw (is_object, name) refl
 
-pub call_read-named : (n holder : ℕ) (d : Data) (name : OpName) → is_some (as_object d) ≡ true → name_in d ≡ Some name
-    → call_read (placed_at n holder d) ≡ outcome (op_faults n d name) (Some (record { ordinal = n; holder = holder; op = op_in name d }))
+pub call_read-named : (clock : Clock) (n holder : ℕ) (d : Data) (name : OpName) → is_some (as_object d) ≡ true → name_in d ≡ Some name
+    → call_read clock (placed_at n holder d) ≡ outcome (op_faults clock n d name) (Some (record { ordinal = n; holder = holder; op = op_in clock name d }))
 unfolding call_read call_faults call_of
-call_read-named n holder d name is_object named = rw (is_object, named) refl
+call_read-named clock n holder d name is_object named = rw (is_object, named) refl
 
 pub held_list-named : (d : Data) (name : OpName) → name_in d ≡ Some name → has_calls name ≡ true → held_list d ≡ list_in field.Then d
 unfolding held_list
 held_list-named d name named has = rw (named, has) refl
 
-pub call_read-object : (call : Placed) (o : Option Call) → call_read call ≡ Ok o → is_some (as_object call.value) ≡ true
+pub call_read-object : (clock : Clock) (call : Placed) (o : Option Call) → call_read clock call ≡ Ok o → is_some (as_object call.value) ≡ true
 unfolding call_read call_faults
-call_read-object call o h = read_object call (is_some (as_object call.value)) (outcome_ok _ _ _ h).0
+call_read-object clock call o h = read_object clock call (is_some (as_object call.value)) (outcome_ok _ _ _ h).0
 
 -- ---- the calls that a call holds, as its list tells them
 
@@ -125,43 +126,43 @@ held_by-placed (object ms) n h = placed_if (has_then (name_in (object ms))) ms n
 
 -- ---- the calls of a list
 
-pub next_call : (before : List Call) (call : Placed) (calls : List Placed) (c : Call) → call_read call ≡ Ok (Some c)
-    → calls_read before (call ∷ calls) ≡ calls_read (before ++ c ∷ []) calls
+pub next_call : (clock : Clock) (before : List Call) (call : Placed) (calls : List Placed) (c : Call) → call_read clock call ≡ Ok (Some c)
+    → calls_read clock before (call ∷ calls) ≡ calls_read clock (before ++ c ∷ []) calls
 unfolding call_read calls_read
-next_call before call calls c h = let e = outcome_ok _ _ _ h in rw (e.0, e.1, append_assoc) refl
+next_call clock before call calls c h = let e = outcome_ok _ _ _ h in rw (e.0, e.1, append_assoc) refl
 
-pub call_fault : (before : List Call) (call : Placed) (calls : List Placed) (e : ScriptErr) → call_read call ≡ Err e
-    → calls_read before (call ∷ calls) ≡ Err e
+pub call_fault : (clock : Clock) (before : List Call) (call : Placed) (calls : List Placed) (e : ScriptErr) → call_read clock call ≡ Err e
+    → calls_read clock before (call ∷ calls) ≡ Err e
 unfolding call_read calls_read
-call_fault before call calls e h = outcome_some _ _ _ e (outcome_err _ _ _ e h)
+call_fault clock before call calls e h = outcome_some _ _ _ e (outcome_err _ _ _ e h)
 
-pub calls_then : (before : List Call) (first second : List Placed) (after : List Call) → calls_read before first ≡ Ok after
-    → calls_read before (first ++ second) ≡ calls_read after second
+pub calls_then : (clock : Clock) (before : List Call) (first second : List Placed) (after : List Call) → calls_read clock before first ≡ Ok after
+    → calls_read clock before (first ++ second) ≡ calls_read clock after second
 unfolding calls_read
-calls_then before first second after h = let e = outcome_ok _ _ _ h in
-    rw (flat_map-append call_faults first second, filter_map-append call_of first second, e.0, ← e.1, append_assoc) refl
+calls_then clock before first second after h = let e = outcome_ok _ _ _ h in
+    rw (flat_map-append (call_faults clock) first second, filter_map-append (call_of clock) first second, e.0, ← e.1, append_assoc) refl
 
-pub calls_fault : (before : List Call) (first second : List Placed) (e : ScriptErr) → calls_read before first ≡ Err e
-    → calls_read before (first ++ second) ≡ Err e
+pub calls_fault : (clock : Clock) (before : List Call) (first second : List Placed) (e : ScriptErr) → calls_read clock before first ≡ Err e
+    → calls_read clock before (first ++ second) ≡ Err e
 unfolding calls_read
-calls_fault before first second e h = rw (flat_map-append call_faults first second) (outcome_some _ _ _ e (outcome_err _ _ _ e h))
+calls_fault clock before first second e h = rw (flat_map-append (call_faults clock) first second) (outcome_some _ _ _ e (outcome_err _ _ _ e h))
 
-abbrev meaning : Placed → Option OpName → Option Call
-meaning call o = option_map (λ name. record { ordinal = call.ordinal; holder = call.holder; op = op_in name call.value }) o
+abbrev meaning : Clock → Placed → Option OpName → Option Call
+meaning clock call o = option_map (λ name. record { ordinal = call.ordinal; holder = call.holder; op = op_in clock name call.value }) o
 
-named_call : (call : Placed) (o : Option OpName) → name_faults call.ordinal call.value o ≡ [] → is_some (meaning call o) ≡ true
-named_call call None h = cc
-named_call call (Some name) h = refl
+named_call : (clock : Clock) (call : Placed) (o : Option OpName) → name_faults clock call.ordinal call.value o ≡ [] → is_some (meaning clock call o) ≡ true
+named_call clock call None h = cc
+named_call clock call (Some name) h = refl
 
-object_call : (call : Placed) (b : Bool) → (if b then name_faults call.ordinal call.value (name_in call.value) else WrongKind call.ordinal field.Call ∷ []) ≡ []
-    → is_some (meaning call (name_in call.value)) ≡ true
-object_call call true h = named_call call (name_in call.value) h
-object_call call false h = cc
+object_call : (clock : Clock) (call : Placed) (b : Bool) → (if b then name_faults clock call.ordinal call.value (name_in call.value) else WrongKind call.ordinal field.Call ∷ []) ≡ []
+    → is_some (meaning clock call (name_in call.value)) ≡ true
+object_call clock call true h = named_call clock call (name_in call.value) h
+object_call clock call false h = cc
 
 -- a call without a fault is a call
-pub is_call : (call : Placed) → call_faults call ≡ [] → is_some (call_of call) ≡ true
+pub is_call : (clock : Clock) (call : Placed) → call_faults clock call ≡ [] → is_some (call_of clock call) ≡ true
 unfolding call_faults call_of
-is_call call h = object_call call (is_some (as_object call.value)) h
+is_call clock call h = object_call clock call (is_some (as_object call.value)) h
 
 pub both_none : {A : Type 0} (xs ys : List A) → xs ++ ys ≡ [] → (xs ≡ []) × (ys ≡ [])
 both_none [] ys h = (refl, h)
@@ -171,51 +172,51 @@ pub length-cons_option : {A : Type 0} (o : Option A) (xs : List A) → is_some o
 length-cons_option None xs h = cc
 length-cons_option (Some x) xs h = refl
 
-pub length-calls : (calls : List Placed) → flat_map call_faults calls ≡ [] → length (filter_map call_of calls) ≡ length calls
-length-calls [] h = refl
-length-calls (call ∷ calls) h = let e = both_none (call_faults call) (flat_map call_faults calls) h in
-    length-cons_option (call_of call) (filter_map call_of calls) (is_call call e.0) ∙ ap suc (length-calls calls e.1)
+pub length-calls : (clock : Clock) (calls : List Placed) → flat_map (call_faults clock) calls ≡ [] → length (filter_map (call_of clock) calls) ≡ length calls
+length-calls clock [] h = refl
+length-calls clock (call ∷ calls) h = let e = both_none (call_faults clock call) (flat_map (call_faults clock) calls) h in
+    length-cons_option (call_of clock call) (filter_map (call_of clock) calls) (is_call clock call e.0) ∙ ap suc (length-calls clock calls e.1)
 
-pub length-calls_read : (before : List Call) (calls : List Placed) (after : List Call) → calls_read before calls ≡ Ok after
+pub length-calls_read : (clock : Clock) (before : List Call) (calls : List Placed) (after : List Call) → calls_read clock before calls ≡ Ok after
     → length after ≡ length before + length calls
 unfolding calls_read
-length-calls_read before calls after h = let e = outcome_ok _ _ _ h in
-    rw (← e.1, length-append, length-calls calls e.0) refl
+length-calls_read clock before calls after h = let e = outcome_ok _ _ _ h in
+    rw (← e.1, length-append, length-calls clock calls e.0) refl
 
 -- ---- the steps of reading a list
 
-pub list_done : (before : List Call) (n holder i : ℕ) (list : List Value) → length list ≤ i
-    → calls_read before (placed (items_view (drop i list)) n holder) ≡ Ok before
+pub list_done : (clock : Clock) (before : List Call) (n holder i : ℕ) (list : List Value) → length list ≤ i
+    → calls_read clock before (placed (items_view (drop i list)) n holder) ≡ Ok before
 unfolding calls_read placed
-list_done before n holder i list h = rw (drop_all i list h, append-nil) refl
+list_done clock before n holder i list h = rw (drop_all i list h, append-nil) refl
 
-pub item_fault : (before : List Call) (n holder i : ℕ) (list : List Value) (v : Value) (e : ScriptErr)
-    → i < length list → v ≡ get_or list i v → n ≡ length before + 1 → call_read (placed_at n holder (view v)) ≡ Err e
-    → calls_read before (placed (items_view (drop i list)) (length before) holder) ≡ Err e
-item_fault before n holder i list v e h is n_is bad =
-    rw (placed-drop (length before) holder list i v h, ← is, ← n_is) (call_fault _ _ _ e bad)
+pub item_fault : (clock : Clock) (before : List Call) (n holder i : ℕ) (list : List Value) (v : Value) (e : ScriptErr)
+    → i < length list → v ≡ get_or list i v → n ≡ length before + 1 → call_read clock (placed_at n holder (view v)) ≡ Err e
+    → calls_read clock before (placed (items_view (drop i list)) (length before) holder) ≡ Err e
+item_fault clock before n holder i list v e h is n_is bad =
+    rw (placed-drop (length before) holder list i v h, ← is, ← n_is) (call_fault clock _ _ _ e bad)
 
-module _ (before with_call : List Call) (n holder i : ℕ) (list : List Value) (v : Value) (c : Call) (ds : Items)
-    (h : i < length list) (is : v ≡ get_or list i v) (n_is : n ≡ length before + 1) (read : call_read (placed_at n holder (view v)) ≡ Ok (Some c))
+module _ (clock : Clock) (before with_call : List Call) (n holder i : ℕ) (list : List Value) (v : Value) (c : Call) (ds : Items)
+    (h : i < length list) (is : v ≡ get_or list i v) (n_is : n ≡ length before + 1) (read : call_read clock (placed_at n holder (view v)) ≡ Ok (Some c))
     (with_is : with_call ≡ before ++ c ∷ []) (ds_is : ds ≡ held_list (view v)) where
   length_with : length with_call ≡ n
   length_with = rw (with_is, length-append, n_is) refl
 
   held_is : held_by (view v) n ≡ placed ds n n
-  held_is = held_by-placed (view v) n (call_read-object _ _ read) ∙ ap (λ (ds : Items). placed ds n n) (sym ds_is)
+  held_is = held_by-placed (view v) n (call_read-object clock _ _ read) ∙ ap (λ (ds : Items). placed ds n n) (sym ds_is)
 
-  pub item_step : calls_read before (placed (items_view (drop i list)) (length before) holder)
-      ≡ calls_read with_call (placed ds n n ++ placed (items_view (drop (i + 1) list)) (n + length (placed ds n n)) holder)
-  item_step = rw (placed-drop (length before) holder list i v h, ← is, ← n_is, held_is, with_is) (next_call _ _ _ c read)
+  pub item_step : calls_read clock before (placed (items_view (drop i list)) (length before) holder)
+      ≡ calls_read clock with_call (placed ds n n ++ placed (items_view (drop (i + 1) list)) (n + length (placed ds n n)) holder)
+  item_step = rw (placed-drop (length before) holder list i v h, ← is, ← n_is, held_is, with_is) (next_call clock _ _ _ c read)
 
-  pub item_held_fault : (e : ScriptErr) → calls_read with_call (placed ds (length with_call) n) ≡ Err e
-      → calls_read before (placed (items_view (drop i list)) (length before) holder) ≡ Err e
-  item_held_fault e bad = item_step ∙ calls_fault _ _ _ e (rw length_with at bad)
+  pub item_held_fault : (e : ScriptErr) → calls_read clock with_call (placed ds (length with_call) n) ≡ Err e
+      → calls_read clock before (placed (items_view (drop i list)) (length before) holder) ≡ Err e
+  item_held_fault e bad = item_step ∙ calls_fault clock _ _ _ e (rw length_with at bad)
 
-  pub item_done : (after : List Call) → calls_read with_call (placed ds (length with_call) n) ≡ Ok after
-      → calls_read before (placed (items_view (drop i list)) (length before) holder)
-      ≡ calls_read after (placed (items_view (drop (i + 1) list)) (length after) holder)
+  pub item_done : (after : List Call) → calls_read clock with_call (placed ds (length with_call) n) ≡ Ok after
+      → calls_read clock before (placed (items_view (drop i list)) (length before) holder)
+      ≡ calls_read clock after (placed (items_view (drop (i + 1) list)) (length after) holder)
   item_done after good =
       let held = rw length_with at good in
-      let count : length after ≡ n + length (placed ds n n) = length-calls_read _ _ after held ∙ ap (λ k. k + length (placed ds n n)) length_with in
-      rw count (item_step ∙ calls_then _ _ _ after held)
+      let count : length after ≡ n + length (placed ds n n) = length-calls_read clock _ _ after held ∙ ap (λ k. k + length (placed ds n n)) length_with in
+      rw count (item_step ∙ calls_then clock _ _ _ after held)

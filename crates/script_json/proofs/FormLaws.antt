@@ -5,6 +5,7 @@ use Rattle.serde_json.specs.Data.{Data, null, boolean, number, string, array, ob
 use Rattle.serde_json.specs.Find.{as_null, as_str}
 use Rattle.script_ast.specs.Ranges.{IsDisconnectForm}
 use Rattle.script_ast.specs.Entries.{row, disconnect}
+use Rattle.script_ast.specs.declared.clocks.Clock.{Clock}
 use Rattle.script_ast.specs.declared.entries.Fallback.TheVariants.{Needed, Null}
 use Rattle.script_ast.specs.declared.entries.Kind.TheVariants as kind
 use Rattle.script_ast.specs.declared.fields.Field.{Field}
@@ -44,13 +45,13 @@ faults_given : (faults : List ScriptErr) (b : Bool) → not b ≡ true → (if t
 faults_given faults true there h = cc
 faults_given faults false there h = h
 
-count_there : (n : ℕ) (o : Option Data) → member_faults n (row field.Output kind.Count Null) o ≡ [] → is_given o ≡ true → IsSome (count_value o)
-count_there n None h there = cc
-count_there n (Some d) h there = number_given n _ (whole d) (faults_given _ (is_some (as_null d)) there h)
+count_there : (clock : Clock) (n : ℕ) (o : Option Data) → member_faults clock n (row field.Output kind.Count Null) o ≡ [] → is_given o ≡ true → IsSome (count_value o)
+count_there clock n None h there = cc
+count_there clock n (Some d) h there = number_given n _ (whole d) (faults_given _ (is_some (as_null d)) there h)
 
-text_there : (n : ℕ) (o : Option Data) → member_faults n (row field.To kind.Name Null) o ≡ [] → is_given o ≡ true → IsSome (text_value o)
-text_there n None h there = cc
-text_there n (Some d) h there = text_given n _ (is_some (as_str d)) (faults_given _ (is_some (as_null d)) there h)
+text_there : (clock : Clock) (n : ℕ) (o : Option Data) → member_faults clock n (row field.To kind.Name Null) o ≡ [] → is_given o ≡ true → IsSome (text_value o)
+text_there clock n None h there = cc
+text_there clock n (Some d) h there = text_given n _ (is_some (as_str d)) (faults_given _ (is_some (as_null d)) there h)
 
 -- ---- a member with a value is there
 
@@ -83,11 +84,11 @@ middle_none ws xs ys zs h =
     let after_first = (both_none ws (xs ++ (ys ++ zs)) h).1 in
     ((both_none xs (ys ++ zs) after_first).0, (both_none ys zs (both_none xs (ys ++ zs) after_first).1).0)
 
-pub disconnect_form : (n : ℕ) (d : Data) → fields_faults n d disconnect ≡ [] → form_faults n d ≡ []
+pub disconnect_form : (clock : Clock) (n : ℕ) (d : Data) → fields_faults clock n d disconnect ≡ [] → form_faults n d ≡ []
     → IsDisconnectForm (count_or_null_in field.Output d) (text_or_null_in field.To d) (count_or_null_in field.Input d)
 unfolding count_or_null_in text_or_null_in
-disconnect_form n d fields form =
-    let good = middle_none (field_faults n d (row field.From kind.Name Needed)) (field_faults n d (row field.Output kind.Count Null)) (field_faults n d (row field.To kind.Name Null)) _ fields in
+disconnect_form clock n d fields form =
+    let good = middle_none (field_faults clock n d (row field.From kind.Name Needed)) (field_faults clock n d (row field.Output kind.Count Null)) (field_faults clock n d (row field.To kind.Name Null)) _ fields in
     form_of (count_value (member_at field.Output d)) (text_value (member_at field.To d)) (count_value (member_at field.Input d)) (λ input.
     let there = beside_input n d (is_there field.Input d) form (value_there (member_at field.Input d) input) in
-    (count_there n (member_at field.Output d) good.0 there.0, text_there n (member_at field.To d) good.1 there.1))
+    (count_there clock n (member_at field.Output d) good.0 there.0, text_there clock n (member_at field.To d) good.1 there.1))

@@ -5,6 +5,7 @@ use Rattle.serde_json.specs.Data.{Data, Items}
 use Rattle.serde_json.specs.Find.{as_object}
 use Rattle.wa_base.specs.declared.contexts.ContextSpec.{ContextSpec}
 use Rattle.script_ast.specs.declared.call_list.Call.{Call}
+use Rattle.script_ast.specs.declared.clocks.Clock.TheVariants.{Frames}
 use Rattle.script_ast.specs.Entries.{script_head, context_fields, script_tail}
 use Rattle.script_ast.specs.declared.fields.Field.TheVariants as field
 use Rattle.script_json.proofs.Outcomes.{outcome_none, outcome_some}
@@ -26,28 +27,28 @@ unfolding context_in
 context_in-there d context there = rw there refl
 
 head_parts : (d : Data) → is_some (as_object d) ≡ true
-    → head_faults d ≡ fields_faults 0 d script_head ++ fields_faults 0 (context_in d) context_fields ++ fields_faults 0 d script_tail
+    → head_faults d ≡ fields_faults Frames 0 d script_head ++ fields_faults Frames 0 (context_in d) context_fields ++ fields_faults Frames 0 d script_tail
 unfolding head_faults
 head_parts d object = rw object refl
 
 pub head_first : (d : Data) (value : ContextSpec) (e : ScriptErr) → is_some (as_object d) ≡ true
-    → outcome {A = ⊤} (fields_faults 0 d script_head) tt ≡ Err e → outcome (head_faults d) value ≡ Err e
+    → outcome {A = ⊤} (fields_faults Frames 0 d script_head) tt ≡ Err e → outcome (head_faults d) value ≡ Err e
 head_first d value e object head = rw (head_parts d object) (outcome_some _ _ _ e (outcome_some _ _ _ e head))
 
 module _ (d context : Data) (value : ContextSpec) (u : ⊤) (object : is_some (as_object d) ≡ true)
-    (head : outcome {A = ⊤} (fields_faults 0 d script_head) tt ≡ Ok u) (there : member_at field.Context d ≡ Some context) where
-  pub head_second : (e : ScriptErr) → outcome {A = ⊤} (fields_faults 0 context context_fields) tt ≡ Err e → outcome (head_faults d) value ≡ Err e
+    (head : outcome {A = ⊤} (fields_faults Frames 0 d script_head) tt ≡ Ok u) (there : member_at field.Context d ≡ Some context) where
+  pub head_second : (e : ScriptErr) → outcome {A = ⊤} (fields_faults Frames 0 context context_fields) tt ≡ Err e → outcome (head_faults d) value ≡ Err e
   head_second e sizes = rw (head_parts d object, context_in-there d context there) (outcome_some _ _ _ e (outcome_none _ _ _ u head ∙ sizes))
 
-  pub head_third : (v : ⊤) (e : ScriptErr) → outcome {A = ⊤} (fields_faults 0 context context_fields) tt ≡ Ok v
-      → outcome {A = ⊤} (fields_faults 0 d script_tail) tt ≡ Err e → outcome (head_faults d) value ≡ Err e
+  pub head_third : (v : ⊤) (e : ScriptErr) → outcome {A = ⊤} (fields_faults Frames 0 context context_fields) tt ≡ Ok v
+      → outcome {A = ⊤} (fields_faults Frames 0 d script_tail) tt ≡ Err e → outcome (head_faults d) value ≡ Err e
   head_third v e sizes tail = rw (head_parts d object, context_in-there d context there) (outcome_none _ _ _ v (outcome_none _ _ _ u head ∙ sizes) ∙ outcome_err _ _ _ e tail)
 
-  pub head_none : (v w : ⊤) → outcome {A = ⊤} (fields_faults 0 context context_fields) tt ≡ Ok v
-      → outcome {A = ⊤} (fields_faults 0 d script_tail) tt ≡ Ok w → outcome (head_faults d) value ≡ Ok value
+  pub head_none : (v w : ⊤) → outcome {A = ⊤} (fields_faults Frames 0 context context_fields) tt ≡ Ok v
+      → outcome {A = ⊤} (fields_faults Frames 0 d script_tail) tt ≡ Ok w → outcome (head_faults d) value ≡ Ok value
   head_none v w sizes tail = rw (head_parts d object, context_in-there d context there) (outcome_none _ _ _ v (outcome_none _ _ _ u head ∙ sizes) ∙ outcome_of_none _ _ _ _ tail)
 
-head_object : (d : Data) (b : Bool) → (if b then fields_faults 0 d script_head ++ fields_faults 0 (context_in d) context_fields ++ fields_faults 0 d script_tail else WrongKind 0 field.Script ∷ []) ≡ [] → b ≡ true
+head_object : (d : Data) (b : Bool) → (if b then fields_faults Frames 0 d script_head ++ fields_faults Frames 0 (context_in d) context_fields ++ fields_faults Frames 0 d script_tail else WrongKind 0 field.Script ∷ []) ≡ [] → b ≡ true
 head_object d true h = refl
 head_object d false h = cc
 
@@ -62,13 +63,13 @@ unfolding script_faults
 script_head_fault d value e head = outcome_some _ _ _ e (outcome_err _ _ _ e head)
 
 pub script_calls_fault : (d : Data) (value context : ContextSpec) (ds : Items) (e : ScriptErr) → outcome (head_faults d) value ≡ Ok context
-    → ds ≡ main_list d → calls_read [] (placed ds 0 0) ≡ Err e → outcome (script_faults d) (script_in d) ≡ Err e
+    → ds ≡ main_list d → calls_read Frames [] (placed ds 0 0) ≡ Err e → outcome (script_faults d) (script_in d) ≡ Err e
 unfolding script_faults calls_of calls_read
 script_calls_fault d value context ds e head list calls =
     outcome_none _ _ _ tt (outcome_of_none _ _ _ tt head) ∙ outcome_err _ _ _ e (rw list at calls)
 
 pub script_read : (d : Data) (context : ContextSpec) (ds : Items) (calls : List Call) → outcome (head_faults d) (context_of (context_in d)) ≡ Ok context
-    → ds ≡ main_list d → calls_read [] (placed ds 0 0) ≡ Ok calls
+    → ds ≡ main_list d → calls_read Frames [] (placed ds 0 0) ≡ Ok calls
     → outcome (script_faults d) (script_in d) ≡ Ok (record { context = context; calls = calls })
 unfolding script_faults script_in calls_of calls_read
 script_read d context ds calls head list read =

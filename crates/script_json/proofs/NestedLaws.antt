@@ -8,6 +8,8 @@ use Rattle.serde_json.specs.Data.{Data}
 use Rattle.script_ast.specs.Holders.{holds_calls, AreNested}
 use Rattle.script_ast.specs.OpNames.{has_calls}
 use Rattle.script_ast.specs.declared.call_list.Call.{Call}
+use Rattle.script_ast.specs.declared.clocks.Clock.{Clock}
+use Rattle.script_ast.specs.declared.clocks.Clock.TheVariants.{Frames}
 use Rattle.script_ast.specs.declared.call_list.Script.{Script}
 use Rattle.script_ast.specs.declared.op_names.OpName.{OpName}
 use Rattle.script_ast.specs.declared.op_names.OpName.TheVariants.{CreateConstantSource, CreateGain, Connect, Disconnect, Start, Stop, StartRendering, Resume, ReadState, ReadTime, LeftOut}
@@ -22,18 +24,18 @@ use Rattle.script_json.specs.Script.{main_list, calls_of, head_faults, script_fa
 -- ---- one call
 
 -- a call is read as one that has a `then` list where its operation has that field
-holds_calls-op_in : (name : OpName) (d : Data) → holds_calls (op_in name d) ≡ has_calls name
-holds_calls-op_in CreateConstantSource d = refl
-holds_calls-op_in CreateGain d = refl
-holds_calls-op_in Connect d = refl
-holds_calls-op_in Disconnect d = refl
-holds_calls-op_in Start d = refl
-holds_calls-op_in Stop d = refl
-holds_calls-op_in StartRendering d = refl
-holds_calls-op_in Resume d = refl
-holds_calls-op_in ReadState d = refl
-holds_calls-op_in ReadTime d = refl
-holds_calls-op_in (LeftOut name) d = refl
+holds_calls-op_in : (clock : Clock) (name : OpName) (d : Data) → holds_calls (op_in clock name d) ≡ has_calls name
+holds_calls-op_in clock CreateConstantSource d = refl
+holds_calls-op_in clock CreateGain d = refl
+holds_calls-op_in clock Connect d = refl
+holds_calls-op_in clock Disconnect d = refl
+holds_calls-op_in clock Start d = refl
+holds_calls-op_in clock Stop d = refl
+holds_calls-op_in clock StartRendering d = refl
+holds_calls-op_in clock Resume d = refl
+holds_calls-op_in clock ReadState d = refl
+holds_calls-op_in clock ReadTime d = refl
+holds_calls-op_in clock (LeftOut name) d = refl
 
 -- what a placed call is read as
 record IsReadAs (call : Placed) (c : Call) : Type 0 where
@@ -45,16 +47,16 @@ abbrev IsRead : Placed → Option Call → Type 0
 IsRead call None = ⊥
 IsRead call (Some c) = IsReadAs call c
 
-abbrev meaning : Placed → Option OpName → Option Call
-meaning call o = option_map (λ name. record { ordinal = call.ordinal; holder = call.holder; op = op_in name call.value }) o
+abbrev meaning : Clock → Placed → Option OpName → Option Call
+meaning clock call o = option_map (λ name. record { ordinal = call.ordinal; holder = call.holder; op = op_in clock name call.value }) o
 
-read_named : (call : Placed) (o : Option OpName) → o ≡ name_in call.value → is_some (meaning call o) ≡ true → IsRead call (meaning call o)
-read_named call None is h = cc
-read_named call (Some name) is h = record { ordinal = refl; holder = refl; holds = rw (← is) (holds_calls-op_in name call.value) }
+read_named : (clock : Clock) (call : Placed) (o : Option OpName) → o ≡ name_in call.value → is_some (meaning clock call o) ≡ true → IsRead call (meaning clock call o)
+read_named clock call None is h = cc
+read_named clock call (Some name) is h = record { ordinal = refl; holder = refl; holds = rw (← is) (holds_calls-op_in clock name call.value) }
 
-is_read : (call : Placed) → is_some (call_of call) ≡ true → IsRead call (call_of call)
+is_read : (clock : Clock) (call : Placed) → is_some (call_of clock call) ≡ true → IsRead call (call_of clock call)
 unfolding call_of
-is_read call h = read_named call (name_in call.value) refl h
+is_read clock call h = read_named clock call (name_in call.value) refl h
 
 -- ---- lists
 
@@ -71,29 +73,29 @@ next_read call (Some c) held rest is early none_or inner outer =
     next_block call.holder c held rest is.holder later of_op (rw (is.ordinal) inner) outer
 
 -- what is said of the calls that are placed in a list: where none has a fault, they are its calls with those that they hold
-abbrev IsPlacedBlock : ℕ → ℕ → List Placed → Type 0
-IsPlacedBlock n holder calls = flat_map call_faults calls ≡ [] → IsBlock holder (filter_map call_of calls)
+abbrev IsPlacedBlock : Clock → ℕ → ℕ → List Placed → Type 0
+IsPlacedBlock clock n holder calls = flat_map (call_faults clock) calls ≡ [] → IsBlock holder (filter_map (call_of clock) calls)
 
-next_placed : (d : Data) (n holder : ℕ) (held rest : List Placed) → holder ≤ n → (held ≡ []) ⊎ (has_then (name_in d) ≡ true)
-    → IsPlacedBlock (n + 1) (n + 1) held → IsPlacedBlock (n + 1 + length held) holder rest → IsPlacedBlock n holder (placed_at (n + 1) holder d ∷ held ++ rest)
-next_placed d n holder held rest early none_or inner outer none =
-    let this = both_none (call_faults (placed_at (n + 1) holder d)) (flat_map call_faults (held ++ rest)) none in
-    let others = both_none (flat_map call_faults held) (flat_map call_faults rest) (rw (flat_map-append call_faults held rest) at this.1) in
+next_placed : (clock : Clock) (d : Data) (n holder : ℕ) (held rest : List Placed) → holder ≤ n → (held ≡ []) ⊎ (has_then (name_in d) ≡ true)
+    → IsPlacedBlock clock (n + 1) (n + 1) held → IsPlacedBlock clock (n + 1 + length held) holder rest → IsPlacedBlock clock n holder (placed_at (n + 1) holder d ∷ held ++ rest)
+next_placed clock d n holder held rest early none_or inner outer none =
+    let this = both_none (call_faults clock (placed_at (n + 1) holder d)) (flat_map (call_faults clock) (held ++ rest)) none in
+    let others = both_none (flat_map (call_faults clock) held) (flat_map (call_faults clock) rest) (rw (flat_map-append (call_faults clock) held rest) at this.1) in
     let later : holder ≤ n + 1 = omega arith in
-    let of_calls = elim none_or as (λ _. (filter_map call_of held ≡ []) ⊎ (has_then (name_in d) ≡ true)) [
+    let of_calls = elim none_or as (λ _. (filter_map (call_of clock) held ≡ []) ⊎ (has_then (name_in d) ≡ true)) [
       | inl no_call ↦ inl (rw no_call refl)
       | inr has ↦ inr has
     ] in
-    let read = is_read (placed_at (n + 1) holder d) (is_call (placed_at (n + 1) holder d) this.0) in
-    rw (filter_map-append call_of held rest)
-    (next_read (placed_at (n + 1) holder d) (call_of (placed_at (n + 1) holder d)) (filter_map call_of held) (filter_map call_of rest) read later of_calls (inner others.0) (outer others.1))
+    let read = is_read clock (placed_at (n + 1) holder d) (is_call clock (placed_at (n + 1) holder d) this.0) in
+    rw (filter_map-append (call_of clock) held rest)
+    (next_read (placed_at (n + 1) holder d) (call_of clock (placed_at (n + 1) holder d)) (filter_map (call_of clock) held) (filter_map (call_of clock) rest) read later of_calls (inner others.0) (outer others.1))
 
 -- the calls of a script that a value is
 pub read_nested : (d : Data) (script : Script) → outcome (script_faults d) (script_in d) ≡ Ok script → AreNested script.calls
 unfolding script_faults script_in calls_of
 read_nested d script read =
     let e = outcome_ok _ _ _ read in
-    let none = both_none (head_faults d) (flat_map call_faults (placed (main_list d) 0 0)) e.0 in
+    let none = both_none (head_faults d) (flat_map (call_faults Frames) (placed (main_list d) 0 0)) e.0 in
     let early : 0 ≤ 0 = omega arith in
-    let block = placed_all IsPlacedBlock (λ (n holder : ℕ) _. none_block holder) next_placed (main_list d) 0 0 early none.1 in
-    rw (← e.1) (block_nested (filter_map call_of (placed (main_list d) 0 0)) block)
+    let block = placed_all (IsPlacedBlock Frames) (λ (n holder : ℕ) _. none_block holder) (next_placed Frames) (main_list d) 0 0 early none.1 in
+    rw (← e.1) (block_nested (filter_map (call_of Frames) (placed (main_list d) 0 0)) block)

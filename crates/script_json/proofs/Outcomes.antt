@@ -3,6 +3,7 @@ use Rattle.std.proofs.Common.{◌≡◌, ◌<◌, ◌+◌, ℕ, List, [], ◌∷
 use Rattle.std.specs.Prelude.{⊤, flat_map}
 use Rattle.std.specs.Result.{result_and}
 use Rattle.serde_json.specs.Data.{Data}
+use Rattle.script_ast.specs.declared.clocks.Clock.{Clock}
 use Rattle.script_ast.specs.declared.entries.Row.{Row}
 use Rattle.script_json.specs.Fields.{field_faults, fields_faults}
 use Rattle.script_json.specs.Outcome.{outcome}
@@ -26,13 +27,13 @@ outcome_some [] ys value e h = cc
 outcome_some (fault ∷ faults) ys value e h = cc
 
 -- a row without a fault leaves the first fault to the rows after it
-pub no_fault_at : (n : ℕ) (d : Data) (rows : List Row) (i : ℕ) (row : Row) (done : ⊤) → i < length rows
-    → outcome {A = ⊤} (field_faults n d (get_or rows i row)) tt ≡ Ok done
-    → outcome {A = ⊤} (fields_faults n d (drop i rows)) tt ≡ outcome {A = ⊤} (fields_faults n d (drop (i + 1) rows)) tt
-no_fault_at n d rows i row done h ok = rw (flat_map-drop (field_faults n d) rows i row h) (outcome_none _ _ tt done ok)
+pub no_fault_at : (clock : Clock) (n : ℕ) (d : Data) (rows : List Row) (i : ℕ) (row : Row) (done : ⊤) → i < length rows
+    → outcome {A = ⊤} (field_faults clock n d (get_or rows i row)) tt ≡ Ok done
+    → outcome {A = ⊤} (fields_faults clock n d (drop i rows)) tt ≡ outcome {A = ⊤} (fields_faults clock n d (drop (i + 1) rows)) tt
+no_fault_at clock n d rows i row done h ok = rw (flat_map-drop (field_faults clock n d) rows i row h) (outcome_none _ _ tt done ok)
 
 -- the fault of a row is the first of that row and those after it
-pub fault_at : (n : ℕ) (d : Data) (rows : List Row) (i : ℕ) (row : Row) (e : ScriptErr) → i < length rows
-    → outcome {A = ⊤} (field_faults n d (get_or rows i row)) tt ≡ Err e
-    → outcome {A = ⊤} (fields_faults n d (drop i rows)) tt ≡ Err e
-fault_at n d rows i row e h bad = rw (flat_map-drop (field_faults n d) rows i row h) (outcome_some _ _ tt e bad)
+pub fault_at : (clock : Clock) (n : ℕ) (d : Data) (rows : List Row) (i : ℕ) (row : Row) (e : ScriptErr) → i < length rows
+    → outcome {A = ⊤} (field_faults clock n d (get_or rows i row)) tt ≡ Err e
+    → outcome {A = ⊤} (fields_faults clock n d (drop i rows)) tt ≡ Err e
+fault_at clock n d rows i row e h bad = rw (flat_map-drop (field_faults clock n d) rows i row h) (outcome_some _ _ tt e bad)

@@ -12,6 +12,8 @@ use Rattle.wa_base.specs.declared.contexts.ContextSpec.{ContextSpec}
 use Rattle.script_ast.specs.Ranges.{IsFix, IsTime, IsTimeIfSome, IsCount, IsCountIfSome, IsNewName, IsInRange, is_new_name}
 use Rattle.script_ast.specs.WellFormed.{IsCallAt, AreCallsAfter, IsWellFormed}
 use Rattle.script_ast.specs.declared.call_list.Call.{Call}
+use Rattle.script_ast.specs.declared.clocks.Clock.{Clock}
+use Rattle.script_ast.specs.declared.clocks.Clock.TheVariants.{Frames}
 use Rattle.script_ast.specs.Entries.{row, fallback_in, context_fields}
 use Rattle.script_ast.specs.declared.entries.Fallback.TheVariants.{Needed}
 use Rattle.script_ast.specs.declared.entries.Kind.TheVariants as kind
@@ -28,7 +30,7 @@ use Rattle.script_json.specs.Fields.{field_faults, cause_faults, member_faults, 
 use Rattle.script_json.specs.Outcome.{outcome}
 use Rattle.script_json.specs.Reading.{placed_at, calls_read}
 use Rattle.script_json.specs.Script.{context_in, context_of, head_faults}
-use Rattle.script_json.specs.Values.{whole, is_within, new_name_cause}
+use Rattle.script_json.specs.Values.{whole, frames, is_within, new_name_cause}
 use Rattle.script_json.specs.declared.values.Cause.TheVariants.{OutOfRange}
 use Rattle.script_json.specs.declared.faults.ScriptErr.TheVariants.{WrongKind}
 
@@ -58,13 +60,13 @@ within_or_zero : (low high : ℤ) (o : Option ℤ) → low ≤ℤ pos 0 → pos 
 within_or_zero low high None below above = (below, above)
 within_or_zero low high (Some z) below above = within_test low high z (is_within low high z) refl below above
 
-pub fix_in-range : (entry : List Row) (field : Field) (d : Data) → IsFix (number_in (neg_ℤ (pos 2147483648)) (pos 2147483647) entry field d)
+pub fix_in-range : (entry : List Row) (field : Field) (d : Data) → IsFix (number_in whole (neg_ℤ (pos 2147483648)) (pos 2147483647) entry field d)
 unfolding number_in
-fix_in-range entry field d = within_or_zero _ _ (given_number (fallback_in entry field) (member_at field d)) (le_z_yes tt) (le_z_yes tt)
+fix_in-range entry field d = within_or_zero _ _ (given_number (fallback_in entry field) (option_map whole (member_at field d))) (le_z_yes tt) (le_z_yes tt)
 
-pub time_in-range : (entry : List Row) (field : Field) (d : Data) → IsTime (number_in (neg_ℤ (pos 1099511627776)) (pos 1099511627776) entry field d)
+pub time_in-range : (clock : Clock) (entry : List Row) (field : Field) (d : Data) → IsTime (number_in (frames clock) (neg_ℤ (pos 1099511627776)) (pos 1099511627776) entry field d)
 unfolding number_in
-time_in-range entry field d = within_or_zero _ _ (given_number (fallback_in entry field) (member_at field d)) (le_z_yes tt) (le_z_yes tt)
+time_in-range clock entry field d = within_or_zero _ _ (given_number (fallback_in entry field) (option_map (frames clock) (member_at field d))) (le_z_yes tt) (le_z_yes tt)
 
 time_test : (z : ℤ) (b : Bool) → is_within (neg_ℤ (pos 1099511627776)) (pos 1099511627776) z ≡ b → IsTimeIfSome (if b then Some z else None)
 time_test z true h = let e = both_true _ _ h in (int_le-true _ z e.0, int_le-true z _ e.1)
@@ -74,9 +76,9 @@ time_within : (o : Option ℤ) → IsTimeIfSome (number_within (neg_ℤ (pos 109
 time_within None = tt
 time_within (Some z) = time_test z _ refl
 
-pub time_or_null_in-range : (field : Field) (d : Data) → IsTimeIfSome (time_or_null_in field d)
+pub time_or_null_in-range : (clock : Clock) (field : Field) (d : Data) → IsTimeIfSome (time_or_null_in clock field d)
 unfolding time_or_null_in
-time_or_null_in-range field d = time_within (option_and_then whole (member_at field d))
+time_or_null_in-range clock field d = time_within (option_and_then (frames clock) (member_at field d))
 
 count_of : (z : ℤ) → (pos 0 ≤ℤ z) × (z ≤ℤ pos 4294967295) → IsCount (nat_abs z)
 count_of (pos n) h = omega (arith, ints, h.1)
@@ -84,7 +86,7 @@ count_of (negsuc n) h = absurd (omega (arith, ints, h.0))
 
 pub count_in-range : (entry : List Row) (field : Field) (d : Data) → IsCount (count_in entry field d)
 unfolding number_in
-count_in-range entry field d = count_of _ (within_or_zero _ _ (given_number (fallback_in entry field) (member_at field d)) (le_z_yes tt) (le_z_yes tt))
+count_in-range entry field d = count_of _ (within_or_zero _ _ (given_number (fallback_in entry field) (option_map whole (member_at field d))) (le_z_yes tt) (le_z_yes tt))
 
 count_test : (z : ℤ) (b : Bool) → is_within (pos 0) (pos 4294967295) z ≡ b → IsCountIfSome (option_map nat_abs (if b then Some z else None))
 count_test z true h = let e = both_true _ _ h in count_of z (int_le-true _ z e.0, int_le-true z _ e.1)
@@ -106,28 +108,28 @@ new_name_text : (n : ℕ) (o : Option (List ℕ)) → cause_faults n field.As (n
 new_name_text n None h = cc
 new_name_text n (Some name) h = new_name_test n name _ refl h
 
-new_name_member : (n : ℕ) (o : Option Data) → member_faults n (row field.As kind.NewName Needed) o ≡ [] → IsNewName (unwrap_or (option_and_then as_str o) [])
-new_name_member n None h = cc
-new_name_member n (Some d) h = new_name_text n (as_str d) h
+new_name_member : (clock : Clock) (n : ℕ) (o : Option Data) → member_faults clock n (row field.As kind.NewName Needed) o ≡ [] → IsNewName (unwrap_or (option_and_then as_str o) [])
+new_name_member clock n None h = cc
+new_name_member clock n (Some d) h = new_name_text n (as_str d) h
 
-pub text_in-new_name : (n : ℕ) (d : Data) → field_faults n d (row field.As kind.NewName Needed) ≡ [] → IsNewName (text_in field.As d)
+pub text_in-new_name : (clock : Clock) (n : ℕ) (d : Data) → field_faults clock n d (row field.As kind.NewName Needed) ≡ [] → IsNewName (text_in field.As d)
 unfolding text_in
-text_in-new_name n d h = new_name_member n (member_at field.As d) h
+text_in-new_name clock n d h = new_name_member clock n (member_at field.As d) h
 
-pub op_in-range : (n : ℕ) (d : Data) (name : OpName) → op_faults n d name ≡ [] → IsInRange (op_in name d)
-op_in-range n d CreateConstantSource h = (text_in-new_name n d (both_none _ _ (both_none _ _ h).0).0, fix_in-range _ _ d)
-op_in-range n d CreateGain h = (text_in-new_name n d (both_none _ _ (both_none _ _ h).0).0, fix_in-range _ _ d)
-op_in-range n d Connect h = (count_in-range _ _ d, count_in-range _ _ d)
-op_in-range n d Disconnect h =
+pub op_in-range : (clock : Clock) (n : ℕ) (d : Data) (name : OpName) → op_faults clock n d name ≡ [] → IsInRange (op_in clock name d)
+op_in-range clock n d CreateConstantSource h = (text_in-new_name clock n d (both_none _ _ (both_none _ _ h).0).0, fix_in-range _ _ d)
+op_in-range clock n d CreateGain h = (text_in-new_name clock n d (both_none _ _ (both_none _ _ h).0).0, fix_in-range _ _ d)
+op_in-range clock n d Connect h = (count_in-range _ _ d, count_in-range _ _ d)
+op_in-range clock n d Disconnect h =
     let e = both_none _ _ h in
-    (count_or_null_in-range _ d, count_or_null_in-range _ d, disconnect_form n d e.0 e.1)
-op_in-range n d Start h = (time_in-range _ _ d, time_in-range _ _ d, time_or_null_in-range _ d)
-op_in-range n d Stop h = time_in-range _ _ d
-op_in-range n d StartRendering h = tt
-op_in-range n d Resume h = tt
-op_in-range n d ReadState h = tt
-op_in-range n d ReadTime h = tt
-op_in-range n d (LeftOut name) h = tt
+    (count_or_null_in-range _ d, count_or_null_in-range _ d, disconnect_form clock n d e.0 e.1)
+op_in-range clock n d Start h = (time_in-range clock _ _ d, time_in-range clock _ _ d, time_or_null_in-range clock _ d)
+op_in-range clock n d Stop h = time_in-range clock _ _ d
+op_in-range clock n d StartRendering h = tt
+op_in-range clock n d Resume h = tt
+op_in-range clock n d ReadState h = tt
+op_in-range clock n d ReadTime h = tt
+op_in-range clock n d (LeftOut name) h = tt
 
 -- ---- the calls of a script
 
@@ -136,20 +138,20 @@ abbrev IsGood : Placed → Option Call → Type 0
 IsGood call None = ⊥
 IsGood call (Some c) = IsCallAt call.ordinal c
 
-good_named : (call : Placed) (o : Option OpName) → call.holder + 1 ≤ call.ordinal → name_faults call.ordinal call.value o ≡ []
-    → IsGood call (option_map (λ name. record { ordinal = call.ordinal; holder = call.holder; op = op_in name call.value }) o)
-good_named call None early h = cc
-good_named call (Some name) early h = (refl, early, op_in-range _ _ name h)
+good_named : (clock : Clock) (call : Placed) (o : Option OpName) → call.holder + 1 ≤ call.ordinal → name_faults clock call.ordinal call.value o ≡ []
+    → IsGood call (option_map (λ name. record { ordinal = call.ordinal; holder = call.holder; op = op_in clock name call.value }) o)
+good_named clock call None early h = cc
+good_named clock call (Some name) early h = (refl, early, op_in-range clock _ _ name h)
 
-good_object : (call : Placed) (b : Bool) → call.holder + 1 ≤ call.ordinal
-    → (if b then name_faults call.ordinal call.value (name_in call.value) else WrongKind call.ordinal field.Call ∷ []) ≡ []
-    → IsGood call (option_map (λ name. record { ordinal = call.ordinal; holder = call.holder; op = op_in name call.value }) (name_in call.value))
-good_object call true early h = good_named call (name_in call.value) early h
-good_object call false early h = cc
+good_object : (clock : Clock) (call : Placed) (b : Bool) → call.holder + 1 ≤ call.ordinal
+    → (if b then name_faults clock call.ordinal call.value (name_in call.value) else WrongKind call.ordinal field.Call ∷ []) ≡ []
+    → IsGood call (option_map (λ name. record { ordinal = call.ordinal; holder = call.holder; op = op_in clock name call.value }) (name_in call.value))
+good_object clock call true early h = good_named clock call (name_in call.value) early h
+good_object clock call false early h = cc
 
-good_call : (call : Placed) → call.holder + 1 ≤ call.ordinal → call_faults call ≡ [] → IsGood call (call_of call)
+good_call : (clock : Clock) (call : Placed) → call.holder + 1 ≤ call.ordinal → call_faults clock call ≡ [] → IsGood call (call_of clock call)
 unfolding call_faults call_of
-good_call call early h = good_object call (is_some (as_object call.value)) early h
+good_call clock call early h = good_object clock call (is_some (as_object call.value)) early h
 
 AreCallsAfter-append : (n : ℕ) (xs ys : List Call) → AreCallsAfter n xs → AreCallsAfter (n + length xs) ys → AreCallsAfter n (xs ++ ys)
 AreCallsAfter-append n [] ys first second = let e : n + 0 ≡ n = omega arith in rw e at second
@@ -166,25 +168,25 @@ after_good n call None calls place good rest = absurd good
 after_good n call (Some c) calls place good rest = (rw place at good, rest)
 
 -- what is said of the calls that are placed after n calls: where none has a fault, they have the ordinals from n + 1 on
-abbrev AreGoodAfter : ℕ → List Placed → Type 0
-AreGoodAfter n calls = flat_map call_faults calls ≡ [] → AreCallsAfter n (filter_map call_of calls)
+abbrev AreGoodAfter : Clock → ℕ → List Placed → Type 0
+AreGoodAfter clock n calls = flat_map (call_faults clock) calls ≡ [] → AreCallsAfter n (filter_map (call_of clock) calls)
 
-item_good : (d : Data) (n holder : ℕ) (held rest : List Placed) → holder ≤ n → (held ≡ []) ⊎ (has_then (name_in d) ≡ true) → AreGoodAfter (n + 1) held → AreGoodAfter (n + 1 + length held) rest
-    → AreGoodAfter n (placed_at (n + 1) holder d ∷ held ++ rest)
-item_good d n holder held rest early none_or held_good rest_good none =
-    let this = both_none (call_faults (placed_at (n + 1) holder d)) (flat_map call_faults (held ++ rest)) none in
-    let others = both_none (flat_map call_faults held) (flat_map call_faults rest) (rw (flat_map-append call_faults held rest) at this.1) in
-    let count = length-calls held others.0 in
-    let both = append_at (n + 1) (length held) (filter_map call_of held) (filter_map call_of rest) count (held_good others.0) (rest_good others.1) in
+item_good : (clock : Clock) (d : Data) (n holder : ℕ) (held rest : List Placed) → holder ≤ n → (held ≡ []) ⊎ (has_then (name_in d) ≡ true) → AreGoodAfter clock (n + 1) held → AreGoodAfter clock (n + 1 + length held) rest
+    → AreGoodAfter clock n (placed_at (n + 1) holder d ∷ held ++ rest)
+item_good clock d n holder held rest early none_or held_good rest_good none =
+    let this = both_none (call_faults clock (placed_at (n + 1) holder d)) (flat_map (call_faults clock) (held ++ rest)) none in
+    let others = both_none (flat_map (call_faults clock) held) (flat_map (call_faults clock) rest) (rw (flat_map-append (call_faults clock) held rest) at this.1) in
+    let count = length-calls clock held others.0 in
+    let both = append_at (n + 1) (length held) (filter_map (call_of clock) held) (filter_map (call_of clock) rest) count (held_good others.0) (rest_good others.1) in
     let near : holder + 1 ≤ n + 1 = omega arith in
-    after_good n (placed_at (n + 1) holder d) (call_of (placed_at (n + 1) holder d)) _ refl (good_call (placed_at (n + 1) holder d) near this.0)
-    (rw (filter_map-append call_of held rest) both)
+    after_good n (placed_at (n + 1) holder d) (call_of clock (placed_at (n + 1) holder d)) _ refl (good_call clock (placed_at (n + 1) holder d) near this.0)
+    (rw (filter_map-append (call_of clock) held rest) both)
 
-placed_good : (ds : Items) (n holder : ℕ) → holder ≤ n → AreGoodAfter n (placed ds n holder)
-placed_good ds n holder early = placed_all (λ (n holder : ℕ) (calls : List Placed). AreGoodAfter n calls) (λ n holder none. tt) item_good ds n holder early
+placed_good : (clock : Clock) (ds : Items) (n holder : ℕ) → holder ≤ n → AreGoodAfter clock n (placed ds n holder)
+placed_good clock ds n holder early = placed_all (λ (n holder : ℕ) (calls : List Placed). AreGoodAfter clock n calls) (λ n holder none. tt) (item_good clock) ds n holder early
 
 pub read_well_formed : (d : Data) (context : ContextSpec) (ds : Items) (calls : List Call) → outcome (head_faults d) (context_of (context_in d)) ≡ Ok context
-    → calls_read [] (placed ds 0 0) ≡ Ok calls → IsWellFormed (record { context = context; calls = calls })
+    → calls_read Frames [] (placed ds 0 0) ≡ Ok calls → IsWellFormed (record { context = context; calls = calls })
 unfolding calls_read
 read_well_formed d context ds calls head read =
     let e = outcome_ok _ _ _ head in
@@ -193,5 +195,5 @@ read_well_formed d context ds calls head read =
       channels = rw (← e.1) (count_in-range context_fields field.Channels (context_in d));
       frames = rw (← e.1) (count_in-range context_fields field.Length (context_in d));
       rate = rw (← e.1) (count_in-range context_fields field.Rate (context_in d));
-      calls = rw (← f.1) (placed_good ds 0 0 (omega arith) f.0);
+      calls = rw (← f.1) (placed_good Frames ds 0 0 (omega arith) f.0);
     }

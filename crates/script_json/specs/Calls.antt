@@ -6,6 +6,7 @@ use Rattle.script_ast.specs.Entries as entry
 use Rattle.script_ast.specs.Fields.{field_word}
 use Rattle.script_ast.specs.OpNames.{op_named, fields_of, has_calls, left_out_feature}
 use Rattle.script_ast.specs.declared.call_list.Call.{Call}
+use Rattle.script_ast.specs.declared.clocks.Clock.{Clock}
 use Rattle.script_ast.specs.declared.fields.Field.TheVariants as field
 use Rattle.script_ast.specs.declared.op_names.OpName.{OpName}
 use Rattle.script_ast.specs.declared.op_names.OpName.TheVariants.{CreateConstantSource, CreateGain, Connect, Disconnect, Start, Stop, StartRendering, Resume, ReadState, ReadTime, LeftOut}
@@ -71,32 +72,32 @@ joint_faults n d Disconnect = form_faults n d
 joint_faults n d _ = []
 
 -- the faults of the fields of a call n of the operation: first those of each field, then those of several together
-abbrev pub op_faults : ℕ → Data → OpName → List ScriptErr
-op_faults n d name = fields_faults n d (fields_of name) ++ joint_faults n d name
+abbrev pub op_faults : Clock → ℕ → Data → OpName → List ScriptErr
+op_faults clock n d name = fields_faults clock n d (fields_of name) ++ joint_faults n d name
 
 -- the faults of a call n that names this operation, or none
-abbrev pub name_faults : ℕ → Data → Option OpName → List ScriptErr
-name_faults n d None = UnknownOp n ∷ []
-name_faults n d (Some name) = op_faults n d name
+abbrev pub name_faults : Clock → ℕ → Data → Option OpName → List ScriptErr
+name_faults clock n d None = UnknownOp n ∷ []
+name_faults clock n d (Some name) = op_faults clock n d name
 
 -- the faults of a call: it is an object, its `op` names an operation, and the operation's fields are good, in this order
-unfoldable pub call_faults : Placed → List ScriptErr
-call_faults call = if is_some (as_object call.value) then name_faults call.ordinal call.value (name_in call.value) else WrongKind call.ordinal field.Call ∷ []
+unfoldable pub call_faults : Clock → Placed → List ScriptErr
+call_faults clock call = if is_some (as_object call.value) then name_faults clock call.ordinal call.value (name_in call.value) else WrongKind call.ordinal field.Call ∷ []
 
 -- a call of an operation with its fields
-abbrev pub op_in : OpName → Data → Op
-op_in CreateConstantSource d = op.CreateConstantSource (text_in field.As d) (fix_in entry.create_constant_source field.Offset d)
-op_in CreateGain d = op.CreateGain (text_in field.As d) (fix_in entry.create_gain field.Gain d)
-op_in Connect d = op.Connect (text_in field.From d) (count_in entry.connect field.Output d) (text_in field.To d) (count_in entry.connect field.Input d)
-op_in Disconnect d = op.Disconnect (text_in field.From d) (count_or_null_in field.Output d) (text_or_null_in field.To d) (count_or_null_in field.Input d)
-op_in Start d = op.Start (text_in field.Node d) (time_in entry.start field.When d) (time_in entry.start field.Offset d) (time_or_null_in field.Duration d)
-op_in Stop d = op.Stop (text_in field.Node d) (time_in entry.stop field.When d)
-op_in StartRendering d = op.StartRendering
-op_in Resume d = op.Resume
-op_in ReadState d = op.ReadState
-op_in ReadTime d = op.ReadTime
-op_in (LeftOut name) d = op.LeftOut (left_out_feature name)
+abbrev pub op_in : Clock → OpName → Data → Op
+op_in clock CreateConstantSource d = op.CreateConstantSource (text_in field.As d) (fix_in entry.create_constant_source field.Offset d)
+op_in clock CreateGain d = op.CreateGain (text_in field.As d) (fix_in entry.create_gain field.Gain d)
+op_in clock Connect d = op.Connect (text_in field.From d) (count_in entry.connect field.Output d) (text_in field.To d) (count_in entry.connect field.Input d)
+op_in clock Disconnect d = op.Disconnect (text_in field.From d) (count_or_null_in field.Output d) (text_or_null_in field.To d) (count_or_null_in field.Input d)
+op_in clock Start d = op.Start (text_in field.Node d) (time_in clock entry.start field.When d) (time_in clock entry.start field.Offset d) (time_or_null_in clock field.Duration d)
+op_in clock Stop d = op.Stop (text_in field.Node d) (time_in clock entry.stop field.When d)
+op_in clock StartRendering d = op.StartRendering
+op_in clock Resume d = op.Resume
+op_in clock ReadState d = op.ReadState
+op_in clock ReadTime d = op.ReadTime
+op_in clock (LeftOut name) d = op.LeftOut (left_out_feature name)
 
 -- what a call means; none where its operation is unknown
-unfoldable pub call_of : Placed → Option Call
-call_of call = option_map (λ name. record { ordinal = call.ordinal; holder = call.holder; op = op_in name call.value }) (name_in call.value)
+unfoldable pub call_of : Clock → Placed → Option Call
+call_of clock call = option_map (λ name. record { ordinal = call.ordinal; holder = call.holder; op = op_in clock name call.value }) (name_in call.value)

@@ -3,12 +3,13 @@ use Rattle.std.specs.Prelude.{ℕ, List, [], ◌∷◌, flat_map, Bool, true, fa
 use Rattle.serde_json.specs.Data.{Data, Items, no_items}
 use Rattle.serde_json.specs.Find.{get, as_array, as_null, as_str}
 use Rattle.script_ast.specs.Entries.{fallback_in}
+use Rattle.script_ast.specs.declared.clocks.Clock.{Clock}
 use Rattle.script_ast.specs.declared.entries.Row.{Row}
 use Rattle.script_ast.specs.declared.entries.Fallback.{Fallback}
 use Rattle.script_ast.specs.declared.entries.Fallback.TheVariants.{Needed, Null, Number, Count, NoCalls}
 use Rattle.script_ast.specs.declared.fields.Field.{Field}
 use Rattle.script_ast.specs.Fields.{field_word}
-use Rattle.script_json.specs.Values.{whole, is_within, cause_of}
+use Rattle.script_json.specs.Values.{whole, frames, is_within, cause_of}
 use Rattle.script_json.specs.declared.faults.ScriptErr.{ScriptErr}
 use Rattle.script_json.specs.declared.faults.ScriptErr.TheVariants as fault
 use Rattle.script_json.specs.declared.values.Cause.{Cause}
@@ -52,17 +53,17 @@ cause_faults n field (Some WrongKind) = fault.WrongKind n field ∷ []
 cause_faults n field (Some OutOfRange) = fault.OutOfRange n field ∷ []
 
 -- the faults of a field that holds this value, or is absent
-abbrev pub member_faults : ℕ → Row → Option Data → List ScriptErr
-member_faults n row None = if is_needed row.fallback then fault.MissingField n row.field ∷ [] else []
-member_faults n row (Some d) = if takes_null row.fallback && is_some (as_null d) then [] else cause_faults n row.field (cause_of row.kind d)
+abbrev pub member_faults : Clock → ℕ → Row → Option Data → List ScriptErr
+member_faults clock n row None = if is_needed row.fallback then fault.MissingField n row.field ∷ [] else []
+member_faults clock n row (Some d) = if takes_null row.fallback && is_some (as_null d) then [] else cause_faults n row.field (cause_of clock row.kind d)
 
 -- the faults of one field of the call n
-abbrev pub field_faults : ℕ → Data → Row → List ScriptErr
-field_faults n d row = member_faults n row (member_at row.field d)
+abbrev pub field_faults : Clock → ℕ → Data → Row → List ScriptErr
+field_faults clock n d row = member_faults clock n row (member_at row.field d)
 
 -- the faults of the fields of the call n, in the order of the rows
-abbrev pub fields_faults : ℕ → Data → List Row → List ScriptErr
-fields_faults n d rows = flat_map (field_faults n d) rows
+abbrev pub fields_faults : Clock → ℕ → Data → List Row → List ScriptErr
+fields_faults clock n d rows = flat_map (field_faults clock n d) rows
 
 -- the fault of a field of the call n that has to be there, where null counts as absent
 abbrev pub lack_faults : ℕ → Data → Field → List ScriptErr
@@ -83,30 +84,30 @@ abbrev pub number_within : ℤ → ℤ → Option ℤ → Option ℤ
 number_within low high None = None
 number_within low high (Some z) = if is_within low high z then Some z else None
 
--- the whole number of the member, or the default where it is absent
-abbrev pub given_number : Fallback → Option Data → Option ℤ
+-- the number that a member is read as, or the default where the member is absent
+abbrev pub given_number : Fallback → Option (Option ℤ) → Option ℤ
 given_number fallback None = default_number fallback
-given_number fallback (Some d) = whole d
+given_number fallback (Some number) = number
 
--- the whole number, from low to high, of a field of an entry
-unfoldable pub number_in : ℤ → ℤ → List Row → Field → Data → ℤ
-number_in low high entry field d = unwrap_or (number_within low high (given_number (fallback_in entry field) (member_at field d))) (pos 0)
+-- the number, from low to high, that a field of an entry is read as
+unfoldable pub number_in : (Data → Option ℤ) → ℤ → ℤ → List Row → Field → Data → ℤ
+number_in reading low high entry field d = unwrap_or (number_within low high (given_number (fallback_in entry field) (option_map reading (member_at field d)))) (pos 0)
 
 -- the value of a field of an entry, in units of 2^-24
 abbrev pub fix_in : List Row → Field → Data → ℤ
-fix_in entry field d = number_in (neg_ℤ (pos 2147483648)) (pos 2147483647) entry field d
+fix_in entry field d = number_in whole (neg_ℤ (pos 2147483648)) (pos 2147483647) entry field d
 
 -- the number of frames of a field of an entry
-abbrev pub time_in : List Row → Field → Data → ℤ
-time_in entry field d = number_in (neg_ℤ (pos 1099511627776)) (pos 1099511627776) entry field d
+abbrev pub time_in : Clock → List Row → Field → Data → ℤ
+time_in clock entry field d = number_in (frames clock) (neg_ℤ (pos 1099511627776)) (pos 1099511627776) entry field d
 
 -- the number of frames of a field that may be null; none where it is null or absent
-unfoldable pub time_or_null_in : Field → Data → Option ℤ
-time_or_null_in field d = number_within (neg_ℤ (pos 1099511627776)) (pos 1099511627776) (option_and_then whole (member_at field d))
+unfoldable pub time_or_null_in : Clock → Field → Data → Option ℤ
+time_or_null_in clock field d = number_within (neg_ℤ (pos 1099511627776)) (pos 1099511627776) (option_and_then (frames clock) (member_at field d))
 
 -- the count of a field of an entry
 abbrev pub count_in : List Row → Field → Data → ℕ
-count_in entry field d = nat_abs (number_in (pos 0) (pos 4294967295) entry field d)
+count_in entry field d = nat_abs (number_in whole (pos 0) (pos 4294967295) entry field d)
 
 -- the count of a field that may be null; none where it is null or absent
 unfoldable pub count_or_null_in : Field → Data → Option ℕ

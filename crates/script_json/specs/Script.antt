@@ -5,6 +5,7 @@ use Rattle.serde_json.specs.Find.{as_object}
 use Rattle.wa_base.specs.declared.contexts.ContextSpec.{ContextSpec}
 use Rattle.script_ast.specs.Entries.{script_head, context_fields, script_tail}
 use Rattle.script_ast.specs.declared.call_list.Script.{Script}
+use Rattle.script_ast.specs.declared.clocks.Clock.TheVariants.{Frames}
 use Rattle.script_ast.specs.declared.fields.Field.TheVariants as field
 use Rattle.script_json.specs.Calls.{Placed, placed, call_faults, call_of}
 use Rattle.script_json.specs.Fields.{member_at, fields_faults, count_in, list_in}
@@ -32,16 +33,16 @@ calls_of d = placed (main_list d) 0 0
 -- the faults of what stands around the calls
 unfoldable pub head_faults : Data → List ScriptErr
 head_faults d = if is_some (as_object d)
-    then fields_faults 0 d script_head ++ fields_faults 0 (context_in d) context_fields ++ fields_faults 0 d script_tail
+    then fields_faults Frames 0 d script_head ++ fields_faults Frames 0 (context_in d) context_fields ++ fields_faults Frames 0 d script_tail
     else WrongKind 0 field.Script ∷ []
 
 -- the faults of a script in their order: first those around the calls, then those of each call in order of ordinals
 unfoldable pub script_faults : Data → List ScriptErr
-script_faults d = head_faults d ++ flat_map call_faults (calls_of d)
+script_faults d = head_faults d ++ flat_map (call_faults Frames) (calls_of d)
 
 -- what a value without a fault means
 unfoldable pub script_in : Data → Script
-script_in d = record { context = context_of (context_in d); calls = filter_map call_of (calls_of d) }
+script_in d = record { context = context_of (context_in d); calls = filter_map (call_of Frames) (calls_of d) }
 
 -- the script that a JSON value is, or its first fault; no value at all is BadJson
 abbrev pub script_or_fault : Option Data → Result Script ScriptErr

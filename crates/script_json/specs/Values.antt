@@ -2,6 +2,8 @@
 use Rattle.std.specs.Prelude.{ℕ, List, Bool, ◌&&◌, if◌then◌else◌, ℤ, pos, neg_ℤ, int_le, Option, Some, None, option_and_then, is_some}
 use Rattle.serde_json.specs.Data.{Data}
 use Rattle.serde_json.specs.Find.{as_integer, as_number, as_str, as_array, as_object}
+use Rattle.script_ast.specs.declared.clocks.Clock.{Clock}
+use Rattle.script_ast.specs.declared.clocks.Clock.TheVariants.{Frames}
 use Rattle.script_ast.specs.declared.entries.Kind.{Kind}
 use Rattle.script_ast.specs.declared.entries.Kind.TheVariants as kind
 use Rattle.script_ast.specs.Ranges.{is_new_name}
@@ -11,6 +13,10 @@ use Rattle.script_json.specs.declared.values.Cause.TheVariants.{WrongKind, OutOf
 -- the whole number that a value is: none with a fraction or an exponent, past 64 bits, or `-0`
 abbrev pub whole : Data → Option ℤ
 whole d = option_and_then as_integer (as_number d)
+
+-- the number of frames that a value stands for on a clock
+abbrev pub frames : Clock → Data → Option ℤ
+frames Frames d = whole d
 
 -- z lies from low to high
 abbrev pub is_within : ℤ → ℤ → ℤ → Bool
@@ -30,13 +36,13 @@ new_name_cause (Some name) = if is_new_name name then None else Some OutOfRange
 abbrev pub kind_cause : Bool → Option Cause
 kind_cause holds = if holds then None else Some WrongKind
 
--- why a value may not stand in a field of the kind; none where it may
-abbrev pub cause_of : Kind → Data → Option Cause
-cause_of kind.Fix d = number_cause (neg_ℤ (pos 2147483648)) (pos 2147483647) (whole d)
-cause_of kind.Time d = number_cause (neg_ℤ (pos 1099511627776)) (pos 1099511627776) (whole d)
-cause_of kind.Count d = number_cause (pos 0) (pos 4294967295) (whole d)
-cause_of kind.Version d = number_cause (pos 1) (pos 1) (whole d)
-cause_of kind.Name d = kind_cause (is_some (as_str d))
-cause_of kind.NewName d = new_name_cause (as_str d)
-cause_of kind.Calls d = kind_cause (is_some (as_array d))
-cause_of kind.Object d = kind_cause (is_some (as_object d))
+-- why a value may not stand in a field of the kind, with times on this clock; none where it may
+abbrev pub cause_of : Clock → Kind → Data → Option Cause
+cause_of clock kind.Fix d = number_cause (neg_ℤ (pos 2147483648)) (pos 2147483647) (whole d)
+cause_of clock kind.Time d = number_cause (neg_ℤ (pos 1099511627776)) (pos 1099511627776) (frames clock d)
+cause_of clock kind.Count d = number_cause (pos 0) (pos 4294967295) (whole d)
+cause_of clock kind.Version d = number_cause (pos 1) (pos 1) (whole d)
+cause_of clock kind.Name d = kind_cause (is_some (as_str d))
+cause_of clock kind.NewName d = new_name_cause (as_str d)
+cause_of clock kind.Calls d = kind_cause (is_some (as_array d))
+cause_of clock kind.Object d = kind_cause (is_some (as_object d))

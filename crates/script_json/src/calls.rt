@@ -10,7 +10,7 @@ use crate::members::{
     check_fields, check_there, count, count_or_null, fix, is_there, list, text, text_or_null, time,
     time_or_null,
 };
-use script_ast::{Call, Calls, Field, Op, OpName, entries};
+use script_ast::{Call, Calls, Clock, Field, Op, OpName, entries};
 use serde_json::Value;
 use std::alloc::Global;
 use wa_base::NoMemory;
@@ -19,22 +19,23 @@ use wa_base::NoMemory;
 /// `depth` deep in the list. After an error the calls before the fault may have been added.
 pub fn add_calls(
     alloc: Global,
+    clock: Clock,
     list: &[Value],
     depth: u32,
     holder: u32,
     calls: &mut Calls,
 ) -> Result<(), ScriptErr>
     requires { items_depth (items_view list.now) < depth }
-    ensures ok { OnOk result (calls_read calls.old
+    ensures ok { OnOk result (calls_read clock calls.old
         (placed (items_view list.now) (length calls.old) holder) ≡ Ok calls.new) }
-    ensures fault { IfErr result (λ e. e ≢ ScriptErr.NoMemory → calls_read calls.old
+    ensures fault { IfErr result (λ e. e ≢ ScriptErr.NoMemory → calls_read clock calls.old
         (placed (items_view list.now) (length calls.old) holder) ≡ Err e) }
 {
     for value in list {
         let ordinal = next_ordinal(calls)?;
-        let call = read_call(alloc, ordinal, holder, value)?;
+        let call = read_call(alloc, clock, ordinal, holder, value)?;
         calls.push(call)?;
-        add_calls(alloc, held_list(value), depth - 1, ordinal, calls)?;
+        add_calls(alloc, clock, held_list(value), depth - 1, ordinal, calls)?;
     }
     Ok(())
 }
@@ -50,10 +51,16 @@ fn next_ordinal(calls: &Calls) -> Result<u32, NoMemory>
 }
 
 // The call that a value is, or its first fault.
-fn read_call(alloc: Global, ordinal: u32, holder: u32, value: &Value) -> Result<Call, ScriptErr>
-    ensures ok { IfOk result (λ call. call_read (placed_at ordinal holder (view value.now)) ≡ Ok (Some call)) }
+fn read_call(
+    alloc: Global,
+    clock: Clock,
+    ordinal: u32,
+    holder: u32,
+    value: &Value,
+) -> Result<Call, ScriptErr>
+    ensures ok { IfOk result (λ call. call_read clock (placed_at ordinal holder (view value.now)) ≡ Ok (Some call)) }
     ensures fault { IfErr result (λ e. e ≢ ScriptErr.NoMemory
-        → call_read (placed_at ordinal holder (view value.now)) ≡ Err e) }
+        → call_read clock (placed_at ordinal holder (view value.now)) ≡ Err e) }
 {
     if !value.is_object() {
         return Err(ScriptErr::WrongKind(ordinal, Field::Call));
@@ -61,8 +68,8 @@ fn read_call(alloc: Global, ordinal: u32, holder: u32, value: &Value) -> Result<
     let Some(name) = name_in(value) else {
         return Err(ScriptErr::UnknownOp(ordinal));
     };
-    check_call(ordinal, name, value)?;
-    let op = build(alloc, name, value)?;
+    check_call(clock, ordinal, name, value)?;
+    let op = build(alloc, clock, name, value)?;
     Ok(Call {
         ordinal,
         holder,
@@ -71,10 +78,10 @@ fn read_call(alloc: Global, ordinal: u32, holder: u32, value: &Value) -> Result<
 }
 
 // The first fault of a call's fields: those of each field come before those of several together.
-fn check_call(ordinal: u32, name: OpName, call: &Value) -> Result<(), ScriptErr>
-    ensures { result ≡ outcome (op_faults ordinal (view call.now) name) tt }
+fn check_call(clock: Clock, ordinal: u32, name: OpName, call: &Value) -> Result<(), ScriptErr>
+    ensures { result ≡ outcome (op_faults clock ordinal (view call.now) name) tt }
 {
-    check_fields(ordinal, call, name.fields())?;
+    check_fields(clock, ordinal, call, name.fields())?;
     match name {
         OpName::Disconnect => check_form(ordinal, call),
         _ => Ok(()),
@@ -112,8 +119,8 @@ fn held_list(call: &Value) -> &[Value]
 }
 
 // The operation with its fields, which have no fault.
-fn build(alloc: Global, name: OpName, call: &Value) -> Result<Op, NoMemory>
-    ensures { IfOk result (λ op. op ≡ op_in name (view call.now)) }
+fn build(alloc: Global, clock: Clock, name: OpName, call: &Value) -> Result<Op, NoMemory>
+    ensures { IfOk result (λ op. op ≡ op_in clock name (view call.now)) }
 {
     match name {
         OpName::CreateConstantSource => Ok(Op::CreateConstantSource {
@@ -138,13 +145,13 @@ fn build(alloc: Global, name: OpName, call: &Value) -> Result<Op, NoMemory>
         }),
         OpName::Start => Ok(Op::Start {
             node: text(alloc, call, Field::Node)?,
-            when: time(call, &entries::START, Field::When),
-            offset: time(call, &entries::START, Field::Offset),
-            duration: time_or_null(call, Field::Duration),
+            when: time(clock, call, &entries::START, Field::When),
+            offset: time(clock, call, &entries::START, Field::Offset),
+            duration: time_or_null(clock, call, Field::Duration),
         }),
         OpName::Stop => Ok(Op::Stop {
             node: text(alloc, call, Field::Node)?,
-            when: time(call, &entries::STOP, Field::When),
+            when: time(clock, call, &entries::STOP, Field::When),
         }),
         OpName::StartRendering => Ok(Op::StartRendering),
         OpName::Resume => Ok(Op::Resume),

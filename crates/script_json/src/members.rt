@@ -3,11 +3,13 @@ ghost use Rattle.serde_json.specs.View.{view, items_view};
 ghost use Rattle.script_ast.specs.Entries.{fallback_in};
 ghost use Rattle.script_json.specs.Fields.{member_at, member_faults, field_faults, fields_faults, default_number, number_in, fix_in, time_in, time_or_null_in, count_in, list_in, text_in, count_or_null_in, text_or_null_in, is_there, lack_faults, is_needed, takes_null, given_number, number_within};
 ghost use Rattle.script_json.specs.Outcome.{outcome};
-ghost use Rattle.script_json.specs.Values.{whole};
+ghost use Rattle.script_json.specs.Values.{whole, frames};
 
 use crate::faults::ScriptErr;
-use crate::values::{Cause, MAX_COUNT, MAX_FIX, MAX_TIME, MIN_FIX, MIN_TIME, cause_of, whole};
-use script_ast::{Fallback, Field, Row, fallback_in};
+use crate::values::{
+    Cause, MAX_COUNT, MAX_FIX, MAX_TIME, MIN_FIX, MIN_TIME, cause_of, frames, whole,
+};
+use script_ast::{Clock, Fallback, Field, Row, fallback_in};
 use serde_json::Value;
 use std::alloc::Global;
 use wa_base::{Fix, Name, NoMemory};
@@ -38,17 +40,22 @@ pub fn check_there(ordinal: u32, object: &Value, field: Field) -> Result<(), Scr
 }
 
 /// The first fault of the members of an object that the rows name, in their order.
-pub fn check_fields(ordinal: u32, object: &Value, rows: &[Row]) -> Result<(), ScriptErr>
-    ensures { result ≡ outcome (fields_faults ordinal (view object.now) rows.now) tt }
+pub fn check_fields(
+    clock: Clock,
+    ordinal: u32,
+    object: &Value,
+    rows: &[Row],
+) -> Result<(), ScriptErr>
+    ensures { result ≡ outcome (fields_faults clock ordinal (view object.now) rows.now) tt }
 {
     for row in rows {
-        check_field(ordinal, object, *row)?;
+        check_field(clock, ordinal, object, *row)?;
     }
     Ok(())
 }
 
-fn check_field(ordinal: u32, object: &Value, row: Row) -> Result<(), ScriptErr>
-    ensures { result ≡ outcome (field_faults ordinal (view object.now) row) tt }
+fn check_field(clock: Clock, ordinal: u32, object: &Value, row: Row) -> Result<(), ScriptErr>
+    ensures { result ≡ outcome (field_faults clock ordinal (view object.now) row) tt }
 {
     match member(object, row.field) {
         None => {
@@ -57,17 +64,17 @@ fn check_field(ordinal: u32, object: &Value, row: Row) -> Result<(), ScriptErr>
             }
             Ok(())
         }
-        Some(value) => check_value(ordinal, value, row),
+        Some(value) => check_value(clock, ordinal, value, row),
     }
 }
 
-fn check_value(ordinal: u32, value: &Value, row: Row) -> Result<(), ScriptErr>
-    ensures { result ≡ outcome (member_faults ordinal row (Some (view value.now))) tt }
+fn check_value(clock: Clock, ordinal: u32, value: &Value, row: Row) -> Result<(), ScriptErr>
+    ensures { result ≡ outcome (member_faults clock ordinal row (Some (view value.now))) tt }
 {
     if takes_null(row.fallback) && value.is_null() {
         return Ok(());
     }
-    match cause_of(row.kind, value) {
+    match cause_of(clock, row.kind, value) {
         None => Ok(()),
         Some(Cause::WrongKind) => Err(ScriptErr::WrongKind(ordinal, row.field)),
         Some(Cause::OutOfRange) => Err(ScriptErr::OutOfRange(ordinal, row.field)),
@@ -96,12 +103,12 @@ fn default_number(fallback: Fallback) -> Option<i128>
     }
 }
 
-fn given_number(object: &Value, entry: &[Row], field: Field) -> Option<i128>
-    ensures { result ≡ given_number (fallback_in entry.now field) (member_at field (view object.now)) }
+fn given_number(fallback: Fallback, number: Option<Option<i128>>) -> Option<i128>
+    ensures { result ≡ given_number fallback number }
 {
-    match member(object, field) {
-        None => default_number(fallback_in(entry, field)),
-        Some(value) => whole(value),
+    match number {
+        None => default_number(fallback),
+        Some(number) => number,
     }
 }
 
@@ -121,7 +128,8 @@ fn number_within(number: Option<i128>, low: i64, high: i64) -> Option<i64>
 pub fn fix(object: &Value, entry: &[Row], field: Field) -> Fix
     ensures { result ≡ fix_in entry.now field (view object.now) }
 {
-    match number_within(given_number(object, entry, field), MIN_FIX, MAX_FIX) {
+    let number = given_number(fallback_in(entry, field), member(object, field).map(whole));
+    match number_within(number, MIN_FIX, MAX_FIX) {
         Some(number) => number as Fix,
         None => 0,
     }
@@ -129,18 +137,21 @@ pub fn fix(object: &Value, entry: &[Row], field: Field) -> Fix
 
 /// The number of frames of a field of an entry.
 #[tactic(auto, unfolding(crate::specs::Fields::number_in))]
-pub fn time(object: &Value, entry: &[Row], field: Field) -> i64
-    ensures { result ≡ time_in entry.now field (view object.now) }
+pub fn time(clock: Clock, object: &Value, entry: &[Row], field: Field) -> i64
+    ensures { result ≡ time_in clock entry.now field (view object.now) }
 {
-    number_within(given_number(object, entry, field), MIN_TIME, MAX_TIME).unwrap_or(0)
+    let given = member(object, field).map(|value| frames(clock, value));
+    let number = given_number(fallback_in(entry, field), given);
+    number_within(number, MIN_TIME, MAX_TIME).unwrap_or(0)
 }
 
 /// The number of frames of a field that may be null or absent.
 #[tactic(auto, unfolding(crate::specs::Fields::time_or_null_in))]
-pub fn time_or_null(object: &Value, field: Field) -> Option<i64>
-    ensures { result ≡ time_or_null_in field (view object.now) }
+pub fn time_or_null(clock: Clock, object: &Value, field: Field) -> Option<i64>
+    ensures { result ≡ time_or_null_in clock field (view object.now) }
 {
-    number_within(member(object, field).and_then(whole), MIN_TIME, MAX_TIME)
+    let number = member(object, field).and_then(|value| frames(clock, value));
+    number_within(number, MIN_TIME, MAX_TIME)
 }
 
 /// The count of a field of an entry.
@@ -148,7 +159,8 @@ pub fn time_or_null(object: &Value, field: Field) -> Option<i64>
 pub fn count(object: &Value, entry: &[Row], field: Field) -> u32
     ensures { result ≡ count_in entry.now field (view object.now) }
 {
-    match number_within(given_number(object, entry, field), 0, MAX_COUNT) {
+    let number = given_number(fallback_in(entry, field), member(object, field).map(whole));
+    match number_within(number, 0, MAX_COUNT) {
         Some(count) => count as u32,
         None => 0,
     }

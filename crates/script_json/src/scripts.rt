@@ -11,7 +11,7 @@ use crate::faults::ScriptErr;
 use crate::members::{check_fields, count, list, member};
 use crate::tree::parse;
 use script_ast::entries::{CONTEXT_FIELDS, SCRIPT_HEAD, SCRIPT_TAIL};
-use script_ast::{Calls, Field, Script};
+use script_ast::{Calls, Clock, Field, Script};
 use serde_json::Value;
 use std::alloc::Global;
 use wa_base::ContextSpec;
@@ -43,7 +43,14 @@ fn read_script(alloc: Global, value: &Value) -> Result<Script, ScriptErr>
 {
     let context = read_context(value)?;
     let mut calls = Calls::new(alloc);
-    add_calls(alloc, main_list(value), MAX_DEPTH, 0, &mut calls)?;
+    add_calls(
+        alloc,
+        Clock::Frames,
+        main_list(value),
+        MAX_DEPTH,
+        0,
+        &mut calls,
+    )?;
     Ok(Script { context, calls })
 }
 
@@ -54,12 +61,12 @@ fn read_context(value: &Value) -> Result<ContextSpec, ScriptErr>
     if !value.is_object() {
         return Err(ScriptErr::WrongKind(0, Field::Script));
     }
-    check_fields(0, value, &SCRIPT_HEAD)?;
+    check_fields(Clock::Frames, 0, value, &SCRIPT_HEAD)?;
     let Some(context) = member(value, Field::Context) else {
         return Err(ScriptErr::MissingField(0, Field::Context));
     };
-    check_fields(0, context, &CONTEXT_FIELDS)?;
-    check_fields(0, value, &SCRIPT_TAIL)?;
+    check_fields(Clock::Frames, 0, context, &CONTEXT_FIELDS)?;
+    check_fields(Clock::Frames, 0, value, &SCRIPT_TAIL)?;
     Ok(context_of(context))
 }
 

@@ -2,9 +2,9 @@ ghost use Rattle.std.specs.Prelude.{◌≡◌, option_and_then, is_some};
 ghost use Rattle.serde_json.specs.Find.{as_str};
 ghost use Rattle.serde_json.specs.View.{view};
 ghost use Rattle.script_ast.specs.Ranges.{is_name_byte, has_name_length, has_name_bytes, is_new_name};
-ghost use Rattle.script_json.specs.Values.{whole, cause_of, number_cause, new_name_cause, kind_cause};
+ghost use Rattle.script_json.specs.Values.{whole, frames, cause_of, number_cause, new_name_cause, kind_cause};
 
-use script_ast::Kind;
+use script_ast::{Clock, Kind};
 use serde_json::{Number, Value};
 
 /// Why a value is not taken for a field.
@@ -34,15 +34,24 @@ pub fn whole(value: &Value) -> Option<i128>
     value.as_number().and_then(Number::as_i128)
 }
 
-/// Why a value may not stand in a field of this kind; `None` where it may.
-pub fn cause_of(kind: Kind, value: &Value) -> Option<Cause>
-    ensures { result ≡ cause_of kind (view value.now) }
+/// The number of frames that a value stands for on a clock.
+pub fn frames(clock: Clock, value: &Value) -> Option<i128>
+    ensures { result ≡ frames clock (view value.now) }
+{
+    match clock {
+        Clock::Frames => whole(value),
+    }
+}
+
+/// Why a value may not stand in a field of this kind, with times on this clock; `None` where it may.
+pub fn cause_of(clock: Clock, kind: Kind, value: &Value) -> Option<Cause>
+    ensures { result ≡ cause_of clock kind (view value.now) }
 {
     match kind {
-        Kind::Fix => number_cause(value, MIN_FIX, MAX_FIX),
-        Kind::Time => number_cause(value, MIN_TIME, MAX_TIME),
-        Kind::Count => number_cause(value, 0, MAX_COUNT),
-        Kind::Version => number_cause(value, 1, 1),
+        Kind::Fix => number_cause(whole(value), MIN_FIX, MAX_FIX),
+        Kind::Time => number_cause(frames(clock, value), MIN_TIME, MAX_TIME),
+        Kind::Count => number_cause(whole(value), 0, MAX_COUNT),
+        Kind::Version => number_cause(whole(value), 1, 1),
         Kind::Name => kind_cause(value.as_str().is_some()),
         Kind::NewName => new_name_cause(value),
         Kind::Calls => kind_cause(value.is_array()),
@@ -56,10 +65,10 @@ fn kind_cause(holds: bool) -> Option<Cause>
     if holds { None } else { Some(Cause::WrongKind) }
 }
 
-fn number_cause(value: &Value, low: i64, high: i64) -> Option<Cause>
-    ensures { result ≡ number_cause low high (whole (view value.now)) }
+fn number_cause(number: Option<i128>, low: i64, high: i64) -> Option<Cause>
+    ensures { result ≡ number_cause low high number }
 {
-    match whole(value) {
+    match number {
         None => Some(Cause::WrongKind),
         Some(number) => {
             if i128::from(low) <= number && number <= i128::from(high) {

@@ -8,5 +8,5 @@ abbrev pub decreases-add_calls : goal.decreases-add_calls
 decreases-add_calls l = l.depth
 
 abbrev pub invariant-loop-value : goal.invariant-loop-value
-invariant-loop-value l = calls_read l.initial.calls (placed (items_view l.list) (length l.initial.calls) l.holder)
-    ≡ calls_read l.calls (placed (items_view (drop l.value-index l.list)) (length l.calls) l.holder)
+invariant-loop-value l = calls_read l.clock l.initial.calls (placed (items_view l.list) (length l.initial.calls) l.holder)
+    ≡ calls_read l.clock l.calls (placed (items_view (drop l.value-index l.list)) (length l.calls) l.holder)

@@ -6,5 +6,5 @@ use Rattle.script_json.specs.Outcome.{outcome}
 use Rattle.script_json.proofs.members.check_fields.Given as goal
 
 abbrev pub invariant-loop-row : goal.invariant-loop-row
-invariant-loop-row l = outcome {A = ⊤} (fields_faults l.ordinal (view l.object) l.rows) tt
-    ≡ outcome {A = ⊤} (fields_faults l.ordinal (view l.object) (drop l.row-index l.rows)) tt
+invariant-loop-row l = outcome {A = ⊤} (fields_faults l.clock l.ordinal (view l.object) l.rows) tt
+    ≡ outcome {A = ⊤} (fields_faults l.clock l.ordinal (view l.object) (drop l.row-index l.rows)) tt

@@ -1,0 +1,6 @@
+/// What the times of a script are counted in.
+#[derive(Clone, Copy, Debug, PartialEq, Eq)]
+pub enum Clock {
+    /// Whole frames.
+    Frames,
+}
