@@ -4,8 +4,6 @@ use Rattle.std.specs.Prelude.{is_some, if◌then◌else◌, nat_lt}
 use Rattle.std.specs.List.{list_any}
 use Rattle.std.proofs.lemmas.Bool.Decides.{nat_tests}
 use Rattle.wa_base.specs.Contexts.{is_supported}
-use Rattle.wa_base.specs.declared.contexts.ContextSpec.{ContextSpec}
-use Rattle.meaning.specs.declared.world.World.{World}
 use Rattle.wa_base.specs.declared.exceptions.Exc.TheVariants.{NotSupported}
 use Rattle.script_ast.specs.declared.call_list.Call.{Call}
 use Rattle.script_ast.specs.declared.call_list.Script.{Script}
@@ -15,9 +13,9 @@ use Rattle.transcript.specs.declared.lines.EndWord.{EndWord}
 use Rattle.transcript.specs.declared.lines.EndWord.TheVariants.{Completed, Stalled, Idle, Refused}
 use Rattle.session.specs.Session.{Told, session_of, replayed, rendered, main_list, first_told, held_by}
 use Rattle.session.specs.Step.{is_start}
-use Rattle.replay_top.specs.Answer.{max_script, without_file, answer_to_end, answer_to_script, answer_to_bytes, answer_to_out, answer}
+use Rattle.replay_top.specs.Answer.{max_script, status_of, without_file, answer_to_script, answer_to_bytes, answer_to_reading, answer}
 use Rattle.replay_top.specs.Laws.{Renders, IsRendered}
-use Rattle.replay_top.specs.Words.{out_of}
+use Rattle.replay_top.specs.Words.{Reading, reading}
 use Rattle.replay_top.specs.declared.status.Status.TheVariants.{Rendered, ScriptTooLong}
 use Rattle.replay_top.proofs.Starting.{calls_start}
 
@@ -58,43 +56,40 @@ completes_renders script is = by_test (is_supported script.context) refl is
     }
     by_test false t end = absurd cc
 
-end_completed : (end : EndWord) (out text : List ℕ) (spec : ContextSpec) (tape : List World) → (answer_to_end end out text spec tape).status ≡ Rendered → end ≡ Completed
-end_completed Completed out text spec tape is = refl
-end_completed (Stalled frame) out text spec tape is = absurd cc
-end_completed Idle out text spec tape is = absurd cc
-end_completed (Refused exception) out text spec tape is = absurd cc
-
-end_renders : (end : EndWord) (out text : List ℕ) (spec : ContextSpec) (tape : List World) → end ≡ Completed → (answer_to_end end out text spec tape).status ≡ Rendered
-end_renders end out text spec tape is = ap (λ e. (answer_to_end e out text spec tape).status) is
+end_completed : (end : EndWord) → status_of end ≡ Rendered → end ≡ Completed
+end_completed Completed is = refl
+end_completed (Stalled frame) is = absurd cc
+end_completed Idle is = absurd cc
+end_completed (Refused exception) is = absurd cc
 
 -- from the answer to what holds
-renders_of_script : (out : List ℕ) (read : Result Script ScriptErr) → (answer_to_script out read).status ≡ Rendered → (script : Script) × (read ≡ Ok script) × Renders script
-renders_of_script out (Err fault) is = absurd cc
-renders_of_script out (Ok script) is = (script, refl, completes_renders script (end_completed (session_of script).end out _ script.context (session_of script).tape is))
+renders_of_script : (asked : Reading) (read : Result Script ScriptErr) → (answer_to_script asked read).status ≡ Rendered → (script : Script) × (read ≡ Ok script) × Renders script
+renders_of_script asked (Err fault) is = absurd cc
+renders_of_script asked (Ok script) is = (script, refl, completes_renders script (end_completed (session_of script).end is))
 
-short_of_answer : (out bytes : List ℕ) → (answer_to_bytes out bytes).status ≡ Rendered → (length bytes ≤ max_script) × ((answer_to_script out (script_of bytes)).status ≡ Rendered)
-short_of_answer out bytes is = by_test (nat_lt max_script (length bytes)) refl is
+short_of_answer : (asked : Reading) (bytes : List ℕ) → (answer_to_bytes asked bytes).status ≡ Rendered → (length bytes ≤ max_script) × ((answer_to_script asked (script_of bytes)).status ≡ Rendered)
+short_of_answer asked bytes is = by_test (nat_lt max_script (length bytes)) refl is
   where
-    by_test : (b : Bool) → nat_lt max_script (length bytes) ≡ b → (if b then without_file ScriptTooLong [] else answer_to_script out (script_of bytes)).status ≡ Rendered
-        → (length bytes ≤ max_script) × ((answer_to_script out (script_of bytes)).status ≡ Rendered)
-    by_test true t rendered = absurd cc
-    by_test false t rendered = (grind (arith, nat_tests), rendered)
+    by_test : (b : Bool) → nat_lt max_script (length bytes) ≡ b → (if b then without_file ScriptTooLong [] else answer_to_script asked (script_of bytes)).status ≡ Rendered
+        → (length bytes ≤ max_script) × ((answer_to_script asked (script_of bytes)).status ≡ Rendered)
+    by_test true t whole = absurd cc
+    by_test false t whole = (grind (arith, nat_tests), whole)
 
 pub rendered_where : (words : List (List ℕ)) (bytes : List ℕ) → (answer words bytes).status ≡ Rendered → IsRendered words bytes
-rendered_where words bytes is = by_out (out_of words) refl is
+rendered_where words bytes is = by_reading (reading words) refl is
   where
-    by_out : (named : Option (List ℕ)) → out_of words ≡ named → (answer_to_out named bytes).status ≡ Rendered → IsRendered words bytes
-    by_out None n rendered = absurd cc
-    by_out (Some out) n rendered =
-        let parts = short_of_answer out bytes rendered in
-        let script = renders_of_script out (script_of bytes) parts.1 in
-        record { out = out; named = n; short = parts.0; script = script.0; read = script.1; renders = script.2 }
+    by_reading : (read : Option Reading) → reading words ≡ read → (answer_to_reading read bytes).status ≡ Rendered → IsRendered words bytes
+    by_reading None n whole = absurd cc
+    by_reading (Some asked) n whole =
+        let parts = short_of_answer asked bytes whole in
+        let script = renders_of_script asked (script_of bytes) parts.1 in
+        record { asked = asked; reads = n; short = parts.0; script = script.0; read = script.1; renders = script.2 }
 
 -- and back
 pub where_rendered : (words : List (List ℕ)) (bytes : List ℕ) → IsRendered words bytes → (answer words bytes).status ≡ Rendered
 where_rendered words bytes is =
     let not_long : nat_lt max_script (length bytes) ≡ false = let short = is.short in grind (arith, nat_tests) in
-    ap (λ o. (answer_to_out o bytes).status) is.named
-    ∙ ap (λ b. (if b then without_file ScriptTooLong [] else answer_to_script is.out (script_of bytes)).status) not_long
-    ∙ ap (λ r. (answer_to_script is.out r).status) is.read
-    ∙ end_renders (session_of is.script).end is.out _ is.script.context (session_of is.script).tape (renders_completes is.script is.renders)
+    ap (λ r. (answer_to_reading r bytes).status) is.reads
+    ∙ ap (λ b. (if b then without_file ScriptTooLong [] else answer_to_script is.asked (script_of bytes)).status) not_long
+    ∙ ap (λ r. (answer_to_script is.asked r).status) is.read
+    ∙ ap status_of (renders_completes is.script is.renders)

@@ -11,7 +11,7 @@ use Rattle.wav_io.specs.WavText.{header_bytes, samples_bytes, padding, data_size
 use Rattle.meaning.specs.declared.world.World.{World}
 use Rattle.meaning.specs.Rendered.{sample, rows}
 use Rattle.session.specs.Rows.{frame_sample_in, frames_of}
-use Rattle.replay_top.specs.WavFile.{bits, wav_of}
+use Rattle.replay_top.specs.WavFile.{wav_of}
 
 range-add : (a m n : ℕ) → range_with_len a (m + n) ≡ range_with_len a m ++ range_with_len (a + m) n
 range-add a zero n = ap (λ k. range_with_len a k) (let e : 0 + n ≡ n = omega arith in e) ∙ ap (λ k. range_with_len k n) (let e : a ≡ a + 0 = omega arith in e)
@@ -55,8 +55,8 @@ unfolding rows
 length-rows tape spec = length-map-range_with_len (λ f. map (sample (quantum_of spec) tape f) (range_with_len 0 spec.channels)) 0 spec.length
 
 -- the file of all samples, frame after frame, is that of the rows
-pub wav-rows : (tape : List World) (spec : ContextSpec) → wav_of spec (frames_of tape spec) ≡ wav_bytes spec.rate spec.channels bits (rows (quantum_of spec) tape spec)
+pub wav-rows : (bits : ℕ) (tape : List World) (spec : ContextSpec) → wav_of bits spec (frames_of tape spec) ≡ wav_bytes spec.rate spec.channels bits (rows (quantum_of spec) tape spec)
 unfolding wav_of
-wav-rows tape spec =
+wav-rows bits tape spec =
     ap (λ xs. header_bytes spec.rate spec.channels bits spec.length ++ samples_bytes bits xs ++ padding (data_size spec.channels bits spec.length)) (sym (flat_rows tape spec))
     ∙ ap (λ n. header_bytes spec.rate spec.channels bits n ++ samples_bytes bits (flat_map (λ row. row) (rows (quantum_of spec) tape spec)) ++ padding (data_size spec.channels bits n)) (sym (length-rows tape spec))

@@ -1,5 +1,6 @@
 -- What a session hands over can be written, and the answer to it is the session's.
-use Rattle.std.proofs.Common.{◌≡◌, ◌*◌, ℕ, List, length, Some, None, true, if◌then◌else◌, arith, refl, inl, inr}
+use Rattle.std.proofs.Common.{◌≡◌, ◌*◌, ℕ, List, length, Option, Some, None, Bool, true, false, ◌&&◌, if◌then◌else◌, arith, refl, inl, inr}
+use Rattle.std.proofs.Math.Bool.{and-false}
 use Rattle.std.specs.Prelude.{IfSome}
 use Rattle.std.proofs.lemmas.Bool.{cases_Bool}
 use Rattle.std.proofs.lemmas.Bool.Decides.{nat_tests}
@@ -10,14 +11,16 @@ use Rattle.script_ast.specs.declared.call_list.Script.{Script}
 use Rattle.transcript.specs.Text.{text_of}
 use Rattle.transcript.specs.declared.lines.EndWord.{EndWord}
 use Rattle.transcript.specs.declared.lines.EndWord.TheVariants.{Completed, Stalled, Idle, Refused}
+use Rattle.session.specs.declared.rendered.Rendered.{Rendered}
 use Rattle.session.specs.Rendering.{completes, rendering_of}
 use Rattle.session.specs.Rows.{sample_in, samples_of}
 use Rattle.session.specs.Session.{session_of}
 use Rattle.meaning.specs.declared.world.World.{World}
 use Rattle.session.proofs.Interleaving.{interleaved_rendered}
-use Rattle.replay_top.specs.Answer.{answer_to_end, answer_to_session}
+use Rattle.replay_top.specs.Answer.{File, status_of, wav_of_tape, answer_to_session}
 use Rattle.replay_top.specs.Outcome.{answer_to_rendering}
 use Rattle.replay_top.specs.WavFile.{IsWritable}
+use Rattle.replay_top.specs.Words.{Reading, renders}
 use Rattle.replay_top.proofs.FrameRows.{wav-rows}
 
 pub length-samples_of : (tape : List World) (spec : ContextSpec) → length (samples_of tape spec) ≡ spec.channels * spec.length
@@ -36,39 +39,48 @@ ranges_of spec holds = record {
   samples_high = grind (arith, nat_tests);
 }
 
-writable_at : (end : EndWord) (spec : ContextSpec) (tape : List World) → IsSupported spec
-    → IfSome (if completes end then Some (record { spec = spec; samples = samples_of tape spec }) else None) IsWritable
-writable_at Completed spec tape ranges = record {
+-- what a session leaves that ended so, by whether it has audio
+abbrev left_at : Bool → EndWord → ContextSpec → List World → Option Rendered
+left_at audio end spec tape = if audio && completes end then Some (record { spec = spec; samples = samples_of tape spec }) else None
+
+writable_at : (audio : Bool) (end : EndWord) (spec : ContextSpec) (tape : List World) → IsSupported spec → IfSome (left_at audio end spec tape) IsWritable
+writable_at true Completed spec tape ranges = record {
   supported = ranges;
   long = length-samples_of tape spec;
 }
-writable_at (Stalled frame) spec tape ranges = tt
-writable_at Idle spec tape ranges = tt
-writable_at (Refused exception) spec tape ranges = tt
+writable_at false Completed spec tape ranges = tt
+writable_at audio (Stalled frame) spec tape ranges = rw and-false tt
+writable_at audio Idle spec tape ranges = rw and-false tt
+writable_at audio (Refused exception) spec tape ranges = rw and-false tt
 
-answer_at : (end : EndWord) (out text : List ℕ) (spec : ContextSpec) (tape : List World) → IsSupported spec
-    → answer_to_rendering out text (if completes end then Some (record { spec = spec; samples = samples_of tape spec }) else None) ≡ answer_to_end end out text spec tape
-answer_at Completed out text spec tape ranges =
+-- the file of a session that ended so, by whether it has audio
+abbrev file_at : Bool → EndWord → Reading → ContextSpec → List World → Option File
+file_at audio end asked spec tape = if audio && completes end then Some (wav_of_tape asked spec tape) else None
+
+answer_at : (audio : Bool) (end : EndWord) (asked : Reading) (text : List ℕ) (spec : ContextSpec) (tape : List World) → IsSupported spec
+    → answer_to_rendering asked end text (left_at audio end spec tape) ≡ record { status = status_of end; text = text; file = file_at audio end asked spec tape }
+answer_at true Completed asked text spec tape ranges =
     let frames = interleaved_rendered tape spec ranges.channels_low ranges.length_low in
-    rw (frames, wav-rows tape spec) refl
-answer_at (Stalled frame) out text spec tape ranges = refl
-answer_at Idle out text spec tape ranges = refl
-answer_at (Refused exception) out text spec tape ranges = refl
+    rw (frames, wav-rows asked.bits tape spec) refl
+answer_at false Completed asked text spec tape ranges = refl
+answer_at audio (Stalled frame) asked text spec tape ranges = rw and-false refl
+answer_at audio Idle asked text spec tape ranges = rw and-false refl
+answer_at audio (Refused exception) asked text spec tape ranges = rw and-false refl
 
 -- what a session of a script hands over can be written
-pub writable : (script : Script) → IfSome (rendering_of true script.context (session_of script)) IsWritable
+pub writable : (audio : Bool) (script : Script) → IfSome (rendering_of audio script.context (session_of script)) IsWritable
 unfolding session_of rendering_of
-writable script = elim (cases_Bool (is_supported script.context)) [
-  | inl holds ↦ writable_at (session_of script).end script.context (session_of script).tape (ranges_of script.context holds)
-  | inr fails ↦ rw fails tt
+writable audio script = elim (cases_Bool (is_supported script.context)) [
+  | inl holds ↦ writable_at audio (session_of script).end script.context (session_of script).tape (ranges_of script.context holds)
+  | inr fails ↦ rw (fails, and-false) tt
 ]
 
 -- the answer to what it hands over is the session's
-pub rendering_answered : (out : List ℕ) (script : Script)
-    → answer_to_rendering out (text_of (session_of script).lines (session_of script).end) (rendering_of true script.context (session_of script))
-    ≡ answer_to_session out script.context (session_of script)
+pub rendering_answered : (asked : Reading) (script : Script)
+    → answer_to_rendering asked (session_of script).end (text_of (session_of script).lines (session_of script).end) (rendering_of (renders asked.mode) script.context (session_of script))
+    ≡ answer_to_session asked script.context (session_of script)
 unfolding session_of rendering_of
-rendering_answered out script = elim (cases_Bool (is_supported script.context)) [
-  | inl holds ↦ answer_at (session_of script).end out _ script.context (session_of script).tape (ranges_of script.context holds)
-  | inr fails ↦ rw fails refl
+rendering_answered asked script = elim (cases_Bool (is_supported script.context)) [
+  | inl holds ↦ answer_at (renders asked.mode) (session_of script).end asked _ script.context (session_of script).tape (ranges_of script.context holds)
+  | inr fails ↦ rw (fails, and-false) refl
 ]

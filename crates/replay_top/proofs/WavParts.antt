@@ -1,5 +1,5 @@
 -- A WAV file as its header, its samples and its padding, and its samples in pieces.
-use Rattle.std.proofs.Common.{◌≡◌, ◌≤◌, ◌+◌, ◌*◌, ℕ, ℤ, List, ◌++◌, length, take, drop, refl, sym, arith}
+use Rattle.std.proofs.Common.{◌≡◌, ◌≤◌, ◌+◌, ◌*◌, ◌/◌, ◌⊎◌, ℕ, ℤ, List, ◌++◌, length, take, drop, refl, sym, inl, inr, arith}
 use Rattle.std.proofs.Math.Nat.{mul_comm, add-mul, mul-le-mul_right}
 use Rattle.std.proofs.lemmas.List.{length-take-le, take_all}
 use Rattle.std.proofs.lemmas.List.FromFn.{length-map-range_with_len}
@@ -10,19 +10,24 @@ use Rattle.wav_io.specs.WavText.{header_bytes, samples_bytes, padding, data_size
 use Rattle.wav_io.proofs.WavLemmas.{samples_bytes-append}
 use Rattle.replay_top.specs.WavFile.{wav_of}
 
-pub data_size-24 : (channels frames size : ℕ) → size ≡ channels * frames → data_size channels 24 frames ≡ size * 3
-data_size-24 channels frames size is = let turned : frames * channels ≡ channels * frames = mul_comm frames channels in omega (arith, turned, is)
+-- a sample has 16 or 24 bits
+abbrev pub IsKnown : ℕ → Type 0
+IsKnown bits = (bits ≡ 16) ⊎ (bits ≡ 24)
 
-pub wav_of-parts : (spec : ContextSpec) (samples : List ℤ) (size : ℕ) → size ≡ spec.channels * spec.length
-    → wav_of spec samples ≡ (header_bytes spec.rate spec.channels 24 spec.length ++ samples_bytes 24 samples) ++ padding (size * 3)
+pub data_size-bytes : (bits channels frames size : ℕ) → IsKnown bits → size ≡ channels * frames → data_size channels bits frames ≡ size * (bits / 8)
+data_size-bytes bits channels frames size (inl short) is = let turned : frames * channels ≡ channels * frames = mul_comm frames channels in rw short (omega (arith, turned, is))
+data_size-bytes bits channels frames size (inr long) is = let turned : frames * channels ≡ channels * frames = mul_comm frames channels in rw long (omega (arith, turned, is))
+
+pub wav_of-parts : (bits : ℕ) (spec : ContextSpec) (samples : List ℤ) (size : ℕ) → IsKnown bits → size ≡ spec.channels * spec.length
+    → wav_of bits spec samples ≡ (header_bytes spec.rate spec.channels bits spec.length ++ samples_bytes bits samples) ++ padding (size * (bits / 8))
 unfolding wav_of
-wav_of-parts spec samples size is = let bytes = data_size-24 spec.channels spec.length size is in rw bytes refl
+wav_of-parts bits spec samples size known is = let bytes = data_size-bytes bits spec.channels spec.length size known is in rw bytes refl
 
 -- the samples of the frames from `at` on follow those before them
-pub samples_bytes-next : (at next channels count : ℕ) (vs : List ℤ) → count ≡ next * channels
-    → samples_bytes 24 (take (at * channels) vs) ++ samples_bytes 24 (take count (drop (at * channels) vs)) ≡ samples_bytes 24 (take ((at + next) * channels) vs)
-samples_bytes-next at next channels count vs is =
-    rw (add-mul, ← is, take-add) (sym (samples_bytes-append 24 (take (at * channels) vs) (take count (drop (at * channels) vs))))
+pub samples_bytes-next : (bits at next channels count : ℕ) (vs : List ℤ) → count ≡ next * channels
+    → samples_bytes bits (take (at * channels) vs) ++ samples_bytes bits (take count (drop (at * channels) vs)) ≡ samples_bytes bits (take ((at + next) * channels) vs)
+samples_bytes-next bits at next channels count vs is =
+    rw (add-mul, ← is, take-add) (sym (samples_bytes-append bits (take (at * channels) vs) (take count (drop (at * channels) vs))))
 
 -- a piece of whole frames has room in the buffer
 piece_within : (next most channels : ℕ) → next ≤ most → most * channels ≤ 21845 → next * channels ≤ 21845

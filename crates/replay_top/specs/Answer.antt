@@ -1,5 +1,5 @@
 -- The answer of the program to a command line and a script.
-use Rattle.std.specs.Prelude.{ℕ, List, [], length, nat_lt, if◌then◌else◌, Option, Some, None, Result, Ok, Err}
+use Rattle.std.specs.Prelude.{ℕ, List, [], length, nat_lt, ◌&&◌, if◌then◌else◌, Option, Some, None, Result, Ok, Err}
 use Rattle.wa_base.specs.Contexts.{quantum_of}
 use Rattle.wa_base.specs.declared.contexts.ContextSpec.{ContextSpec}
 use Rattle.script_ast.specs.declared.call_list.Script.{Script}
@@ -9,12 +9,12 @@ use Rattle.transcript.specs.Text.{text_of}
 use Rattle.transcript.specs.declared.lines.EndWord.{EndWord}
 use Rattle.transcript.specs.declared.lines.EndWord.TheVariants.{Completed, Stalled, Idle, Refused}
 use Rattle.wav_io.specs.WavText.{wav_bytes}
+use Rattle.session.specs.Rendering.{completes}
 use Rattle.session.specs.Session.{Played, session_of}
 use Rattle.meaning.specs.declared.world.World.{World}
 use Rattle.meaning.specs.Rendered.{rows}
 use Rattle.replay_top.specs.FaultLine.{fault_line}
-use Rattle.replay_top.specs.WavFile.{bits}
-use Rattle.replay_top.specs.Words.{usage, out_of}
+use Rattle.replay_top.specs.Words.{Reading, reading, renders, usage}
 use Rattle.replay_top.specs.declared.status.Status.{Status}
 use Rattle.replay_top.specs.declared.status.Status.TheVariants.{Rendered, Unrendered, BadWords, BadScript, ScriptTooLong}
 
@@ -36,31 +36,51 @@ max_script = 16777216
 abbrev pub without_file : Status → List ℕ → Answer
 without_file status text = record { status = status; text = text; file = None }
 
-abbrev pub with_wav : List ℕ → List ℕ → List ℕ → Answer
-with_wav out text wav = record { status = Rendered; text = text; file = Some (record { path = out; bytes = wav }) }
+-- ---- a session
 
--- a session that completed has a WAV file with a row for each frame of its tape; one that ended otherwise has none
-abbrev pub answer_to_end : EndWord → List ℕ → List ℕ → ContextSpec → List World → Answer
-answer_to_end Completed out text spec tape = with_wav out text (wav_bytes spec.rate spec.channels bits (rows (quantum_of spec) tape spec))
-answer_to_end (Stalled frame) out text spec tape = without_file Unrendered text
-answer_to_end Idle out text spec tape = without_file Unrendered text
-answer_to_end (Refused exception) out text spec tape = without_file Unrendered text
+-- the status of a session that ended so
+abbrev pub status_of : EndWord → Status
+status_of Completed = Rendered
+status_of (Stalled frame) = Unrendered
+status_of Idle = Unrendered
+status_of (Refused exception) = Unrendered
+
+-- the file OUT with these bytes
+abbrev pub file_at_out : Reading → List ℕ → File
+file_at_out asked bytes = record { path = asked.out; bytes = bytes }
+
+-- a tape's WAV file, with a row for each frame
+abbrev pub wav_of_tape : Reading → ContextSpec → List World → File
+wav_of_tape asked spec tape = file_at_out asked (wav_bytes spec.rate spec.channels asked.bits (rows (quantum_of spec) tape spec))
+
+-- a session that completed has a WAV file, where samples are rendered; one that ended otherwise has none
+abbrev pub file_of : Reading → ContextSpec → Played → Option File
+file_of asked spec session = if renders asked.mode && completes session.end then Some (wav_of_tape asked spec session.tape) else None
 
 -- the text of a session's lines and of its end, and its WAV file
-abbrev pub answer_to_session : List ℕ → ContextSpec → Played → Answer
-answer_to_session out spec session = answer_to_end session.end out (text_of session.lines session.end) spec session.tape
+abbrev pub answer_to_session : Reading → ContextSpec → Played → Answer
+answer_to_session asked spec session = record {
+  status = status_of session.end;
+  text = text_of session.lines session.end;
+  file = file_of asked spec session;
+}
 
-abbrev pub answer_to_script : List ℕ → Result Script ScriptErr → Answer
-answer_to_script out (Ok script) = answer_to_session out script.context (session_of script)
-answer_to_script out (Err fault) = without_file BadScript (fault_line fault)
+-- ---- a script
 
-abbrev pub answer_to_bytes : List ℕ → List ℕ → Answer
-answer_to_bytes out bytes = if nat_lt max_script (length bytes) then without_file ScriptTooLong [] else answer_to_script out (script_of bytes)
+abbrev pub answer_to_script : Reading → Result Script ScriptErr → Answer
+answer_to_script asked (Ok script) = answer_to_session asked script.context (session_of script)
+answer_to_script asked (Err fault) = without_file BadScript (fault_line fault)
 
-abbrev pub answer_to_out : Option (List ℕ) → List ℕ → Answer
-answer_to_out None bytes = without_file BadWords usage
-answer_to_out (Some out) bytes = answer_to_bytes out bytes
+abbrev pub answer_to_bytes : Reading → List ℕ → Answer
+answer_to_bytes asked bytes = if nat_lt max_script (length bytes) then without_file ScriptTooLong [] else answer_to_script asked (script_of bytes)
+
+-- ---- words
+
+-- every reading so far reads the source
+abbrev pub answer_to_reading : Option Reading → List ℕ → Answer
+answer_to_reading None bytes = without_file BadWords usage
+answer_to_reading (Some asked) bytes = answer_to_bytes asked bytes
 
 -- the answer to the words of a command line and the bytes of a script
 abbrev pub answer : List (List ℕ) → List ℕ → Answer
-answer words bytes = answer_to_out (out_of words) bytes
+answer words bytes = answer_to_reading (reading words) bytes

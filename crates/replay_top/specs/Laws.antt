@@ -8,7 +8,7 @@ use Rattle.script_json.specs.Script.{script_of}
 use Rattle.session.specs.Session.{held_by}
 use Rattle.session.specs.Step.{is_start}
 use Rattle.replay_top.specs.Answer.{answer, max_script}
-use Rattle.replay_top.specs.Words.{out_of}
+use Rattle.replay_top.specs.Words.{Reading, reading}
 use Rattle.replay_top.specs.declared.status.Status.TheVariants.{Rendered}
 
 -- a script whose context can be rendered, and whose main list starts the rendering
@@ -16,10 +16,10 @@ pub record Renders (script : Script) : Type 0 where
   pub context : is_supported script.context ≡ true
   pub starts : list_any (λ (call : Call). is_start call.op) (held_by 0 script.calls) ≡ true
 
--- words that name OUT, and no more bytes than a script may have, which are a script that renders
+-- words that have a reading, and no more bytes than a script may have, which are a script that renders
 pub record IsRendered (words : List (List ℕ)) (bytes : List ℕ) : Type 0 where
-  pub out : List ℕ
-  pub named : out_of words ≡ Some out
+  pub asked : Reading
+  pub reads : reading words ≡ Some asked
   pub short : length bytes ≤ max_script
   pub script : Script
   pub read : script_of bytes ≡ Ok script

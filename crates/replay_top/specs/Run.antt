@@ -1,10 +1,11 @@
 -- What a run leaves outside, against the answer of the program.
-use Rattle.std.specs.Prelude.{ℕ, ◌≡◌, ◌⊎◌, List, Bool, IsTrue, IsSome, take, Option, Some, None}
+use Rattle.std.specs.Prelude.{ℕ, ◌≡◌, ◌⊎◌, List, Bool, true, false, IsTrue, IsSome, take, Option, Some, None}
 use Rattle.std.specs.Io.KnownBytes.{Appends, Keeps, IsAtEnd}
 use Rattle.io_edge.specs.Faults.{Rose}
 use Rattle.io_edge.specs.Paths.{Paths, SamePaths, Sets}
 use Rattle.io_edge.specs.Told.{AppendsFront, AppendsProperFront}
 use Rattle.replay_top.specs.Answer.{Answer, File}
+use Rattle.replay_top.specs.Words.{Reading, asks_source}
 use Rattle.replay_top.specs.declared.status.Status.{Status}
 use Rattle.replay_top.specs.declared.status.Status.TheVariants.{Rendered, Unrendered, BadWords, BadScript, ScriptTooLong, ScriptFault, TranscriptFault, WavFault, NoMemory}
 
@@ -65,30 +66,34 @@ Answers NoMemory answer old new = IsCutShort answer old new
 Answers ScriptFault answer old new = ⊥
 Answers status answer old new = IsWhole status answer old new
 
--- the words have a reading, and the source failed before anything was written
-pub record IsScriptFault (answer : Answer) (faults now : ℕ) (old new : Outside) : Type 0 where
+-- the source's script is asked for, and the source failed before anything was written
+pub record IsScriptFault (asked : Option Reading) (faults now : ℕ) (old new : Outside) : Type 0 where
   pub cause : Rose faults now
-  pub read : answer.status ≡ BadWords → ⊥
+  pub read : IsTrue (asks_source asked)
   pub text : Keeps old.written new.written
   pub files : SameFiles old new
 
 -- how a run ended, where a source's count of faults went from `faults` to `now`
-abbrev pub Ran : Status → Answer → ℕ → ℕ → Outside → Outside → Type 0
-Ran ScriptFault answer faults now old new = IsScriptFault answer faults now old new
-Ran status answer faults now old new = Answers status answer old new
+abbrev pub Ran : Status → Option Reading → Answer → ℕ → ℕ → Outside → Outside → Type 0
+Ran ScriptFault asked answer faults now old new = IsScriptFault asked faults now old new
+Ran status asked answer faults now old new = Answers status answer old new
 
--- which ends come only after the source was read to its end, and which leave it as it was
-abbrev pub IsRead : Status → Option (List ℕ) → Option (List ℕ) → Option (List ℕ) → Type 0
-IsRead Rendered out left now = IsAtEnd now
-IsRead Unrendered out left now = IsAtEnd now
-IsRead BadScript out left now = IsAtEnd now
-IsRead WavFault out left now = IsAtEnd now
-IsRead BadWords out left now = Keeps left now
-IsRead TranscriptFault None left now = Keeps left now
-IsRead TranscriptFault (Some path) left now = IsAtEnd now
-IsRead ScriptTooLong out left now = Unit {0}
-IsRead ScriptFault out left now = Unit {0}
-IsRead NoMemory out left now = Unit {0}
+-- where the source's script is asked for: which ends come only after it was read to its end, and which never comes
+abbrev pub IsReadToEnd : Status → Option (List ℕ) → Option (List ℕ) → Type 0
+IsReadToEnd Rendered left now = IsAtEnd now
+IsReadToEnd Unrendered left now = IsAtEnd now
+IsReadToEnd BadScript left now = IsAtEnd now
+IsReadToEnd TranscriptFault left now = IsAtEnd now
+IsReadToEnd WavFault left now = IsAtEnd now
+IsReadToEnd BadWords left now = ⊥
+IsReadToEnd ScriptTooLong left now = Unit {0}
+IsReadToEnd ScriptFault left now = Unit {0}
+IsReadToEnd NoMemory left now = Unit {0}
+
+-- what was read of the source, by whether its script is asked for; where it is not, the source is as it was
+abbrev pub IsRead : Bool → Status → Option (List ℕ) → Option (List ℕ) → Type 0
+IsRead true status left now = IsReadToEnd status left now
+IsRead false status left now = Keeps left now
 
 -- how a text ends that is the whole answer, where a sink's count of faults went from `faults` to `now`
 abbrev pub TextEnds : Status → Status → List ℕ → Option (List ℕ) → Option (List ℕ) → ℕ → ℕ → Type 0

@@ -5,13 +5,9 @@ use Rattle.wa_base.specs.Contexts.{IsSupported}
 use Rattle.session.specs.declared.rendered.Rendered.{Rendered}
 use Rattle.wav_io.specs.WavText.{header_bytes, samples_bytes, padding, data_size}
 
--- the bits of a sample
-abbrev pub bits : ℕ
-bits = 24
-
--- a whole file of samples that stand frame after frame
-unfoldable pub wav_of : ContextSpec → List ℤ → List ℕ
-wav_of spec samples =
+-- a whole file of samples that stand frame after frame, each of so many bits
+unfoldable pub wav_of : ℕ → ContextSpec → List ℤ → List ℕ
+wav_of bits spec samples =
     header_bytes spec.rate spec.channels bits spec.length
     ++ samples_bytes bits samples
     ++ padding (data_size spec.channels bits spec.length)

@@ -13,7 +13,7 @@ mod words;
 pub use replay::run;
 pub use status::Status;
 
-/// The answer to words and bytes is Rendered exactly where the words name a path, the bytes are no
+/// The answer to words and bytes is Rendered exactly where the words have a reading, the bytes are no
 /// more than a script may have and are one, its context can be rendered, and its main list starts the
 /// rendering. A run ends as the answer says, but for a fault that was counted and for `NoMemory`.
 pub fn completeness_law()

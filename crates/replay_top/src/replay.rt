@@ -1,35 +1,28 @@
-ghost use Rattle.std.specs.Prelude.{ℕ, List, map, string_bytes, IfSome};
+ghost use Rattle.std.specs.Prelude.{◌≡◌, ℕ, List, map, string_bytes, IfSome};
 ghost use Rattle.io_edge.specs.Told.{IsToldAs};
 ghost use Rattle.script_ast.specs.WellFormed.{IsWellFormed};
 ghost use Rattle.script_json.specs.Script.{script_of};
-ghost use Rattle.session.specs.Rows.{interleaved};
 ghost use Rattle.session.specs.Session.{session_of};
 ghost use Rattle.transcript.specs.Text.{text_of};
 ghost use Rattle.replay_top.specs.Answer as answers;
 ghost use Rattle.replay_top.specs.FaultLine as faults;
-ghost use Rattle.replay_top.specs.Outcome.{answer_to_rendering};
+ghost use Rattle.replay_top.specs.Outcome.{answer_to_rendering, with_wav};
 ghost use Rattle.replay_top.specs.Run.{outside, Ran, Answers, IsRead, TextEnds};
-ghost use Rattle.replay_top.specs.WavFile.{IsWritable, wav_of};
-ghost use Rattle.replay_top.specs.Words.{out_of as path_of};
+ghost use Rattle.replay_top.specs.WavFile.{IsWritable};
+ghost use Rattle.replay_top.specs.Words.{asks_source, reading as reading_in};
 
 use crate::fault_line::fault_line;
 use crate::status::Status;
 use crate::wav_file::write_wav;
-use crate::words::{USAGE, out_of};
+use crate::words::{Reading, USAGE, reading_of};
 use io_edge::{EdgeErr, Files, ReadErr, Sink, Source, read_all, write_all};
 use script_ast::Script;
 use script_json::{ScriptErr, read};
 use session::{Options, Outcome, Rendered};
 use std::alloc::Global;
-use transcript::text;
-use wa_base::Tie;
+use transcript::{EndWord, text};
 
 const MAX_SCRIPT: usize = 16_777_216;
-
-const OPTIONS: Options = Options {
-    tie: Tie::Up,
-    audio: true,
-};
 
 /// Replays a session: reads the words of a command line and a script, writes the transcript into the
 /// sink and, where the session completes, a WAV file at the path that the words name.
@@ -47,14 +40,14 @@ pub fn run<S: Source, F: Files, T: Sink>(
     ensures ran { let before = outside (T.written transcript.old) (T.faults transcript.old) (F.tells files.old) (F.paths files.old) (F.write_faults files.old) in
         let after = outside (T.written transcript.new) (T.faults transcript.new) (F.tells files.new) (F.paths files.new) (F.write_faults files.new) in
         (bytes : List ℕ) × IsToldAs (S.left script.old) bytes
-        × Ran result (answers.answer (map string_bytes words.now) bytes) (S.faults script.old) (S.faults script.new) before after }
-    ensures read { IsRead result (path_of (map string_bytes words.now)) (S.left script.old) (S.left script.new) }
+        × Ran result (reading_in (map string_bytes words.now)) (answers.answer (map string_bytes words.now) bytes) (S.faults script.old) (S.faults script.new) before after }
+    ensures read { IsRead (asks_source (reading_in (map string_bytes words.now))) result (S.left script.old) (S.left script.new) }
 {
-    let Some(out) = out_of(words) else {
+    let Some(reading) = reading_of(words) else {
         return answer_text(transcript, USAGE, Status::BadWords);
     };
     match read_all(alloc, script, MAX_SCRIPT) {
-        Ok(bytes) => replay_bytes(alloc, out, bytes.as_slice(), files, transcript),
+        Ok(bytes) => replay_bytes(alloc, &reading, bytes.as_slice(), files, transcript),
         Err(ReadErr::TooLong) => Status::ScriptTooLong,
         Err(ReadErr::Failed) => Status::ScriptFault,
         Err(ReadErr::NoMemory) => Status::NoMemory,
@@ -64,17 +57,17 @@ pub fn run<S: Source, F: Files, T: Sink>(
 // Replays the script that the bytes are.
 fn replay_bytes<F: Files, T: Sink>(
     alloc: Global,
-    out: &str,
+    reading: &Reading<'_>,
     bytes: &[u8],
     files: &mut F,
     transcript: &mut T,
 ) -> Status
     ensures { let before = outside (T.written transcript.old) (T.faults transcript.old) (F.tells files.old) (F.paths files.old) (F.write_faults files.old) in
         let after = outside (T.written transcript.new) (T.faults transcript.new) (F.tells files.new) (F.paths files.new) (F.write_faults files.new) in
-        Answers result (answers.answer_to_script out.now (script_of bytes.now)) before after }
+        Answers result (answers.answer_to_script reading.now (script_of bytes.now)) before after }
 {
     match read(alloc, bytes) {
-        Ok(script) => replay_script(alloc, out, &script, files, transcript),
+        Ok(script) => replay_script(alloc, reading, &script, files, transcript),
         Err(ScriptErr::NoMemory) => Status::NoMemory,
         Err(fault) => answer_fault(alloc, fault, transcript),
     }
@@ -83,7 +76,7 @@ fn replay_bytes<F: Files, T: Sink>(
 // Runs the session of a script and answers with what it told and rendered.
 fn replay_script<F: Files, T: Sink>(
     alloc: Global,
-    out: &str,
+    reading: &Reading<'_>,
     script: &Script,
     files: &mut F,
     transcript: &mut T,
@@ -91,10 +84,14 @@ fn replay_script<F: Files, T: Sink>(
     requires { IsWellFormed script.now }
     ensures { let before = outside (T.written transcript.old) (T.faults transcript.old) (F.tells files.old) (F.paths files.old) (F.write_faults files.old) in
         let after = outside (T.written transcript.new) (T.faults transcript.new) (F.tells files.new) (F.paths files.new) (F.write_faults files.new) in
-        Answers result (answers.answer_to_session out.now script.now.context (session_of script.now)) before after }
+        Answers result (answers.answer_to_session reading.now script.now.context (session_of script.now)) before after }
 {
-    match session::run(alloc, script, OPTIONS, files) {
-        Ok(outcome) => answer_outcome(alloc, out, &outcome, files, transcript),
+    let options = Options {
+        tie: reading.order,
+        audio: reading.mode.renders(),
+    };
+    match session::run(alloc, script, options, files) {
+        Ok(outcome) => answer_outcome(alloc, reading, &outcome, files, transcript),
         Err(_) => Status::NoMemory,
     }
 }
@@ -102,7 +99,7 @@ fn replay_script<F: Files, T: Sink>(
 // Writes the transcript of a session and then, where something was rendered, the WAV file.
 fn answer_outcome<F: Files, T: Sink>(
     alloc: Global,
-    out: &str,
+    reading: &Reading<'_>,
     outcome: &Outcome,
     files: &mut F,
     transcript: &mut T,
@@ -110,20 +107,30 @@ fn answer_outcome<F: Files, T: Sink>(
     requires { IfSome outcome.now.rendered IsWritable }
     ensures { let before = outside (T.written transcript.old) (T.faults transcript.old) (F.tells files.old) (F.paths files.old) (F.write_faults files.old) in
         let after = outside (T.written transcript.new) (T.faults transcript.new) (F.tells files.new) (F.paths files.new) (F.write_faults files.new) in
-        Answers result (answer_to_rendering out.now (text_of outcome.now.lines.items outcome.now.end) outcome.now.rendered) before after }
+        Answers result (answer_to_rendering reading.now outcome.now.end (text_of outcome.now.lines.items outcome.now.end) outcome.now.rendered) before after }
 {
     let Ok(text) = text(alloc, &outcome.lines, &outcome.end) else {
         return Status::NoMemory;
     };
     match &outcome.rendered {
-        Some(rendered) => answer_rendered(out, text.as_slice(), rendered, files, transcript),
-        None => answer_text(transcript, text.as_slice(), Status::Unrendered),
+        Some(rendered) => answer_rendered(reading, text.as_slice(), rendered, files, transcript),
+        None => answer_text(transcript, text.as_slice(), status_of(outcome.end)),
+    }
+}
+
+// The status of a session that ended so.
+fn status_of(end: EndWord) -> Status
+    ensures { result ≡ answers.status_of end }
+{
+    match end {
+        EndWord::Completed => Status::Rendered,
+        EndWord::Stalled(_) | EndWord::Idle | EndWord::Refused(_) => Status::Unrendered,
     }
 }
 
 // Writes a transcript and then the WAV file.
 fn answer_rendered<F: Files, T: Sink>(
-    out: &str,
+    reading: &Reading<'_>,
     text: &[u8],
     rendered: &Rendered,
     files: &mut F,
@@ -132,14 +139,14 @@ fn answer_rendered<F: Files, T: Sink>(
     requires { IsWritable rendered.now }
     ensures { let before = outside (T.written transcript.old) (T.faults transcript.old) (F.tells files.old) (F.paths files.old) (F.write_faults files.old) in
         let after = outside (T.written transcript.new) (T.faults transcript.new) (F.tells files.new) (F.paths files.new) (F.write_faults files.new) in
-        Answers result (answers.with_wav out.now text.now (wav_of rendered.now.spec (interleaved rendered.now.spec rendered.now.samples))) before after }
+        Answers result (with_wav reading.now text.now rendered.now) before after }
 {
     match write_all(transcript, text) {
         Ok(()) => {}
         Err(EdgeErr::Failed) => return Status::TranscriptFault,
         Err(EdgeErr::NoMemory) => return Status::NoMemory,
     }
-    match write_wav(files, out, rendered) {
+    match write_wav(files, reading, rendered) {
         Ok(()) => Status::Rendered,
         Err(EdgeErr::Failed) => Status::WavFault,
         Err(EdgeErr::NoMemory) => Status::NoMemory,

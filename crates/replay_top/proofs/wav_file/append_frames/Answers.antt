@@ -39,6 +39,7 @@ append_piece-requires-clause-within g c =
 pub returns-in_err-append_piece-clause-part : goal.returns-in_err-append_piece-clause-part
 returns-in_err-append_piece-clause-part g c =
     let failed = err_from_is_err_and c.from_residual.result c.from_residual.ensures.1 in
+    let bits = c.args.reading.now.bits in
     let channels = c.args.rendered.now.spec.channels in
     let at = c.loop-at.at in
     let next = c.min-next.result in
@@ -46,13 +47,14 @@ returns-in_err-append_piece-clause-part g c =
     let long : length c.loop-at.samples ≡ 21845 = search rules in
     let count : length (take (next * channels) c.loop-at.samples) ≡ next * channels =
     piece_count next c.frames_in_a_piece-most.result channels c.loop-at.samples (omega (arith, c.min-next.ensures)) c.frames_in_a_piece-most.ensures.room long in
-    let piece = samples_bytes-next at next channels (length (take (next * channels) c.loop-at.samples)) all count in
-    rw failed.1 (λ told. AppendsPart-after _ _ _ _ (samples_bytes 24 (take (at * channels) all)) _ (samples_bytes 24 (drop ((at + next) * channels) all)) (samples_bytes 24 all)
+    let piece = samples_bytes-next bits at next channels (length (take (next * channels) c.loop-at.samples)) all count in
+    rw failed.1 (λ told. AppendsPart-after _ _ _ _ (samples_bytes bits (take (at * channels) all)) _ (samples_bytes bits (drop ((at + next) * channels) all)) (samples_bytes bits all)
     (c.loop-at.invariant.added told) (c.in_err-append_piece.ensures.part (subst IsTrue (sym c.loop-at.invariant.tells) told))
-    (rw piece (samples_bytes-take_drop 24 ((at + next) * channels) all)))
+    (rw piece (samples_bytes-take_drop bits ((at + next) * channels) all)))
 
 pub loop-at-preserved : goal.loop-at-preserved
 loop-at-preserved g c =
+    let bits = c.args.reading.now.bits in
     let channels = c.args.rendered.now.spec.channels in
     let at = c.loop-at.at in
     let next = c.min-next.result in
@@ -60,12 +62,12 @@ loop-at-preserved g c =
     let long : length c.loop-at.samples ≡ 21845 = search rules in
     let count : length (take (next * channels) c.loop-at.samples) ≡ next * channels =
     piece_count next c.frames_in_a_piece-most.result channels c.loop-at.samples (omega (arith, c.min-next.ensures)) c.frames_in_a_piece-most.ensures.room long in
-    let piece = samples_bytes-next at next channels (length (take (next * channels) c.loop-at.samples)) all count in
+    let piece = samples_bytes-next bits at next channels (length (take (next * channels) c.loop-at.samples)) all count in
     record {
       later = omega (arith, c.append_piece.ensures.later);
       tells = c.append_piece.ensures.tells ∙ c.loop-at.invariant.tells;
       within = omega (arith, c.min-next.ensures);
-      added = λ told. rw (← piece) (AppendsWhole-trans _ _ _ _ (samples_bytes 24 (take (at * channels) all)) _
+      added = λ told. rw (← piece) (AppendsWhole-trans _ _ _ _ (samples_bytes bits (take (at * channels) all)) _
           (c.loop-at.invariant.added told) (c.in_ok-append_piece.ensures.all (subst IsTrue (sym c.loop-at.invariant.tells) told)));
     }
 

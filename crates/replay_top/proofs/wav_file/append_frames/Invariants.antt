@@ -10,7 +10,7 @@ invariant-loop-at g l = record {
   tells : g.F.Files.tells l.files ≡ g.F.Files.tells l.initial.files;
   within : l.at ≤ l.frames;
   added : IsTrue (g.F.Files.tells l.initial.files)
-      → AppendsWhole (g.F.Files.paths l.initial.files) (g.F.Files.paths l.files) l.path (samples_bytes 24 (take (l.at * l.channels) (interleaved l.rendered.spec l.rendered.samples)));
+      → AppendsWhole (g.F.Files.paths l.initial.files) (g.F.Files.paths l.files) l.reading.out (samples_bytes l.reading.bits (take (l.at * l.channels) (interleaved l.rendered.spec l.rendered.samples)));
 }
 
 abbrev pub decreases-loop-at : goal.decreases-loop-at
