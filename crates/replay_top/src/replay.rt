@@ -1,4 +1,4 @@
-ghost use Rattle.std.specs.Prelude.{◌≡◌, ℕ, List, map, string_bytes, IfSome};
+ghost use Rattle.std.specs.Prelude.{◌≡◌, ◌≤◌, ℕ, List, map, string_bytes, IfSome};
 ghost use Rattle.io_edge.specs.Told.{IsToldAs};
 ghost use Rattle.script_ast.specs.WellFormed.{IsWellFormed};
 ghost use Rattle.script_json.specs.Script.{script_of};
@@ -42,6 +42,10 @@ pub fn run<S: Source, F: Files, T: Sink>(
         (bytes : List ℕ) × IsToldAs (S.left script.old) bytes
         × Ran result (reading_in (map string_bytes words.now)) (answers.answer (map string_bytes words.now) bytes) (S.faults script.old) (S.faults script.new) before after }
     ensures read { IsRead (asks_source (reading_in (map string_bytes words.now))) result (S.left script.old) (S.left script.new) }
+    ensures tells { F.tells files.new ≡ F.tells files.old }
+    ensures source_later { S.faults script.old ≤ S.faults script.new }
+    ensures sink_later { T.faults transcript.old ≤ T.faults transcript.new }
+    ensures store_later { F.write_faults files.old ≤ F.write_faults files.new }
 {
     let Some(reading) = reading_of(words) else {
         return answer_text(transcript, USAGE, Status::BadWords);
@@ -62,9 +66,12 @@ fn replay_bytes<F: Files, T: Sink>(
     files: &mut F,
     transcript: &mut T,
 ) -> Status
-    ensures { let before = outside (T.written transcript.old) (T.faults transcript.old) (F.tells files.old) (F.paths files.old) (F.write_faults files.old) in
+    ensures ends { let before = outside (T.written transcript.old) (T.faults transcript.old) (F.tells files.old) (F.paths files.old) (F.write_faults files.old) in
         let after = outside (T.written transcript.new) (T.faults transcript.new) (F.tells files.new) (F.paths files.new) (F.write_faults files.new) in
         Answers result (answers.answer_to_script reading.now (script_of bytes.now)) before after }
+    ensures tells { F.tells files.new ≡ F.tells files.old }
+    ensures sink_later { T.faults transcript.old ≤ T.faults transcript.new }
+    ensures store_later { F.write_faults files.old ≤ F.write_faults files.new }
 {
     match read(alloc, bytes) {
         Ok(script) => replay_script(alloc, reading, &script, files, transcript),
@@ -82,9 +89,12 @@ fn replay_script<F: Files, T: Sink>(
     transcript: &mut T,
 ) -> Status
     requires { IsWellFormed script.now }
-    ensures { let before = outside (T.written transcript.old) (T.faults transcript.old) (F.tells files.old) (F.paths files.old) (F.write_faults files.old) in
+    ensures ends { let before = outside (T.written transcript.old) (T.faults transcript.old) (F.tells files.old) (F.paths files.old) (F.write_faults files.old) in
         let after = outside (T.written transcript.new) (T.faults transcript.new) (F.tells files.new) (F.paths files.new) (F.write_faults files.new) in
         Answers result (answers.answer_to_session reading.now script.now.context (session_of script.now)) before after }
+    ensures tells { F.tells files.new ≡ F.tells files.old }
+    ensures sink_later { T.faults transcript.old ≤ T.faults transcript.new }
+    ensures store_later { F.write_faults files.old ≤ F.write_faults files.new }
 {
     let options = Options {
         tie: reading.order,
@@ -105,9 +115,12 @@ fn answer_outcome<F: Files, T: Sink>(
     transcript: &mut T,
 ) -> Status
     requires { IfSome outcome.now.rendered IsWritable }
-    ensures { let before = outside (T.written transcript.old) (T.faults transcript.old) (F.tells files.old) (F.paths files.old) (F.write_faults files.old) in
+    ensures ends { let before = outside (T.written transcript.old) (T.faults transcript.old) (F.tells files.old) (F.paths files.old) (F.write_faults files.old) in
         let after = outside (T.written transcript.new) (T.faults transcript.new) (F.tells files.new) (F.paths files.new) (F.write_faults files.new) in
         Answers result (answer_to_rendering reading.now outcome.now.end (text_of outcome.now.lines.items outcome.now.end) outcome.now.rendered) before after }
+    ensures tells { F.tells files.new ≡ F.tells files.old }
+    ensures sink_later { T.faults transcript.old ≤ T.faults transcript.new }
+    ensures store_later { F.write_faults files.old ≤ F.write_faults files.new }
 {
     let Ok(text) = text(alloc, &outcome.lines, &outcome.end) else {
         return Status::NoMemory;
@@ -137,9 +150,12 @@ fn answer_rendered<F: Files, T: Sink>(
     transcript: &mut T,
 ) -> Status
     requires { IsWritable rendered.now }
-    ensures { let before = outside (T.written transcript.old) (T.faults transcript.old) (F.tells files.old) (F.paths files.old) (F.write_faults files.old) in
+    ensures ends { let before = outside (T.written transcript.old) (T.faults transcript.old) (F.tells files.old) (F.paths files.old) (F.write_faults files.old) in
         let after = outside (T.written transcript.new) (T.faults transcript.new) (F.tells files.new) (F.paths files.new) (F.write_faults files.new) in
         Answers result (with_wav reading.now text.now rendered.now) before after }
+    ensures tells { F.tells files.new ≡ F.tells files.old }
+    ensures sink_later { T.faults transcript.old ≤ T.faults transcript.new }
+    ensures store_later { F.write_faults files.old ≤ F.write_faults files.new }
 {
     match write_all(transcript, text) {
         Ok(()) => {}
@@ -155,7 +171,8 @@ fn answer_rendered<F: Files, T: Sink>(
 
 // Writes the line of a script's fault.
 fn answer_fault<T: Sink>(alloc: Global, fault: ScriptErr, transcript: &mut T) -> Status
-    ensures { TextEnds result Status.BadScript (faults.fault_line fault) (T.written transcript.old) (T.written transcript.new) (T.faults transcript.old) (T.faults transcript.new) }
+    ensures ends { TextEnds result Status.BadScript (faults.fault_line fault) (T.written transcript.old) (T.written transcript.new) (T.faults transcript.old) (T.faults transcript.new) }
+    ensures later { T.faults transcript.old ≤ T.faults transcript.new }
 {
     match fault_line(alloc, fault) {
         Ok(line) => answer_text(transcript, line.as_bytes(), Status::BadScript),
@@ -165,7 +182,8 @@ fn answer_fault<T: Sink>(alloc: Global, fault: ScriptErr, transcript: &mut T) ->
 
 // Writes a text that is the whole answer, whose status this is.
 fn answer_text<T: Sink>(transcript: &mut T, text: &[u8], status: Status) -> Status
-    ensures { TextEnds result status text.now (T.written transcript.old) (T.written transcript.new) (T.faults transcript.old) (T.faults transcript.new) }
+    ensures ends { TextEnds result status text.now (T.written transcript.old) (T.written transcript.new) (T.faults transcript.old) (T.faults transcript.new) }
+    ensures later { T.faults transcript.old ≤ T.faults transcript.new }
 {
     match write_all(transcript, text) {
         Ok(()) => status,

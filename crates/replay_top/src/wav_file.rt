@@ -26,6 +26,7 @@ pub fn write_wav<F: Files>(
     rendered: &Rendered,
 ) -> Result<(), EdgeErr>
     requires { IsWritable rendered.now }
+    ensures tells { F.tells files.new ≡ F.tells files.old }
     ensures all { OnOk result (IsTrue (F.tells files.old)
         → Sets (F.paths files.old) (F.paths files.new) reading.now.out (wav_of reading.now.bits rendered.now.spec (interleaved rendered.now.spec rendered.now.samples))) }
     ensures part { OnErr result (IsTrue (F.tells files.old) → SamePaths (F.paths files.old) (F.paths files.new)
@@ -44,6 +45,7 @@ fn append_wav<F: Files>(
     rendered: &Rendered,
 ) -> Result<(), EdgeErr>
     requires { IsWritable rendered.now }
+    ensures tells { F.tells files.new ≡ F.tells files.old }
     ensures all { OnOk result (IsTrue (F.tells files.old)
         → AppendsWhole (F.paths files.old) (F.paths files.new) reading.now.out (wav_of reading.now.bits rendered.now.spec (interleaved rendered.now.spec rendered.now.samples))) }
     ensures part { OnErr result (IsTrue (F.tells files.old)

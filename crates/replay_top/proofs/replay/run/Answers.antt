@@ -8,16 +8,16 @@ use Rattle.replay_top.proofs.replay.run.Goals as goal
 pub returns-in_default-clause-ran : goal.returns-in_default-clause-ran
 returns-in_default-clause-ran g c =
     let bytes = unwrap_or (g.S.Source.left c.args.script.now) [] in
-    (bytes, told_bytes _, rw (← c.reading_of.ensures, c.in_default.is) (ran _ _ _ _ _ _ _ (text_answered _ BadWords _ _ _ _ _ _ _ _ (λ whole. whole) c.answer_text.ensures)))
+    (bytes, told_bytes _, rw (← c.reading_of.ensures, c.in_default.is) (ran _ _ _ _ _ _ _ (text_answered _ BadWords _ _ _ _ _ _ _ _ (λ whole. whole) c.answer_text.ensures.ends)))
 
 pub returns-in-Ok-clause-ran : goal.returns-in-Ok-clause-ran
 returns-in-Ok-clause-ran g c =
-    (c.in-Ok.bytes, c.in-Ok.ensures.all.0, rw (← c.reading_of.ensures, c.in-Some.is, answer_to_bytes-within _ _ c.in-Ok.ensures.all.1) (ran _ _ _ _ _ _ _ (rw c.as_slice.ensures at c.replay_bytes.ensures)))
+    (c.in-Ok.bytes, c.in-Ok.ensures.all.0, rw (← c.reading_of.ensures, c.in-Some.is, answer_to_bytes-within _ _ c.in-Ok.ensures.all.1) (ran _ _ _ _ _ _ _ (rw c.as_slice.ensures at c.replay_bytes.ensures.ends)))
 
 pub returns-in-Ok-clause-read : goal.returns-in-Ok-clause-read
 returns-in-Ok-clause-read g c =
     let asks = reading_asks (map string_bytes c.args.words.now) c.in-Some.reading (sym c.reading_of.ensures ∙ c.in-Some.is) in
-    rw asks (IsReadToEnd-answered _ c.in-Some.reading _ _ _ _ _ c.replay_bytes.ensures c.in-Ok.ensures.at_end)
+    rw asks (IsReadToEnd-answered _ c.in-Some.reading _ _ _ _ _ c.replay_bytes.ensures.ends c.in-Ok.ensures.at_end)
 
 pub returns-in_default-clause-read : goal.returns-in_default-clause-read
 returns-in_default-clause-read g c = rw (← c.reading_of.ensures, c.in_default.is) (Keeps-refl _)
