@@ -2,12 +2,9 @@
 use Rattle.std.specs.Prelude.{ℕ, ◌≤◌, ◌==◌, ◌&&◌, ◌||◌, List, [], ◌∷◌, length, codes, bytes_eq, Bool, not, nat_le, IsTrue, ℤ, pos, neg_ℤ, ◌≤ℤ◌, Option, Some, None, IsSome}
 use Rattle.std.specs.List.{list_all}
 use Rattle.std.specs.Char.{is_ascii_alphanumeric}
+use Rattle.wa_base.specs.Numbers.{IsFix}
 use Rattle.script_ast.specs.declared.operations.Op.{Op}
 use Rattle.script_ast.specs.declared.operations.Op.TheVariants as op
-
--- a value in units of 2^-24
-abbrev pub IsFix : ℤ → Type 0
-IsFix z = (neg_ℤ (pos 2147483648) ≤ℤ z) × (z ≤ℤ pos 2147483647)
 
 -- a number of frames, from -2^40 to 2^40
 abbrev pub IsTime : ℤ → Type 0

@@ -9,7 +9,8 @@ use Rattle.std.proofs.lemmas.List.Elements.{filter_map-append}
 use Rattle.serde_json.specs.Data.{Data, Items}
 use Rattle.serde_json.specs.Find.{as_object, as_str}
 use Rattle.wa_base.specs.declared.contexts.ContextSpec.{ContextSpec}
-use Rattle.script_ast.specs.Ranges.{IsFix, IsTime, IsTimeIfSome, IsCount, IsCountIfSome, IsNewName, IsInRange, is_new_name}
+use Rattle.wa_base.specs.Numbers.{IsFix}
+use Rattle.script_ast.specs.Ranges.{IsTime, IsTimeIfSome, IsCount, IsCountIfSome, IsNewName, IsInRange, is_new_name}
 use Rattle.script_ast.specs.WellFormed.{IsCallAt, AreCallsAfter, IsWellFormed}
 use Rattle.script_ast.specs.declared.call_list.Call.{Call}
 use Rattle.script_ast.specs.declared.clocks.Clock.{Clock}
