@@ -70,14 +70,14 @@ unfoldable pub muted : Connections → End → Bool
 muted g e = reaches (arrow g) (ends g) (height g) e e
 
 -- one end comes before another where its node has a smaller number, or where both are of one node and it is the writer
-abbrev pub comes_before : End → End → Type 0
-comes_before a b = (a.node.0 < b.node.0) ⊎ ((a.node.0 ≡ b.node.0) × (a.writer ≡ true) × (b.writer ≡ false))
+abbrev pub ComesBefore : End → End → Type 0
+ComesBefore a b = (a.node.0 < b.node.0) ⊎ ((a.node.0 ≡ b.node.0) × (a.writer ≡ true) × (b.writer ≡ false))
 
 -- each end comes before the next one
 abbrev pub AreAscending : List End → Type 0
 AreAscending [] = Unit {0}
 AreAscending (a ∷ []) = Unit {0}
-AreAscending (a ∷ b ∷ es) = comes_before a b × AreAscending (b ∷ es)
+AreAscending (a ∷ b ∷ es) = ComesBefore a b × AreAscending (b ∷ es)
 
 -- The list of ends is in order of node number, the writer first. An end stands in it where its node is there and, if it is a writer, that node is a delay.
 abbrev pub EndsOrderLaw : Type 0

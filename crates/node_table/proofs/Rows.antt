@@ -7,7 +7,7 @@ use Rattle.wa_base.specs.declared.graph_names.ParamName.{ParamName}
 use Rattle.wa_base.specs.declared.graph_names.ParamName.TheVariants as param
 use Rattle.node_table.specs.declared.kinds.Kind.{Kind}
 use Rattle.node_table.specs.declared.kinds.Kind.TheVariants.{Destination, Constant, Gain}
-use Rattle.node_table.specs.Kinds.{is_destination, inputs, outputs, is_delay_kind, param_base}
+use Rattle.node_table.specs.Kinds.{is_destination, fixed_count, fixed_mode, fixed_interp, inputs, outputs, is_delay_kind, param_base}
 use Rattle.node_table.specs.Nodes.{destination_of, node_of, kind_at, attrs_at}
 
 abbrev kinds : List Kind
@@ -52,6 +52,16 @@ kind-destination = refl
 attrs-created : map (attrs_at (destination_of context ∷ node_of (Gain (pos 7)) 1280 ∷ [])) (1 ∷ 2 ∷ [])
     ≡ Some (record { count = 2; mode = Max; interp = Speakers; birth = 1280 }) ∷ None ∷ []
 attrs-created = refl
+
+-- a node that was created may get another count and another mode; of the destination both are fixed
+fixed : map fixed_count kinds ≡ true ∷ false ∷ false ∷ []
+fixed = refl
+
+fixed_modes : map fixed_mode kinds ≡ true ∷ false ∷ false ∷ []
+fixed_modes = refl
+
+fixed_interps : map fixed_interp kinds ≡ false ∷ false ∷ false ∷ []
+fixed_interps = refl
 
 kind-created : map (kind_at (destination_of context ∷ node_of (Gain (pos 7)) 1280 ∷ [])) (1 ∷ 2 ∷ []) ≡ Some (Gain (pos 7)) ∷ None ∷ []
 kind-created = refl

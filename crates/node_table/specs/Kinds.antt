@@ -1,5 +1,10 @@
 -- What the kinds of nodes have.
 use Rattle.std.specs.Prelude.{ℕ, ℤ, Bool, true, false, Option, Some, None}
+use Rattle.wa_base.specs.Numbers.{IsFix}
+use Rattle.wa_base.specs.declared.graph_names.Interp.{Interp}
+use Rattle.wa_base.specs.declared.graph_names.Interp.TheVariants.{Speakers}
+use Rattle.wa_base.specs.declared.graph_names.Mode.{Mode}
+use Rattle.wa_base.specs.declared.graph_names.Mode.TheVariants.{Max, Explicit}
 use Rattle.wa_base.specs.declared.graph_names.ParamName.{ParamName}
 use Rattle.wa_base.specs.declared.graph_names.ParamName.TheVariants as param
 use Rattle.node_table.specs.declared.kinds.Kind.{Kind}
@@ -28,6 +33,46 @@ is_mono Destination = false
 is_mono (Constant offset) = true
 is_mono (Gain gain) = false
 
+-- ---- how the channels of its inputs are mixed
+
+-- the channelCount of a node at its creation; that of the destination is its context's
+abbrev pub first_count : Kind → ℕ
+first_count Destination = 2
+first_count (Constant offset) = 2
+first_count (Gain gain) = 2
+
+-- its channelCountMode
+abbrev pub first_mode : Kind → Mode
+first_mode Destination = Explicit
+first_mode (Constant offset) = Max
+first_mode (Gain gain) = Max
+
+-- its channelInterpretation
+abbrev pub first_interp : Kind → Interp
+first_interp Destination = Speakers
+first_interp (Constant offset) = Speakers
+first_interp (Gain gain) = Speakers
+
+-- whether the channelCount of a node stays what it was at the creation
+abbrev pub fixed_count : Kind → Bool
+fixed_count Destination = true
+fixed_count (Constant offset) = false
+fixed_count (Gain gain) = false
+
+-- whether its channelCountMode does
+abbrev pub fixed_mode : Kind → Bool
+fixed_mode Destination = true
+fixed_mode (Constant offset) = false
+fixed_mode (Gain gain) = false
+
+-- whether its channelInterpretation does
+abbrev pub fixed_interp : Kind → Bool
+fixed_interp Destination = false
+fixed_interp (Constant offset) = false
+fixed_interp (Gain gain) = false
+
+-- ---- what it renders
+
 abbrev pub is_delay_kind : Kind → Bool
 is_delay_kind Destination = false
 is_delay_kind (Constant offset) = false
@@ -48,3 +93,9 @@ abbrev pub param_base : Kind → ParamName → Option ℤ
 param_base (Constant offset) param.Offset = Some offset
 param_base (Gain gain) param.Gain = Some gain
 param_base kind name = None
+
+-- the ranges of what a node of a kind is created with
+abbrev pub IsInEntry : Kind → Type 0
+IsInEntry Destination = Unit {0}
+IsInEntry (Constant offset) = IsFix offset
+IsInEntry (Gain gain) = IsFix gain

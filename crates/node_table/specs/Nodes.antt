@@ -1,28 +1,28 @@
 -- The nodes of a graph, in order of creation.
-use Rattle.std.specs.Prelude.{ℕ, ◌≡◌, ◌≤◌, List, length, drop, slice_get, nat_lt, All, Bool, false, if◌then◌else◌, Option, Some, None, IfSome, option_map}
+use Rattle.std.specs.Prelude.{ℕ, ◌≡◌, ◌≤◌, List, length, drop, slice_get, nat_lt, All, Bool, true, false, if◌then◌else◌, Option, Some, None, IfSome, option_map}
 use Rattle.wa_base.specs.declared.contexts.ContextSpec.{ContextSpec}
 use Rattle.wa_base.specs.declared.exceptions.Exc.{Exc}
 use Rattle.wa_base.specs.declared.exceptions.Exc.TheVariants.{NotSupported}
 use Rattle.wa_base.specs.declared.features.Feature.TheVariants.{NodeLimit}
-use Rattle.wa_base.specs.declared.graph_names.Mode.TheVariants.{Max, Explicit}
+use Rattle.wa_base.specs.declared.graph_names.Mode.TheVariants.{Explicit}
 use Rattle.wa_base.specs.declared.graph_names.Interp.TheVariants.{Speakers}
 use Rattle.node_table.specs.declared.kinds.Kind.{Kind}
 use Rattle.node_table.specs.declared.kinds.Kind.TheVariants.{Destination}
 use Rattle.node_table.specs.declared.nodes.Attrs.{Attrs}
 use Rattle.node_table.specs.declared.nodes.Node.{Node}
-use Rattle.node_table.specs.Kinds.{is_destination}
+use Rattle.node_table.specs.Kinds.{is_destination, first_count, first_mode, first_interp, fixed_count, fixed_mode, fixed_interp, IsInEntry}
 
 -- the destination of a context
 abbrev pub destination_of : ContextSpec → Node
 destination_of spec = record { kind = Destination; attrs = record { count = spec.channels; mode = Explicit; interp = Speakers; birth = 0 } }
 
--- the attributes with which a node is created at a frame
-abbrev pub first_attrs : ℕ → Attrs
-first_attrs birth = record { count = 2; mode = Max; interp = Speakers; birth = birth }
+-- the attributes with which a node of a kind is created at a frame
+abbrev pub first_attrs : Kind → ℕ → Attrs
+first_attrs kind birth = record { count = first_count kind; mode = first_mode kind; interp = first_interp kind; birth = birth }
 
 -- a node that is created at a frame
 abbrev pub node_of : Kind → ℕ → Node
-node_of kind birth = record { kind = kind; attrs = first_attrs birth }
+node_of kind birth = record { kind = kind; attrs = first_attrs kind birth }
 
 -- a graph has at most 1,024 nodes, the destination among them
 abbrev pub has_room : List Node → Bool
@@ -42,19 +42,27 @@ attrs_at nodes node = option_map (λ n. n.attrs) (slice_get nodes node)
 
 -- ---- what holds of every list of nodes
 
+-- a node has these attributes, as far as those of its kind are fixed
+pub record KeepsFixed (first : Attrs) (node : Node) : Type 0 where
+  pub count : fixed_count node.kind ≡ true → node.attrs.count ≡ first.count
+  pub mode : fixed_mode node.kind ≡ true → node.attrs.mode ≡ first.mode
+  pub interp : fixed_interp node.kind ≡ true → node.attrs.interp ≡ first.interp
+
 -- the destination of some context
 pub record IsFirst (node : Node) : Type 0 where
   pub kind : node.kind ≡ Destination
   pub count_low : 1 ≤ node.attrs.count
   pub count_high : node.attrs.count ≤ 32
   pub mode : node.attrs.mode ≡ Explicit
-  pub interp : node.attrs.interp ≡ Speakers
   pub birth : node.attrs.birth ≡ 0
 
--- a node that was created, with the attributes of its creation
+-- a node that was created: what it was created with is in range, and what is fixed is as it was then
 pub record IsCreated (node : Node) : Type 0 where
   pub kind : is_destination node.kind ≡ false
-  pub attrs : node.attrs ≡ first_attrs node.attrs.birth
+  pub entry : IsInEntry node.kind
+  pub count_low : 1 ≤ node.attrs.count
+  pub count_high : node.attrs.count ≤ 32
+  pub fixed : KeepsFixed (first_attrs node.kind node.attrs.birth) node
 
 -- the destination, and then the nodes that were created
 pub record AreNodes (nodes : List Node) : Type 0 where

@@ -62,6 +62,18 @@ impl Kind {
         }
     }
 
+    // The types of its entries keep them in their ranges.
+    pub(crate) fn keeps_its_ranges(&self)
+        ensures { spec.IsInEntry self.now }
+    {
+        match self {
+            Kind::Destination => {}
+            Kind::Constant { offset: entry } | Kind::Gain { gain: entry } => {
+                let _value = *entry;
+            }
+        }
+    }
+
     /// An equal kind with memory of its own.
     pub fn copy(&self) -> Result<Kind, NoMemory>
         ensures { IfOk result (λ copy. copy ≡ self.now) }

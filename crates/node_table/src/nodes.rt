@@ -23,6 +23,24 @@ pub struct Attrs {
     pub birth: u64,
 }
 
+impl Attrs {
+    // The attributes with which a node of a kind is created at this frame.
+    fn first(kind: &Kind, birth: u64) -> Attrs
+        ensures { result ≡ table.first_attrs kind.now birth }
+    {
+        let mode = match kind {
+            Kind::Destination => Mode::Explicit,
+            Kind::Constant { .. } | Kind::Gain { .. } => Mode::Max,
+        };
+        Attrs {
+            count: 2,
+            mode,
+            interp: Interp::Speakers,
+            birth,
+        }
+    }
+}
+
 /// A node (AudioNode).
 #[derive(Debug, Drop, PartialEq)]
 pub struct Node {
@@ -50,12 +68,7 @@ impl Node {
     fn created(kind: Kind, birth: u64) -> Node
         ensures { result ≡ table.node_of kind birth }
     {
-        let attrs = Attrs {
-            count: 2,
-            mode: Mode::Max,
-            interp: Interp::Speakers,
-            birth,
-        };
+        let attrs = Attrs::first(&kind, birth);
         Node { kind, attrs }
     }
 
@@ -117,14 +130,25 @@ impl Nodes {
         ensures refused { (exc : Exc) → IsErrOf result (Refusal.Exc exc) ↔ (table.creation_refusal self.old kind ≡ Some exc) }
         ensures err { OnErr result (self.new ≡ self.old) }
     {
-        if self.nodes.len() >= MAX_NODES {
-            return Err(Refusal::Exc(Exc::NotSupported(Some(Feature::NodeLimit))));
+        if let Some(exc) = self.creation_refusal(&kind) {
+            return Err(Refusal::Exc(exc));
         }
+        kind.keeps_its_ranges();
         let id = NodeId(self.nodes.len() as u32);
         self.nodes
             .push(Node::created(kind, birth))
             .map_err(NoMemory::from)?;
         Ok(id)
+    }
+
+    /// The exception with which `create` would refuse a node of a kind now.
+    pub fn creation_refusal(&self, _kind: &Kind) -> Option<Exc>
+        ensures { result ≡ table.creation_refusal self.now _kind.now }
+    {
+        if self.nodes.len() >= MAX_NODES {
+            return Some(Exc::NotSupported(Some(Feature::NodeLimit)));
+        }
+        None
     }
 
     /// What a node is.

@@ -45,9 +45,9 @@ plays_in count schedule first = list_any (plays_at schedule) (range_with_len fir
 abbrev pub moment : ℕ → ℤ → ℕ
 moment now when = max (unsigned_abs when) now
 
--- why a start is refused: a source starts once, and at no negative time
-abbrev pub start_refusal : Schedule → ℤ → Option Exc
-start_refusal schedule when =
+-- why a start is refused: a source starts once, and at no negative time; a constant source looks at neither offset nor duration
+abbrev pub start_refusal : Schedule → ℤ → ℤ → Option ℤ → Option Exc
+start_refusal schedule when offset duration =
     if is_some schedule.start then Some InvalidState else
     if is_negative when then Some Range else None
 
@@ -57,9 +57,9 @@ stop_refusal schedule when =
     if is_none schedule.start then Some InvalidState else
     if is_negative when then Some Range else None
 
--- the schedule after a start that is not refused
-abbrev pub started : Schedule → ℕ → ℤ → Schedule
-started schedule now when = record schedule { start = Some (moment now when) }
+-- the schedule after a start that is not refused, over a buffer of so many frames; a constant source has none
+abbrev pub started : Schedule → ℕ → ℤ → ℤ → Option ℤ → ℕ → Schedule
+started schedule now when offset duration length = record schedule { start = Some (moment now when) }
 
 -- and after a stop: the last one counts, but none after the source has ended
 abbrev pub stopped : Schedule → ℕ → ℤ → Schedule

@@ -55,18 +55,28 @@ impl Sched {
         length: u64,
     ) -> Result<(), Exc>
         requires { now ≤ 2 ^ 62 }
-        ensures refusal { result_err result ≡ spec.start_refusal self.old when }
-        ensures ok { OnOk result (self.new ≡ spec.started self.old now when) }
+        ensures refusal { result_err result ≡ spec.start_refusal self.old when offset duration }
+        ensures ok { OnOk result (self.new ≡ spec.started self.old now when offset duration length) }
         ensures err { OnErr result (self.new ≡ self.old) }
     {
-        if self.start.is_some() {
-            return Err(Exc::InvalidState);
-        }
-        if when < 0 {
-            return Err(Exc::Range);
+        if let Some(exc) = self.start_refusal(when, offset, duration) {
+            return Err(exc);
         }
         self.start = Some(now.max(when as u64));
         Ok(())
+    }
+
+    /// The exception with which `start` would refuse these arguments now.
+    pub fn start_refusal(&self, when: i64, offset: i64, duration: Option<i64>) -> Option<Exc>
+        ensures { result ≡ spec.start_refusal self.now when offset duration }
+    {
+        if self.start.is_some() {
+            return Some(Exc::InvalidState);
+        }
+        if when < 0 {
+            return Some(Exc::Range);
+        }
+        None
     }
 
     /// Lets the source sound until a frame, or until now where that has passed. It is refused with
@@ -78,16 +88,26 @@ impl Sched {
         ensures ok { OnOk result (self.new ≡ spec.stopped self.old now when) }
         ensures err { OnErr result (self.new ≡ self.old) }
     {
-        if self.start.is_none() {
-            return Err(Exc::InvalidState);
-        }
-        if when < 0 {
-            return Err(Exc::Range);
+        if let Some(exc) = self.stop_refusal(when) {
+            return Err(exc);
         }
         if !self.ended {
             self.stop = Some(now.max(when as u64));
         }
         Ok(())
+    }
+
+    /// The exception with which `stop` would refuse this time now.
+    pub fn stop_refusal(&self, when: i64) -> Option<Exc>
+        ensures { result ≡ spec.stop_refusal self.now when }
+    {
+        if self.start.is_none() {
+            return Some(Exc::InvalidState);
+        }
+        if when < 0 {
+            return Some(Exc::Range);
+        }
+        None
     }
 
     /// The frame from which the source sounds, or `None` where it was not started.
