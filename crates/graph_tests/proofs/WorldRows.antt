@@ -1,5 +1,5 @@
 -- What no timeline is, what a gain's parameter keeps to, and when a tape is regular, on small lists and worlds, in quanta of 2 frames.
-use Rattle.std.proofs.Common.{ℕ, zero, suc, ◌+◌, ◌*◌, ℤ, pos, negsuc, neg_ℤ, ◌≡◌, ◌<◌, ◌≤◌, List, [], ◌∷◌, length, map, false, Some, None, inl, inr, refl, arith}
+use Rattle.std.proofs.Common.{ℕ, zero, suc, ◌+◌, ◌*◌, ℤ, pos, negsuc, neg_ℤ, ◌≡◌, ◌<◌, ◌≤◌, List, [], ◌∷◌, length, map, Some, inl, inr, refl, arith}
 use Rattle.std.proofs.lemmas.List.Elements.{All-cons}
 use Rattle.wa_base.specs.declared.contexts.ContextSpec.{ContextSpec}
 use Rattle.wa_base.specs.declared.graph_names.ParamName.{ParamName}
@@ -21,7 +21,7 @@ use Rattle.meaning.specs.declared.world.World.{World}
 use Rattle.meaning.specs.declared.params.Param.{Param}
 use Rattle.meaning.specs.declared.scheds.Play.{Play}
 use Rattle.meaning.specs.Lists.{listed}
-use Rattle.meaning.specs.World.{bare, param_id, node_at}
+use Rattle.meaning.specs.World.{no_world, not_started, bare, param_id, node_at}
 use Rattle.meaning.specs.Validity.{ports_of, IsValid}
 use Rattle.meaning.specs.Counts.{world_in, count_rule, count_at, count}
 use Rattle.meaning.specs.Values.{input_value, computed_value, equation, value_at, value}
@@ -53,7 +53,7 @@ context = record { channels = 1; length = 4; rate = 48000 }
 
 -- the destination, and then the nodes
 world : List Node → List Edge → List Param → List Play → World
-world nodes edges params plays = record {
+world nodes edges params plays = record no_world {
   spec = context;
   nodes = destination_of context ∷ nodes;
   graph = bare (record { nodes = map ports_of (destination_of context ∷ nodes); edges = edges });
@@ -71,7 +71,7 @@ line : ℕ → ParamName → ℤ → Param
 line n name base = record { id = param_id n name; line = record { base = base; slot = base; events = [] }; rate = A }
 
 started : ℕ → Play
-started n = record { id = record { 0 = n }; sched = record { start = Some 0; stop = None; ended = false } }
+started n = record (not_started n) { sched = record (not_started n).sched { start = Some 0 } }
 
 -- ---- a gain whose parameter is fed with what it has already keeps to the range of a value: half of it is heard
 

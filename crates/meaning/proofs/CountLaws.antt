@@ -1,14 +1,15 @@
 -- Counts see only along arrows, and so settle.
-use Rattle.std.proofs.Common.{ℕ, suc, ◌≡◌, ◌≤◌, length, List, true, refl, sym, ◌∙◌, ap, arith}
-use Rattle.std.specs.Prelude.{if◌then◌else◌}
+use Rattle.std.proofs.Common.{ℕ, suc, ◌≡◌, ◌≤◌, length, List, Bool, true, false, refl, sym, ◌∙◌, ap, arith}
+use Rattle.std.specs.Prelude.{if◌then◌else◌, nat_lt}
+use Rattle.std.proofs.lemmas.Bool.Decides.{nat_tests}
 use Rattle.wa_base.specs.declared.graph_names.End.{End}
 use Rattle.law_base.specs.Members.{IsIn}
 use Rattle.law_base.specs.Reaching.{reaches}
-use Rattle.law_base.specs.Heights.{at_moment, before}
+use Rattle.law_base.specs.Heights.{at_moment, before, state}
 use Rattle.law_base.proofs.Reaching.{direct, further, up_to}
 use mathlib.Core.Path.{fun_ext}
 use Rattle.law_base.proofs.HeightLaws.{settled}
-use Rattle.law_base.proofs.SchemeLaws.{moment-suc}
+use Rattle.law_base.proofs.SchemeLaws.{before_is, before_none, moment-zero, moment-suc}
 use Rattle.node_table.specs.Kinds.{is_delay_kind}
 use Rattle.node_table.specs.declared.kinds.Kind.{Kind}
 use Rattle.node_table.specs.declared.kinds.Kind.TheVariants.{Destination, Constant, Gain}
@@ -16,7 +17,7 @@ use Rattle.conn_graph.specs.Ends.{ends, arrow, height, muted}
 use Rattle.meaning.specs.declared.world.World.{World}
 use Rattle.meaning.specs.World.{kind_of}
 use Rattle.meaning.specs.Validity.{IsJoined}
-use Rattle.meaning.specs.Counts.{world_in, Counts, count_by_kind, count_rule, count_scheme, count_at, count}
+use Rattle.meaning.specs.Counts.{world_in, Counts, count_by_kind, count_rule, count_scheme, count_at, count, counts_before}
 use Rattle.meaning.proofs.Seeing.{AgreeFor, plain_end, same_channels}
 
 module _ (q : ℕ) (w : World) (joined : IsJoined w) (j : ℕ) (past : ℕ → Counts) where
@@ -80,3 +81,19 @@ muted_count q tape j joined e is m =
     let past = before (count_scheme q) (world_in tape) j in
     sym (count_gives q tape j joined past (count q tape j) e is (λ d in_d a. refl))
     ∙ count_quiet q w joined j past e (length (ends w.graph.value)) (omega arith) m (count q tape j)
+
+-- the counts' own past is the counts before
+counts_before_are : (q : ℕ) (tape : List World) (j : ℕ) → before (count_scheme q) (world_in tape) j ≡ counts_before q tape j
+unfolding count count_at state
+counts_before_are q tape j = fun_ext (λ k. by_test k (nat_lt k j) refl)
+  where
+    by_test : (k : ℕ) (b : Bool) → nat_lt k j ≡ b → before (count_scheme q) (world_in tape) j k ≡ (if b then count q tape k else λ e. 1)
+    by_test k true l = before_is (count_scheme q) (world_in tape) j k (grind (arith, nat_tests))
+    by_test k false l = before_none (count_scheme q) (world_in tape) j k (grind (arith, nat_tests))
+
+pub count_recursion : (q : ℕ) (tape : List World) (j h : ℕ) → count_at q tape j (suc h) ≡ count_rule q (world_in tape j) j (counts_before q tape j) (count_at q tape j h)
+count_recursion q tape j h = count_suc q tape j h ∙ ap (λ past. count_rule q (world_in tape j) j past (count_at q tape j h)) (counts_before_are q tape j)
+
+pub count_silence : (q : ℕ) (tape : List World) (j : ℕ) → count_at q tape j 0 ≡ (λ e. 1)
+unfolding count_at
+count_silence q tape j = moment-zero (count_scheme q) (world_in tape) j

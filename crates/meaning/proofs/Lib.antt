@@ -8,4 +8,8 @@ pub mod TapeLaws
 pub mod Successors
 pub mod PastLaws
 pub mod QuantumLaws
+pub mod Ranges
+pub mod Valid
+pub mod Creating
+pub mod Changing
 pub mod Rows

@@ -1,5 +1,5 @@
 -- Small worlds whose values antt computes, in quanta of 2 frames.
-use Rattle.std.proofs.Common.{ℕ, ℤ, pos, neg_ℤ, ◌≡◌, List, [], ◌∷◌, map, true, false, None, Some, refl}
+use Rattle.std.proofs.Common.{Option, ℕ, ℤ, pos, neg_ℤ, ◌≡◌, List, [], ◌∷◌, map, true, None, Some, refl}
 use Rattle.wa_base.specs.declared.contexts.ContextSpec.{ContextSpec}
 use Rattle.wa_base.specs.declared.graph_names.Interp.{Interp}
 use Rattle.wa_base.specs.declared.graph_names.Interp.TheVariants.{Speakers, Discrete}
@@ -23,7 +23,7 @@ use Rattle.meaning.specs.declared.world.World.{World}
 use Rattle.meaning.specs.declared.params.Param.{Param}
 use Rattle.meaning.specs.declared.scheds.Play.{Play}
 use Rattle.meaning.specs.Lists.{listed}
-use Rattle.meaning.specs.World.{bare, param_id}
+use Rattle.meaning.specs.World.{no_world, not_started, bare, param_id}
 use Rattle.meaning.specs.Validity.{ports_of}
 use Rattle.meaning.specs.Counts.{count_rule, count_at, count}
 use Rattle.meaning.specs.Values.{input_value, computed_value, equation, value_at, value}
@@ -53,16 +53,20 @@ to_gain a b = record { from = record { 0 = a }; output = 0; to = Parameter (para
 line : ℕ → ParamName → ℤ → Param
 line n name base = record { id = param_id n name; line = record { base = base; slot = base; events = [] }; rate = A }
 
+-- a source with a start and a stop
+abbrev begun : ℕ → Option ℕ → Option ℕ → Play
+begun n start stop = record (not_started n) { sched = record (not_started n).sched { start = start; stop = stop } }
+
 -- a source that starts, and one that stops too
 started : ℕ → ℕ → Play
-started n start = record { id = record { 0 = n }; sched = record { start = Some start; stop = None; ended = false } }
+started n start = begun n (Some start) None
 
 stopped : ℕ → ℕ → ℕ → Play
-stopped n start stop = record { id = record { 0 = n }; sched = record { start = Some start; stop = Some stop; ended = false } }
+stopped n start stop = begun n (Some start) (Some stop)
 
 -- a destination of so many channels, and then the nodes
 world : ℕ → List Node → List Edge → List Param → List Play → World
-world channels nodes edges params plays = record {
+world channels nodes edges params plays = record no_world {
   spec = context channels;
   nodes = destination_of (context channels) ∷ nodes;
   graph = bare (record { nodes = map ports_of (destination_of (context channels) ∷ nodes); edges = edges });

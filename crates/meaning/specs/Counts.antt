@@ -1,5 +1,5 @@
 -- How many channels each end has in each quantum.
-use Rattle.std.specs.Prelude.{ℕ, List, map, slice_index_or, if◌then◌else◌}
+use Rattle.std.specs.Prelude.{ℕ, List, map, slice_index_or, nat_lt, if◌then◌else◌}
 use Rattle.wa_base.specs.declared.graph_names.End.{End}
 use Rattle.law_base.specs.Heights.{Scheme, at_moment}
 use Rattle.channel_mix.specs.Counts.{input_count}
@@ -43,3 +43,7 @@ count_at q tape j h = at_moment (count_scheme q) (world_in tape) j h
 unfoldable pub count : ℕ → List World → ℕ → Counts
 unfolding count_at
 count q tape j = count_at q tape j (height (world_in tape j).graph.value)
+
+-- what the counts of quantum j see of the tape: the quanta before j, each at its full height
+abbrev pub counts_before : ℕ → List World → ℕ → ℕ → Counts
+counts_before q tape j k = if nat_lt k j then count q tape k else λ e. 1

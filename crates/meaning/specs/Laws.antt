@@ -1,5 +1,6 @@
 -- What is said of the definitions. Each law holds for every size of a quantum from 1 to 1,024 frames.
 use Rattle.std.specs.Prelude.{ℕ, suc, ◌+◌, ◌*◌, ◌/◌, ◌≡◌, ◌<◌, ◌≤◌, length, List, [], ◌∷◌, ◌++◌, All}
+use Rattle.wa_base.specs.Numbers.{IsFix}
 use Rattle.wa_base.specs.declared.graph_names.End.{End}
 use Rattle.wa_base.specs.declared.graph_names.ParamId.{ParamId}
 use Rattle.law_base.specs.Members.{IsIn}
@@ -7,7 +8,7 @@ use Rattle.conn_graph.specs.Ends.{ends, height}
 use Rattle.conn_graph.specs.Orders.{IsLegalOrder}
 use Rattle.meaning.specs.declared.world.World.{World}
 use Rattle.meaning.specs.Validity.{IsValid}
-use Rattle.meaning.specs.Counts.{world_in, count_at, count}
+use Rattle.meaning.specs.Counts.{world_in, count_rule, count_at, count, counts_before}
 use Rattle.meaning.specs.Values.{silence, equation, world_at, value_at, value, frame, frames_before, frame_at, param_value}
 use Rattle.meaning.specs.Orders.{values_by}
 use Rattle.meaning.specs.Blocks.{blocks_along}
@@ -19,20 +20,28 @@ abbrev pub IsEndAt : ℕ → List World → ℕ → End → Type 0
 IsEndAt q tape f e = IsIn e (ends (world_at q tape f).graph.value)
 
 -- The recursion in its own words: silence at height 0, and at height h + 1 each end's equation over this frame at height h and over each frame before at its full height.
+-- So do the counts of quantum j: one channel at height 0, and at height h + 1 the rule over this quantum at height h and over each quantum before at its full height.
 abbrev pub RecursionLaw : Type 0
-RecursionLaw = (q : ℕ) (tape : List World) (f h : ℕ) →
+RecursionLaw = (q : ℕ) (tape : List World) (f j h : ℕ) →
     (value_at q tape f 0 ≡ silence)
     × (value_at q tape f (suc h) ≡ equation q f (frames_before q tape f) (frame_at q tape f h))
+    × (count_at q tape j 0 ≡ (λ e. 1))
+    × (count_at q tape j (suc h) ≡ count_rule q (world_in tape j) j (counts_before q tape j) (count_at q tape j h))
 
 -- From the number of ends on, a height changes neither a count nor a value.
 abbrev pub HeightLaw : Type 0
 HeightLaw = (q : ℕ) → 0 < q → q ≤ 1024 → (tape : List World) → All IsValid tape → (f h : ℕ) → height (world_at q tape f).graph.value ≤ h →
     (e : End) → IsEndAt q tape f e → (count_at q tape (f / q) h e ≡ count q tape (f / q) e) × (value_at q tape f h e ≡ value q tape f e)
 
--- The values of a frame solve its equations.
+-- The values of a frame solve its equations, and so do the counts of its quantum.
 abbrev pub FixpointLaw : Type 0
 FixpointLaw = (q : ℕ) → 0 < q → q ≤ 1024 → (tape : List World) → All IsValid tape → (f : ℕ) → (e : End) → IsEndAt q tape f e →
-    equation q f (frames_before q tape f) (frame q tape f) e ≡ value q tape f e
+    (equation q f (frames_before q tape f) (frame q tape f) e ≡ value q tape f e)
+    × (count_rule q (world_at q tape f) (f / q) (counts_before q tape (f / q)) (count q tape (f / q)) e ≡ count q tape (f / q) e)
+
+-- Every value is a Fix.
+abbrev pub RangeLaw : Type 0
+RangeLaw = (q : ℕ) (tape : List World) (f : ℕ) (e : End) (o c : ℕ) → IsFix (value q tape f e o c)
 
 -- Going once along any legal order gives the values.
 abbrev pub OrderLaw : Type 0

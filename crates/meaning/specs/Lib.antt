@@ -8,4 +8,5 @@ pub mod Rendered
 pub mod Orders
 pub mod Blocks
 pub mod Pasts
+pub mod Changes
 pub mod Laws

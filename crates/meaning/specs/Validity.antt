@@ -1,5 +1,5 @@
 -- What holds of every world of a session.
-use Rattle.std.specs.Prelude.{ℕ, ◌≡◌, ◌↔◌, ◌<◌, ◌≤◌, List, length, map, IsSome, true, false}
+use Rattle.std.specs.Prelude.{ℕ, ◌≡◌, ◌↔◌, ◌<◌, ◌≤◌, List, length, map, IsSome, true}
 use Rattle.wa_base.specs.Contexts.{IsSupported}
 use Rattle.wa_base.specs.declared.contexts.ContextSpec.{ContextSpec}
 use Rattle.wa_base.specs.declared.graph_names.ParamId.{ParamId}
@@ -7,7 +7,8 @@ use Rattle.wa_base.specs.declared.graph_names.ParamName.{ParamName}
 use Rattle.wa_base.specs.declared.graph_names.Mode.TheVariants.{Explicit}
 use Rattle.law_base.specs.Members.{IsIn, AreDistinct}
 use Rattle.param_events.specs.Timeline.{IsTimeline}
-use Rattle.node_table.specs.Kinds.{inputs, outputs, is_delay_kind, is_destination, param_base}
+use Rattle.node_table.specs.Kinds.{inputs, outputs, is_delay_kind, param_base}
+use Rattle.node_table.specs.Nodes.{IsCreated}
 use Rattle.node_table.specs.declared.kinds.Kind.TheVariants.{Destination}
 use Rattle.node_table.specs.declared.nodes.Node.{Node}
 use Rattle.conn_graph.specs.declared.edges.Edge.{Edge}
@@ -26,17 +27,12 @@ pub record IsDestination (spec : ContextSpec) (node : Node) : Type 0 where
   pub count : node.attrs.count ≡ spec.channels
   pub mode : node.attrs.mode ≡ Explicit
 
--- each other node is none
-pub record IsOther (node : Node) : Type 0 where
-  pub kind : is_destination node.kind ≡ false
-  pub count_low : 1 ≤ node.attrs.count
-  pub count_high : node.attrs.count ≤ 32
-
+-- and no other node is one
 pub record HasNodes (w : World) : Type 0 where
   pub some : 1 ≤ length w.nodes
   pub few : length w.nodes ≤ 1024
   pub first : IsDestination w.spec (node_at w 0)
-  pub others : (i : ℕ) → 0 < i → i < length w.nodes → IsOther (node_at w i)
+  pub others : (i : ℕ) → 0 < i → i < length w.nodes → IsCreated (node_at w i)
 
 abbrev pub ports_of : Node → Ports
 ports_of node = record { inputs = inputs node.kind; outputs = outputs node.kind; is_delay = is_delay_kind node.kind }

@@ -1,5 +1,5 @@
 -- What is in force in one render quantum.
-use Rattle.std.specs.Prelude.{ℕ, ℤ, pos, List, [], slice_index_or, Bool, true, false, ◌==◌, slice_get, option_and_then, Option}
+use Rattle.std.specs.Prelude.{ℕ, ℤ, pos, List, [], slice_index_or, Bool, true, false, ◌==◌, slice_get, option_and_then, Option, None}
 use Rattle.std.specs.List.{position}
 use Rattle.std.specs.Option.{option_map_or}
 use Rattle.wa_base.specs.Numbers.{sat}
@@ -38,7 +38,7 @@ plain w = record {
   scheds = listed w.scheds.items;
 }
 
--- stands for the quanta past the end of a tape
+-- The world without nodes. It stands for the quanta past the end of a tape, and what is said of other worlds begins with it.
 abbrev pub no_world : World
 no_world = record {
   spec = record { channels = 1; length = 1; rate = 8000 };
@@ -91,6 +91,10 @@ abbrev pub is_source : Kind → Bool
 is_source Destination = false
 is_source (Constant offset) = true
 is_source (Gain gain) = false
+
+-- a source that was not started
+abbrev pub not_started : ℕ → Play
+not_started node = record { id = record { 0 = node }; sched = record { start = None; stop = None; ended = false } }
 
 abbrev pub find_play : List Play → ℕ → Option Play
 find_play plays node = option_and_then (slice_get plays) (position (λ p. p.id.0 == node) plays)

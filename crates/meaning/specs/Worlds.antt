@@ -4,19 +4,16 @@ use Rattle.wa_base.specs.declared.contexts.ContextSpec.{ContextSpec}
 use Rattle.node_table.specs.Kinds.{lasting}
 use Rattle.node_table.specs.Nodes.{destination_of}
 use Rattle.meaning.specs.declared.world.World.{World}
-use Rattle.meaning.specs.Lists.{listed}
-use Rattle.meaning.specs.World.{bare, node_at}
+use Rattle.meaning.specs.World.{bare, no_world, node_at}
 use Rattle.meaning.specs.Validity.{ports_of, IsValid}
 use Rattle.meaning.specs.Counts.{world_in}
 
 -- the destination alone
 abbrev pub first_world : ContextSpec → World
-first_world spec = record {
+first_world spec = record no_world {
   spec = spec;
   nodes = destination_of spec ∷ [];
   graph = bare (record { nodes = map ports_of (destination_of spec ∷ []); edges = [] });
-  params = listed [];
-  scheds = listed [];
 }
 
 -- A node stays in the next world with its number, with what lasts of its kind, and with its birth.

@@ -2,20 +2,24 @@
 //! carries at each frame, and the laws of these values.
 #![tactic(auto)]
 
-ghost use Rattle.meaning.specs.Laws.{RecursionLaw, HeightLaw, FixpointLaw, OrderLaw, BlockLaw, PastLaw};
+ghost use Rattle.meaning.specs.Laws.{RecursionLaw, HeightLaw, FixpointLaw, RangeLaw, OrderLaw, BlockLaw, PastLaw};
+ghost use Rattle.meaning.specs.Changes.{ChangeLaw};
 
+mod change;
+mod growth;
 mod listed;
 mod params;
 mod scheds;
 mod world;
 
+pub use change::{Change, Edit};
 pub use conn_graph::muting_law;
 pub use listed::Listed;
 pub use params::{Param, Params};
 pub use scheds::{Play, Scheds};
 pub use world::World;
 
-/// The recursion over frame and height, as one reads it.
+/// The recursions over frame and height, of values and of counts, as one reads them.
 pub fn recursion_law()
     ensures { RecursionLaw }
 {}
@@ -25,9 +29,15 @@ pub fn height_law()
     ensures { HeightLaw }
 {}
 
-/// The values of a frame solve its equations: nothing is said of heights.
+/// The values of a frame solve its equations, and the counts of its quantum theirs: nothing is said of
+/// heights.
 pub fn fixpoint_law()
     ensures { FixpointLaw }
+{}
+
+/// Every value is a Fix, from -2^31 to 2^31 - 1.
+pub fn range_law()
+    ensures { RangeLaw }
 {}
 
 /// The values do not depend on the order in which the ends are gone along.
@@ -44,4 +54,10 @@ pub fn block_law()
 /// the same counts, values and parameters, and it leaves one past.
 pub fn past_law()
     ensures { PastLaw }
+{}
+
+/// A valid world stays valid by each change that it accepts. It keeps its context and its nodes, and
+/// each new node is born at the time of the change.
+pub fn change_law()
+    ensures { ChangeLaw }
 {}

@@ -1,6 +1,6 @@
 ghost use Rattle.std.specs.Prelude.{◌≡◌, ◌==◌, IfOk, option_and_then, slice_get};
 ghost use Rattle.std.specs.List.{position};
-ghost use Rattle.meaning.specs.World.{find_play};
+ghost use Rattle.meaning.specs.World.{find_play, not_started};
 ghost use Rattle.meaning.specs.declared.scheds.Play.{Play as play};
 
 use crate::listed::Listed;
@@ -12,6 +12,18 @@ use wa_base::{NoMemory, NodeId};
 pub struct Play {
     pub id: NodeId,
     pub sched: Sched,
+}
+
+impl Play {
+    /// A source that was not started.
+    pub fn not_started(id: NodeId) -> Play
+        ensures { result ≡ not_started id.0 }
+    {
+        Play {
+            id,
+            sched: Sched::constant(),
+        }
+    }
 }
 
 /// The schedules of a world's sources.

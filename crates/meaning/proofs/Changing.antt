@@ -1,0 +1,143 @@
+-- What a change leaves of a world.
+use Rattle.std.proofs.Common.{ℕ, zero, suc, ◌≡◌, ◌<◌, length, List, slice_index_or, slice_get, slice_set, map, [], ◌∷◌, Bool, true, false, Some, None, ◌==◌, inl, inr, refl, sym, ◌∙◌, ap, subst, arith, Option, Result, Ok, Err}
+use Rattle.std.specs.Prelude.{if◌then◌else◌, option_and_then, OnOk, OnErr}
+use Rattle.std.specs.List.{position}
+use Rattle.std.specs.Result.{result_err}
+use Rattle.std.proofs.lemmas.Bool.Decides.{nat_tests}
+use Rattle.std.proofs.lemmas.List.{append-nil}
+use Rattle.std.proofs.lemmas.List.Quantifiers.{position-Some}
+use Rattle.std.proofs.lemmas.Option.{get_or_from_slice_get}
+use Rattle.wa_base.specs.declared.exceptions.Exc.{Exc}
+use Rattle.wa_base.specs.declared.memory.NoMemory.{NoMemory}
+use Rattle.wa_base.specs.declared.exceptions.Exc.TheVariants.{NotSupported}
+use Rattle.wa_base.specs.declared.features.Feature.TheVariants.{DestinationOutput}
+use Rattle.law_base.specs.Members.{IsIn, AreDistinct}
+use Rattle.node_table.specs.Kinds.{is_destination, IsInEntry}
+use Rattle.node_table.specs.Nodes.{creation_refusal, node_of}
+use Rattle.node_table.specs.declared.kinds.Kind.{Kind}
+use Rattle.node_table.specs.declared.nodes.Node.{Node}
+use Rattle.sched_source.specs.Schedule.{Schedule, started, stopped}
+use Rattle.conn_graph.specs.declared.edges.Edge.{Edge}
+use Rattle.conn_graph.specs.Graph.{connect_refusal}
+use Rattle.meaning.specs.declared.change.Change.{Change}
+use Rattle.meaning.specs.declared.change.Edit.{Edit}
+use Rattle.meaning.specs.declared.change.Edit.TheVariants as edit
+use Rattle.meaning.specs.declared.world.World.{World}
+use Rattle.meaning.specs.declared.scheds.Play.{Play}
+use Rattle.meaning.specs.World.{plain, find_play}
+use Rattle.meaning.specs.Validity.{IsValid, play_nodes}
+use Rattle.meaning.specs.Changes.{created, edited, rescheduled, changed_play, output_refusal, play_refusal, refusal, changed, IsNamed, Accepts, Grows, ChangeLaw}
+use Rattle.meaning.proofs.Valid.{plain_valid, connected_valid, disconnected_valid, with_play_valid}
+use Rattle.meaning.proofs.Creating.{created_valid}
+
+-- the nodes stay
+pub grows_still : (now : ℕ) (old new : World) → (IsValid old → IsValid new) → new.spec ≡ old.spec → new.nodes ≡ old.nodes → Grows now old new
+grows_still now old new valid spec nodes = record { valid = valid; spec = spec; more = []; nodes = nodes ∙ sym (append-nil old.nodes); born = λ k d l. absurd (omega arith) }
+
+pub grows_same : (now : ℕ) (w : World) → Grows now w w
+grows_same now w = grows_still now w w (λ v. v) refl refl
+
+-- one node more
+pub grows_created : (w : World) (kind : Kind) (now : ℕ) → is_destination kind ≡ false → IsInEntry kind → creation_refusal w.nodes kind ≡ None → Grows now w (created w kind now)
+grows_created w kind now other entry accepted = record {
+  valid = λ valid. created_valid w kind now valid other entry accepted;
+  spec = refl;
+  more = node_of kind now ∷ [];
+  nodes = refl;
+  born = λ k d l. born_at k d l;
+}
+  where
+    born_at : (k : ℕ) (d : Node) → k < 1 → (slice_index_or (node_of kind now ∷ []) k d).attrs.birth ≡ now
+    born_at zero d l = refl
+    born_at (suc k) d l = absurd (omega arith)
+
+-- a connection that is not refused does not leave the destination, and its other refusals do not come
+pub unrefused : (from : ℕ) (w : World) (e : Edge) → output_refusal from (connect_refusal w.graph.value e) ≡ None → connect_refusal w.graph.value e ≡ None
+unrefused from w e accepted = by_test (from == 0) accepted
+  where
+    by_test : (b : Bool) → (if b then Some (NotSupported (Some DestinationOutput)) else connect_refusal w.graph.value e) ≡ None → connect_refusal w.graph.value e ≡ None
+    by_test true is = absurd cc
+    by_test false is = is
+
+pub edited_grows : (w : World) (now : ℕ) (e : Edit) → IsNamed w e → refusal w e ≡ None → IsValid w → Grows now w (edited w now e)
+edited_grows w now (edit.Create kind) named accepted valid = grows_created w kind now named.0 named.1 accepted
+edited_grows w now (edit.Connect edge) named accepted valid =
+    grows_still now w _ (λ v. connected_valid w edge v named.0 named.1 (unrefused edge.from.0 w edge accepted)) refl refl
+edited_grows w now (edit.Disconnect from form) named accepted valid = grows_still now w _ (λ v. disconnected_valid w from.0 form v) refl refl
+edited_grows w now (edit.Start node when offset duration) named accepted valid =
+    grows_still now w _ (λ v. with_play_valid w node.0 (λ play. rescheduled play (started play.sched now when offset duration 0)) (λ p. refl) v) refl refl
+edited_grows w now (edit.Stop node when) named accepted valid =
+    grows_still now w _ (λ v. with_play_valid w node.0 (λ play. rescheduled play (stopped play.sched now when)) (λ p. refl) v) refl refl
+
+pub changed_grows : ChangeLaw
+changed_grows w change valid accepts = edited_grows w change.time change.edit accepts.named accepts.accepted valid
+
+-- ---- the schedule of one source
+
+-- no other schedule changes
+others_stay : (node : ℕ) (change : Play → Play) (plays : List Play) → (IsIn node (map (λ (p : Play). p.id.0) plays) → ⊥) → map (changed_play node change) plays ≡ plays
+others_stay node change [] none = refl
+others_stay node change (p ∷ ps) none =
+    let other : (p.id.0 == node) ≡ false = by_test (p.id.0 == node) refl in
+    let rest = others_stay node change ps (λ h. none (inr h)) in
+    cc
+  where
+    by_test : (b : Bool) → (p.id.0 == node) ≡ b → b ≡ false
+    by_test true is = absurd (none (inl (grind (arith, nat_tests))))
+    by_test false is = refl
+
+-- the source at a place is one of the sources
+later : (plays : List Play) (place : ℕ) (d : Play) → place < length plays → (i : ℕ) → (slice_index_or plays place d).id.0 ≡ i → IsIn i (map (λ (p : Play). p.id.0) plays)
+later [] place d below i is = absurd (omega arith)
+later (p ∷ ps) zero d below i is = inl (sym is)
+later (p ∷ ps) (suc place) d below i is = inr (later ps place d (omega arith) i is)
+
+-- where the sources are distinct, the first schedule of a node is written over, and no other
+pub written_over : (node : ℕ) (change : Play → Play) (plays : List Play) (place : ℕ) (d : Play) → place < length plays → (slice_index_or plays place d).id.0 ≡ node
+    → AreDistinct (map (λ (p : Play). p.id.0) plays) → map (changed_play node change) plays ≡ slice_set plays place (change (slice_index_or plays place d))
+written_over node change [] place d below is once = absurd (omega arith)
+written_over node change (p ∷ ps) zero d below is once =
+    let same : (p.id.0 == node) ≡ true = grind (arith, nat_tests) in
+    let rest = others_stay node change ps (λ h. once.0 (rw is h)) in
+    cc
+written_over node change (p ∷ ps) (suc place) d below is once =
+    let other : (p.id.0 == node) ≡ false = by_test (p.id.0 == node) refl in
+    let rest = written_over node change ps place d (omega arith) is once.1 in
+    cc
+  where
+    by_test : (b : Bool) → (p.id.0 == node) ≡ b → b ≡ false
+    by_test true same = absurd (once.0 (later ps place d (omega arith) p.id.0 (is ∙ sym (grind (arith, nat_tests)))))
+    by_test false same = refl
+
+-- the schedule that is found, changed and written over
+pub rescheduled_is : (w : World) (node place : ℕ) (play new : Play) (change : Play → Play) → AreDistinct (play_nodes w) → position (λ (p : Play). p.id.0 == node) w.scheds.items ≡ Some place
+    → slice_get w.scheds.items place ≡ Some play → new ≡ change play → slice_set w.scheds.items place new ≡ map (changed_play node change) w.scheds.items
+rescheduled_is w node place play new change once found there is =
+    let at : slice_index_or w.scheds.items place play ≡ play = get_or_from_slice_get w.scheds.items place play play there in
+    let first = position-Some (λ (p : Play). p.id.0 == node) w.scheds.items place play found in
+    let same : (slice_index_or w.scheds.items place play).id.0 ≡ node = let test = first.1 in grind (arith, nat_tests) in
+    ap (λ p. slice_set w.scheds.items place p) (is ∙ ap change (sym at)) ∙ sym (written_over node change w.scheds.items place play first.0 same once)
+
+-- a call that is not refused is done
+pub not_refused : {X : Type 0} (r : Result (Unit {0}) Exc) → result_err r ≡ None → OnOk r X → X
+not_refused (Ok v) none done = done
+not_refused (Err exc) none done = absurd cc
+
+-- the refusals of the schedule that is found
+pub found_refusal : (plays : List Play) (node place : ℕ) (play : Play) (others : Schedule → Option Exc) → position (λ (p : Play). p.id.0 == node) plays ≡ Some place → slice_get plays place ≡ Some play
+    → play_refusal (find_play plays node) others ≡ None → others play.sched ≡ None
+found_refusal plays node place play others found there accepted =
+    let at_place = subst (λ o. play_refusal (option_and_then (slice_get plays) o) others ≡ None) found accepted in
+    subst (λ o. play_refusal o others ≡ None) there at_place
+
+-- a source that no schedule is found for is refused
+pub none_found : (plays : List Play) (node : ℕ) (others : Schedule → Option Exc) → position (λ (p : Play). p.id.0 == node) plays ≡ None → play_refusal (find_play plays node) others ≡ None → ⊥
+none_found plays node others none accepted =
+    let refused = subst (λ o. play_refusal (option_and_then (slice_get plays) o) others ≡ None) none accepted in
+    absurd cc
+
+-- a world after a change that was made, or was not for want of memory
+pub follows : (w new : World) (change : Change) (r : Result (Unit {0}) NoMemory) → IsValid w → Accepts (plain w) change → OnOk r (plain new ≡ changed (plain w) change) → OnErr r (plain new ≡ plain w)
+    → Grows change.time (plain w) (plain new)
+follows w new change (Ok v) valid accepts done failed = rw done (edited_grows (plain w) change.time change.edit accepts.named accepts.accepted (plain_valid w valid))
+follows w new change (Err e) valid accepts done failed = rw failed (grows_same change.time (plain w))
