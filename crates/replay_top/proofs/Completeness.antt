@@ -1,5 +1,5 @@
 -- Where the answer of the program is Rendered.
-use Rattle.std.proofs.Common.{ℕ, ◌≡◌, ◌≤◌, List, [], length, Bool, true, false, ◌||◌, Option, Some, None, Result, Ok, Err, refl, sym, ◌∙◌, ap, arith}
+use Rattle.std.proofs.Common.{ℕ, ◌≡◌, ◌≤◌, List, [], length, Bool, true, false, ◌||◌, Option, Some, None, Result, Ok, Err, refl, sym, ◌∙◌, ap, arith, zero, suc, ◌++◌, ◌∷◌}
 use Rattle.std.specs.Prelude.{is_some, if◌then◌else◌, nat_lt}
 use Rattle.std.specs.List.{list_any}
 use Rattle.std.proofs.lemmas.Bool.Decides.{nat_tests}
@@ -11,21 +11,33 @@ use Rattle.script_json.specs.Script.{script_of}
 use Rattle.script_json.specs.declared.faults.ScriptErr.{ScriptErr}
 use Rattle.transcript.specs.declared.lines.EndWord.{EndWord}
 use Rattle.transcript.specs.declared.lines.EndWord.TheVariants.{Completed, Stalled, Idle, Refused}
-use Rattle.session.specs.Session.{Told, session_of, replayed, rendered, main_list, first_told, held_by}
+use Rattle.session.specs.Session.{Told, session_of, replayed, rendered, main_list, first_told, held_by, after_quantum, quanta_left, turn_of, by_turn, finished, ends, turns}
 use Rattle.session.specs.Step.{is_start}
+use Rattle.meaning.specs.declared.world.World.{World}
+use Rattle.session.specs.declared.session.Turn.{Turn}
+use Rattle.session.specs.declared.session.Turn.TheVariants.{Went, Done}
 use Rattle.replay_top.specs.Answer.{max_script, status_of, without_file, answer_to_script, answer_to_bytes, answer_to_reading, answer}
 use Rattle.replay_top.specs.Laws.{Renders, IsRendered}
 use Rattle.replay_top.specs.Words.{Reading, reading}
 use Rattle.replay_top.specs.declared.status.Status.TheVariants.{Rendered, ScriptTooLong}
-use Rattle.replay_top.proofs.Starting.{calls_start}
+use Rattle.session.proofs.Starting.{calls_start}
 
 abbrev starts : List Call → Bool
 starts calls = list_any (λ (call : Call). is_start call.op) (held_by 0 calls)
 
+-- the turns of a session lead to its completion
+turns_complete : (left : ℕ) (calls : List Call) (told : Told) (tape : List World) → (turns left calls told tape).end ≡ Completed
+turns_complete zero calls told tape = refl
+turns_complete (suc left) calls told tape = after_turn (turn_of (after_quantum told).machine) (turns_complete left calls (after_quantum told) (tape ++ told.machine.world ∷ []))
+  where
+    after_turn : (turn : Turn) → (turns left calls (after_quantum told) (tape ++ told.machine.world ∷ [])).end ≡ Completed → (by_turn turn (turns left calls (after_quantum told) (tape ++ told.machine.world ∷ [])) (λ ordinal. finished (ends calls (after_quantum told) ordinal) (tape ++ told.machine.world ∷ []))).end ≡ Completed
+    after_turn Went more = more
+    after_turn (Done ordinal) more = refl
+
 -- a session that was started completes
 rendered_completes : (calls : List Call) (told : Told) (started : Option ℕ) → is_some started ≡ true → (rendered calls told started).end ≡ Completed
 rendered_completes calls told None on = absurd cc
-rendered_completes calls told (Some ordinal) on = refl
+rendered_completes calls told (Some ordinal) on = turns_complete (quanta_left told.machine) calls told []
 
 completed_started : (calls : List Call) (told : Told) (started : Option ℕ) → (rendered calls told started).end ≡ Completed → is_some started ≡ true
 completed_started calls told None is = absurd cc

@@ -3,5 +3,4 @@ mod Ends
 mod FaultLines
 mod FrameRows
 mod Outcomes
-mod Starting
 mod WavParts

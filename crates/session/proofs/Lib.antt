@@ -1,5 +1,6 @@
 mod Copying
-mod Grown
+mod Deciding
+mod Finishing
 pub mod Interleaving
 mod Marks
 mod Named
@@ -7,6 +8,6 @@ mod NewNames
 mod Quanta
 mod Samples
 mod Standing
+pub mod Starting
 mod Stepping
 mod Tapes
-mod Valid

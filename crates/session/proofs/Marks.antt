@@ -8,7 +8,7 @@ use Rattle.std.proofs.lemmas.Option.{get_or_from_slice_get}
 use Rattle.param_events.specs.Values.{value_at}
 use Rattle.meaning.specs.declared.params.Param.{Param}
 use Rattle.meaning.specs.declared.scheds.Play.{Play}
-use Rattle.session.specs.Changes.{ends_by, marked, slot_set}
+use Rattle.session.specs.Quantum.{ends_by, marked, slot_set}
 use Rattle.session.specs.Steady.{IsUntouched}
 
 -- f x was written over the element at i, which was read at some default

@@ -1,6 +1,9 @@
--- How many quanta are left.
-use Rattle.std.proofs.Common.{◌≡◌, ◌<◌, ◌≤◌, ◌+◌, ℕ, suc, ap, arith}
-use Rattle.session.specs.Session.{Told, after_quantum, closing, quanta_left}
+-- How many quanta are left, and what each turn leads to.
+use Rattle.std.proofs.Common.{◌≡◌, ◌<◌, ◌≤◌, ◌+◌, ◌∷◌, ◌++◌, [], List, ℕ, suc, refl, ap, arith}
+use Rattle.script_ast.specs.declared.call_list.Call.{Call}
+use Rattle.meaning.specs.declared.world.World.{World}
+use Rattle.session.specs.declared.session.Turn.TheVariants.{Went, Done}
+use Rattle.session.specs.Session.{Told, machine_after, after_quantum, turn_of, closing, quanta_left, finished, ends, turns}
 
 -- the last one
 pub one_left : (old new : Told) (ordinal : ℕ) → old.machine.now < old.machine.world.spec.length → new ≡ closing (after_quantum old) ordinal
@@ -15,3 +18,13 @@ more_left old new is left =
     let time : new.machine.now ≡ old.machine.now + 128 = ap (λ told. told.machine.now) is in
     let long : new.machine.world.spec.length ≡ old.machine.world.spec.length = ap (λ told. told.machine.world.spec.length) is in
     omega arith
+
+-- a turn after which rendering goes on
+pub turns_went : (calls : List Call) (old new : Told) (tape : List World) → turn_of (machine_after old.machine) ≡ Went → new ≡ after_quantum old → quanta_left old.machine ≡ suc (quanta_left new.machine)
+    → turns (quanta_left old.machine) calls old tape ≡ turns (quanta_left new.machine) calls new (tape ++ old.machine.world ∷ [])
+turns_went calls old new tape went is more = rw (more, is, went) refl
+
+-- the last turn
+pub turns_done : (calls : List Call) (old : Told) (tape : List World) (ordinal : ℕ) → turn_of (machine_after old.machine) ≡ Done ordinal → quanta_left old.machine ≡ 1
+    → turns (quanta_left old.machine) calls old tape ≡ finished (ends calls (after_quantum old) ordinal) (tape ++ old.machine.world ∷ [])
+turns_done calls old tape ordinal done last = rw (last, done) refl

@@ -8,7 +8,8 @@ use Rattle.meaning.specs.World.{plain}
 use Rattle.meaning.specs.Validity.{IsValid}
 use Rattle.meaning.specs.Worlds.{IsRegular, first_world}
 use Rattle.quantum_render.specs.Stands.{RendererView, StandsFor}
-use Rattle.session.specs.Changes.{Grows, after}
+use Rattle.session.specs.Quantum.{after}
+use Rattle.meaning.specs.Changes.{Grows}
 use Rattle.session.specs.Frames.{WritesBelow}
 use Rattle.session.specs.Machine.{Machine}
 use Rattle.session.specs.Rows.{samples_of}

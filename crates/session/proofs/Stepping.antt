@@ -1,46 +1,39 @@
--- A call that is refused or not, and the machine after it.
-use Rattle.std.proofs.Common.{ℕ, ℤ, ◌≡◌, ◌+◌, ◌<◌, length, List, [], ◌∷◌, map, All, Bool, true, false, Option, Some, None, IsSome, ◌⊎◌, inl, inr, refl, sym, ◌∙◌, ap, subst, arith, length-append}
-use Rattle.std.specs.Prelude.{slice_get, slice_set}
-use Rattle.std.proofs.Math.Seq.{map-set_same}
-use Rattle.std.proofs.lemmas.Option.{get_or_from_slice_get}
+-- A machine stays steady through edits and quanta.
+use Rattle.std.proofs.Common.{ℕ, ℤ, ◌≡◌, ◌+◌, ◌<◌, length, List, [], ◌∷◌, map, All, Bool, true, false, Option, Some, None, Result, Ok, Err, IsSome, refl, sym, ◌∙◌, ap, subst, arith, length-append}
+use Rattle.std.specs.Prelude.{OnOk, OnErr}
 use Rattle.std.proofs.lemmas.List.{map-append}
 use Rattle.std.proofs.lemmas.List.Elements.{All-append, All-cons}
 use Rattle.wa_base.specs.declared.contexts.State.{State}
-use Rattle.wa_base.specs.declared.exceptions.Exc.{Exc}
 use Rattle.wa_base.specs.declared.graph_names.ParamName.{ParamName}
-use Rattle.transcript.specs.declared.lines.Answer.{Answer}
-use Rattle.transcript.specs.declared.lines.Answer.TheVariants as answer
+use Rattle.wa_base.specs.declared.memory.NoMemory.{NoMemory}
 use Rattle.name_book.specs.Book.{BookView, bound, first_named, first_name_of}
 use Rattle.name_book.specs.declared.book.Object.{Object}
 use Rattle.name_book.specs.declared.book.Object.TheVariants.{Node}
-use Rattle.node_table.specs.Kinds.{is_destination}
-use Rattle.node_table.specs.Nodes.{creation_refusal, node_of}
+use Rattle.node_table.specs.Nodes.{node_of}
 use Rattle.node_table.specs.declared.kinds.Kind.{Kind}
-use Rattle.conn_graph.specs.Graph.{Connections, IsGraph}
-use Rattle.conn_graph.specs.Walks.{GraphView}
+use Rattle.sched_source.specs.Schedule.{started, stopped}
+use Rattle.meaning.specs.declared.change.Edit.{Edit}
+use Rattle.meaning.specs.declared.change.Edit.TheVariants as edit
 use Rattle.meaning.specs.declared.world.World.{World}
 use Rattle.meaning.specs.declared.scheds.Play.{Play}
 use Rattle.meaning.specs.Lists.{Listed, listed}
 use Rattle.meaning.specs.World.{plain, is_source}
 use Rattle.meaning.specs.Validity.{IsValid, play_nodes}
-use Rattle.session.specs.Changes.{marked, with_graph, created, param_of, new_param, new_params, new_plays}
-use Rattle.session.specs.Machine.{Machine, IsInState, machine_of}
+use Rattle.meaning.specs.Changes.{creates, edited, rescheduled, param_of, new_param, new_params, new_plays}
+use Rattle.meaning.proofs.Valid.{valid_of, changed_nodes}
+use Rattle.meaning.proofs.Changing.{changed_grows}
+use Rattle.session.specs.Quantum.{marked}
+use Rattle.session.specs.Machine.{Machine, IsInState, IsAccepted, machine_of}
 use Rattle.session.specs.Steady.{IsSteady, IsThere, IsUntouched}
 use Rattle.session.specs.Session.{machine_after}
-use Rattle.session.specs.Step.{Steps, unless, with_world, next_node, with_created}
+use Rattle.session.specs.Step.{with_world, with_edit, next_node}
 use Rattle.session.proofs.Marks.{marked_nodes, slots_stay}
 use Rattle.session.proofs.Named.{All-bound, there_among_more, named_still, named_new}
-use Rattle.session.proofs.Valid.{valid_of, created_valid}
 
-none_of : (o : Option Exc) → ((exc : Exc) → o ≡ Some exc → ⊥) → o ≡ None
-none_of None not = refl
-none_of (Some exc) not = absurd (not exc refl)
+-- ---- an edit
 
-pub accepted : (o : Option Exc) (old next new : Machine) (said : Answer) → ((exc : Exc) → o ≡ Some exc → ⊥) → new ≡ next → said ≡ answer.Ok → Steps new (unless o old next) said
-accepted o old next new said not is told = rw (none_of o not) (is, told)
-
-pub refused : (o : Option Exc) (old next new : Machine) (said : Answer) (exc : Exc) → o ≡ Some exc → new ≡ old → said ≡ answer.Throw exc → Steps new (unless o old next) said
-refused o old next new said exc thrown is told = rw thrown (is, told)
+edited_valid : (m : Machine) (e : Edit) → IsAccepted m e → IsSteady m → IsValid (edited m.world m.now e)
+edited_valid m e accepted steady = (changed_grows m.world (record { time = m.now; edit = e }) steady.valid accepted).valid steady.valid
 
 -- a machine whose world changes, but for its nodes, its parameters and whose its schedules are
 pub steady_world : (m : Machine) (w : World) → w.spec ≡ m.world.spec → w.nodes ≡ m.world.nodes → w.params.items ≡ m.world.params.items → play_nodes w ≡ play_nodes m.world
@@ -54,16 +47,27 @@ steady_world m w spec nodes params plays valid steady = record {
   untouched = rw params steady.untouched;
 }
 
--- the graph of a world is as before, or changed so that the world stays valid
-pub graph_valid : (w : World) (g : GraphView) (changed : Connections) → (IsGraph changed → IsValid (with_graph (plain w) changed)) → IsGraph g.value
-    → (g.value ≡ changed) ⊎ (g.value ≡ w.graph.value) → IsValid (plain w) → IsValid (plain (record w { graph = g }))
-graph_valid w g changed next graph (inl is) valid = valid_of (with_graph (plain w) changed) (plain (record w { graph = g })) refl refl is refl refl (next (subst IsGraph is graph))
-graph_valid w g changed next graph (inr is) valid = valid_of (plain w) (plain (record w { graph = g })) refl refl is refl refl valid
+-- an edit that creates nothing
+pub steady_edited : (m : Machine) (e : Edit) → creates e ≡ false → IsAccepted m e → IsSteady m → IsSteady (with_edit m e None)
+steady_edited m (edit.Create kind) none accepted steady = absurd cc
+steady_edited m (edit.Connect edge) none accepted steady = steady_world m _ refl refl refl refl (edited_valid m (edit.Connect edge) accepted steady) steady
+steady_edited m (edit.Disconnect from form) none accepted steady = steady_world m _ refl refl refl refl (edited_valid m (edit.Disconnect from form) accepted steady) steady
+steady_edited m (edit.Start node when offset duration) none accepted steady =
+    steady_world m _ refl refl refl (changed_nodes node.0 (λ play. rescheduled play (started play.sched m.now when offset duration 0)) (λ p. refl) m.world.scheds.items)
+    (edited_valid m (edit.Start node when offset duration) accepted steady) steady
+steady_edited m (edit.Stop node when) none accepted steady =
+    steady_world m _ refl refl refl (changed_nodes node.0 (λ play. rescheduled play (stopped play.sched m.now when)) (λ p. refl) m.world.scheds.items)
+    (edited_valid m (edit.Stop node when) accepted steady) steady
 
-pub steady_graph : (state : State) (now : ℕ) (started : Option ℕ) (w : World) (g : GraphView) (book : BookView) → IsValid (plain (record w { graph = g }))
-    → IsSteady (machine_of state now started w book) → IsSteady (machine_of state now started (record w { graph = g }) book)
-steady_graph state now started w g book valid steady =
-    steady_world (machine_of state now started w book) (plain (record w { graph = g })) refl refl refl refl valid steady
+-- a world that was edited so, or was not for want of memory
+pub steady_either : (state : State) (now : ℕ) (started : Option ℕ) (w new : World) (book : BookView) (e : Edit) (r : Result (Unit {0}) NoMemory) → OnOk r (plain new ≡ edited (plain w) now e) → OnErr r (plain new ≡ plain w)
+    → creates e ≡ false → IsAccepted (machine_of state now started w book) e → IsSteady (machine_of state now started w book) → IsSteady (machine_of state now started new book)
+steady_either state now started w new book e (Ok v) done failed none accepted steady =
+    let m : Machine = machine_of state now started w book in
+    subst (λ (x : World). IsSteady (with_world m x)) (sym done) (steady_edited m e none accepted steady)
+steady_either state now started w new book e (Err r) done failed none accepted steady =
+    let m : Machine = machine_of state now started w book in
+    subst (λ (x : World). IsSteady (with_world m x)) (sym failed) steady
 
 -- ---- a new node
 
@@ -76,13 +80,13 @@ new_untouched : (node : ℕ) (p : Option (ParamName × ℤ)) → All IsUntouched
 new_untouched node None = λ k d l. absurd (omega arith)
 new_untouched node (Some (name, value)) = All-cons IsUntouched (new_param node name value) [] (record { slot = refl; events = refl }) (λ k d l. absurd (omega arith))
 
-pub steady_created : (m : Machine) (name : List ℕ) (kind : Kind) → is_destination kind ≡ false → creation_refusal m.world.nodes kind ≡ None → IsSteady m → IsSteady (with_created m name kind)
-steady_created m name kind other accepted steady =
+steady_created : (m : Machine) (name : List ℕ) (kind : Kind) → IsAccepted m (edit.Create kind) → IsSteady m → IsSteady (with_edit m (edit.Create kind) (Some name))
+steady_created m name kind accepted steady =
     let count = length m.world.nodes in
     let long = length-append m.world.nodes (node_of kind m.now ∷ []) in
     let first_names = first_named m.first_names (Node (record { 0 = count })) name in
     record {
-      valid = created_valid m.world kind m.now steady.valid other accepted;
+      valid = edited_valid m (edit.Create kind) accepted steady;
       in_state = steady.in_state;
       time = steady.time;
       bound = rw long (All-bound (IsThere (count + 1)) m.bindings name (Node (record { 0 = count })) (λ k d l. there_among_more count _ (steady.bound k d l)) (omega arith));
@@ -91,18 +95,21 @@ steady_created m name kind other accepted steady =
       untouched = All-append IsUntouched _ _ steady.untouched (new_untouched count (param_of kind));
     }
 
-pub created_machine : (m : Machine) (name : List ℕ) (kind : Kind) (world : World) (bindings : List (List ℕ × Object)) (first_names : List (ℕ × List ℕ))
-    → world ≡ created m.world kind m.now → bindings ≡ bound m.bindings name (next_node m) → first_names ≡ first_named m.first_names (next_node m) name
-    → record m { world = world; bindings = bindings; first_names = first_names } ≡ with_created m name kind
-created_machine m name kind world bindings first_names world_is bindings_are names_are =
+-- an edit that creates what is given a name
+pub steady_named : (m : Machine) (e : Edit) (name : List ℕ) → creates e ≡ true → IsAccepted m e → IsSteady m → IsSteady (with_edit m e (Some name))
+steady_named m (edit.Create kind) name new accepted steady = steady_created m name kind accepted steady
+steady_named m (edit.Connect edge) name new accepted steady = absurd cc
+steady_named m (edit.Disconnect from form) name new accepted steady = absurd cc
+steady_named m (edit.Start node when offset duration) name new accepted steady = absurd cc
+steady_named m (edit.Stop node when) name new accepted steady = absurd cc
+
+pub named_machine : (m : Machine) (name : List ℕ) (e : Edit) (world : World) (bindings : List (List ℕ × Object)) (first_names : List (ℕ × List ℕ))
+    → world ≡ edited m.world m.now e → bindings ≡ bound m.bindings name (next_node m) → first_names ≡ first_named m.first_names (next_node m) name
+    → record m { world = world; bindings = bindings; first_names = first_names } ≡ with_edit m e (Some name)
+named_machine m name e world bindings first_names world_is bindings_are names_are =
     λ i. record m { world = world_is i; bindings = bindings_are i; first_names = names_are i }
 
--- ---- schedules
-
--- a play that is written over with the same source
-pub same_source : (plays : List Play) (place : ℕ) (old new : Play) → slice_get plays place ≡ Some old → new.id.0 ≡ old.id.0 → map (λ (p : Play). p.id.0) (slice_set plays place new) ≡ map (λ (p : Play). p.id.0) plays
-same_source plays place old new is same =
-    map-set_same (λ (p : Play). p.id.0) plays place new old (same ∙ sym (ap (λ (p : Play). p.id.0) (get_or_from_slice_get plays place old old is)))
+-- ---- a quantum
 
 pub scheds_valid : (w : World) (scheds : Listed Play) → map (λ (p : Play). p.id.0) scheds.items ≡ play_nodes w → IsValid (plain w) → IsValid (plain (record w { scheds = scheds }))
 scheds_valid w scheds same valid = valid_of (plain w) (plain (record w { scheds = scheds })) refl refl refl refl same valid
@@ -111,8 +118,6 @@ pub steady_scheds : (state : State) (now : ℕ) (started : Option ℕ) (w : Worl
     → IsSteady (machine_of state now started w book) → IsSteady (machine_of state now started (record w { scheds = scheds }) book)
 steady_scheds state now started w scheds book same steady =
     steady_world (machine_of state now started w book) (plain (record w { scheds = scheds })) refl refl refl same (scheds_valid w scheds same steady.valid) steady
-
--- ---- a quantum
 
 pub steady_after : (old state : State) (now : ℕ) (started : Option ℕ) (w : World) (scheds : Listed Play) (book : BookView) → scheds.items ≡ map (marked (now + 128)) w.scheds.items
     → now < w.spec.length → IsInState state started (now + 128) w.spec.length → IsSteady (machine_of old now started w book) → IsSteady (machine_of state (now + 128) started (record w { scheds = scheds }) book)

@@ -12,8 +12,8 @@ use Rattle.meaning.specs.Validity.{IsValid}
 use Rattle.meaning.specs.Worlds.{IsRegular, IsNewIn, Stays, first_world}
 use Rattle.meaning.specs.Counts.{world_in}
 use Rattle.meaning.proofs.TapeLaws.{world_before, world_after}
-use Rattle.session.specs.Changes.{Grows}
-use Rattle.session.proofs.Valid.{valid_plain}
+use Rattle.meaning.specs.Changes.{Grows}
+use Rattle.meaning.proofs.Valid.{valid_plain}
 
 -- ---- worlds made plain
 

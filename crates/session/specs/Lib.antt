@@ -1,6 +1,6 @@
-pub mod Changes
 pub mod Frames
 pub mod Machine
+pub mod Quantum
 pub mod Rendering
 pub mod Rows
 pub mod Session

@@ -4,6 +4,8 @@ use Rattle.wa_base.specs.declared.contexts.State.{State}
 use Rattle.wa_base.specs.declared.contexts.State.TheVariants.{Suspended, Running, Closed}
 use Rattle.name_book.specs.Book.{BookView}
 use Rattle.name_book.specs.declared.book.Object.{Object}
+use Rattle.meaning.specs.Changes.{Accepts}
+use Rattle.meaning.specs.declared.change.Edit.{Edit}
 use Rattle.meaning.specs.declared.world.World.{World}
 use Rattle.meaning.specs.World.{plain}
 
@@ -37,3 +39,7 @@ abbrev pub IsInState : State → Option ℕ → ℕ → ℕ → Type 0
 IsInState Suspended started now length = (started ≡ None) × (now ≡ 0)
 IsInState Running started now length = IsSome started × (now < length)
 IsInState Closed started now length = IsSome started × (length ≤ now)
+
+-- the world accepts an edit now
+abbrev pub IsAccepted : Machine → Edit → Type 0
+IsAccepted machine edit = Accepts machine.world (record { time = machine.now; edit = edit })

@@ -1,5 +1,5 @@
 -- A whole session, without a sample in it.
-use Rattle.std.specs.Prelude.{ℕ, zero, suc, ◌+◌, ◌-◌, ◌/◌, ◌==◌, List, [], ◌∷◌, ◌++◌, filter, if◌then◌else◌, unwrap_or, Bool, true, false, Option, Some, None}
+use Rattle.std.specs.Prelude.{ℕ, zero, suc, ◌+◌, ◌-◌, ◌/◌, ◌==◌, nat_le, List, [], ◌∷◌, ◌++◌, filter, if◌then◌else◌, unwrap_or, Bool, true, false, Option, Some, None}
 use Rattle.wa_base.specs.declared.contexts.ContextSpec.{ContextSpec}
 use Rattle.wa_base.specs.Contexts.{quantum_of, is_supported}
 use Rattle.wa_base.specs.declared.contexts.State.{State}
@@ -13,10 +13,12 @@ use Rattle.transcript.specs.declared.lines.Line.TheVariants as line
 use Rattle.transcript.specs.declared.lines.EndWord.{EndWord}
 use Rattle.transcript.specs.declared.lines.EndWord.TheVariants.{Completed, Idle, Refused}
 use Rattle.name_book.specs.Book.{first_name_of}
+use Rattle.session.specs.declared.session.Turn.{Turn}
+use Rattle.session.specs.declared.session.Turn.TheVariants.{Went, Done}
 use Rattle.meaning.specs.declared.world.World.{World}
 use Rattle.meaning.specs.declared.scheds.Play.{Play}
 use Rattle.meaning.specs.Worlds.{first_world}
-use Rattle.session.specs.Changes.{ends_by, after}
+use Rattle.session.specs.Quantum.{ends_by, after}
 use Rattle.session.specs.Machine.{Machine}
 use Rattle.session.specs.Step.{step}
 
@@ -73,22 +75,16 @@ pub record Played : Type 0 where
   pub end : EndWord
   pub tape : List World
 
--- the machine and the lines after so many quanta
-abbrev pub after_quanta : ℕ → Told → Told
-after_quanta zero told = told
-after_quanta (suc n) told = after_quanta n (after_quantum told)
-
--- the world of each of so many quanta
-abbrev pub worlds_of : ℕ → Told → List World
-worlds_of zero told = []
-worlds_of (suc n) told = told.machine.world ∷ worlds_of n (after_quantum told)
-
 -- the context closes, and the promise of startRendering resolves
 abbrev pub closed_machine : Machine → Machine
 closed_machine machine = record machine { state = state.Closed }
 
 abbrev pub closing : Told → ℕ → Told
 closing told ordinal = record { machine = closed_machine told.machine; lines = told.lines ++ line.Call ordinal Resolved ∷ [] }
+
+-- what a quantum led to: the length is reached, or rendering goes on
+abbrev pub turn_of : Machine → Turn
+turn_of machine = if nat_le machine.world.spec.length machine.now then Done (unwrap_or machine.started 0) else Went
 
 -- ---- the end
 
@@ -108,7 +104,7 @@ end_of state.Closed = Completed
 abbrev pub lines_at_end : Told → List Line
 lines_at_end told = if has_closed told.machine.state then told.lines ++ line.Complete told.machine.world.spec.length ∷ [] else told.lines
 
--- ---- all quanta
+-- ---- turn by turn
 
 -- as many quanta as reach the length from a frame on
 abbrev pub quanta_from : ℕ → ContextSpec → ℕ
@@ -122,15 +118,26 @@ quanta_left machine = quanta_from machine.now machine.world.spec
 abbrev pub finished : Told → List World → Played
 finished told tape = record { lines = told.lines ++ line.Complete told.machine.world.spec.length ∷ []; end = Completed; tape = tape }
 
--- all quanta are rendered, the context closes, and the list of startRendering runs
-abbrev pub completed : List Call → Told → ℕ → Played
-completed calls told ordinal = finished
-    (after_calls (closing (after_quanta (quanta_left told.machine) told) ordinal) (held_by ordinal calls))
-    (worlds_of (quanta_left told.machine) told)
+-- where the length is reached the context closes, and the list of startRendering runs
+abbrev pub ends : List Call → Told → ℕ → Told
+ends calls told ordinal = after_calls (closing told ordinal) (held_by ordinal calls)
 
+abbrev pub by_turn : Turn → Played → (ℕ → Played) → Played
+by_turn Went more done = more
+by_turn (Done ordinal) more done = done ordinal
+
+-- A turn puts the world in force onto the tape and renders a quantum of it, and then rendering goes on or ends. There are no more turns than quanta left.
+abbrev pub turns : ℕ → List Call → Told → List World → Played
+turns zero calls told tape = finished told tape
+turns (suc left) calls told tape =
+    let tape = tape ++ told.machine.world ∷ [] in
+    let told = after_quantum told in
+    by_turn (turn_of told.machine) (turns left calls told tape) (λ ordinal. finished (ends calls told ordinal) tape)
+
+-- rendering that was started goes on to its end
 abbrev pub rendered : List Call → Told → Option ℕ → Played
 rendered calls told None = record { lines = told.lines; end = Idle; tape = [] }
-rendered calls told (Some ordinal) = completed calls told ordinal
+rendered calls told (Some ordinal) = turns (quanta_left told.machine) calls told []
 
 -- the machine before the first call: the destination is there, and its name needs no binding
 abbrev pub first_machine : ContextSpec → Machine
@@ -146,7 +153,7 @@ first_machine spec = record {
 abbrev pub first_told : ContextSpec → Told
 first_told spec = record { machine = first_machine spec; lines = [] }
 
--- the main list runs, and then rendering goes on to its end if it was started
+-- the main list runs first
 abbrev pub main_list : List Call → Told → Told
 main_list calls told = after_calls told (held_by 0 calls)
 

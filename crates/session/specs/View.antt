@@ -6,9 +6,10 @@ use Rattle.meaning.specs.declared.world.World.{World}
 use Rattle.meaning.specs.World.{plain}
 use Rattle.meaning.specs.Worlds.{IsRegular}
 use Rattle.quantum_render.specs.Stands.{RendererView, StandsFor}
+use Rattle.script_ast.specs.declared.call_list.Call.{Call}
 use Rattle.session.specs.Machine.{Machine}
 use Rattle.session.specs.Rows.{samples_of}
-use Rattle.session.specs.Session.{Told, first_told}
+use Rattle.session.specs.Session.{Told, Played, first_told, quanta_left, turns}
 
 -- the machine and the lines, whether there is audio, the samples, and with audio the renderer
 pub record SessionView : Type 0 where
@@ -61,3 +62,7 @@ pub record IsAsBefore (old new : SessionView) : Type 0 where
   pub audio : new.audio ≡ old.audio
   pub samples : new.samples ≡ old.samples
   pub stands : (tape : List World) → Stands old tape → Stands new tape
+
+-- what a session comes to that goes on turn by turn
+abbrev pub turns_of : SessionView → List Call → Played
+turns_of view calls = turns (quanta_left view.told.machine) calls view.told []

@@ -1,30 +1,37 @@
-ghost use Rattle.std.specs.Prelude.{◌≡◌, ◌<◌, ◌≤◌, ◌+◌, ◌==◌, nat_le, if◌then◌else◌, false, true, length, slice_get, option_and_then, Some, IfOk, IfSome, IsSome, OnOk, OnErr};
-ghost use Rattle.std.specs.List.{position};
-ghost use Rattle.std.specs.Result.{result_err};
+ghost use Rattle.std.specs.Prelude.{◌≡◌, ◌<◌, ◌≤◌, ◌+◌, nat_le, if◌then◌else◌, false, true, length, None, Some, option_map, IfOk, IfSome, IsSome, OnOk, OnErr};
 ghost use Rattle.wa_base.specs.Contexts.{IsSupported, quantum_of};
-ghost use Rattle.node_table.specs.Kinds.{is_destination};
-ghost use Rattle.conn_graph.specs.Edges.{form_node};
 ghost use Rattle.script_ast.specs.Ranges.{IsInRange, IsNewName};
 ghost use Rattle.meaning.specs.World.{plain};
 ghost use Rattle.meaning.specs.Validity.{IsValid};
-ghost use Rattle.session.specs.Changes.{Grows};
-ghost use Rattle.session.specs.Machine.{Machine, IsInState};
+ghost use Rattle.meaning.specs.Changes.{IsNamed, Grows, creates};
+ghost use Rattle.session.specs.Machine.{Machine, IsInState, IsAccepted};
 ghost use Rattle.session.specs.Session.{first_machine, lines_after, machine_after, closed_machine};
+ghost use Rattle.session.specs.Steady.{IsSteady};
 ghost use Rattle.session.specs.Step as spec;
-ghost use Rattle.session.specs.Step.{Steps, KeepsTime, KeepsStart};
+ghost use Rattle.session.specs.Step.{Steps, KeepsTime};
 
 use crate::ends::{ended_lines, mark_ended};
-use crate::growth::add_node;
 use crate::quantum::QUANTUM;
 use conn_graph::{Edge, Form, Target};
-use meaning::World;
+use meaning::{Change, Edit, World};
 use name_book::{Book, Object};
 use node_table::Kind;
 use script_ast::{Call, Op};
 use std::alloc::Global;
 use std::marker::Model;
 use transcript::{Answer, Line};
-use wa_base::{ContextSpec, Exc, Feature, Name, NoMemory, NodeId, Refusal, State};
+use wa_base::{ContextSpec, Exc, Name, NoMemory, NodeId, State};
+
+/// What an operation comes to, before anything is changed.
+#[derive(Debug, Drop)]
+pub(crate) enum Decided {
+    /// It is answered, and leaves all as it is.
+    Answer(Answer),
+    /// It starts the rendering.
+    Start,
+    /// It edits the world, which accepts the edit.
+    Change(Edit),
+}
 
 /// The control side of a session: its context, its nodes and connections, and its names. Contracts
 /// see it as the machine.
@@ -70,7 +77,6 @@ impl Control {
 
 impl Control {
     /// Does one call. A refused call changes nothing, and after `NoMemory` all is as before.
-    #[tactic(auto, unfolding(crate::specs::Step::step_op))]
     pub fn step(&mut self, call: &Call) -> Result<Answer, NoMemory>
         requires { IsInRange call.now.op }
         ensures ok { IfOk result (Steps self.new (spec.step self.old call.now)) }
@@ -80,12 +86,26 @@ impl Control {
         ensures started { spec.is_start call.now.op ≡ true → OnOk result (IsSome self.new.started) }
         ensures err { OnErr result (self.new ≡ self.old) }
     {
-        match &call.op {
-            Op::CreateConstantSource { name, offset } => {
-                self.create(name, Kind::Constant { offset: *offset })
-            }
-            Op::CreateGain { name, gain } => self.create(name, Kind::Gain { gain: *gain }),
-            Op::LeftOut { feature } => Ok(Answer::Throw(Exc::NotSupported(Some(*feature)))),
+        let decided = self.decide(&call.op);
+        self.settle(call, decided)
+    }
+
+    // What an operation comes to. Nothing is changed.
+    #[tactic(auto, unfolding(crate::specs::Step::decided))]
+    fn decide(&self, op: &Op) -> Decided
+        requires { IsInRange op.now }
+        ensures decided { result ≡ spec.decided self.now op.now }
+        ensures steady { IsSteady self.now }
+    {
+        let is_started = self.started.is_some();
+        match op {
+            Op::CreateConstantSource { offset, .. } => self.edits(Edit::Create {
+                kind: Kind::Constant { offset: *offset },
+            }),
+            Op::CreateGain { gain, .. } => self.edits(Edit::Create {
+                kind: Kind::Gain { gain: *gain },
+            }),
+            Op::LeftOut { feature } => refused(Exc::NotSupported(Some(*feature))),
             Op::Connect {
                 from,
                 output,
@@ -97,212 +117,185 @@ impl Control {
                 output,
                 to,
                 input,
-            } => Ok(self.disconnect(from, *output, to, *input)),
+            } => self.disconnect(from, *output, to, *input),
             Op::Start {
                 node,
                 when,
                 offset,
                 duration,
-            } => Ok(self.start(node, *when, *offset, *duration)),
-            Op::Stop { node, when } => Ok(self.stop(node, *when)),
-            Op::StartRendering => Ok(self.start_rendering(call.ordinal)),
-            Op::Resume => Ok(self.resume()),
-            Op::ReadState => Ok(Answer::State(self.state)),
-            Op::ReadTime => Ok(Answer::Time(self.time)),
-            _ => Ok(Answer::Throw(Exc::NotSupported(None))),
+            } => self.start_source(node, *when, *offset, *duration),
+            Op::Stop { node, when } => self.stop_source(node, *when),
+            Op::StartRendering if is_started => {
+                Decided::Answer(Answer::Rejected(Exc::InvalidState))
+            }
+            Op::StartRendering => Decided::Start,
+            Op::Resume => Decided::Answer(self.resume()),
+            Op::ReadState => Decided::Answer(Answer::State(self.state)),
+            Op::ReadTime => Decided::Answer(Answer::Time(self.time)),
+            _ => refused(Exc::NotSupported(None)),
         }
     }
 }
 
-// The single steps. Each says what the machine and the answer are after it; a refusal changes nothing.
+// What the single operations come to.
 impl Control {
     // The node that a name is bound to.
-    fn node_named(&self, name: &Name) -> Option<u32>
+    fn node_named(&self, name: &Name) -> Option<NodeId>
         ensures node { result ≡ spec.node_named self.now name.now }
-        ensures there { IfSome result (λ node. node < length self.now.world.nodes) }
+        ensures there { IfSome result (λ node. node.0 < length self.now.world.nodes) }
     {
         match self.book.find(name) {
-            Some(Object::Node(NodeId(node))) => Some(node),
+            Some(Object::Node(node)) => Some(node),
             _ => None,
         }
     }
 
-    fn create(&mut self, name: &Name, kind: Kind) -> Result<Answer, NoMemory>
-        requires name { IsNewName name.now }
-        requires kind { is_destination kind ≡ false }
-        ensures ok { IfOk result (Steps self.new (spec.create self.old name.now kind)) }
-        ensures kept { KeepsStart self.old self.new }
-        ensures grows { Grows self.old.now self.old.world self.new.world }
-        ensures err { OnErr result (self.new ≡ self.old) }
+    // An edit, unless the world refuses it.
+    fn edits(&self, edit: Edit) -> Decided
+        requires { IsNamed self.now.world edit }
+        ensures { result ≡ spec.edits self.now edit }
     {
-        self.book.reserve(name)?;
-        let node = match add_node(self.alloc, &mut self.world, kind, self.time) {
-            Ok(node) => node,
-            Err(Refusal::Exc(exc)) => return Ok(Answer::Throw(exc)),
-            Err(Refusal::NoMemory) => return Err(NoMemory),
-        };
-        self.book.bind(name, Object::Node(node))?;
-        Ok(Answer::Ok)
+        match self.world.refusal(&edit) {
+            Some(exc) => refused(exc),
+            None => Decided::Change(edit),
+        }
     }
 
-    fn connect(
-        &mut self,
-        from: &Name,
-        output: u32,
-        to: &Name,
-        input: u32,
-    ) -> Result<Answer, NoMemory>
-        ensures ok { IfOk result (Steps self.new (spec.connect self.old (spec.node_named self.old from.now) output (spec.node_named self.old to.now) input)) }
-        ensures kept { KeepsStart self.old self.new }
-        ensures grows { Grows self.old.now self.old.world self.new.world }
-        ensures err { OnErr result (self.new ≡ self.old) }
+    fn connect(&self, from: &Name, output: u32, to: &Name, input: u32) -> Decided
+        ensures { result ≡ spec.edits_nodes self.now (spec.node_named self.now from.now) (spec.node_named self.now to.now) (λ node target. Edit.Connect (spec.edge_of output input node target)) }
     {
-        let (Some(from), Some(to)) = (self.node_named(from), self.node_named(to)) else {
-            return Ok(Answer::Throw(Exc::WrongType));
+        let (Some(from), Some(node)) = (self.node_named(from), self.node_named(to)) else {
+            return refused(Exc::WrongType);
         };
-        self.connect_nodes(from, output, to, input)
-    }
-
-    fn connect_nodes(
-        &mut self,
-        from: u32,
-        output: u32,
-        to: u32,
-        input: u32,
-    ) -> Result<Answer, NoMemory>
-        requires from { from < length self.old.world.nodes }
-        requires to { to < length self.old.world.nodes }
-        ensures ok { IfOk result (Steps self.new (spec.connect_edge self.old (spec.edge_of from output to input))) }
-        ensures kept { KeepsStart self.old self.new }
-        ensures grows { Grows self.old.now self.old.world self.new.world }
-        ensures err { OnErr result (self.new ≡ self.old) }
-    {
-        if from == 0 {
-            return Ok(Answer::Throw(Exc::NotSupported(Some(Feature::DestinationOutput))));
-        }
-        let node = NodeId(to);
-        let edge = Edge {
-            from: NodeId(from),
-            output,
-            to: Target::Input { node, input },
-        };
-        match self.world.graph.connect(edge) {
-            Ok(_) => Ok(Answer::Ok),
-            Err(Refusal::Exc(exc)) => Ok(Answer::Throw(exc)),
-            Err(Refusal::NoMemory) => Err(NoMemory),
-        }
+        let to = Target::Input { node, input };
+        self.edits(Edit::Connect {
+            edge: Edge { from, output, to },
+        })
     }
 
     fn disconnect(
-        &mut self,
+        &self,
         from: &Name,
         output: Option<u32>,
         to: &Option<Name>,
         input: Option<u32>,
-    ) -> Answer
-        ensures step { Steps self.new (spec.disconnect self.old (spec.node_named self.old from.now) output to.now input) result }
-        ensures kept { KeepsStart self.old self.new }
-        ensures grows { Grows self.old.now self.old.world self.new.world }
+    ) -> Decided
+        ensures { result ≡ spec.disconnects self.now (spec.node_named self.now from.now) output to.now input }
     {
-        let to = match to {
-            None => None,
+        let Some(from) = self.node_named(from) else {
+            return refused(Exc::WrongType);
+        };
+        let form = match to {
+            None => form_from(output),
             Some(name) => match self.node_named(name) {
-                Some(node) => Some(node),
-                None => return Answer::Throw(Exc::WrongType),
+                Some(node) => form_to(output, input, node),
+                None => return refused(Exc::WrongType),
             },
         };
-        let Some(from) = self.node_named(from) else {
-            return Answer::Throw(Exc::WrongType);
-        };
-        self.disconnect_form(from, form_of(output, to, input))
+        self.edits(Edit::Disconnect { from, form })
     }
 
-    fn disconnect_form(&mut self, from: u32, form: Form) -> Answer
-        requires from { from < length self.old.world.nodes }
-        requires to { IfSome (form_node form) (λ node. node < length self.old.world.nodes) }
-        ensures step { Steps self.new (spec.disconnect_form self.old (Some from) form) result }
-        ensures kept { KeepsStart self.old self.new }
-        ensures grows { Grows self.old.now self.old.world self.new.world }
+    fn start_source(&self, node: &Name, when: i64, offset: i64, duration: Option<i64>) -> Decided
+        ensures { result ≡ spec.edits_node self.now (spec.node_named self.now node.now) (λ source. Edit.Start source when offset duration) }
     {
-        if from == 0 {
-            return Answer::Throw(Exc::NotSupported(Some(Feature::DestinationOutput)));
-        }
-        match self.world.graph.disconnect(NodeId(from), form) {
-            Ok(()) => Answer::Ok,
-            Err(exc) => Answer::Throw(exc),
+        match self.node_named(node) {
+            Some(node) => self.edits(Edit::Start {
+                node,
+                when,
+                offset,
+                duration,
+            }),
+            None => refused(Exc::WrongType),
         }
     }
-}
 
-// Sources: when they start and stop.
-impl Control {
-    // The place of the schedule of the source that a name is bound to.
-    fn play_named(&self, name: &Name) -> Option<usize>
-        ensures within { IfSome result (λ place. place < length self.now.world.scheds.items) }
-        ensures play { option_and_then (λ place. spec.play_at place (slice_get self.now.world.scheds.items place)) result ≡ spec.play_named self.now name.now }
+    fn stop_source(&self, node: &Name, when: i64) -> Decided
+        ensures { result ≡ spec.edits_node self.now (spec.node_named self.now node.now) (λ source. Edit.Stop source when) }
     {
-        let node = self.node_named(name)?;
-        self.world.scheds.find(NodeId(node))
-    }
-
-    fn start(&mut self, node: &Name, when: i64, offset: i64, duration: Option<i64>) -> Answer
-        ensures step { Steps self.new (spec.start_source self.old (spec.play_named self.old node.now) when) result }
-        ensures kept { KeepsStart self.old self.new }
-        ensures grows { Grows self.old.now self.old.world self.new.world }
-    {
-        let Some(place) = self.play_named(node) else {
-            return Answer::Throw(Exc::WrongType);
-        };
-        let mut sched = self.world.scheds.at(place).sched;
-        if let Err(exc) = sched.start(self.time, when, offset, duration, 0) {
-            return Answer::Throw(exc);
+        match self.node_named(node) {
+            Some(node) => self.edits(Edit::Stop { node, when }),
+            None => refused(Exc::WrongType),
         }
-        self.world.scheds.at_mut(place).sched = sched;
-        Answer::Ok
-    }
-
-    fn stop(&mut self, node: &Name, when: i64) -> Answer
-        ensures step { Steps self.new (spec.stop_source self.old (spec.play_named self.old node.now) when) result }
-        ensures kept { KeepsStart self.old self.new }
-        ensures grows { Grows self.old.now self.old.world self.new.world }
-    {
-        let Some(place) = self.play_named(node) else {
-            return Answer::Throw(Exc::WrongType);
-        };
-        let mut sched = self.world.scheds.at(place).sched;
-        if let Err(exc) = sched.stop(self.time, when) {
-            return Answer::Throw(exc);
-        }
-        self.world.scheds.at_mut(place).sched = sched;
-        Answer::Ok
-    }
-}
-
-// The context and its quanta.
-impl Control {
-    fn start_rendering(&mut self, ordinal: u32) -> Answer
-        ensures step { Steps self.new (spec.start_rendering self.old ordinal) result }
-        ensures kept { KeepsTime self.old self.new }
-        ensures grows { Grows self.old.now self.old.world self.new.world }
-        ensures started { IsSome self.new.started }
-    {
-        if self.started.is_some() {
-            return Answer::Rejected(Exc::InvalidState);
-        }
-        self.state = State::Running;
-        self.started = Some(ordinal);
-        Answer::Pending
     }
 
     fn resume(&self) -> Answer
-        ensures { Steps self.now (spec.resume self.now self.now.state) result }
+        ensures { result ≡ spec.resumes self.now.state }
     {
         match self.state {
             State::Running => Answer::Resolved,
             State::Suspended | State::Closed => Answer::Rejected(Exc::InvalidState),
         }
     }
+}
 
+// What is done.
+impl Control {
+    // Does what was decided. After `NoMemory` all is as before.
+    fn settle(&mut self, call: &Call, decided: Decided) -> Result<Answer, NoMemory>
+        requires range { IsInRange call.now.op }
+        requires decided { spec.IsFor self.old call.now.op decided }
+        ensures ok { IfOk result (Steps self.new (spec.settled self.old call.now decided)) }
+        ensures err { OnErr result (self.new ≡ self.old) }
+    {
+        match decided {
+            Decided::Answer(answer) => Ok(answer),
+            Decided::Start => {
+                self.start(call.ordinal);
+                Ok(Answer::Pending)
+            }
+            Decided::Change(edit) => {
+                match new_name(&call.op) {
+                    Some(name) => self.create(name, edit)?,
+                    None => self.change(edit)?,
+                }
+                Ok(Answer::Ok)
+            }
+        }
+    }
+
+    // Edits the world. After `NoMemory` all is as before.
+    fn change(&mut self, edit: Edit) -> Result<(), NoMemory>
+        requires accepted { IsAccepted self.old edit }
+        requires creates { creates edit ≡ false }
+        ensures ok { OnOk result (self.new ≡ spec.with_edit self.old edit None) }
+        ensures err { OnErr result (self.new ≡ self.old) }
+    {
+        self.world.apply(&Change {
+            time: self.time,
+            edit,
+        })
+    }
+
+    // Creates an object, and binds a name to it. After `NoMemory` all is as before.
+    fn create(&mut self, name: &Name, edit: Edit) -> Result<(), NoMemory>
+        requires name { IsNewName name.now }
+        requires accepted { IsAccepted self.old edit }
+        requires creates { creates edit ≡ true }
+        ensures ok { OnOk result (self.new ≡ spec.with_edit self.old edit (Some name.now)) }
+        ensures err { OnErr result (self.new ≡ self.old) }
+    {
+        self.book.reserve(name)?;
+        let node = NodeId(self.world.nodes.len());
+        self.world.apply(&Change {
+            time: self.time,
+            edit,
+        })?;
+        self.book.bind(name, Object::Node(node))?;
+        Ok(())
+    }
+
+    // Starts the rendering.
+    fn start(&mut self, ordinal: u32)
+        requires { self.old.started ≡ None }
+        ensures { self.new ≡ spec.with_start self.old ordinal }
+    {
+        self.state = State::Running;
+        self.started = Some(ordinal);
+    }
+}
+
+// The context and its quanta.
+impl Control {
     /// The state of the context.
     pub fn state(&self) -> State
         ensures { result ≡ self.now.state }
@@ -375,17 +368,40 @@ impl Control {
     }
 }
 
-// The form of a disconnect by the members that are there.
-fn form_of(output: Option<u32>, to: Option<u32>, input: Option<u32>) -> Form
-    ensures { result ≡ spec.form_of output to input }
+// The name that an operation gives to what it creates.
+fn new_name(op: &Op) -> Option<&Name>
+    ensures { option_map (λ name. name.now) result ≡ spec.new_name op.now }
 {
-    match (output, to, input) {
-        (None, None, _) => Form::All,
-        (Some(output), None, _) => Form::Output(output),
-        (None, Some(to), _) => Form::Node(NodeId(to)),
-        (Some(output), Some(to), None) => Form::NodeOutput(NodeId(to), output),
-        (Some(output), Some(to), Some(input)) => {
-            Form::NodeOutputInput(NodeId(to), output, input)
-        }
+    match op {
+        Op::CreateConstantSource { name, .. } | Op::CreateGain { name, .. } => Some(name),
+        _ => None,
+    }
+}
+
+// A call that is refused.
+fn refused(exc: Exc) -> Decided
+    ensures { result ≡ spec.refused exc }
+{
+    Decided::Answer(Answer::Throw(exc))
+}
+
+// The form of a disconnect to a node, by the other members that are there.
+fn form_to(output: Option<u32>, input: Option<u32>, to: NodeId) -> Form
+    ensures { result ≡ spec.form_to output input to }
+{
+    match (output, input) {
+        (None, _) => Form::Node(to),
+        (Some(output), None) => Form::NodeOutput(to, output),
+        (Some(output), Some(input)) => Form::NodeOutputInput(to, output, input),
+    }
+}
+
+// The form of a disconnect that names no node.
+fn form_from(output: Option<u32>) -> Form
+    ensures { result ≡ spec.form_from output }
+{
+    match output {
+        None => Form::All,
+        Some(output) => Form::Output(output),
     }
 }

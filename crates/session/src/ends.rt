@@ -1,6 +1,6 @@
 ghost use Rattle.std.specs.Prelude.{◌≡◌, [], map, All, IsSome, unwrap_or, IfOk};
 ghost use Rattle.name_book.specs.Book.{first_name_of};
-ghost use Rattle.session.specs.Changes as changes;
+ghost use Rattle.session.specs.Quantum as changes;
 ghost use Rattle.session.specs.Session as session_spec;
 ghost use Rattle.meaning.specs.declared.scheds.Play.{Play as play};
 

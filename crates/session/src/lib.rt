@@ -3,7 +3,6 @@
 
 mod control;
 mod ends;
-mod growth;
 mod quantum;
 mod rendered;
 mod replay;

@@ -2,9 +2,9 @@ ghost use Rattle.std.specs.Prelude.{◌≡◌, ◌++◌, List, [], IsSome, IfOk,
 ghost use Rattle.script_ast.specs.WellFormed.{AreCallsAfter};
 ghost use Rattle.wa_base.specs.Contexts.{IsSupported};
 ghost use Rattle.session.specs.Rendering.{rendering_of};
-ghost use Rattle.session.specs.Session.{after_calls, after_quanta, closing, held_by, quanta_left, replayed as replayed_of, session_of, worlds_of};
+ghost use Rattle.session.specs.Session.{after_calls, held_by, replayed as replayed_of, session_of};
 ghost use Rattle.session.specs.Step.{KeepsTime};
-ghost use Rattle.session.specs.View.{Stands};
+ghost use Rattle.session.specs.View.{Stands, turns_of};
 ghost use Rattle.meaning.specs.declared.world.World.{World};
 
 use crate::rendered::Rendered;
@@ -13,7 +13,7 @@ use io_edge::Files;
 use script_ast::{Call, Script};
 use std::alloc::Global;
 use transcript::{EndWord, Lines};
-use wa_base::{NoMemory, Refusal, State};
+use wa_base::{Refusal, State};
 
 /// What a session led to.
 #[derive(Debug, Drop)]
@@ -76,9 +76,34 @@ fn replayed<F: Files>(mut session: Session, calls: &[Call], files: &mut F) -> Re
     if session.started().is_none() {
         return Ok(session.idle());
     }
-    let ordinal = render_to_end(&mut session)?;
-    call_list(&mut session, calls, ordinal, files)?;
-    Ok(session.completed())
+    go_on(session, calls, files)
+}
+
+// Renders a session turn by turn, from its first quantum to its end.
+#[tactic(auto, unfolding(crate::specs::Rendering::rendering_of))]
+fn go_on<F: Files>(mut session: Session, calls: &[Call], files: &mut F) -> Result<Outcome, Stop>
+    requires calls { AreCallsAfter 0 calls.now }
+    requires running { session.told.machine.state ≡ State.Running }
+    requires context { IsSupported session.told.machine.world.spec }
+    requires fresh { Stands session [] }
+    ensures lines { IfOk result (λ outcome. outcome.lines.items ≡ (turns_of session calls.now).lines) }
+    ensures end { IfOk result (λ outcome. outcome.end ≡ (turns_of session calls.now).end) }
+    ensures rendered { IfOk result (λ outcome. outcome.rendered ≡ rendering_of session.audio session.told.machine.world.spec (turns_of session calls.now)) }
+    ensures supported { IfOk result (λ outcome. IfSome outcome.rendered (λ rendered. IsSupported rendered.spec)) }
+    ensures tells { F.tells files.new ≡ F.tells files.old }
+    ensures paths { F.paths files.new ≡ F.paths files.old }
+    ensures write_faults { F.write_faults files.new ≡ F.write_faults files.old }
+    ensures cause { IsErrOf result Stop.AssetFault → ⊥ }
+{
+    loop {
+        match session.advance()? {
+            Turn::Went => {}
+            Turn::Done(ordinal) => {
+                call_list(&mut session, calls, ordinal, files)?;
+                return Ok(session.completed());
+            }
+        }
+    }
 }
 
 // Does the calls of one list, in their order.
@@ -105,22 +130,4 @@ fn call_list<F: Files>(
         }
     }
     Ok(())
-}
-
-// Renders the quanta that are left, and gives the ordinal of the accepted startRendering.
-fn render_to_end(session: &mut Session) -> Result<u32, NoMemory>
-    requires { session.old.told.machine.state ≡ State.Running }
-    ensures told { IfOk result (λ ordinal. session.new.told ≡ closing (after_quanta (quanta_left session.old.told.machine) session.old.told) ordinal) }
-    ensures ordinal { IfOk result (λ ordinal. session.old.told.machine.started ≡ Some ordinal) }
-    ensures audio { session.new.audio ≡ session.old.audio }
-    ensures kept { session.new.told.machine.world.spec ≡ session.old.told.machine.world.spec }
-    ensures started { IfOk result (λ ordinal. session.new.told.machine.started ≡ Some ordinal) }
-    ensures stands { (tape : List World) → Stands session.old tape → OnOk result (Stands session.new (tape ++ worlds_of (quanta_left session.old.told.machine) session.old.told)) }
-{
-    loop {
-        match session.advance()? {
-            Turn::Went => {}
-            Turn::Done(ordinal) => return Ok(ordinal),
-        }
-    }
 }

@@ -2,7 +2,7 @@ ghost use Rattle.std.specs.Prelude.{◌≡◌, ◌↔◌, ◌≤◌, ◌<◌, �
 ghost use Rattle.script_ast.specs.Ranges.{IsInRange};
 ghost use Rattle.session.specs.Machine.{IsInState};
 ghost use Rattle.wa_base.specs.Contexts.{IsSupported};
-ghost use Rattle.session.specs.Session.{after_call, after_quantum, closing, has_closed, end_of, lines_at_end};
+ghost use Rattle.session.specs.Session.{after_call, after_quantum, machine_after, turn_of, closing, has_closed, end_of, lines_at_end};
 ghost use Rattle.wa_base.specs.Contexts.{is_supported as supports};
 ghost use Rattle.session.specs.Step.{is_start, KeepsTime};
 ghost use Rattle.session.specs.View.{IsFirst, IsAsBefore, Stands};
@@ -136,6 +136,7 @@ impl Session {
     /// Renders one quantum, and closes the context where its length is reached.
     pub fn advance(&mut self) -> Result<Turn, NoMemory>
         requires { self.old.told.machine.state ≡ State.Running }
+        ensures turn { IfOk result (λ turn. turn ≡ turn_of (machine_after self.old.told.machine)) }
         ensures left { IfOk result (λ _. self.old.told.machine.now < self.old.told.machine.world.spec.length) }
         ensures went { IfOk result (λ turn. turn ≡ Turn.Went
             → (self.new.told ≡ after_quantum self.old.told) × (self.new.told.machine.state ≡ State.Running)

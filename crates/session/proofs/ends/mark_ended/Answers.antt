@@ -1,7 +1,7 @@
 use Rattle.std.proofs.Common.{◌≡◌, true, slice_set, sym, ◌∙◌, ap, arith}
 use Rattle.std.proofs.lemmas.List.{length-set}
 use Rattle.meaning.specs.declared.scheds.Play.{Play}
-use Rattle.session.specs.Changes.{ends_by}
+use Rattle.session.specs.Quantum.{ends_by}
 use Rattle.session.proofs.Marks.{one_marked, not_marked, marked_now}
 use Rattle.session.proofs.ends.mark_ended.Goals as goal
 use Rattle.session.proofs.ends.mark_ended.Goals.{then-ends_by, else-ends_by}

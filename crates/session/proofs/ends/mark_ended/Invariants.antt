@@ -1,5 +1,5 @@
 use Rattle.std.proofs.Common.{◌≡◌, ◌++◌, map, take, drop, length}
-use Rattle.session.specs.Changes.{marked}
+use Rattle.session.specs.Quantum.{marked}
 use Rattle.session.proofs.ends.mark_ended.Given as goal
 
 abbrev pub invariant-loop-place : goal.invariant-loop-place

@@ -1,0 +1,165 @@
+-- What an operation comes to, and what that leaves of a machine.
+use Rattle.std.proofs.Common.{ℕ, ◌≡◌, ◌<◌, length, List, true, false, Option, Some, None, Result, Ok, Err, IsSome, refl, sym, ◌∙◌, ap, subst, arith}
+use Rattle.std.specs.Prelude.{is_some, IfSome, IfOk, OnOk, OnErr}
+use Rattle.wa_base.specs.declared.exceptions.Exc.{Exc}
+use Rattle.wa_base.specs.declared.graph_names.NodeId.{NodeId}
+use Rattle.wa_base.specs.declared.memory.NoMemory.{NoMemory}
+use Rattle.transcript.specs.declared.lines.Answer.{Answer}
+use Rattle.script_ast.specs.Ranges.{IsInRange, IsNewName}
+use Rattle.script_ast.specs.declared.call_list.Call.{Call}
+use Rattle.script_ast.specs.declared.operations.Op.{Op}
+use Rattle.script_ast.specs.declared.operations.Op.TheVariants as op
+use Rattle.name_book.specs.Book.{object_of}
+use Rattle.name_book.specs.declared.book.Object.{Object}
+use Rattle.name_book.specs.declared.book.Object.TheVariants as object
+use Rattle.node_table.specs.declared.kinds.Kind.TheVariants.{Constant, Gain}
+use Rattle.conn_graph.specs.Edges.{form_node}
+use Rattle.meaning.specs.declared.change.Edit.{Edit}
+use Rattle.meaning.specs.declared.change.Edit.TheVariants as edit
+use Rattle.meaning.specs.declared.world.World.{World}
+use Rattle.meaning.specs.Changes.{creates, edited, refusal, IsNamed, Grows}
+use Rattle.meaning.proofs.Changing.{grows_same, changed_grows}
+use Rattle.session.specs.declared.control.Decided.{Decided}
+use Rattle.session.specs.declared.control.Decided.TheVariants as comes_to
+use Rattle.session.specs.Machine.{Machine}
+use Rattle.session.specs.Steady.{IsSteady}
+use Rattle.session.specs.Step.{node_bound, node_named, new_name, unless, edits, edits_node, edits_nodes, edge_of, form_to, form_from, starts, decided, with_edit, settled, step, is_start, KeepsTime, IsFor, Steps}
+use Rattle.session.proofs.Named.{node_there}
+
+-- ---- names that stand for nodes that are there
+
+bound_node : (o : Option Object) (node : NodeId) → node_bound o ≡ Some node → o ≡ Some (object.Node node)
+bound_node None node is = absurd cc
+bound_node (Some (object.Node other)) node is = ap (λ (x : Option NodeId). object_at x) is
+  where
+    object_at : Option NodeId → Option Object
+    object_at None = None
+    object_at (Some n) = Some (object.Node n)
+bound_node (Some (object.Buffer buffer)) node is = absurd cc
+
+named_there : (m : Machine) → IsSteady m → (name : List ℕ) (node : NodeId) → node_named m name ≡ Some node → node.0 < length m.world.nodes
+named_there m steady name node is = node_there m.bindings name (length m.world.nodes) node.0 steady.valid.nodes.some steady.bound (bound_node (object_of m.bindings name) node is)
+
+-- ---- edits
+
+module _ (m : Machine) (steady : IsSteady m) (o : Op) where
+  edits_for : (e : Edit) → IsNamed m.world e → creates e ≡ is_some (new_name o) → IsFor m o (edits m e)
+  edits_for e named new = by_refusal (refusal m.world e) refl
+    where
+      by_refusal : (r : Option Exc) → refusal m.world e ≡ r → IsFor m o (unless r e)
+      by_refusal None fine = (record { time = let low = steady.time in omega arith; named = named; accepted = fine }, new)
+      by_refusal (Some exc) thrown = tt
+
+  node_for : (node : Option NodeId) (e : NodeId → Edit) → ((n : NodeId) → node ≡ Some n → IsNamed m.world (e n) × (creates (e n) ≡ is_some (new_name o))) → IsFor m o (edits_node m node e)
+  node_for None e there = tt
+  node_for (Some n) e there = let named = there n refl in edits_for (e n) named.0 named.1
+
+  nodes_for : (from to : Option NodeId) (e : NodeId → NodeId → Edit)
+      → ((a b : NodeId) → from ≡ Some a → to ≡ Some b → IsNamed m.world (e a b) × (creates (e a b) ≡ is_some (new_name o))) → IsFor m o (edits_nodes m from to e)
+  nodes_for None to e there = tt
+  nodes_for (Some a) to e there = node_for to (e a) (λ b is. there a b refl is)
+
+form_from_names : (count : ℕ) (output : Option ℕ) → IfSome (form_node (form_from output)) (λ node. node < count)
+form_from_names count None = tt
+form_from_names count (Some output) = tt
+
+form_to_names : (count : ℕ) (output input : Option ℕ) (to : NodeId) → to.0 < count → IfSome (form_node (form_to output input to)) (λ node. node < count)
+form_to_names count None input to there = there
+form_to_names count (Some output) None to there = there
+form_to_names count (Some output) (Some input) to there = there
+
+start_for : (m : Machine) (s : Option ℕ) → m.started ≡ s → IsFor m op.StartRendering (starts s)
+start_for m None is = (refl, is)
+start_for m (Some ordinal) is = tt
+
+pub decided_for : (m : Machine) → IsSteady m → (o : Op) → IsInRange o → IsFor m o (decided m o)
+unfolding decided
+decided_for m steady (op.CreateConstantSource name offset) in_range = edits_for m steady (op.CreateConstantSource name offset) (edit.Create (Constant offset)) (refl, in_range.1) refl
+decided_for m steady (op.CreateGain name gain) in_range = edits_for m steady (op.CreateGain name gain) (edit.Create (Gain gain)) (refl, in_range.1) refl
+decided_for m steady (op.LeftOut left_out) in_range = tt
+decided_for m steady (op.Connect from output to input) in_range =
+    nodes_for m steady (op.Connect from output to input) (node_named m from) (node_named m to) (λ node target. edit.Connect (edge_of output input node target))
+    (λ a b from_is to_is. ((named_there m steady from a from_is, named_there m steady to b to_is), refl))
+decided_for m steady (op.Disconnect from output None input) in_range =
+    node_for m steady (op.Disconnect from output None input) (node_named m from) (λ node. edit.Disconnect node (form_from output))
+    (λ a from_is. ((named_there m steady from a from_is, form_from_names (length m.world.nodes) output), refl))
+decided_for m steady (op.Disconnect from output (Some to) input) in_range =
+    nodes_for m steady (op.Disconnect from output (Some to) input) (node_named m from) (node_named m to) (λ node target. edit.Disconnect node (form_to output input target))
+    (λ a b from_is to_is. ((named_there m steady from a from_is, form_to_names (length m.world.nodes) output input b (named_there m steady to b to_is)), refl))
+decided_for m steady (op.Start node when offset duration) in_range =
+    node_for m steady (op.Start node when offset duration) (node_named m node) (λ source. edit.Start source when offset duration) (λ a is. (tt, refl))
+decided_for m steady (op.Stop node when) in_range = node_for m steady (op.Stop node when) (node_named m node) (λ source. edit.Stop source when) (λ a is. (tt, refl))
+decided_for m steady op.StartRendering in_range = start_for m m.started refl
+decided_for m steady op.Resume in_range = tt
+decided_for m steady op.ReadState in_range = tt
+decided_for m steady op.ReadTime in_range = tt
+decided_for m steady other in_range = tt
+
+-- a new name is one that may be given
+pub is_new : (o : Op) (name : List ℕ) → IsInRange o → new_name o ≡ Some name → IsNewName name
+is_new (op.CreateConstantSource new offset) name in_range is = subst (λ (x : Option (List ℕ)). IfSome x IsNewName) is in_range.0
+is_new (op.CreateGain new gain) name in_range is = subst (λ (x : Option (List ℕ)). IfSome x IsNewName) is in_range.0
+is_new other name in_range is = absurd cc
+
+-- ---- what a call leaves
+
+edit_world : (m : Machine) (e : Edit) (name : Option (List ℕ)) → (with_edit m e name).world ≡ edited m.world m.now e
+edit_world m e None = refl
+edit_world m e (Some name) = refl
+
+edit_time : (m : Machine) (e : Edit) (name : Option (List ℕ)) → (with_edit m e name).now ≡ m.now
+edit_time m e None = refl
+edit_time m e (Some name) = refl
+
+edit_started : (m : Machine) (e : Edit) (name : Option (List ℕ)) → (with_edit m e name).started ≡ m.started
+edit_started m e None = refl
+edit_started m e (Some name) = refl
+
+pub record Leaves (m next : Machine) (o : Op) : Type 0 where
+  pub grows : Grows m.now m.world next.world
+  pub kept : KeepsTime m next
+  pub kept_start : is_start o ≡ false → next.started ≡ m.started
+
+pub leaves_all : (m : Machine) (o : Op) → Leaves m m o
+leaves_all m o = record { grows = grows_same m.now m.world; kept = record { spec = refl; now = refl }; kept_start = λ other. refl }
+
+settled_leaves : (m : Machine) → IsSteady m → (call : Call) (d : Decided) → IsFor m call.op d → Leaves m (settled m call d).machine call.op
+settled_leaves m steady call (comes_to.Answer said) fits = leaves_all m call.op
+settled_leaves m steady call comes_to.Start fits = record {
+  grows = grows_same m.now m.world;
+  kept = record { spec = refl; now = refl };
+  kept_start = λ other. absurd (let both = sym fits.0 ∙ other in cc);
+}
+settled_leaves m steady call (comes_to.Change e) fits =
+    let grows = changed_grows m.world (record { time = m.now; edit = e }) steady.valid fits.0 in
+    let world = edit_world m e (new_name call.op) in
+    record {
+      grows = subst (λ (w : World). Grows m.now m.world w) (sym world) grows;
+      kept = record { spec = ap (λ (w : World). w.spec) world ∙ grows.spec; now = edit_time m e (new_name call.op) };
+      kept_start = λ other. edit_started m e (new_name call.op);
+    }
+
+pub step_leaves : (m : Machine) (call : Call) → IsSteady m → IsInRange call.op → Leaves m (step m call).machine call.op
+step_leaves m call steady in_range = settled_leaves m steady call (decided m call.op) (decided_for m steady call.op in_range)
+
+-- after the call that starts rendering, it was started
+then_started : (m : Machine) (call : Call) (s : Option ℕ) → m.started ≡ s → IsSome (settled m call (starts s)).machine.started
+then_started m call None is = refl
+then_started m call (Some ordinal) is = rw is refl
+
+op_starts : (m : Machine) (call : Call) (o : Op) → is_start o ≡ true → IsSome (settled m call (decided m o)).machine.started
+unfolding decided
+op_starts m call op.StartRendering is = then_started m call m.started refl
+op_starts m call other is = absurd cc
+
+pub starts_then : (m : Machine) (call : Call) → is_start call.op ≡ true → IsSome (step m call).machine.started
+starts_then m call is = op_starts m call call.op is
+
+-- a machine after a call, or as it was for want of memory
+pub stepped_leaves : (old new : Machine) (call : Call) (r : Result Answer NoMemory) → IfOk r (Steps new (step old call)) → OnErr r (new ≡ old) → IsSteady old → IsInRange call.op → Leaves old new call.op
+stepped_leaves old new call (Ok said) done failed steady in_range = subst (λ (m : Machine). Leaves old m call.op) (sym done.0) (step_leaves old call steady in_range)
+stepped_leaves old new call (Err e) done failed steady in_range = subst (λ (m : Machine). Leaves old m call.op) (sym failed) (leaves_all old call.op)
+
+pub stepped_started : (old new : Machine) (call : Call) (r : Result Answer NoMemory) → IfOk r (Steps new (step old call)) → is_start call.op ≡ true → OnOk r (IsSome new.started)
+stepped_started old new call (Ok said) done is = subst (λ (m : Machine). IsSome m.started) (sym done.0) (starts_then old call is)
+stepped_started old new call (Err e) done is = tt

@@ -1,0 +1,79 @@
+-- Which calls start the rendering.
+use Rattle.std.proofs.Common.{ℕ, ◌≡◌, List, [], ◌∷◌, Bool, true, false, ◌||◌, Option, Some, None, refl, ◌∙◌, ap}
+use Rattle.std.specs.Prelude.{is_some}
+use Rattle.std.specs.List.{list_any}
+use Rattle.wa_base.specs.declared.exceptions.Exc.{Exc}
+use Rattle.wa_base.specs.declared.graph_names.NodeId.{NodeId}
+use Rattle.script_ast.specs.declared.call_list.Call.{Call}
+use Rattle.script_ast.specs.declared.operations.Op.{Op}
+use Rattle.script_ast.specs.declared.operations.Op.TheVariants as op
+use Rattle.node_table.specs.declared.kinds.Kind.TheVariants.{Constant, Gain}
+use Rattle.meaning.specs.declared.change.Edit.{Edit}
+use Rattle.meaning.specs.declared.change.Edit.TheVariants as edit
+use Rattle.meaning.specs.Changes.{refusal}
+use Rattle.session.specs.declared.control.Decided.{Decided}
+use Rattle.session.specs.Machine.{Machine}
+use Rattle.session.specs.Session.{Told, after_calls, after_call}
+use Rattle.session.specs.Step.{is_start, unless, edits, edits_node, edits_nodes, disconnects, starts, decided, settled, with_edit, new_name, node_named, edge_of, form_from, form_to}
+
+module _ (machine : Machine) (call : Call) where
+  -- what an operation comes to leaves alone whether rendering was started
+  abbrev Leaves : Decided → Type 0
+  Leaves d = (settled machine call d).machine.started ≡ machine.started
+
+  unless_leaves : (r : Option Exc) (e : Edit) → Leaves (unless r e)
+  unless_leaves None e = by_name (new_name call.op)
+    where
+      by_name : (name : Option (List ℕ)) → (with_edit machine e name).started ≡ machine.started
+      by_name None = refl
+      by_name (Some name) = refl
+  unless_leaves (Some exception) e = refl
+
+  edits_leaves : (e : Edit) → Leaves (edits machine e)
+  edits_leaves e = unless_leaves (refusal machine.world e) e
+
+  node_leaves : (node : Option NodeId) (e : NodeId → Edit) → Leaves (edits_node machine node e)
+  node_leaves None e = refl
+  node_leaves (Some node) e = edits_leaves (e node)
+
+  nodes_leaves : (from to : Option NodeId) (e : NodeId → NodeId → Edit) → Leaves (edits_nodes machine from to e)
+  nodes_leaves None to e = refl
+  nodes_leaves (Some from) to e = node_leaves to (e from)
+
+  disconnects_leaves : (from : Option NodeId) (output : Option ℕ) (to : Option (List ℕ)) (input : Option ℕ) → Leaves (disconnects machine from output to input)
+  disconnects_leaves from output None input = node_leaves from (λ node. edit.Disconnect node (form_from output))
+  disconnects_leaves from output (Some to) input = nodes_leaves from (node_named machine to) (λ node target. edit.Disconnect node (form_to output input target))
+
+  start_starts : (s : Option ℕ) → machine.started ≡ s → is_some (settled machine call (starts s)).machine.started ≡ true
+  start_starts None is = refl
+  start_starts (Some ordinal) is = rw is refl
+
+  -- after a call rendering was started where it was before, or where the call starts it
+  op_starts : (o : Op) → is_some (settled machine call (decided machine o)).machine.started ≡ (is_start o || is_some machine.started)
+  unfolding decided
+  op_starts (op.CreateConstantSource name offset) = ap (λ s. is_some s) (edits_leaves (edit.Create (Constant offset)))
+  op_starts (op.CreateGain name gain) = ap (λ s. is_some s) (edits_leaves (edit.Create (Gain gain)))
+  op_starts (op.LeftOut left_out) = refl
+  op_starts (op.Connect from output to input) = ap (λ s. is_some s) (nodes_leaves (node_named machine from) (node_named machine to) (λ node target. edit.Connect (edge_of output input node target)))
+  op_starts (op.Disconnect from output to input) = ap (λ s. is_some s) (disconnects_leaves (node_named machine from) output to input)
+  op_starts (op.Start node when offset duration) = ap (λ s. is_some s) (node_leaves (node_named machine node) (λ source. edit.Start source when offset duration))
+  op_starts (op.Stop node when) = ap (λ s. is_some s) (node_leaves (node_named machine node) (λ source. edit.Stop source when))
+  op_starts op.StartRendering = start_starts machine.started refl
+  op_starts op.Resume = refl
+  op_starts op.ReadState = refl
+  op_starts op.ReadTime = refl
+  op_starts other = refl
+
+-- after a list of calls rendering was started where it was before, or where one of them starts it
+pub calls_start : (calls : List Call) (told : Told) → is_some (after_calls told calls).machine.started ≡ (list_any (λ (call : Call). is_start call.op) calls || is_some told.machine.started)
+calls_start [] told = refl
+calls_start (call ∷ calls) told =
+    calls_start calls (after_call told call)
+    ∙ ap (λ b. list_any (λ (c : Call). is_start c.op) calls || b) (op_starts told.machine call call.op)
+    ∙ turned (list_any (λ (c : Call). is_start c.op) calls) (is_start call.op) (is_some told.machine.started)
+  where
+    turned : (a b d : Bool) → (a || (b || d)) ≡ ((b || a) || d)
+    turned true true d = refl
+    turned true false d = refl
+    turned false true d = refl
+    turned false false d = refl

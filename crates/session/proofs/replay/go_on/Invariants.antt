@@ -1,0 +1,18 @@
+use Rattle.std.proofs.Common.{◌≡◌, ◌-◌, List}
+use Rattle.wa_base.specs.declared.contexts.State.TheVariants as state
+use Rattle.session.specs.Session.{quanta_left, turns}
+use Rattle.session.specs.View.{Stands, turns_of}
+use Rattle.meaning.specs.declared.world.World.{World}
+use Rattle.session.proofs.replay.go_on.Given as goal
+
+abbrev pub invariant-loop-session : goal.invariant-loop-session
+invariant-loop-session g l = (l.session.told.machine.state ≡ state.Running)
+    × ((tape : List World) × Stands l.session tape × (turns (quanta_left l.session.told.machine) l.calls l.session.told tape ≡ turns_of l.fn.session l.fn.calls))
+    × (l.session.told.machine.world.spec ≡ l.fn.session.told.machine.world.spec)
+    × (l.session.audio ≡ l.fn.session.audio)
+    × (g.F.Files.tells l.files ≡ g.F.Files.tells l.fn.files)
+    × (g.F.Files.paths l.files ≡ g.F.Files.paths l.fn.files)
+    × (g.F.Files.write_faults l.files ≡ g.F.Files.write_faults l.fn.files)
+
+abbrev pub decreases-loop-session : goal.decreases-loop-session
+decreases-loop-session g l = l.session.told.machine.world.spec.length - l.session.told.machine.now
