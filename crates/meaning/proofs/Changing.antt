@@ -1,10 +1,9 @@
 -- What a change leaves of a world.
-use Rattle.std.proofs.Common.{ℕ, zero, suc, ◌≡◌, ◌<◌, length, List, slice_index_or, slice_get, slice_set, map, [], ◌∷◌, Bool, true, false, Some, None, ◌==◌, inl, inr, refl, sym, ◌∙◌, ap, subst, arith, Option, Result, Ok, Err}
+use Rattle.std.proofs.Common.{ℕ, zero, suc, ◌≡◌, ◌<◌, ◌+◌, ◌++◌, length, length-append, List, slice_index_or, slice_get, slice_set, map, [], ◌∷◌, Bool, true, false, Some, None, ◌==◌, inl, inr, refl, sym, ◌∙◌, ap, subst, arith, Option, Result, Ok, Err}
 use Rattle.std.specs.Prelude.{if◌then◌else◌, option_and_then, OnOk, OnErr}
 use Rattle.std.specs.List.{position}
 use Rattle.std.specs.Result.{result_err}
 use Rattle.std.proofs.lemmas.Bool.Decides.{nat_tests}
-use Rattle.std.proofs.lemmas.List.{append-nil}
 use Rattle.std.proofs.lemmas.List.Quantifiers.{position-Some}
 use Rattle.std.proofs.lemmas.Option.{get_or_from_slice_get}
 use Rattle.wa_base.specs.declared.exceptions.Exc.{Exc}
@@ -13,7 +12,8 @@ use Rattle.wa_base.specs.declared.exceptions.Exc.TheVariants.{NotSupported}
 use Rattle.wa_base.specs.declared.features.Feature.TheVariants.{DestinationOutput}
 use Rattle.law_base.specs.Members.{IsIn, AreDistinct}
 use Rattle.node_table.specs.Kinds.{is_destination, IsInEntry}
-use Rattle.node_table.specs.Nodes.{creation_refusal, node_of}
+use Rattle.node_table.specs.Nodes.{creation_refusal, node_of, with_count, with_mode, with_interp, count_refusal, mode_refusal, interp_refusal, changed_at, refusal_at}
+use Rattle.node_table.proofs.Setting.{length-changed}
 use Rattle.node_table.specs.declared.kinds.Kind.{Kind}
 use Rattle.node_table.specs.declared.nodes.Node.{Node}
 use Rattle.sched_source.specs.Schedule.{Schedule, started, stopped}
@@ -24,15 +24,25 @@ use Rattle.meaning.specs.declared.change.Edit.{Edit}
 use Rattle.meaning.specs.declared.change.Edit.TheVariants as edit
 use Rattle.meaning.specs.declared.world.World.{World}
 use Rattle.meaning.specs.declared.scheds.Play.{Play}
-use Rattle.meaning.specs.World.{plain, find_play}
+use Rattle.meaning.specs.World.{plain, no_node, find_play}
 use Rattle.meaning.specs.Validity.{IsValid, play_nodes}
-use Rattle.meaning.specs.Changes.{created, edited, rescheduled, changed_play, output_refusal, play_refusal, refusal, changed, IsNamed, Accepts, Grows, ChangeLaw}
+use Rattle.meaning.specs.Changes.{created, edited, rescheduled, with_nodes, changed_play, output_refusal, play_refusal, refusal, changed, IsNamed, Accepts, Grows, ChangeLaw}
 use Rattle.meaning.proofs.Valid.{plain_valid, connected_valid, disconnected_valid, with_play_valid}
-use Rattle.meaning.proofs.Creating.{created_valid}
+use Rattle.meaning.proofs.Creating.{created_valid, node_kept, node_new}
+use Rattle.meaning.proofs.Setting.{KeepsNode, set_valid, changed_same, node_keeps_count, node_keeps_mode, node_keeps_interp}
 
--- the nodes stay
+-- the nodes stay, and so does what was there before a new one
 pub grows_still : (now : ℕ) (old new : World) → (IsValid old → IsValid new) → new.spec ≡ old.spec → new.nodes ≡ old.nodes → Grows now old new
-grows_still now old new valid spec nodes = record { valid = valid; spec = spec; more = []; nodes = nodes ∙ sym (append-nil old.nodes); born = λ k d l. absurd (omega arith) }
+grows_still now old new valid spec nodes = record {
+  valid = valid;
+  spec = spec;
+  stays = λ i l. record {
+    there = rw nodes l;
+    kind = ap (λ (ns : List Node). (slice_index_or ns i no_node).kind) nodes;
+    birth = ap (λ (ns : List Node). (slice_index_or ns i no_node).attrs.birth) nodes;
+  };
+  born = λ i high low. let same : length new.nodes ≡ length old.nodes = ap length nodes in absurd (omega arith);
+}
 
 pub grows_same : (now : ℕ) (w : World) → Grows now w w
 grows_same now w = grows_still now w w (λ v. v) refl refl
@@ -42,14 +52,32 @@ pub grows_created : (w : World) (kind : Kind) (now : ℕ) → is_destination kin
 grows_created w kind now other entry accepted = record {
   valid = λ valid. created_valid w kind now valid other entry accepted;
   spec = refl;
-  more = node_of kind now ∷ [];
-  nodes = refl;
-  born = λ k d l. born_at k d l;
+  stays = λ i l.
+      let kept = node_kept w.nodes (node_of kind now) i l in
+      record { there = omega (arith, long); kind = ap (λ (n : Node). n.kind) kept; birth = ap (λ (n : Node). n.attrs.birth) kept };
+  born = λ i high low.
+      let last : i ≡ length w.nodes = omega (arith, long) in
+      ap (λ k. (slice_index_or (w.nodes ++ node_of kind now ∷ []) k no_node).attrs.birth) last ∙ ap (λ (n : Node). n.attrs.birth) (node_new w.nodes (node_of kind now));
 }
   where
-    born_at : (k : ℕ) (d : Node) → k < 1 → (slice_index_or (node_of kind now ∷ []) k d).attrs.birth ≡ now
-    born_at zero d l = refl
-    born_at (suc k) d l = absurd (omega arith)
+    long : length (w.nodes ++ node_of kind now ∷ []) ≡ length w.nodes + 1
+    long = length-append w.nodes (node_of kind now ∷ [])
+
+-- an attribute of one node
+grows_set : (w : World) (node now : ℕ) (refusal : Node → Option Exc) (change : Node → Node) → KeepsNode refusal change → refusal_at w.nodes node refusal ≡ None → Grows now w (with_nodes w (changed_at node change w.nodes))
+grows_set w node now refusal change keeps fine = record {
+  valid = λ valid. set_valid w node refusal change keeps fine valid;
+  spec = refl;
+  stays = λ i l. record {
+    there = omega (arith, same);
+    kind = changed_same (λ (n : Node). n.kind) change keeps.kind node w.nodes i;
+    birth = changed_same (λ (n : Node). n.attrs.birth) change keeps.birth node w.nodes i;
+  };
+  born = λ i high low. absurd (omega (arith, same));
+}
+  where
+    same : length (changed_at node change w.nodes) ≡ length w.nodes
+    same = length-changed node change w.nodes
 
 -- a connection that is not refused does not leave the destination, and its other refusals do not come
 pub unrefused : (from : ℕ) (w : World) (e : Edge) → output_refusal from (connect_refusal w.graph.value e) ≡ None → connect_refusal w.graph.value e ≡ None
@@ -68,6 +96,9 @@ edited_grows w now (edit.Start node when offset duration) named accepted valid =
     grows_still now w _ (λ v. with_play_valid w node.0 (λ play. rescheduled play (started play.sched now when offset duration 0)) (λ p. refl) v) refl refl
 edited_grows w now (edit.Stop node when) named accepted valid =
     grows_still now w _ (λ v. with_play_valid w node.0 (λ play. rescheduled play (stopped play.sched now when)) (λ p. refl) v) refl refl
+edited_grows w now (edit.SetCount node count) named accepted valid = grows_set w node.0 now (count_refusal count) (with_count count) (node_keeps_count count) accepted
+edited_grows w now (edit.SetMode node mode) named accepted valid = grows_set w node.0 now (mode_refusal mode) (with_mode mode) (node_keeps_mode mode) accepted
+edited_grows w now (edit.SetInterp node interp) named accepted valid = grows_set w node.0 now (interp_refusal interp) (with_interp interp) (node_keeps_interp interp) accepted
 
 pub changed_grows : ChangeLaw
 changed_grows w change valid accepts = edited_grows w change.time change.edit accepts.named accepts.accepted valid

@@ -28,7 +28,7 @@ use Rattle.meaning.specs.Changes.{param_of, new_params, new_plays, created}
 pub node_kept : (nodes : List Node) (n : Node) (i : ℕ) → i < length nodes → slice_index_or (nodes ++ n ∷ []) i no_node ≡ slice_index_or nodes i no_node
 node_kept nodes n i below = get_or_append_left nodes (n ∷ []) no_node i below
 
-node_new : (nodes : List Node) (n : Node) → slice_index_or (nodes ++ n ∷ []) (length nodes) no_node ≡ n
+pub node_new : (nodes : List Node) (n : Node) → slice_index_or (nodes ++ n ∷ []) (length nodes) no_node ≡ n
 node_new nodes n = get_or-append_seam nodes n [] no_node
 
 data Place (nodes : List Node) (i : ℕ) : Type 0 where

@@ -11,5 +11,6 @@ pub mod QuantumLaws
 pub mod Ranges
 pub mod Valid
 pub mod Creating
+pub mod Setting
 pub mod Changing
 pub mod Rows

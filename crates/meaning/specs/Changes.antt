@@ -1,5 +1,5 @@
 -- What a control call changes in a world, and why a world refuses it.
-use Rattle.std.specs.Prelude.{ℕ, ℤ, ◌≡◌, ◌<◌, ◌≤◌, ◌^◌, ◌==◌, List, [], ◌∷◌, ◌++◌, length, map, All, Bool, true, false, if◌then◌else◌, Option, None, Some, IfSome}
+use Rattle.std.specs.Prelude.{ℕ, ℤ, ◌≡◌, ◌<◌, ◌≤◌, ◌^◌, ◌==◌, List, [], ◌∷◌, ◌++◌, length, map, Bool, true, false, if◌then◌else◌, Option, None, Some, IfSome}
 use Rattle.wa_base.specs.declared.exceptions.Exc.{Exc}
 use Rattle.wa_base.specs.declared.exceptions.Exc.TheVariants.{NotSupported, WrongType}
 use Rattle.wa_base.specs.declared.features.Feature.TheVariants.{DestinationOutput}
@@ -9,7 +9,7 @@ use Rattle.wa_base.specs.declared.graph_names.Rate.TheVariants.{A}
 use Rattle.law_base.specs.Members.{IsIn}
 use Rattle.sched_source.specs.Schedule.{Schedule, start_refusal, started, stop_refusal, stopped}
 use Rattle.node_table.specs.Kinds.{is_destination, IsInEntry}
-use Rattle.node_table.specs.Nodes.{creation_refusal, node_of}
+use Rattle.node_table.specs.Nodes.{creation_refusal, node_of, with_count, with_mode, with_interp, count_refusal, mode_refusal, interp_refusal, changed_at, refusal_at}
 use Rattle.node_table.specs.declared.kinds.Kind.{Kind}
 use Rattle.node_table.specs.declared.kinds.Kind.TheVariants.{Destination, Constant, Gain}
 use Rattle.node_table.specs.declared.nodes.Node.{Node}
@@ -24,8 +24,9 @@ use Rattle.meaning.specs.declared.world.World.{World}
 use Rattle.meaning.specs.declared.params.Param.{Param}
 use Rattle.meaning.specs.declared.scheds.Play.{Play}
 use Rattle.meaning.specs.Lists.{listed}
-use Rattle.meaning.specs.World.{bare, param_id, is_source, find_play, not_started}
+use Rattle.meaning.specs.World.{bare, node_at, param_id, is_source, find_play, not_started}
 use Rattle.meaning.specs.Validity.{ports_of, param_ids, IsValid}
+use Rattle.meaning.specs.Worlds.{Stays}
 
 -- ---- a node is created
 
@@ -55,13 +56,16 @@ created w kind now = record w {
   scheds = listed (w.scheds.items ++ new_plays (length w.nodes) (is_source kind));
 }
 
--- ---- connections and schedules
+-- ---- connections, schedules and attributes
 
 abbrev pub with_graph : World → Connections → World
 with_graph w graph = record w { graph = bare graph }
 
 abbrev pub with_plays : World → List Play → World
 with_plays w plays = record w { scheds = listed plays }
+
+abbrev pub with_nodes : World → List Node → World
+with_nodes w nodes = record w { nodes = nodes }
 
 abbrev pub rescheduled : Play → Schedule → Play
 rescheduled play sched = record play { sched = sched }
@@ -81,6 +85,9 @@ edited w now (edit.Connect edge) = with_graph w (connected w.graph.value edge)
 edited w now (edit.Disconnect from form) = with_graph w (disconnected w.graph.value from.0 form)
 edited w now (edit.Start node when offset duration) = with_play w node.0 (λ play. rescheduled play (started play.sched now when offset duration 0))
 edited w now (edit.Stop node when) = with_play w node.0 (λ play. rescheduled play (stopped play.sched now when))
+edited w now (edit.SetCount node count) = with_nodes w (changed_at node.0 (with_count count) w.nodes)
+edited w now (edit.SetMode node mode) = with_nodes w (changed_at node.0 (with_mode mode) w.nodes)
+edited w now (edit.SetInterp node interp) = with_nodes w (changed_at node.0 (with_interp interp) w.nodes)
 
 -- whether an edit creates a node
 abbrev pub creates : Edit → Bool
@@ -89,6 +96,9 @@ creates (edit.Connect edge) = false
 creates (edit.Disconnect from form) = false
 creates (edit.Start node when offset duration) = false
 creates (edit.Stop node when) = false
+creates (edit.SetCount node count) = false
+creates (edit.SetMode node mode) = false
+creates (edit.SetInterp node interp) = false
 
 abbrev pub changed : World → Change → World
 changed w change = edited w change.time change.edit
@@ -110,6 +120,9 @@ refusal w (edit.Connect edge) = output_refusal edge.from.0 (connect_refusal w.gr
 refusal w (edit.Disconnect from form) = output_refusal from.0 (disconnect_refusal w.graph.value from.0 form)
 refusal w (edit.Start node when offset duration) = play_refusal (find_play w.scheds.items node.0) (λ sched. start_refusal sched when offset duration)
 refusal w (edit.Stop node when) = play_refusal (find_play w.scheds.items node.0) (λ sched. stop_refusal sched when)
+refusal w (edit.SetCount node count) = refusal_at w.nodes node.0 (count_refusal count)
+refusal w (edit.SetMode node mode) = refusal_at w.nodes node.0 (mode_refusal mode)
+refusal w (edit.SetInterp node interp) = refusal_at w.nodes node.0 (interp_refusal interp)
 
 -- ---- what a world accepts
 
@@ -125,6 +138,9 @@ IsNamed w (edit.Connect edge) = (edge.from.0 < length w.nodes) × IsTarget w edg
 IsNamed w (edit.Disconnect from form) = (from.0 < length w.nodes) × IfSome (form_node form) (λ node. node < length w.nodes)
 IsNamed w (edit.Start node when offset duration) = Unit {0}
 IsNamed w (edit.Stop node when) = Unit {0}
+IsNamed w (edit.SetCount node count) = node.0 < length w.nodes
+IsNamed w (edit.SetMode node mode) = node.0 < length w.nodes
+IsNamed w (edit.SetInterp node interp) = node.0 < length w.nodes
 
 -- A world accepts a change that names what is there and is not refused.
 pub record Accepts (w : World) (change : Change) : Type 0 where
@@ -134,13 +150,12 @@ pub record Accepts (w : World) (change : Change) : Type 0 where
 
 -- ---- what a change leaves
 
--- A world of the same context, valid if the old one was, whose nodes are those that were there, and then nodes that were born now.
+-- A world of the same context, valid if the old one was, in which the nodes that were there stay, and the others were born now.
 pub record Grows (now : ℕ) (old new : World) : Type 0 where
   pub valid : IsValid old → IsValid new
   pub spec : new.spec ≡ old.spec
-  pub more : List Node
-  pub nodes : new.nodes ≡ old.nodes ++ more
-  pub born : All (λ (n : Node). n.attrs.birth ≡ now) more
+  pub stays : (i : ℕ) → i < length old.nodes → Stays i old new
+  pub born : (i : ℕ) → length old.nodes ≤ i → i < length new.nodes → (node_at new i).attrs.birth ≡ now
 
 -- A valid world grows by each change that it accepts.
 abbrev pub ChangeLaw : Type 0

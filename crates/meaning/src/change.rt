@@ -1,4 +1,4 @@
-ghost use Rattle.std.specs.Prelude.{◌≡◌, ◌<◌, ◌≤◌, ◌^◌, length, None, IfSome, OnOk, OnErr, option_map};
+ghost use Rattle.std.specs.Prelude.{◌≡◌, ◌<◌, ◌≤◌, ◌^◌, length, None, IfSome, IsOk, OnOk, OnErr, option_map};
 ghost use Rattle.law_base.specs.Members.{AreDistinct};
 ghost use Rattle.sched_source.specs.Schedule.{start_refusal, started, stop_refusal, stopped};
 ghost use Rattle.conn_graph.specs.Edges.{form_node};
@@ -11,7 +11,7 @@ use crate::world::World;
 use conn_graph::{Edge, Form};
 use node_table::Kind;
 use sched_source::Sched;
-use wa_base::{Exc, Feature, NoMemory, NodeId};
+use wa_base::{Exc, Feature, Interp, Mode, NoMemory, NodeId};
 
 /// What a control call edits in a world. It names nodes by their numbers.
 #[derive(Debug, Drop, PartialEq)]
@@ -40,6 +40,21 @@ pub enum Edit {
     Stop {
         node: NodeId,
         when: i64,
+    },
+    /// channelCount is set (the attributes of AudioNode).
+    SetCount {
+        node: NodeId,
+        count: u32,
+    },
+    /// channelCountMode is set (the attributes of AudioNode).
+    SetMode {
+        node: NodeId,
+        mode: Mode,
+    },
+    /// channelInterpretation is set (the attributes of AudioNode).
+    SetInterp {
+        node: NodeId,
+        interp: Interp,
     },
 }
 
@@ -74,6 +89,9 @@ impl World {
                 Some(sched) => sched.stop_refusal(*when),
                 None => Some(Exc::WrongType),
             },
+            Edit::SetCount { node, count } => self.nodes.count_refusal(*node, *count),
+            Edit::SetMode { node, mode } => self.nodes.mode_refusal(*node, *mode),
+            Edit::SetInterp { node, interp } => self.nodes.interp_refusal(*node, *interp),
         }
     }
 
@@ -117,6 +135,9 @@ impl World {
                 self.stop(now, *node, *when);
                 Ok(())
             }
+            Edit::SetCount { node, count } => done(self.nodes.set_count(*node, *count)),
+            Edit::SetMode { node, mode } => done(self.nodes.set_mode(*node, *mode)),
+            Edit::SetInterp { node, interp } => done(self.nodes.set_interp(*node, *interp)),
         }
     }
 }
@@ -210,4 +231,11 @@ impl World {
         let _accepted = sched.stop(now, when);
         self.scheds.at_mut(place).sched = sched;
     }
+}
+
+// An edit that is accepted and takes no memory is done.
+fn done(_accepted: Result<(), Exc>) -> Result<(), NoMemory>
+    ensures { IsOk result }
+{
+    Ok(())
 }

@@ -1,2 +1,3 @@
 pub mod NodeLists
 pub mod Rows
+pub mod Setting

@@ -2,9 +2,9 @@
 use Rattle.std.specs.Prelude.{ℕ, ℤ, Bool, true, false, Option, Some, None}
 use Rattle.wa_base.specs.Numbers.{IsFix}
 use Rattle.wa_base.specs.declared.graph_names.Interp.{Interp}
-use Rattle.wa_base.specs.declared.graph_names.Interp.TheVariants.{Speakers}
+use Rattle.wa_base.specs.declared.graph_names.Interp.TheVariants.{Speakers, Discrete}
 use Rattle.wa_base.specs.declared.graph_names.Mode.{Mode}
-use Rattle.wa_base.specs.declared.graph_names.Mode.TheVariants.{Max, Explicit}
+use Rattle.wa_base.specs.declared.graph_names.Mode.TheVariants.{Max, ClampedMax, Explicit}
 use Rattle.wa_base.specs.declared.graph_names.ParamName.{ParamName}
 use Rattle.wa_base.specs.declared.graph_names.ParamName.TheVariants as param
 use Rattle.node_table.specs.declared.kinds.Kind.{Kind}
@@ -52,6 +52,17 @@ abbrev pub first_interp : Kind → Interp
 first_interp Destination = Speakers
 first_interp (Constant offset) = Speakers
 first_interp (Gain gain) = Speakers
+
+abbrev pub same_mode : Mode → Mode → Bool
+same_mode Max Max = true
+same_mode ClampedMax ClampedMax = true
+same_mode Explicit Explicit = true
+same_mode _ _ = false
+
+abbrev pub same_interp : Interp → Interp → Bool
+same_interp Speakers Speakers = true
+same_interp Discrete Discrete = true
+same_interp _ _ = false
 
 -- whether the channelCount of a node stays what it was at the creation
 abbrev pub fixed_count : Kind → Bool

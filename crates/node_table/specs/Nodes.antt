@@ -1,16 +1,18 @@
 -- The nodes of a graph, in order of creation.
-use Rattle.std.specs.Prelude.{ℕ, ◌≡◌, ◌≤◌, List, length, drop, slice_get, nat_lt, All, Bool, true, false, if◌then◌else◌, Option, Some, None, IfSome, option_map}
+use Rattle.std.specs.Prelude.{ℕ, zero, suc, ◌≡◌, ◌≤◌, ◌==◌, ◌&&◌, not, nat_le, List, [], ◌∷◌, length, drop, slice_get, nat_lt, All, Bool, true, false, if◌then◌else◌, Option, Some, None, IfSome, option_map, option_and_then}
 use Rattle.wa_base.specs.declared.contexts.ContextSpec.{ContextSpec}
 use Rattle.wa_base.specs.declared.exceptions.Exc.{Exc}
-use Rattle.wa_base.specs.declared.exceptions.Exc.TheVariants.{NotSupported}
+use Rattle.wa_base.specs.declared.exceptions.Exc.TheVariants.{NotSupported, InvalidState}
 use Rattle.wa_base.specs.declared.features.Feature.TheVariants.{NodeLimit}
+use Rattle.wa_base.specs.declared.graph_names.Mode.{Mode}
 use Rattle.wa_base.specs.declared.graph_names.Mode.TheVariants.{Explicit}
+use Rattle.wa_base.specs.declared.graph_names.Interp.{Interp}
 use Rattle.wa_base.specs.declared.graph_names.Interp.TheVariants.{Speakers}
 use Rattle.node_table.specs.declared.kinds.Kind.{Kind}
 use Rattle.node_table.specs.declared.kinds.Kind.TheVariants.{Destination}
 use Rattle.node_table.specs.declared.nodes.Attrs.{Attrs}
 use Rattle.node_table.specs.declared.nodes.Node.{Node}
-use Rattle.node_table.specs.Kinds.{is_destination, first_count, first_mode, first_interp, fixed_count, fixed_mode, fixed_interp, IsInEntry}
+use Rattle.node_table.specs.Kinds.{is_destination, first_count, first_mode, first_interp, fixed_count, fixed_mode, fixed_interp, same_mode, same_interp, IsInEntry}
 
 -- the destination of a context
 abbrev pub destination_of : ContextSpec → Node
@@ -39,6 +41,43 @@ kind_at nodes node = option_map (λ n. n.kind) (slice_get nodes node)
 -- the attributes of a node, if it is there
 abbrev pub attrs_at : List Node → ℕ → Option Attrs
 attrs_at nodes node = option_map (λ n. n.attrs) (slice_get nodes node)
+
+-- ---- attributes that are set
+
+-- a node with another channelCount, another channelCountMode, another channelInterpretation
+abbrev pub with_count : ℕ → Node → Node
+with_count count node = record node { attrs = record node.attrs { count = count } }
+
+abbrev pub with_mode : Mode → Node → Node
+with_mode mode node = record node { attrs = record node.attrs { mode = mode } }
+
+abbrev pub with_interp : Interp → Node → Node
+with_interp interp node = record node { attrs = record node.attrs { interp = interp } }
+
+-- a change of what is fixed is refused; what is there already may be set
+abbrev pub fixed_refusal : Bool → Bool → Option Exc
+fixed_refusal is_fixed is_same = if is_fixed && not is_same then Some InvalidState else None
+
+-- why a channelCount is refused: it is not from 1 to 32, or that of the node is fixed
+abbrev pub count_refusal : ℕ → Node → Option Exc
+count_refusal count node =
+    if not (nat_le 1 count && nat_le count 32) then Some (NotSupported None) else fixed_refusal (fixed_count node.kind) (node.attrs.count == count)
+
+abbrev pub mode_refusal : Mode → Node → Option Exc
+mode_refusal mode node = fixed_refusal (fixed_mode node.kind) (same_mode node.attrs.mode mode)
+
+abbrev pub interp_refusal : Interp → Node → Option Exc
+interp_refusal interp node = fixed_refusal (fixed_interp node.kind) (same_interp node.attrs.interp interp)
+
+-- the list with one node changed, which is there
+abbrev pub changed_at : ℕ → (Node → Node) → List Node → List Node
+changed_at node change [] = []
+changed_at zero change (n ∷ ns) = change n ∷ ns
+changed_at (suc node) change (n ∷ ns) = n ∷ changed_at node change ns
+
+-- what is refused of a node of the list
+abbrev pub refusal_at : List Node → ℕ → (Node → Option Exc) → Option Exc
+refusal_at nodes node others = option_and_then others (slice_get nodes node)
 
 -- ---- what holds of every list of nodes
 

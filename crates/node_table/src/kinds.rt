@@ -50,6 +50,35 @@ impl Kind {
         }
     }
 
+    /// Whether the channelCount of a node stays what it was at its creation.
+    pub fn has_fixed_count(&self) -> bool
+        ensures { result ≡ spec.fixed_count self.now }
+    {
+        match self {
+            Kind::Destination => true,
+            Kind::Constant { .. } | Kind::Gain { .. } => false,
+        }
+    }
+
+    /// Whether the channelCountMode of a node stays what it was at its creation.
+    pub fn has_fixed_mode(&self) -> bool
+        ensures { result ≡ spec.fixed_mode self.now }
+    {
+        match self {
+            Kind::Destination => true,
+            Kind::Constant { .. } | Kind::Gain { .. } => false,
+        }
+    }
+
+    /// Whether the channelInterpretation of a node stays what it was at its creation.
+    pub fn has_fixed_interp(&self) -> bool
+        ensures { result ≡ spec.fixed_interp self.now }
+    {
+        match self {
+            Kind::Destination | Kind::Constant { .. } | Kind::Gain { .. } => false,
+        }
+    }
+
     /// The value that a parameter was created with, or `None` where the kind has no such parameter
     /// that can be automated.
     pub fn param_base(&self, name: ParamName) -> Option<Fix>

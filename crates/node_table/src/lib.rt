@@ -2,6 +2,7 @@
 //! of its inputs are mixed.
 #![tactic(auto)]
 
+mod attributes;
 mod kinds;
 mod nodes;
 

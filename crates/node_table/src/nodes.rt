@@ -1,4 +1,4 @@
-ghost use Rattle.std.specs.Prelude.{◌≡◌, ◌==◌, ◌↔◌, ◌<◌, ◌≤◌, ◌∷◌, ◌++◌, [], false, Some, None, length, IfOk, IsErrOf, OnOk, OnErr};
+ghost use Rattle.std.specs.Prelude.{◌≡◌, ◌==◌, ◌↔◌, ◌<◌, ◌≤◌, ◌∷◌, ◌++◌, [], false, Some, None, length, slice_get, IfOk, IsErrOf, OnOk, OnErr};
 ghost use Rattle.wa_base.specs.Contexts.{IsSupported};
 ghost use Rattle.node_table.specs.Kinds.{is_destination};
 ghost use Rattle.node_table.specs.Nodes as table;
@@ -88,7 +88,7 @@ impl Node {
 /// The destination is node 0, and is there from the start. A node is never removed.
 #[derive(Debug, Drop)]
 pub struct Nodes {
-    nodes: Vec<Node>,
+    pub(crate) nodes: Vec<Node>,
 }
 
 impl Model for Nodes {
@@ -149,6 +149,14 @@ impl Nodes {
             return Some(Exc::NotSupported(Some(Feature::NodeLimit)));
         }
         None
+    }
+
+    // A node with its attributes.
+    pub(crate) fn node(&self, node: NodeId) -> &Node
+        requires { node.0 < length self.now }
+        ensures { slice_get self.now node.0 ≡ Some result.now }
+    {
+        &self.nodes[node.0 as usize]
     }
 
     /// What a node is.

@@ -89,6 +89,12 @@ decided_for m steady (op.Disconnect from output (Some to) input) in_range =
 decided_for m steady (op.Start node when offset duration) in_range =
     node_for m steady (op.Start node when offset duration) (node_named m node) (λ source. edit.Start source when offset duration) (λ a is. (tt, refl))
 decided_for m steady (op.Stop node when) in_range = node_for m steady (op.Stop node when) (node_named m node) (λ source. edit.Stop source when) (λ a is. (tt, refl))
+decided_for m steady (op.SetChannelCount node value) in_range =
+    node_for m steady (op.SetChannelCount node value) (node_named m node) (λ changed. edit.SetCount changed value) (λ a is. (named_there m steady node a is, refl))
+decided_for m steady (op.SetChannelCountMode node value) in_range =
+    node_for m steady (op.SetChannelCountMode node value) (node_named m node) (λ changed. edit.SetMode changed value) (λ a is. (named_there m steady node a is, refl))
+decided_for m steady (op.SetChannelInterpretation node value) in_range =
+    node_for m steady (op.SetChannelInterpretation node value) (node_named m node) (λ changed. edit.SetInterp changed value) (λ a is. (named_there m steady node a is, refl))
 decided_for m steady op.StartRendering in_range = start_for m m.started refl
 decided_for m steady op.Resume in_range = tt
 decided_for m steady op.ReadState in_range = tt

@@ -58,6 +58,9 @@ module _ (machine : Machine) (call : Call) where
   op_starts (op.Disconnect from output to input) = ap (λ s. is_some s) (disconnects_leaves (node_named machine from) output to input)
   op_starts (op.Start node when offset duration) = ap (λ s. is_some s) (node_leaves (node_named machine node) (λ source. edit.Start source when offset duration))
   op_starts (op.Stop node when) = ap (λ s. is_some s) (node_leaves (node_named machine node) (λ source. edit.Stop source when))
+  op_starts (op.SetChannelCount node value) = ap (λ s. is_some s) (node_leaves (node_named machine node) (λ changed. edit.SetCount changed value))
+  op_starts (op.SetChannelCountMode node value) = ap (λ s. is_some s) (node_leaves (node_named machine node) (λ changed. edit.SetMode changed value))
+  op_starts (op.SetChannelInterpretation node value) = ap (λ s. is_some s) (node_leaves (node_named machine node) (λ changed. edit.SetInterp changed value))
   op_starts op.StartRendering = start_starts machine.started refl
   op_starts op.Resume = refl
   op_starts op.ReadState = refl

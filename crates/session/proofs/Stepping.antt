@@ -9,7 +9,8 @@ use Rattle.wa_base.specs.declared.memory.NoMemory.{NoMemory}
 use Rattle.name_book.specs.Book.{BookView, bound, first_named, first_name_of}
 use Rattle.name_book.specs.declared.book.Object.{Object}
 use Rattle.name_book.specs.declared.book.Object.TheVariants.{Node}
-use Rattle.node_table.specs.Nodes.{node_of}
+use Rattle.node_table.specs.Nodes.{node_of, with_count, with_mode, with_interp}
+use Rattle.node_table.proofs.Setting.{length-changed}
 use Rattle.node_table.specs.declared.kinds.Kind.{Kind}
 use Rattle.sched_source.specs.Schedule.{started, stopped}
 use Rattle.meaning.specs.declared.change.Edit.{Edit}
@@ -35,8 +36,8 @@ use Rattle.session.proofs.Named.{All-bound, there_among_more, named_still, named
 edited_valid : (m : Machine) (e : Edit) → IsAccepted m e → IsSteady m → IsValid (edited m.world m.now e)
 edited_valid m e accepted steady = (changed_grows m.world (record { time = m.now; edit = e }) steady.valid accepted).valid steady.valid
 
--- a machine whose world changes, but for its nodes, its parameters and whose its schedules are
-pub steady_world : (m : Machine) (w : World) → w.spec ≡ m.world.spec → w.nodes ≡ m.world.nodes → w.params.items ≡ m.world.params.items → play_nodes w ≡ play_nodes m.world
+-- a machine whose world changes, but for how many its nodes are, its parameters and whose its schedules are
+pub steady_world : (m : Machine) (w : World) → w.spec ≡ m.world.spec → length w.nodes ≡ length m.world.nodes → w.params.items ≡ m.world.params.items → play_nodes w ≡ play_nodes m.world
     → IsValid w → IsSteady m → IsSteady (with_world m w)
 steady_world m w spec nodes params plays valid steady = record {
   valid = valid;
@@ -58,6 +59,12 @@ steady_edited m (edit.Start node when offset duration) none accepted steady =
 steady_edited m (edit.Stop node when) none accepted steady =
     steady_world m _ refl refl refl (changed_nodes node.0 (λ play. rescheduled play (stopped play.sched m.now when)) (λ p. refl) m.world.scheds.items)
     (edited_valid m (edit.Stop node when) accepted steady) steady
+steady_edited m (edit.SetCount node count) none accepted steady =
+    steady_world m _ refl (length-changed node.0 (with_count count) m.world.nodes) refl refl (edited_valid m (edit.SetCount node count) accepted steady) steady
+steady_edited m (edit.SetMode node mode) none accepted steady =
+    steady_world m _ refl (length-changed node.0 (with_mode mode) m.world.nodes) refl refl (edited_valid m (edit.SetMode node mode) accepted steady) steady
+steady_edited m (edit.SetInterp node interp) none accepted steady =
+    steady_world m _ refl (length-changed node.0 (with_interp interp) m.world.nodes) refl refl (edited_valid m (edit.SetInterp node interp) accepted steady) steady
 
 -- a world that was edited so, or was not for want of memory
 pub steady_either : (state : State) (now : ℕ) (started : Option ℕ) (w new : World) (book : BookView) (e : Edit) (r : Result (Unit {0}) NoMemory) → OnOk r (plain new ≡ edited (plain w) now e) → OnErr r (plain new ≡ plain w)
@@ -102,6 +109,9 @@ steady_named m (edit.Connect edge) name new accepted steady = absurd cc
 steady_named m (edit.Disconnect from form) name new accepted steady = absurd cc
 steady_named m (edit.Start node when offset duration) name new accepted steady = absurd cc
 steady_named m (edit.Stop node when) name new accepted steady = absurd cc
+steady_named m (edit.SetCount node count) name new accepted steady = absurd cc
+steady_named m (edit.SetMode node mode) name new accepted steady = absurd cc
+steady_named m (edit.SetInterp node interp) name new accepted steady = absurd cc
 
 pub named_machine : (m : Machine) (name : List ℕ) (e : Edit) (world : World) (bindings : List (List ℕ × Object)) (first_names : List (ℕ × List ℕ))
     → world ≡ edited m.world m.now e → bindings ≡ bound m.bindings name (next_node m) → first_names ≡ first_named m.first_names (next_node m) name

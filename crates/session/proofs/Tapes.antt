@@ -3,7 +3,7 @@ use Rattle.std.proofs.Common.{ℕ, zero, suc, ◌≡◌, ◌+◌, ◌-◌, ◌*�
 use Rattle.std.proofs.lemmas.Bool.{cases_lt}
 use Rattle.std.proofs.lemmas.List.{get_or_append_left, get_or-map, length-map}
 use Rattle.std.proofs.lemmas.List.Elements.{All-append, All-cons}
-use Rattle.std.proofs.Math.Seq.{get_or-append_seam, get_or-append_right}
+use Rattle.std.proofs.Math.Seq.{get_or-append_seam}
 use Rattle.wa_base.specs.declared.contexts.ContextSpec.{ContextSpec}
 use Rattle.node_table.specs.declared.nodes.Node.{Node}
 use Rattle.meaning.specs.declared.world.World.{World}
@@ -159,26 +159,14 @@ next_grown q tape w w' next grows = record {
   valid = grows.valid next.valid;
   spec = λ some. grows.spec ∙ next.spec some;
   stays = λ j i e below.
-      let stays = next.stays j i e below in
-      record {
-        there = let l = stays.there in omega (arith, long);
-        kind = ap (λ (n : Node). n.kind) (kept i stays.there) ∙ stays.kind;
-        birth = ap (λ (n : Node). n.attrs.birth) (kept i stays.there) ∙ stays.birth;
-      };
+      let before = next.stays j i e below in
+      let stays = grows.stays i before.there in
+      record { there = stays.there; kind = stays.kind ∙ before.kind; birth = stays.birth ∙ before.birth };
   born = λ i below is. elim (cases_lt i (length w.nodes)) [
-    | inl low ↦ ap (λ (n : Node). n.attrs.birth) (kept i low) ∙ next.born i low is
-    | inr high ↦
-        ap (λ (ns : List Node). (slice_index_or ns i no_node).attrs.birth) grows.nodes
-        ∙ ap (λ (n : Node). n.attrs.birth) (get_or-append_right w.nodes grows.more i no_node high)
-        ∙ grows.born (i - length w.nodes) no_node (omega (arith, long))
+    | inl low ↦ let stays = grows.stays i low in stays.birth ∙ next.born i low is
+    | inr high ↦ grows.born i high below
   ];
 }
-  where
-    long : length w'.nodes ≡ length w.nodes + length grows.more
-    long = ap length grows.nodes ∙ length-append w.nodes grows.more
-
-    kept : (i : ℕ) → i < length w.nodes → slice_index_or w'.nodes i no_node ≡ slice_index_or w.nodes i no_node
-    kept i l = ap (λ (ns : List Node). slice_index_or ns i no_node) grows.nodes ∙ get_or_append_left w.nodes grows.more no_node i l
 
 pub regular_grown : (q : ℕ) (tape : List World) (w w' : World) → IsRegular q (tape ++ w ∷ []) → Grows (q * length tape) w w' → IsRegular q (tape ++ w' ∷ [])
 regular_grown q tape w w' regular grows = regular_more q tape w' (regular_front q tape w regular) (next_grown q tape w w' (next_of q tape w regular) grows)

@@ -20,7 +20,7 @@ use script_ast::{Call, Op};
 use std::alloc::Global;
 use std::marker::Model;
 use transcript::{Answer, Line};
-use wa_base::{ContextSpec, Exc, Name, NoMemory, NodeId, State};
+use wa_base::{ContextSpec, Exc, Interp, Mode, Name, NoMemory, NodeId, State};
 
 /// What an operation comes to, before anything is changed.
 #[derive(Debug, Drop)]
@@ -125,6 +125,9 @@ impl Control {
                 duration,
             } => self.start_source(node, *when, *offset, *duration),
             Op::Stop { node, when } => self.stop_source(node, *when),
+            Op::SetChannelCount { node, value } => self.set_count(node, *value),
+            Op::SetChannelCountMode { node, value } => self.set_mode(node, *value),
+            Op::SetChannelInterpretation { node, value } => self.set_interp(node, *value),
             Op::StartRendering if is_started => {
                 Decided::Answer(Answer::Rejected(Exc::InvalidState))
             }
@@ -214,6 +217,33 @@ impl Control {
     {
         match self.node_named(node) {
             Some(node) => self.edits(Edit::Stop { node, when }),
+            None => refused(Exc::WrongType),
+        }
+    }
+
+    fn set_count(&self, node: &Name, count: u32) -> Decided
+        ensures { result ≡ spec.edits_node self.now (spec.node_named self.now node.now) (λ changed. Edit.SetCount changed count) }
+    {
+        match self.node_named(node) {
+            Some(node) => self.edits(Edit::SetCount { node, count }),
+            None => refused(Exc::WrongType),
+        }
+    }
+
+    fn set_mode(&self, node: &Name, mode: Mode) -> Decided
+        ensures { result ≡ spec.edits_node self.now (spec.node_named self.now node.now) (λ changed. Edit.SetMode changed mode) }
+    {
+        match self.node_named(node) {
+            Some(node) => self.edits(Edit::SetMode { node, mode }),
+            None => refused(Exc::WrongType),
+        }
+    }
+
+    fn set_interp(&self, node: &Name, interp: Interp) -> Decided
+        ensures { result ≡ spec.edits_node self.now (spec.node_named self.now node.now) (λ changed. Edit.SetInterp changed interp) }
+    {
+        match self.node_named(node) {
+            Some(node) => self.edits(Edit::SetInterp { node, interp }),
             None => refused(Exc::WrongType),
         }
     }

@@ -19,3 +19,15 @@ unfolding decided
 returns-in-Stop-clause-decided c =
     let when : SFits w64 c.in-Stop.when = search rules in
     rw c.in-Stop.is (rw (to_z-of_z w64 c.in-Stop.when when) at c.stop_source.ensures)
+
+pub returns-in-SetChannelCount-clause-decided : goal.returns-in-SetChannelCount-clause-decided
+unfolding decided
+returns-in-SetChannelCount-clause-decided c = rw c.in-SetChannelCount.is c.set_count.ensures
+
+pub returns-in-SetChannelCountMode-clause-decided : goal.returns-in-SetChannelCountMode-clause-decided
+unfolding decided
+returns-in-SetChannelCountMode-clause-decided c = rw c.in-SetChannelCountMode.is c.set_mode.ensures
+
+pub returns-in-SetChannelInterpretation-clause-decided : goal.returns-in-SetChannelInterpretation-clause-decided
+unfolding decided
+returns-in-SetChannelInterpretation-clause-decided c = rw c.in-SetChannelInterpretation.is c.set_interp.ensures
