@@ -48,14 +48,14 @@ or_false true = refl
 or_false false = refl
 
 -- whether the main list starts the rendering of a session
-started_is : (script : Script) → is_some (main_list script.calls (first_told script.context)).machine.started ≡ starts script.calls
+started_is : (script : Script) → is_some (main_list script.calls (first_told script.context)).machine.context.started ≡ starts script.calls
 started_is script = calls_start (held_by 0 script.calls) (first_told script.context) ∙ or_false (starts script.calls)
 
 pub renders_completes : (script : Script) → Renders script → (session_of script).end ≡ Completed
 unfolding session_of
 renders_completes script renders =
     ap (λ b. (if b then replayed script.calls (first_told script.context) else record { lines = []; end = Refused (NotSupported None); tape = [] }).end) renders.context
-    ∙ rendered_completes script.calls (main_list script.calls (first_told script.context)) (main_list script.calls (first_told script.context)).machine.started (started_is script ∙ renders.starts)
+    ∙ rendered_completes script.calls (main_list script.calls (first_told script.context)) (main_list script.calls (first_told script.context)).machine.context.started (started_is script ∙ renders.starts)
 
 pub completes_renders : (script : Script) → (session_of script).end ≡ Completed → Renders script
 unfolding session_of
@@ -64,7 +64,7 @@ completes_renders script is = by_test (is_supported script.context) refl is
     by_test : (b : Bool) → is_supported script.context ≡ b → (if b then replayed script.calls (first_told script.context) else record { lines = []; end = Refused (NotSupported None); tape = [] }).end ≡ Completed → Renders script
     by_test true t end = record {
       context = t;
-      starts = sym (started_is script) ∙ completed_started script.calls (main_list script.calls (first_told script.context)) (main_list script.calls (first_told script.context)).machine.started end;
+      starts = sym (started_is script) ∙ completed_started script.calls (main_list script.calls (first_told script.context)) (main_list script.calls (first_told script.context)).machine.context.started end;
     }
     by_test false t end = absurd cc
 

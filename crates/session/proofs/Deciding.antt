@@ -68,7 +68,7 @@ form_to_names count None input to there = there
 form_to_names count (Some output) None to there = there
 form_to_names count (Some output) (Some input) to there = there
 
-start_for : (m : Machine) (s : Option ℕ) → m.started ≡ s → IsFor m op.StartRendering (starts s)
+start_for : (m : Machine) (s : Option ℕ) → m.context.started ≡ s → IsFor m op.StartRendering (starts s)
 start_for m None is = (refl, is)
 start_for m (Some ordinal) is = tt
 
@@ -95,7 +95,7 @@ decided_for m steady (op.SetChannelCountMode node value) in_range =
     node_for m steady (op.SetChannelCountMode node value) (node_named m node) (λ changed. edit.SetMode changed value) (λ a is. (named_there m steady node a is, refl))
 decided_for m steady (op.SetChannelInterpretation node value) in_range =
     node_for m steady (op.SetChannelInterpretation node value) (node_named m node) (λ changed. edit.SetInterp changed value) (λ a is. (named_there m steady node a is, refl))
-decided_for m steady op.StartRendering in_range = start_for m m.started refl
+decided_for m steady op.StartRendering in_range = start_for m m.context.started refl
 decided_for m steady op.Resume in_range = tt
 decided_for m steady op.ReadState in_range = tt
 decided_for m steady op.ReadTime in_range = tt
@@ -109,38 +109,38 @@ is_new other name in_range is = absurd cc
 
 -- ---- what a call leaves
 
-edit_world : (m : Machine) (e : Edit) (name : Option (List ℕ)) → (with_edit m e name).world ≡ edited m.world m.now e
+edit_world : (m : Machine) (e : Edit) (name : Option (List ℕ)) → (with_edit m e name).world ≡ edited m.world m.context.now e
 edit_world m e None = refl
 edit_world m e (Some name) = refl
 
-edit_time : (m : Machine) (e : Edit) (name : Option (List ℕ)) → (with_edit m e name).now ≡ m.now
+edit_time : (m : Machine) (e : Edit) (name : Option (List ℕ)) → (with_edit m e name).context.now ≡ m.context.now
 edit_time m e None = refl
 edit_time m e (Some name) = refl
 
-edit_started : (m : Machine) (e : Edit) (name : Option (List ℕ)) → (with_edit m e name).started ≡ m.started
+edit_started : (m : Machine) (e : Edit) (name : Option (List ℕ)) → (with_edit m e name).context.started ≡ m.context.started
 edit_started m e None = refl
 edit_started m e (Some name) = refl
 
 pub record Leaves (m next : Machine) (o : Op) : Type 0 where
-  pub grows : Grows m.now m.world next.world
+  pub grows : Grows m.context.now m.world next.world
   pub kept : KeepsTime m next
-  pub kept_start : is_start o ≡ false → next.started ≡ m.started
+  pub kept_start : is_start o ≡ false → next.context.started ≡ m.context.started
 
 pub leaves_all : (m : Machine) (o : Op) → Leaves m m o
-leaves_all m o = record { grows = grows_same m.now m.world; kept = record { spec = refl; now = refl }; kept_start = λ other. refl }
+leaves_all m o = record { grows = grows_same m.context.now m.world; kept = record { spec = refl; now = refl }; kept_start = λ other. refl }
 
 settled_leaves : (m : Machine) → IsSteady m → (call : Call) (d : Decided) → IsFor m call.op d → Leaves m (settled m call d).machine call.op
 settled_leaves m steady call (comes_to.Answer said) fits = leaves_all m call.op
 settled_leaves m steady call comes_to.Start fits = record {
-  grows = grows_same m.now m.world;
+  grows = grows_same m.context.now m.world;
   kept = record { spec = refl; now = refl };
   kept_start = λ other. absurd (let both = sym fits.0 ∙ other in cc);
 }
 settled_leaves m steady call (comes_to.Change e) fits =
-    let grows = changed_grows m.world (record { time = m.now; edit = e }) steady.valid fits.0 in
+    let grows = changed_grows m.world (record { time = m.context.now; edit = e }) steady.valid fits.0 in
     let world = edit_world m e (new_name call.op) in
     record {
-      grows = subst (λ (w : World). Grows m.now m.world w) (sym world) grows;
+      grows = subst (λ (w : World). Grows m.context.now m.world w) (sym world) grows;
       kept = record { spec = ap (λ (w : World). w.spec) world ∙ grows.spec; now = edit_time m e (new_name call.op) };
       kept_start = λ other. edit_started m e (new_name call.op);
     }
@@ -149,16 +149,16 @@ pub step_leaves : (m : Machine) (call : Call) → IsSteady m → IsInRange call.
 step_leaves m call steady in_range = settled_leaves m steady call (decided m call.op) (decided_for m steady call.op in_range)
 
 -- after the call that starts rendering, it was started
-then_started : (m : Machine) (call : Call) (s : Option ℕ) → m.started ≡ s → IsSome (settled m call (starts s)).machine.started
+then_started : (m : Machine) (call : Call) (s : Option ℕ) → m.context.started ≡ s → IsSome (settled m call (starts s)).machine.context.started
 then_started m call None is = refl
 then_started m call (Some ordinal) is = rw is refl
 
-op_starts : (m : Machine) (call : Call) (o : Op) → is_start o ≡ true → IsSome (settled m call (decided m o)).machine.started
+op_starts : (m : Machine) (call : Call) (o : Op) → is_start o ≡ true → IsSome (settled m call (decided m o)).machine.context.started
 unfolding decided
-op_starts m call op.StartRendering is = then_started m call m.started refl
+op_starts m call op.StartRendering is = then_started m call m.context.started refl
 op_starts m call other is = absurd cc
 
-pub starts_then : (m : Machine) (call : Call) → is_start call.op ≡ true → IsSome (step m call).machine.started
+pub starts_then : (m : Machine) (call : Call) → is_start call.op ≡ true → IsSome (step m call).machine.context.started
 starts_then m call is = op_starts m call call.op is
 
 -- a machine after a call, or as it was for want of memory
@@ -166,6 +166,6 @@ pub stepped_leaves : (old new : Machine) (call : Call) (r : Result Answer NoMemo
 stepped_leaves old new call (Ok said) done failed steady in_range = subst (λ (m : Machine). Leaves old m call.op) (sym done.0) (step_leaves old call steady in_range)
 stepped_leaves old new call (Err e) done failed steady in_range = subst (λ (m : Machine). Leaves old m call.op) (sym failed) (leaves_all old call.op)
 
-pub stepped_started : (old new : Machine) (call : Call) (r : Result Answer NoMemory) → IfOk r (Steps new (step old call)) → is_start call.op ≡ true → OnOk r (IsSome new.started)
-stepped_started old new call (Ok said) done is = subst (λ (m : Machine). IsSome m.started) (sym done.0) (starts_then old call is)
+pub stepped_started : (old new : Machine) (call : Call) (r : Result Answer NoMemory) → IfOk r (Steps new (step old call)) → is_start call.op ≡ true → OnOk r (IsSome new.context.started)
+stepped_started old new call (Ok said) done is = subst (λ (m : Machine). IsSome m.context.started) (sym done.0) (starts_then old call is)
 stepped_started old new call (Err e) done is = tt

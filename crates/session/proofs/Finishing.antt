@@ -16,7 +16,7 @@ left_if audio spec samples = if audio then Some (record { spec = spec; samples =
 
 -- what is left of a session that stands for a tape are the samples of the tape
 pub rendered_is : (view : SessionView) (tape : List World) (audio : Bool) (spec : ContextSpec) (told : Told) (r : Option Rendered) → view.audio ≡ audio → view.told.machine.world.spec ≡ spec
-    → Stands view tape → IsSome view.told.machine.started → r ≡ left_if view.audio view.told.machine.world.spec view.samples → r ≡ rendering_of audio spec (finished told tape)
+    → Stands view tape → IsSome view.told.machine.context.started → r ≡ left_if view.audio view.told.machine.world.spec view.samples → r ≡ rendering_of audio spec (finished told tape)
 unfolding rendering_of
 rendered_is view tape audio spec told r same context stands begun is = is ∙ by_test view.audio refl ∙ ap (λ b. rendering_of b spec (finished told tape)) same
   where

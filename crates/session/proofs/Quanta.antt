@@ -6,16 +6,16 @@ use Rattle.session.specs.declared.session.Turn.TheVariants.{Went, Done}
 use Rattle.session.specs.Session.{Told, machine_after, after_quantum, turn_of, closing, quanta_left, finished, ends, turns}
 
 -- the last one
-pub one_left : (old new : Told) (ordinal : ℕ) → old.machine.now < old.machine.world.spec.length → new ≡ closing (after_quantum old) ordinal
-    → old.machine.world.spec.length ≤ new.machine.now → quanta_left old.machine ≡ 1
+pub one_left : (old new : Told) (ordinal : ℕ) → old.machine.context.now < old.machine.world.spec.length → new ≡ closing (after_quantum old) ordinal
+    → old.machine.world.spec.length ≤ new.machine.context.now → quanta_left old.machine ≡ 1
 one_left old new ordinal left is reached =
-    let time : new.machine.now ≡ old.machine.now + 128 = ap (λ told. told.machine.now) is in
+    let time : new.machine.context.now ≡ old.machine.context.now + 128 = ap (λ told. told.machine.context.now) is in
     omega arith
 
 -- one of more
-pub more_left : (old new : Told) → new ≡ after_quantum old → new.machine.now < new.machine.world.spec.length → quanta_left old.machine ≡ suc (quanta_left new.machine)
+pub more_left : (old new : Told) → new ≡ after_quantum old → new.machine.context.now < new.machine.world.spec.length → quanta_left old.machine ≡ suc (quanta_left new.machine)
 more_left old new is left =
-    let time : new.machine.now ≡ old.machine.now + 128 = ap (λ told. told.machine.now) is in
+    let time : new.machine.context.now ≡ old.machine.context.now + 128 = ap (λ told. told.machine.context.now) is in
     let long : new.machine.world.spec.length ≡ old.machine.world.spec.length = ap (λ told. told.machine.world.spec.length) is in
     omega arith
 

@@ -31,9 +31,9 @@ first_session spec audio view told heard samples valid renders = record {
   heard = heard;
   samples = samples;
   stands = record {
-    time = ap (λ t. t.machine.now) told;
+    time = ap (λ t. t.machine.context.now) told;
     regular = subst (λ (w : World). IsRegular 128 (w ∷ [])) (sym (ap (λ t. t.machine.world) told)) (regular_first 128 spec valid);
-    samples = λ on begun. let none = subst IsSome (ap (λ t. t.machine.started) told) begun in absurd cc;
+    samples = λ on begun. let none = subst IsSome (ap (λ t. t.machine.context.started) told) begun in absurd cc;
     renders = renders;
   };
 }
@@ -44,13 +44,13 @@ empty_tape : (tape : List World) → 0 ≡ 128 * length tape → tape ≡ []
 empty_tape [] none = refl
 empty_tape (w ∷ ws) none = absurd (omega arith)
 
-grown : (old new : Machine) (tape : List World) → Grows old.now old.world new.world → old.now ≡ 128 * length tape → IsRegular 128 (tape ++ old.world ∷ []) → IsRegular 128 (tape ++ new.world ∷ [])
+grown : (old new : Machine) (tape : List World) → Grows old.context.now old.world new.world → old.context.now ≡ 128 * length tape → IsRegular 128 (tape ++ old.world ∷ []) → IsRegular 128 (tape ++ new.world ∷ [])
 grown old new tape grows time regular = regular_grown 128 tape old.world new.world regular (subst (λ n. Grows n old.world new.world) time grows)
 
 -- a call that starts no rendering
-pub Stands-kept : (old new : SessionView) (tape : List World) → new.audio ≡ old.audio → KeepsTime old.told.machine new.told.machine → Grows old.told.machine.now old.told.machine.world new.told.machine.world
+pub Stands-kept : (old new : SessionView) (tape : List World) → new.audio ≡ old.audio → KeepsTime old.told.machine new.told.machine → Grows old.told.machine.context.now old.told.machine.world new.told.machine.world
     → new.samples ≡ old.samples → new.renderer ≡ old.renderer
-    → (IsTrue old.audio → IsSome new.told.machine.started → IsSome old.told.machine.started) → Stands old tape → Stands new tape
+    → (IsTrue old.audio → IsSome new.told.machine.context.started → IsSome old.told.machine.context.started) → Stands old tape → Stands new tape
 Stands-kept old new tape audio kept grows samples renderer started stands = record {
   time = kept.now ∙ stands.time;
   regular = grown old.told.machine new.told.machine tape grows stands.time stands.regular;
@@ -59,8 +59,8 @@ Stands-kept old new tape audio kept grows samples renderer started stands = reco
 }
 
 -- the call that starts the rendering
-pub Stands-begun : (old new : SessionView) (tape : List World) → KeepsTime old.told.machine new.told.machine → Grows old.told.machine.now old.told.machine.world new.told.machine.world
-    → old.told.machine.now ≡ 0 → new.samples ≡ replicate (old.told.machine.world.spec.channels * old.told.machine.world.spec.length) (pos 0) → new.renderer ≡ old.renderer → Stands old tape → Stands new tape
+pub Stands-begun : (old new : SessionView) (tape : List World) → KeepsTime old.told.machine new.told.machine → Grows old.told.machine.context.now old.told.machine.world new.told.machine.world
+    → old.told.machine.context.now ≡ 0 → new.samples ≡ replicate (old.told.machine.world.spec.channels * old.told.machine.world.spec.length) (pos 0) → new.renderer ≡ old.renderer → Stands old tape → Stands new tape
 Stands-begun old new tape kept grows first samples renderer stands =
     let none : tape ≡ [] = empty_tape tape (sym first ∙ stands.time) in
     record {
@@ -100,9 +100,9 @@ samples_more tape worlds w spec old new first same first_is old_is writes some l
     ∙ ap (λ (ws : List World). samples_of ws spec) (longer tape worlds w same)
 
 -- a quantum
-pub Stands-after : (old new : SessionView) (tape : List World) → new.audio ≡ old.audio → new.told.machine.now ≡ old.told.machine.now + 128 → new.told.machine.started ≡ old.told.machine.started
+pub Stands-after : (old new : SessionView) (tape : List World) → new.audio ≡ old.audio → new.told.machine.context.now ≡ old.told.machine.context.now + 128 → new.told.machine.context.started ≡ old.told.machine.context.started
     → IsValid new.told.machine.world → new.told.machine.world.spec ≡ old.told.machine.world.spec → new.told.machine.world.nodes ≡ old.told.machine.world.nodes
-    → (IsTrue old.audio → IsSome old.told.machine.started → new.samples ≡ samples_of (tape ++ old.told.machine.world ∷ []) old.told.machine.world.spec)
+    → (IsTrue old.audio → IsSome old.told.machine.context.started → new.samples ≡ samples_of (tape ++ old.told.machine.world ∷ []) old.told.machine.world.spec)
     → IfSome new.renderer (Renders (tape ++ old.told.machine.world ∷ [])) → Stands old tape → Stands new (tape ++ old.told.machine.world ∷ [])
 Stands-after old new tape audio now started valid spec nodes samples renders stands = record {
   time = let long = length-append tape (old.told.machine.world ∷ []) in let time = stands.time in omega (arith, now, long, time);
@@ -112,9 +112,9 @@ Stands-after old new tape audio now started valid spec nodes samples renders sta
 }
 
 machine_parts : (old new : Machine) (closed : Bool) → new ≡ (if closed then closed_machine (machine_after old) else machine_after old)
-    → (new.now ≡ old.now + 128) × (new.started ≡ old.started) × (new.world ≡ after old.now (old.now + 128) old.world)
-machine_parts old new true is = (ap (λ (m : Machine). m.now) is, ap (λ (m : Machine). m.started) is, ap (λ (m : Machine). m.world) is)
-machine_parts old new false is = (ap (λ (m : Machine). m.now) is, ap (λ (m : Machine). m.started) is, ap (λ (m : Machine). m.world) is)
+    → (new.context.now ≡ old.context.now + 128) × (new.context.started ≡ old.context.started) × (new.world ≡ after old.context.now (old.context.now + 128) old.world)
+machine_parts old new true is = (ap (λ (m : Machine). m.context.now) is, ap (λ (m : Machine). m.context.started) is, ap (λ (m : Machine). m.world) is)
+machine_parts old new false is = (ap (λ (m : Machine). m.context.now) is, ap (λ (m : Machine). m.context.started) is, ap (λ (m : Machine). m.world) is)
 
 where_some : {A : Type 0} (o : Option A) (X : Type 0) → IsTrue (is_some o) → IfSome o (λ _. X) → X
 where_some None X on x = absurd cc
@@ -124,7 +124,7 @@ where_some (Some a) X on x = x
 pub quantum_stands : (old new : SessionView) (tape : List World) (w : World) (closed : Bool) → plain w ≡ old.told.machine.world → old.audio ≡ is_some old.renderer → new.audio ≡ is_some new.renderer → is_some new.renderer ≡ is_some old.renderer
     → new.told.machine ≡ (if closed then closed_machine (machine_after old.told.machine) else machine_after old.told.machine) → IsValid new.told.machine.world
     → (IfSome old.renderer (Renders tape) → IsRegular 128 (tape ++ plain w ∷ []) → IfSome new.renderer (Renders (tape ++ plain w ∷ [])))
-    → (IfSome old.renderer (Renders tape) → IsRegular 128 (tape ++ plain w ∷ []) → old.told.machine.now ≡ 128 * length tape → old.samples ≡ samples_of tape w.spec
+    → (IfSome old.renderer (Renders tape) → IsRegular 128 (tape ++ plain w ∷ []) → old.told.machine.context.now ≡ 128 * length tape → old.samples ≡ samples_of tape w.spec
     → IfSome new.renderer (λ _. new.samples ≡ samples_of (tape ++ plain w ∷ []) w.spec))
     → Stands old tape → Stands new (tape ++ old.told.machine.world ∷ [])
 quantum_stands old new tape w closed world old_audio new_audio audio machine valid renders samples stands =

@@ -19,12 +19,12 @@ use Rattle.session.specs.Step.{is_start, unless, edits, edits_node, edits_nodes,
 module _ (machine : Machine) (call : Call) where
   -- what an operation comes to leaves alone whether rendering was started
   abbrev Leaves : Decided → Type 0
-  Leaves d = (settled machine call d).machine.started ≡ machine.started
+  Leaves d = (settled machine call d).machine.context.started ≡ machine.context.started
 
   unless_leaves : (r : Option Exc) (e : Edit) → Leaves (unless r e)
   unless_leaves None e = by_name (new_name call.op)
     where
-      by_name : (name : Option (List ℕ)) → (with_edit machine e name).started ≡ machine.started
+      by_name : (name : Option (List ℕ)) → (with_edit machine e name).context.started ≡ machine.context.started
       by_name None = refl
       by_name (Some name) = refl
   unless_leaves (Some exception) e = refl
@@ -44,12 +44,12 @@ module _ (machine : Machine) (call : Call) where
   disconnects_leaves from output None input = node_leaves from (λ node. edit.Disconnect node (form_from output))
   disconnects_leaves from output (Some to) input = nodes_leaves from (node_named machine to) (λ node target. edit.Disconnect node (form_to output input target))
 
-  start_starts : (s : Option ℕ) → machine.started ≡ s → is_some (settled machine call (starts s)).machine.started ≡ true
+  start_starts : (s : Option ℕ) → machine.context.started ≡ s → is_some (settled machine call (starts s)).machine.context.started ≡ true
   start_starts None is = refl
   start_starts (Some ordinal) is = rw is refl
 
   -- after a call rendering was started where it was before, or where the call starts it
-  op_starts : (o : Op) → is_some (settled machine call (decided machine o)).machine.started ≡ (is_start o || is_some machine.started)
+  op_starts : (o : Op) → is_some (settled machine call (decided machine o)).machine.context.started ≡ (is_start o || is_some machine.context.started)
   unfolding decided
   op_starts (op.CreateConstantSource name offset) = ap (λ s. is_some s) (edits_leaves (edit.Create (Constant offset)))
   op_starts (op.CreateGain name gain) = ap (λ s. is_some s) (edits_leaves (edit.Create (Gain gain)))
@@ -61,19 +61,19 @@ module _ (machine : Machine) (call : Call) where
   op_starts (op.SetChannelCount node value) = ap (λ s. is_some s) (node_leaves (node_named machine node) (λ changed. edit.SetCount changed value))
   op_starts (op.SetChannelCountMode node value) = ap (λ s. is_some s) (node_leaves (node_named machine node) (λ changed. edit.SetMode changed value))
   op_starts (op.SetChannelInterpretation node value) = ap (λ s. is_some s) (node_leaves (node_named machine node) (λ changed. edit.SetInterp changed value))
-  op_starts op.StartRendering = start_starts machine.started refl
+  op_starts op.StartRendering = start_starts machine.context.started refl
   op_starts op.Resume = refl
   op_starts op.ReadState = refl
   op_starts op.ReadTime = refl
   op_starts other = refl
 
 -- after a list of calls rendering was started where it was before, or where one of them starts it
-pub calls_start : (calls : List Call) (told : Told) → is_some (after_calls told calls).machine.started ≡ (list_any (λ (call : Call). is_start call.op) calls || is_some told.machine.started)
+pub calls_start : (calls : List Call) (told : Told) → is_some (after_calls told calls).machine.context.started ≡ (list_any (λ (call : Call). is_start call.op) calls || is_some told.machine.context.started)
 calls_start [] told = refl
 calls_start (call ∷ calls) told =
     calls_start calls (after_call told call)
     ∙ ap (λ b. list_any (λ (c : Call). is_start c.op) calls || b) (op_starts told.machine call call.op)
-    ∙ turned (list_any (λ (c : Call). is_start c.op) calls) (is_start call.op) (is_some told.machine.started)
+    ∙ turned (list_any (λ (c : Call). is_start c.op) calls) (is_start call.op) (is_some told.machine.context.started)
   where
     turned : (a b d : Bool) → (a || (b || d)) ≡ ((b || a) || d)
     turned true true d = refl

@@ -33,8 +33,8 @@ use Rattle.session.proofs.Named.{All-bound, there_among_more, named_still, named
 
 -- ---- an edit
 
-edited_valid : (m : Machine) (e : Edit) → IsAccepted m e → IsSteady m → IsValid (edited m.world m.now e)
-edited_valid m e accepted steady = (changed_grows m.world (record { time = m.now; edit = e }) steady.valid accepted).valid steady.valid
+edited_valid : (m : Machine) (e : Edit) → IsAccepted m e → IsSteady m → IsValid (edited m.world m.context.now e)
+edited_valid m e accepted steady = (changed_grows m.world (record { time = m.context.now; edit = e }) steady.valid accepted).valid steady.valid
 
 -- a machine whose world changes, but for how many its nodes are, its parameters and whose its schedules are
 pub steady_world : (m : Machine) (w : World) → w.spec ≡ m.world.spec → length w.nodes ≡ length m.world.nodes → w.params.items ≡ m.world.params.items → play_nodes w ≡ play_nodes m.world
@@ -54,10 +54,10 @@ steady_edited m (edit.Create kind) none accepted steady = absurd cc
 steady_edited m (edit.Connect edge) none accepted steady = steady_world m _ refl refl refl refl (edited_valid m (edit.Connect edge) accepted steady) steady
 steady_edited m (edit.Disconnect from form) none accepted steady = steady_world m _ refl refl refl refl (edited_valid m (edit.Disconnect from form) accepted steady) steady
 steady_edited m (edit.Start node when offset duration) none accepted steady =
-    steady_world m _ refl refl refl (changed_nodes node.0 (λ play. rescheduled play (started play.sched m.now when offset duration 0)) (λ p. refl) m.world.scheds.items)
+    steady_world m _ refl refl refl (changed_nodes node.0 (λ play. rescheduled play (started play.sched m.context.now when offset duration 0)) (λ p. refl) m.world.scheds.items)
     (edited_valid m (edit.Start node when offset duration) accepted steady) steady
 steady_edited m (edit.Stop node when) none accepted steady =
-    steady_world m _ refl refl refl (changed_nodes node.0 (λ play. rescheduled play (stopped play.sched m.now when)) (λ p. refl) m.world.scheds.items)
+    steady_world m _ refl refl refl (changed_nodes node.0 (λ play. rescheduled play (stopped play.sched m.context.now when)) (λ p. refl) m.world.scheds.items)
     (edited_valid m (edit.Stop node when) accepted steady) steady
 steady_edited m (edit.SetCount node count) none accepted steady =
     steady_world m _ refl (length-changed node.0 (with_count count) m.world.nodes) refl refl (edited_valid m (edit.SetCount node count) accepted steady) steady
@@ -90,7 +90,7 @@ new_untouched node (Some (name, value)) = All-cons IsUntouched (new_param node n
 steady_created : (m : Machine) (name : List ℕ) (kind : Kind) → IsAccepted m (edit.Create kind) → IsSteady m → IsSteady (with_edit m (edit.Create kind) (Some name))
 steady_created m name kind accepted steady =
     let count = length m.world.nodes in
-    let long = length-append m.world.nodes (node_of kind m.now ∷ []) in
+    let long = length-append m.world.nodes (node_of kind m.context.now ∷ []) in
     let first_names = first_named m.first_names (Node (record { 0 = count })) name in
     record {
       valid = edited_valid m (edit.Create kind) accepted steady;
@@ -114,7 +114,7 @@ steady_named m (edit.SetMode node mode) name new accepted steady = absurd cc
 steady_named m (edit.SetInterp node interp) name new accepted steady = absurd cc
 
 pub named_machine : (m : Machine) (name : List ℕ) (e : Edit) (world : World) (bindings : List (List ℕ × Object)) (first_names : List (ℕ × List ℕ))
-    → world ≡ edited m.world m.now e → bindings ≡ bound m.bindings name (next_node m) → first_names ≡ first_named m.first_names (next_node m) name
+    → world ≡ edited m.world m.context.now e → bindings ≡ bound m.bindings name (next_node m) → first_names ≡ first_named m.first_names (next_node m) name
     → record m { world = world; bindings = bindings; first_names = first_names } ≡ with_edit m e (Some name)
 named_machine m name e world bindings first_names world_is bindings_are names_are =
     λ i. record m { world = world_is i; bindings = bindings_are i; first_names = names_are i }

@@ -9,13 +9,17 @@ use Rattle.meaning.specs.declared.change.Edit.{Edit}
 use Rattle.meaning.specs.declared.world.World.{World}
 use Rattle.meaning.specs.World.{plain}
 
-pub record Machine : Type 0 where
+-- when a session is
+pub record Context : Type 0 where
   pub state : State
   -- the first frame of the next quantum
   pub now : ℕ
   -- the ordinal of the accepted startRendering
   pub started : Option ℕ
-  -- the context, and its nodes and connections
+
+pub record Machine : Type 0 where
+  pub context : Context
+  -- the numbers of the context, its nodes and its connections
   pub world : World
   -- what each name is bound to, and the name under which each node was created
   pub bindings : List (List ℕ × Object)
@@ -24,9 +28,7 @@ pub record Machine : Type 0 where
 -- the machine that a world and a book stand for
 abbrev pub machine_of : State → ℕ → Option ℕ → World → BookView → Machine
 machine_of state now started world book = record {
-  state = state;
-  now = now;
-  started = started;
+  context = record { state = state; now = now; started = started };
   world = plain world;
   bindings = book.bindings;
   first_names = book.first_names;
@@ -42,4 +44,4 @@ IsInState Closed started now length = IsSome started × (length ≤ now)
 
 -- the world accepts an edit now
 abbrev pub IsAccepted : Machine → Edit → Type 0
-IsAccepted machine edit = Accepts machine.world (record { time = machine.now; edit = edit })
+IsAccepted machine edit = Accepts machine.world (record { time = machine.context.now; edit = edit })

@@ -55,13 +55,13 @@ ended_lines names now (play ∷ plays) =
 
 -- the lines that a quantum adds
 abbrev pub lines_after : Machine → List Line
-lines_after machine = ended_lines machine.first_names (machine.now + quantum_of machine.world.spec) machine.world.scheds.items
+lines_after machine = ended_lines machine.first_names (machine.context.now + quantum_of machine.world.spec) machine.world.scheds.items
 
 -- the machine after one render quantum
 abbrev pub machine_after : Machine → Machine
 machine_after machine = record machine {
-  now = machine.now + quantum_of machine.world.spec;
-  world = after machine.now (machine.now + quantum_of machine.world.spec) machine.world;
+  context = record machine.context { now = machine.context.now + quantum_of machine.world.spec };
+  world = after machine.context.now (machine.context.now + quantum_of machine.world.spec) machine.world;
 }
 
 abbrev pub after_quantum : Told → Told
@@ -77,14 +77,14 @@ pub record Played : Type 0 where
 
 -- the context closes, and the promise of startRendering resolves
 abbrev pub closed_machine : Machine → Machine
-closed_machine machine = record machine { state = state.Closed }
+closed_machine machine = record machine { context = record machine.context { state = state.Closed } }
 
 abbrev pub closing : Told → ℕ → Told
 closing told ordinal = record { machine = closed_machine told.machine; lines = told.lines ++ line.Call ordinal Resolved ∷ [] }
 
 -- what a quantum led to: the length is reached, or rendering goes on
 abbrev pub turn_of : Machine → Turn
-turn_of machine = if nat_le machine.world.spec.length machine.now then Done (unwrap_or machine.started 0) else Went
+turn_of machine = if nat_le machine.world.spec.length machine.context.now then Done (unwrap_or machine.context.started 0) else Went
 
 -- ---- the end
 
@@ -102,7 +102,7 @@ end_of state.Closed = Completed
 
 -- the complete event comes last
 abbrev pub lines_at_end : Told → List Line
-lines_at_end told = if has_closed told.machine.state then told.lines ++ line.Complete told.machine.world.spec.length ∷ [] else told.lines
+lines_at_end told = if has_closed told.machine.context.state then told.lines ++ line.Complete told.machine.world.spec.length ∷ [] else told.lines
 
 -- ---- turn by turn
 
@@ -112,7 +112,7 @@ quanta_from frame spec = (spec.length - frame + (quantum_of spec - 1)) / quantum
 
 -- as many quanta as are left
 abbrev pub quanta_left : Machine → ℕ
-quanta_left machine = quanta_from machine.now machine.world.spec
+quanta_left machine = quanta_from machine.context.now machine.world.spec
 
 -- the complete event comes last
 abbrev pub finished : Told → List World → Played
@@ -142,9 +142,7 @@ rendered calls told (Some ordinal) = turns (quanta_left told.machine) calls told
 -- the machine before the first call: the destination is there, and its name needs no binding
 abbrev pub first_machine : ContextSpec → Machine
 first_machine spec = record {
-  state = state.Suspended;
-  now = 0;
-  started = None;
+  context = record { state = state.Suspended; now = 0; started = None };
   world = first_world spec;
   bindings = [];
   first_names = [];
@@ -158,7 +156,7 @@ abbrev pub main_list : List Call → Told → Told
 main_list calls told = after_calls told (held_by 0 calls)
 
 abbrev pub replayed : List Call → Told → Played
-replayed calls told = rendered calls (main_list calls told) (main_list calls told).machine.started
+replayed calls told = rendered calls (main_list calls told) (main_list calls told).machine.context.started
 
 unfoldable pub session_of : Script → Played
 session_of script =

@@ -19,8 +19,8 @@ pub record IsUntouched (p : Param) : Type 0 where
 
 pub record IsSteady (machine : Machine) : Type 0 where
   pub valid : IsValid machine.world
-  pub in_state : IsInState machine.state machine.started machine.now machine.world.spec.length
-  pub time : machine.now ≤ 33554560
+  pub in_state : IsInState machine.context.state machine.context.started machine.context.now machine.world.spec.length
+  pub time : machine.context.now ≤ 33554560
   pub bound : All (λ (b : List ℕ × Object). IsThere (length machine.world.nodes) b.1) machine.bindings
   pub named : All (λ node. IsSome (first_name_of machine.first_names node)) (play_nodes machine.world)
   pub untouched : All IsUntouched machine.world.params.items

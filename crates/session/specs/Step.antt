@@ -107,10 +107,10 @@ decided machine (op.Stop node when) = edits_node machine (node_named machine nod
 decided machine (op.SetChannelCount node value) = edits_node machine (node_named machine node) (λ changed. edit.SetCount changed value)
 decided machine (op.SetChannelCountMode node value) = edits_node machine (node_named machine node) (λ changed. edit.SetMode changed value)
 decided machine (op.SetChannelInterpretation node value) = edits_node machine (node_named machine node) (λ changed. edit.SetInterp changed value)
-decided machine op.StartRendering = starts machine.started
-decided machine op.Resume = comes_to.Answer (resumes machine.state)
-decided machine op.ReadState = comes_to.Answer (answer.State machine.state)
-decided machine op.ReadTime = comes_to.Answer (answer.Time machine.now)
+decided machine op.StartRendering = starts machine.context.started
+decided machine op.Resume = comes_to.Answer (resumes machine.context.state)
+decided machine op.ReadState = comes_to.Answer (answer.State machine.context.state)
+decided machine op.ReadTime = comes_to.Answer (answer.Time machine.context.now)
 decided machine other = refused (NotSupported None)
 
 -- ---- what is done
@@ -129,15 +129,15 @@ next_node machine = object.Node (record { 0 = length machine.world.nodes })
 
 -- the world is edited, and where a name is given it is bound to the new node
 abbrev pub with_edit : Machine → Edit → Option (List ℕ) → Machine
-with_edit machine change None = with_world machine (edited machine.world machine.now change)
+with_edit machine change None = with_world machine (edited machine.world machine.context.now change)
 with_edit machine change (Some name) = record machine {
-  world = edited machine.world machine.now change;
+  world = edited machine.world machine.context.now change;
   bindings = bound machine.bindings name (next_node machine);
   first_names = first_named machine.first_names (next_node machine) name;
 }
 
 abbrev pub with_start : Machine → ℕ → Machine
-with_start machine ordinal = record machine { state = state.Running; started = Some ordinal }
+with_start machine ordinal = record machine { context = record machine.context { state = state.Running; started = Some ordinal } }
 
 -- a call that is only answered leaves the machine as it is, refused or not
 abbrev pub settled : Machine → Call → Decided → Stepped
@@ -157,7 +157,7 @@ is_start other = false
 -- What an operation may come to: only startRendering starts the rendering, and only once; an edit is one that the world accepts, and what it creates gets a name.
 abbrev pub IsFor : Machine → Op → Decided → Type 0
 IsFor machine call (comes_to.Answer said) = Unit {0}
-IsFor machine call comes_to.Start = (is_start call ≡ true) × (machine.started ≡ None)
+IsFor machine call comes_to.Start = (is_start call ≡ true) × (machine.context.started ≡ None)
 IsFor machine call (comes_to.Change change) = IsAccepted machine change × (creates change ≡ is_some (new_name call))
 
 -- the machine and the answer are those of a step
@@ -167,4 +167,4 @@ Steps machine stepped said = (machine ≡ stepped.machine) × (said ≡ stepped.
 -- a call moves neither the context's numbers nor its time
 pub record KeepsTime (old new : Machine) : Type 0 where
   pub spec : new.world.spec ≡ old.world.spec
-  pub now : new.now ≡ old.now
+  pub now : new.context.now ≡ old.context.now

@@ -22,7 +22,7 @@ pub record SessionView : Type 0 where
 
 -- with audio, the samples are there once rendering was started
 abbrev pub HasRoom : Bool → Machine → List ℤ → Type 0
-HasRoom audio machine samples = IsTrue audio → IsSome machine.started → length samples ≡ machine.world.spec.channels * machine.world.spec.length
+HasRoom audio machine samples = IsTrue audio → IsSome machine.context.started → length samples ≡ machine.world.spec.channels * machine.world.spec.length
 
 -- a renderer of a context went through the quanta before a frame
 pub record IsAt (spec : ContextSpec) (now : ℕ) (renderer : RendererView) : Type 0 where
@@ -32,7 +32,7 @@ pub record IsAt (spec : ContextSpec) (now : ℕ) (renderer : RendererView) : Typ
 pub record IsSound (audio : Bool) (machine : Machine) (room : ℕ) (samples : List ℤ) (renderer : Option RendererView) : Type 0 where
   pub line : 1 ≤ room
   pub samples_long : HasRoom audio machine samples
-  pub renderer_at : IfSome renderer (IsAt machine.world.spec machine.now)
+  pub renderer_at : IfSome renderer (IsAt machine.world.spec machine.context.now)
 
 -- ---- the tape
 
@@ -44,9 +44,9 @@ pub record Renders (tape : List World) (renderer : RendererView) : Type 0 where
 
 -- The session stands for a tape: so many quanta were rendered, the machine's world can be the next one, the samples are those of the tape, and the renderer stands for it.
 pub record Stands (view : SessionView) (tape : List World) : Type 0 where
-  pub time : view.told.machine.now ≡ quantum_of view.told.machine.world.spec * length tape
+  pub time : view.told.machine.context.now ≡ quantum_of view.told.machine.world.spec * length tape
   pub regular : IsRegular (quantum_of view.told.machine.world.spec) (tape ++ view.told.machine.world ∷ [])
-  pub samples : IsTrue view.audio → IsSome view.told.machine.started → view.samples ≡ samples_of tape view.told.machine.world.spec
+  pub samples : IsTrue view.audio → IsSome view.told.machine.context.started → view.samples ≡ samples_of tape view.told.machine.world.spec
   pub renders : IfSome view.renderer (Renders tape)
 
 -- a session in which no call came yet

@@ -81,9 +81,9 @@ impl Control {
         requires { IsInRange call.now.op }
         ensures ok { IfOk result (Steps self.new (spec.step self.old call.now)) }
         ensures kept { KeepsTime self.old self.new }
-        ensures grows { Grows self.old.now self.old.world self.new.world }
-        ensures kept_start { spec.is_start call.now.op ≡ false → self.new.started ≡ self.old.started }
-        ensures started { spec.is_start call.now.op ≡ true → OnOk result (IsSome self.new.started) }
+        ensures grows { Grows self.old.context.now self.old.world self.new.world }
+        ensures kept_start { spec.is_start call.now.op ≡ false → self.new.context.started ≡ self.old.context.started }
+        ensures started { spec.is_start call.now.op ≡ true → OnOk result (IsSome self.new.context.started) }
         ensures err { OnErr result (self.new ≡ self.old) }
     {
         let decided = self.decide(&call.op);
@@ -249,7 +249,7 @@ impl Control {
     }
 
     fn resume(&self) -> Answer
-        ensures { result ≡ spec.resumes self.now.state }
+        ensures { result ≡ spec.resumes self.now.context.state }
     {
         match self.state {
             State::Running => Answer::Resolved,
@@ -316,7 +316,7 @@ impl Control {
 
     // Starts the rendering.
     fn start(&mut self, ordinal: u32)
-        requires { self.old.started ≡ None }
+        requires { self.old.context.started ≡ None }
         ensures { self.new ≡ spec.with_start self.old ordinal }
     {
         self.state = State::Running;
@@ -328,14 +328,14 @@ impl Control {
 impl Control {
     /// The state of the context.
     pub fn state(&self) -> State
-        ensures { result ≡ self.now.state }
+        ensures { result ≡ self.now.context.state }
     {
         self.state
     }
 
     /// The first frame of the next quantum.
     pub fn now(&self) -> u64
-        ensures now { result ≡ self.now.now }
+        ensures now { result ≡ self.now.context.now }
         ensures short { result ≤ 33554560 }
     {
         self.time
@@ -359,8 +359,8 @@ impl Control {
 
     /// The ordinal of the accepted startRendering.
     pub fn started(&self) -> Option<u32>
-        ensures started { result ≡ self.now.started }
-        ensures state { IsInState self.now.state self.now.started self.now.now self.now.world.spec.length }
+        ensures started { result ≡ self.now.context.started }
+        ensures state { IsInState self.now.context.state self.now.context.started self.now.context.now self.now.world.spec.length }
         ensures supported { IsSupported self.now.world.spec }
     {
         self.started
@@ -368,7 +368,7 @@ impl Control {
 
     /// The lines of the sources that end in the next quantum, in order of node number.
     pub fn lines_of_quantum(&self, alloc: Global) -> Result<Vec<Line>, NoMemory>
-        requires { self.now.state ≡ State.Running }
+        requires { self.now.context.state ≡ State.Running }
         ensures { IfOk result (λ lines. lines.items ≡ lines_after self.now) }
     {
         ended_lines(
@@ -384,8 +384,8 @@ impl Control {
     ///
     /// The current value of a parameter without events is its creation value in each quantum.
     pub fn end_quantum(&mut self) -> bool
-        requires { self.old.state ≡ State.Running }
-        ensures closes { result ≡ nat_le self.old.world.spec.length (self.old.now + quantum_of self.old.world.spec) }
+        requires { self.old.context.state ≡ State.Running }
+        ensures closes { result ≡ nat_le self.old.world.spec.length (self.old.context.now + quantum_of self.old.world.spec) }
         ensures machine { self.new ≡ (if result then closed_machine (machine_after self.old) else machine_after self.old) }
         ensures valid { IsValid self.new.world }
     {

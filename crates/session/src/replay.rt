@@ -83,7 +83,7 @@ fn replayed<F: Files>(mut session: Session, calls: &[Call], files: &mut F) -> Re
 #[tactic(auto, unfolding(crate::specs::Rendering::rendering_of))]
 fn go_on<F: Files>(mut session: Session, calls: &[Call], files: &mut F) -> Result<Outcome, Stop>
     requires calls { AreCallsAfter 0 calls.now }
-    requires running { session.told.machine.state ≡ State.Running }
+    requires running { session.told.machine.context.state ≡ State.Running }
     requires context { IsSupported session.told.machine.world.spec }
     requires fresh { Stands session [] }
     ensures lines { IfOk result (λ outcome. outcome.lines.items ≡ (turns_of session calls.now).lines) }
@@ -117,7 +117,7 @@ fn call_list<F: Files>(
     ensures told { OnOk result (session.new.told ≡ after_calls session.old.told (held_by holder calls.now)) }
     ensures audio { session.new.audio ≡ session.old.audio }
     ensures kept { KeepsTime session.old.told.machine session.new.told.machine }
-    ensures started { IsSome session.old.told.machine.started → IsSome session.new.told.machine.started }
+    ensures started { IsSome session.old.told.machine.context.started → IsSome session.new.told.machine.context.started }
     ensures stands { (tape : List World) → Stands session.old tape → Stands session.new tape }
     ensures tells { F.tells files.new ≡ F.tells files.old }
     ensures paths { F.paths files.new ≡ F.paths files.old }

@@ -115,7 +115,7 @@ impl Session {
         ensures told { OnOk result (self.new.told ≡ after_call self.old.told call.now) }
         ensures audio { self.new.audio ≡ self.old.audio }
         ensures kept { KeepsTime self.old.told.machine self.new.told.machine }
-        ensures started { IsSome self.old.told.machine.started → IsSome self.new.told.machine.started }
+        ensures started { IsSome self.old.told.machine.context.started → IsSome self.new.told.machine.context.started }
         ensures stands { (tape : List World) → Stands self.old tape → Stands self.new tape }
         ensures err { OnErr result (self.new ≡ self.old) }
         ensures tells { F.tells _files.new ≡ F.tells _files.old }
@@ -135,15 +135,15 @@ impl Session {
 
     /// Renders one quantum, and closes the context where its length is reached.
     pub fn advance(&mut self) -> Result<Turn, NoMemory>
-        requires { self.old.told.machine.state ≡ State.Running }
+        requires { self.old.told.machine.context.state ≡ State.Running }
         ensures turn { IfOk result (λ turn. turn ≡ turn_of (machine_after self.old.told.machine)) }
-        ensures left { IfOk result (λ _. self.old.told.machine.now < self.old.told.machine.world.spec.length) }
+        ensures left { IfOk result (λ _. self.old.told.machine.context.now < self.old.told.machine.world.spec.length) }
         ensures went { IfOk result (λ turn. turn ≡ Turn.Went
-            → (self.new.told ≡ after_quantum self.old.told) × (self.new.told.machine.state ≡ State.Running)
-            × (self.new.told.machine.now < self.new.told.machine.world.spec.length)) }
+            → (self.new.told ≡ after_quantum self.old.told) × (self.new.told.machine.context.state ≡ State.Running)
+            × (self.new.told.machine.context.now < self.new.told.machine.world.spec.length)) }
         ensures done { IfOk result (λ turn. (ordinal : ℕ) → turn ≡ Turn.Done ordinal
-            → (self.old.told.machine.started ≡ Some ordinal) × (self.new.told ≡ closing (after_quantum self.old.told) ordinal)
-            × (self.old.told.machine.world.spec.length ≤ self.new.told.machine.now)) }
+            → (self.old.told.machine.context.started ≡ Some ordinal) × (self.new.told ≡ closing (after_quantum self.old.told) ordinal)
+            × (self.old.told.machine.world.spec.length ≤ self.new.told.machine.context.now)) }
         ensures audio { self.new.audio ≡ self.old.audio }
         ensures stands { (tape : List World) → Stands self.old tape → OnOk result (Stands self.new (tape ++ self.old.told.machine.world ∷ [])) }
         ensures err { OnErr result (IsAsBefore self.old self.new) }
@@ -169,8 +169,8 @@ impl Session {
 
     // The samples that an operation starts to render, all zeros.
     fn samples_for(&self, op: &Op) -> Result<Option<Vec<Fix>>, NoMemory>
-        ensures some { IfOk result (λ samples. IsSome samples ↔ (IsTrue self.now.audio × IsNone self.now.told.machine.started × (is_start op.now ≡ true))) }
-        ensures at_start { IfOk result (λ samples. IsSome samples → self.now.told.machine.now ≡ 0) }
+        ensures some { IfOk result (λ samples. IsSome samples ↔ (IsTrue self.now.audio × IsNone self.now.told.machine.context.started × (is_start op.now ≡ true))) }
+        ensures at_start { IfOk result (λ samples. IsSome samples → self.now.told.machine.context.now ≡ 0) }
         ensures zeros { IfOk result (λ samples. IfSome samples (λ v. v.items ≡ replicate (self.now.told.machine.world.spec.channels * self.now.told.machine.world.spec.length) (pos 0))) }
     {
         if self.renderer.is_none()
@@ -186,8 +186,8 @@ impl Session {
 
     /// The ordinal of the accepted startRendering.
     pub fn started(&self) -> Option<u32>
-        ensures started { result ≡ self.now.told.machine.started }
-        ensures state { IsInState self.now.told.machine.state self.now.told.machine.started self.now.told.machine.now self.now.told.machine.world.spec.length }
+        ensures started { result ≡ self.now.told.machine.context.started }
+        ensures state { IsInState self.now.told.machine.context.state self.now.told.machine.context.started self.now.told.machine.context.now self.now.told.machine.world.spec.length }
         ensures supported { IsSupported self.now.told.machine.world.spec }
     {
         self.control.started()
@@ -196,10 +196,10 @@ impl Session {
     /// The outcome of a session as it stands. Where its context closed, the line of the complete
     /// event comes last, and with audio the samples are handed over.
     pub fn finish(self) -> Outcome
-        requires { self.told.machine.state ≡ State.Running → ⊥ }
+        requires { self.told.machine.context.state ≡ State.Running → ⊥ }
         ensures lines { result.lines.items ≡ lines_at_end self.told }
-        ensures end { result.end ≡ end_of self.told.machine.state }
-        ensures rendered { result.rendered ≡ (if self.audio && has_closed self.told.machine.state then Some (record { spec = self.told.machine.world.spec; samples = self.samples }) else None) }
+        ensures end { result.end ≡ end_of self.told.machine.context.state }
+        ensures rendered { result.rendered ≡ (if self.audio && has_closed self.told.machine.context.state then Some (record { spec = self.told.machine.world.spec; samples = self.samples }) else None) }
     {
         match self.control.state() {
             State::Closed => self.completed(),
@@ -243,7 +243,7 @@ impl Session {
 
     /// The state of the context.
     pub fn state(&self) -> State
-        ensures { result ≡ self.now.told.machine.state }
+        ensures { result ≡ self.now.told.machine.context.state }
     {
         self.control.state()
     }

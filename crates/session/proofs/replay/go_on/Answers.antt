@@ -58,7 +58,7 @@ returns-in-Done-clause-rendered g c =
     let before = c.loop-session.session.told in
     let done = c.in_ok-advance.ensures.done c.in-Done.ordinal c.in-Done.is in
     let inv = c.loop-session.invariant in
-    let begun : IsSome c.advance.new.self.told.machine.started = rw done.1 (rw done.0 refl) in
+    let begun : IsSome c.advance.new.self.told.machine.context.started = rw done.1 (rw done.0 refl) in
     rw (ended g c) (rendered_is c.call_list.new.session (inv.1.0 ++ before.machine.world ∷ []) c.args.session.audio c.args.session.told.machine.world.spec (ends c.args.calls.now (after_quantum before) c.in-Done.ordinal) c.completed.result.rendered
     (c.call_list.ensures.audio ∙ c.in_ok-advance.ensures.audio ∙ inv.3) (spec_is g c) (c.call_list.ensures.stands _ (c.in_ok-advance.ensures.stands inv.1.0 inv.1.1)) (c.call_list.ensures.started begun) c.completed.ensures.rendered)
 

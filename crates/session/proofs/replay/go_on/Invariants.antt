@@ -6,7 +6,7 @@ use Rattle.meaning.specs.declared.world.World.{World}
 use Rattle.session.proofs.replay.go_on.Given as goal
 
 abbrev pub invariant-loop-session : goal.invariant-loop-session
-invariant-loop-session g l = (l.session.told.machine.state ≡ state.Running)
+invariant-loop-session g l = (l.session.told.machine.context.state ≡ state.Running)
     × ((tape : List World) × Stands l.session tape × (turns (quanta_left l.session.told.machine) l.calls l.session.told tape ≡ turns_of l.fn.session l.fn.calls))
     × (l.session.told.machine.world.spec ≡ l.fn.session.told.machine.world.spec)
     × (l.session.audio ≡ l.fn.session.audio)
@@ -15,4 +15,4 @@ invariant-loop-session g l = (l.session.told.machine.state ≡ state.Running)
     × (g.F.Files.write_faults l.files ≡ g.F.Files.write_faults l.fn.files)
 
 abbrev pub decreases-loop-session : goal.decreases-loop-session
-decreases-loop-session g l = l.session.told.machine.world.spec.length - l.session.told.machine.now
+decreases-loop-session g l = l.session.told.machine.world.spec.length - l.session.told.machine.context.now
