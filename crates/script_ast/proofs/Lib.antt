@@ -1,3 +1,4 @@
 mod Constants
 mod HolderRows
 pub mod Nesting
+mod WordRows

@@ -64,6 +64,24 @@ disconnect =
     row field.To kind.Name Null ∷
     row field.Input kind.Count Null ∷ []
 
+-- `setChannelCount`
+abbrev pub set_channel_count : List Row
+set_channel_count =
+    row field.Node kind.Name Needed ∷
+    row field.Value kind.Count Needed ∷ []
+
+-- `setChannelCountMode`
+abbrev pub set_channel_count_mode : List Row
+set_channel_count_mode =
+    row field.Node kind.Name Needed ∷
+    row field.Value kind.Mode Needed ∷ []
+
+-- `setChannelInterpretation`
+abbrev pub set_channel_interpretation : List Row
+set_channel_interpretation =
+    row field.Node kind.Name Needed ∷
+    row field.Value kind.Interp Needed ∷ []
+
 -- `start`
 abbrev pub start : List Row
 start =

@@ -4,3 +4,4 @@ pub mod Holders
 pub mod OpNames
 pub mod Ranges
 pub mod WellFormed
+pub mod Words

@@ -10,7 +10,7 @@ use Rattle.script_ast.specs.declared.entries.Row.{Row}
 use Rattle.script_ast.specs.declared.op_names.LeftOutName.{LeftOutName}
 use Rattle.script_ast.specs.declared.op_names.LeftOutName.TheVariants as left_out
 use Rattle.script_ast.specs.declared.op_names.OpName.{OpName}
-use Rattle.script_ast.specs.declared.op_names.OpName.TheVariants.{CreateConstantSource, CreateGain, Connect, Disconnect, Start, Stop, StartRendering, Resume, ReadState, ReadTime, LeftOut}
+use Rattle.script_ast.specs.declared.op_names.OpName.TheVariants.{CreateConstantSource, CreateGain, Connect, Disconnect, SetChannelCount, SetChannelCountMode, SetChannelInterpretation, Start, Stop, StartRendering, Resume, ReadState, ReadTime, LeftOut}
 
 -- the `op` of an operation that the profile leaves out
 abbrev pub left_out_word : LeftOutName → List ℕ
@@ -54,6 +54,9 @@ op_word CreateConstantSource = codes "createConstantSource"
 op_word CreateGain = codes "createGain"
 op_word Connect = codes "connect"
 op_word Disconnect = codes "disconnect"
+op_word SetChannelCount = codes "setChannelCount"
+op_word SetChannelCountMode = codes "setChannelCountMode"
+op_word SetChannelInterpretation = codes "setChannelInterpretation"
 op_word Start = codes "start"
 op_word Stop = codes "stop"
 op_word StartRendering = codes "startRendering"
@@ -69,6 +72,9 @@ operations =
     CreateGain ∷
     Connect ∷
     Disconnect ∷
+    SetChannelCount ∷
+    SetChannelCountMode ∷
+    SetChannelInterpretation ∷
     Start ∷
     Stop ∷
     StartRendering ∷
@@ -105,6 +111,9 @@ fields_of CreateConstantSource = entry.create_constant_source
 fields_of CreateGain = entry.create_gain
 fields_of Connect = entry.connect
 fields_of Disconnect = entry.disconnect
+fields_of SetChannelCount = entry.set_channel_count
+fields_of SetChannelCountMode = entry.set_channel_count_mode
+fields_of SetChannelInterpretation = entry.set_channel_interpretation
 fields_of Start = entry.start
 fields_of Stop = entry.stop
 fields_of StartRendering = entry.start_rendering
@@ -121,6 +130,8 @@ is_calls kind.Count = false
 is_calls kind.Version = false
 is_calls kind.Name = false
 is_calls kind.NewName = false
+is_calls kind.Mode = false
+is_calls kind.Interp = false
 is_calls kind.Calls = true
 is_calls kind.Object = false
 

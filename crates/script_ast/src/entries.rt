@@ -18,6 +18,10 @@ pub enum Kind {
     Name,
     /// A string that an object may be given as its name.
     NewName,
+    /// The word of a ChannelCountMode.
+    Mode,
+    /// The word of a ChannelInterpretation.
+    Interp,
     /// An array.
     Calls,
     /// An object.
@@ -97,6 +101,15 @@ pub const DISCONNECT: [Row; 4] = [
     row!(Output, Count, Null),
     row!(To, Name, Null),
     row!(Input, Count, Null),
+];
+
+pub const SET_CHANNEL_COUNT: [Row; 2] = [row!(Node, Name, Needed), row!(Value, Count, Needed)];
+
+pub const SET_CHANNEL_COUNT_MODE: [Row; 2] = [row!(Node, Name, Needed), row!(Value, Mode, Needed)];
+
+pub const SET_CHANNEL_INTERPRETATION: [Row; 2] = [
+    row!(Node, Name, Needed),
+    row!(Value, Interp, Needed),
 ];
 
 pub const START: [Row; 4] = [

@@ -8,6 +8,7 @@ mod fields;
 mod op_names;
 mod operations;
 mod paths;
+mod words;
 
 pub use call_list::{Call, Calls, Script};
 pub use clocks::Clock;
@@ -16,3 +17,4 @@ pub use fields::Field;
 pub use op_names::{LeftOutName, OP_NAMES, OpName, is_built};
 pub use operations::{Op, Oversample};
 pub use paths::Path;
+pub use words::{interp_named, mode_named};

@@ -2,8 +2,8 @@ ghost use Rattle.std.specs.Prelude.{◌≡◌, Some, IsTrue, ◌↔◌, IsSome, 
 ghost use Rattle.script_ast.specs.OpNames.{left_out_word, left_out_feature, op_word, op_named, first_named, fields_of, has_calls};
 
 use crate::entries::{
-    CONNECT, CREATE_CONSTANT_SOURCE, CREATE_GAIN, DISCONNECT, Kind, Row, START, START_RENDERING,
-    STOP,
+    CONNECT, CREATE_CONSTANT_SOURCE, CREATE_GAIN, DISCONNECT, Kind, Row, SET_CHANNEL_COUNT,
+    SET_CHANNEL_COUNT_MODE, SET_CHANNEL_INTERPRETATION, START, START_RENDERING, STOP,
 };
 use wa_base::Feature;
 
@@ -84,6 +84,9 @@ pub enum OpName {
     CreateGain,
     Connect,
     Disconnect,
+    SetChannelCount,
+    SetChannelCountMode,
+    SetChannelInterpretation,
     Start,
     Stop,
     StartRendering,
@@ -94,11 +97,14 @@ pub enum OpName {
 }
 
 /// Every operation.
-pub const OP_NAMES: [OpName; 25] = [
+pub const OP_NAMES: [OpName; 28] = [
     OpName::CreateConstantSource,
     OpName::CreateGain,
     OpName::Connect,
     OpName::Disconnect,
+    OpName::SetChannelCount,
+    OpName::SetChannelCountMode,
+    OpName::SetChannelInterpretation,
     OpName::Start,
     OpName::Stop,
     OpName::StartRendering,
@@ -134,6 +140,9 @@ impl OpName {
             OpName::CreateGain => "createGain",
             OpName::Connect => "connect",
             OpName::Disconnect => "disconnect",
+            OpName::SetChannelCount => "setChannelCount",
+            OpName::SetChannelCountMode => "setChannelCountMode",
+            OpName::SetChannelInterpretation => "setChannelInterpretation",
             OpName::Start => "start",
             OpName::Stop => "stop",
             OpName::StartRendering => "startRendering",
@@ -167,6 +176,9 @@ impl OpName {
             OpName::CreateGain => &CREATE_GAIN,
             OpName::Connect => &CONNECT,
             OpName::Disconnect => &DISCONNECT,
+            OpName::SetChannelCount => &SET_CHANNEL_COUNT,
+            OpName::SetChannelCountMode => &SET_CHANNEL_COUNT_MODE,
+            OpName::SetChannelInterpretation => &SET_CHANNEL_INTERPRETATION,
             OpName::Start => &START,
             OpName::Stop => &STOP,
             OpName::StartRendering => &START_RENDERING,

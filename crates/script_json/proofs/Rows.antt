@@ -3,11 +3,14 @@ use Rattle.std.specs.Prelude.{◌≡◌, codes, Ok, Err, Some, None, pos, refl, 
 use Rattle.serde_json.proofs.OnLiterals.{serde_json_on_literals}
 use Rattle.serde_json.specs.Read.{read}
 use Rattle.script_ast.specs.OpNames.{op_named}
+use Rattle.wa_base.specs.declared.graph_names.Mode.TheVariants.{ClampedMax}
+use Rattle.wa_base.specs.declared.graph_names.Interp.TheVariants.{Discrete}
 use Rattle.script_ast.specs.Ranges.{is_new_name}
+use Rattle.script_ast.specs.Words.{mode_named, interp_named}
 use Rattle.script_ast.specs.declared.fields.Field.TheVariants as field
 use Rattle.script_ast.specs.declared.operations.Op.TheVariants as op
 use Rattle.script_json.specs.Calls.{placed, call_faults, call_of}
-use Rattle.script_json.specs.Fields.{number_in, text_in, time_or_null_in, count_or_null_in, text_or_null_in}
+use Rattle.script_json.specs.Fields.{number_in, text_in, time_or_null_in, count_or_null_in, text_or_null_in, mode_in, interp_in}
 use Rattle.script_json.specs.Script.{context_in, main_list, calls_of, head_faults, script_faults, script_in, script_or_fault}
 use Rattle.script_json.specs.declared.faults.ScriptErr.TheVariants.{BadJson, MissingField, WrongKind, UnknownOp, OutOfRange}
 
@@ -68,3 +71,25 @@ input_without_output = refl
 field_first : script_or_fault (read (codes "{\"version\":1,\"context\":{\"channels\":1,\"length\":1,\"rate\":1},\"calls\":[{\"op\":\"disconnect\",\"from\":\"a\",\"input\":-1}]}")) ≡ Err (OutOfRange 1 field.Input)
 unfolding serde_json_on_literals context_in main_list calls_of head_faults script_faults placed call_faults op_named
 field_first = refl
+
+-- the words of a mode, and of an interpretation
+mode_set : script_or_fault (read (codes "{\"version\":1,\"context\":{\"channels\":1,\"length\":1,\"rate\":1},\"calls\":[{\"op\":\"setChannelCountMode\",\"node\":\"a\",\"value\":\"clamped-max\"}]}")) ≡ Ok (record { context = record { channels = 1; length = 1; rate = 1 }; calls = record { ordinal = 1; holder = 0; op = op.SetChannelCountMode (codes "a") ClampedMax } ∷ [] })
+unfolding serde_json_on_literals context_in main_list calls_of head_faults script_faults script_in placed call_faults call_of op_named mode_named number_in text_in mode_in
+mode_set = refl
+
+interp_set : script_or_fault (read (codes "{\"version\":1,\"context\":{\"channels\":1,\"length\":1,\"rate\":1},\"calls\":[{\"op\":\"setChannelInterpretation\",\"node\":\"a\",\"value\":\"discrete\"}]}")) ≡ Ok (record { context = record { channels = 1; length = 1; rate = 1 }; calls = record { ordinal = 1; holder = 0; op = op.SetChannelInterpretation (codes "a") Discrete } ∷ [] })
+unfolding serde_json_on_literals context_in main_list calls_of head_faults script_faults script_in placed call_faults call_of op_named interp_named number_in text_in interp_in
+interp_set = refl
+
+-- a word of no list is out of range, one in capitals too, and what is no text is of another kind
+mode_in_capitals : script_or_fault (read (codes "{\"version\":1,\"context\":{\"channels\":1,\"length\":1,\"rate\":1},\"calls\":[{\"op\":\"setChannelCountMode\",\"node\":\"a\",\"value\":\"Max\"}]}")) ≡ Err (OutOfRange 1 field.Value)
+unfolding serde_json_on_literals context_in main_list calls_of head_faults script_faults placed call_faults op_named mode_named
+mode_in_capitals = refl
+
+mode_as_interp : script_or_fault (read (codes "{\"version\":1,\"context\":{\"channels\":1,\"length\":1,\"rate\":1},\"calls\":[{\"op\":\"setChannelInterpretation\",\"node\":\"a\",\"value\":\"max\"}]}")) ≡ Err (OutOfRange 1 field.Value)
+unfolding serde_json_on_literals context_in main_list calls_of head_faults script_faults placed call_faults op_named interp_named
+mode_as_interp = refl
+
+mode_is_null : script_or_fault (read (codes "{\"version\":1,\"context\":{\"channels\":1,\"length\":1,\"rate\":1},\"calls\":[{\"op\":\"setChannelCountMode\",\"node\":\"a\",\"value\":null}]}")) ≡ Err (WrongKind 1 field.Value)
+unfolding serde_json_on_literals context_in main_list calls_of head_faults script_faults placed call_faults op_named mode_named
+mode_is_null = refl

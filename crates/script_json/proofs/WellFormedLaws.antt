@@ -22,7 +22,7 @@ use Rattle.script_ast.specs.declared.entries.Row.{Row}
 use Rattle.script_ast.specs.declared.fields.Field.{Field}
 use Rattle.script_ast.specs.declared.fields.Field.TheVariants as field
 use Rattle.script_ast.specs.declared.op_names.OpName.{OpName}
-use Rattle.script_ast.specs.declared.op_names.OpName.TheVariants.{CreateConstantSource, CreateGain, Connect, Disconnect, Start, Stop, StartRendering, Resume, ReadState, ReadTime, LeftOut}
+use Rattle.script_ast.specs.declared.op_names.OpName.TheVariants.{CreateConstantSource, CreateGain, Connect, Disconnect, SetChannelCount, SetChannelCountMode, SetChannelInterpretation, Start, Stop, StartRendering, Resume, ReadState, ReadTime, LeftOut}
 use Rattle.script_json.proofs.CallSteps.{both_none, length-calls, outcome_ok}
 use Rattle.script_json.proofs.FormLaws.{disconnect_form}
 use Rattle.script_json.proofs.PlacedLaws.{placed_all}
@@ -124,6 +124,9 @@ op_in-range clock n d Connect h = (count_in-range _ _ d, count_in-range _ _ d)
 op_in-range clock n d Disconnect h =
     let e = both_none _ _ h in
     (count_or_null_in-range _ d, count_or_null_in-range _ d, disconnect_form clock n d e.0 e.1)
+op_in-range clock n d SetChannelCount h = count_in-range _ _ d
+op_in-range clock n d SetChannelCountMode h = tt
+op_in-range clock n d SetChannelInterpretation h = tt
 op_in-range clock n d Start h = (time_in-range clock _ _ d, time_in-range clock _ _ d, time_or_null_in-range clock _ d)
 op_in-range clock n d Stop h = time_in-range clock _ _ d
 op_in-range clock n d StartRendering h = tt

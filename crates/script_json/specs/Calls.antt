@@ -9,10 +9,10 @@ use Rattle.script_ast.specs.declared.call_list.Call.{Call}
 use Rattle.script_ast.specs.declared.clocks.Clock.{Clock}
 use Rattle.script_ast.specs.declared.fields.Field.TheVariants as field
 use Rattle.script_ast.specs.declared.op_names.OpName.{OpName}
-use Rattle.script_ast.specs.declared.op_names.OpName.TheVariants.{CreateConstantSource, CreateGain, Connect, Disconnect, Start, Stop, StartRendering, Resume, ReadState, ReadTime, LeftOut}
+use Rattle.script_ast.specs.declared.op_names.OpName.TheVariants.{CreateConstantSource, CreateGain, Connect, Disconnect, SetChannelCount, SetChannelCountMode, SetChannelInterpretation, Start, Stop, StartRendering, Resume, ReadState, ReadTime, LeftOut}
 use Rattle.script_ast.specs.declared.operations.Op.{Op}
 use Rattle.script_ast.specs.declared.operations.Op.TheVariants as op
-use Rattle.script_json.specs.Fields.{is_there, fields_faults, lack_faults, text_in, text_or_null_in, fix_in, time_in, time_or_null_in, count_in, count_or_null_in}
+use Rattle.script_json.specs.Fields.{is_there, fields_faults, lack_faults, text_in, text_or_null_in, fix_in, time_in, time_or_null_in, count_in, count_or_null_in, mode_in, interp_in}
 use Rattle.script_json.specs.declared.faults.ScriptErr.{ScriptErr}
 use Rattle.script_json.specs.declared.faults.ScriptErr.TheVariants.{WrongKind, UnknownOp}
 
@@ -90,6 +90,9 @@ op_in clock CreateConstantSource d = op.CreateConstantSource (text_in field.As d
 op_in clock CreateGain d = op.CreateGain (text_in field.As d) (fix_in entry.create_gain field.Gain d)
 op_in clock Connect d = op.Connect (text_in field.From d) (count_in entry.connect field.Output d) (text_in field.To d) (count_in entry.connect field.Input d)
 op_in clock Disconnect d = op.Disconnect (text_in field.From d) (count_or_null_in field.Output d) (text_or_null_in field.To d) (count_or_null_in field.Input d)
+op_in clock SetChannelCount d = op.SetChannelCount (text_in field.Node d) (count_in entry.set_channel_count field.Value d)
+op_in clock SetChannelCountMode d = op.SetChannelCountMode (text_in field.Node d) (mode_in field.Value d)
+op_in clock SetChannelInterpretation d = op.SetChannelInterpretation (text_in field.Node d) (interp_in field.Value d)
 op_in clock Start d = op.Start (text_in field.Node d) (time_in clock entry.start field.When d) (time_in clock entry.start field.Offset d) (time_or_null_in clock field.Duration d)
 op_in clock Stop d = op.Stop (text_in field.Node d) (time_in clock entry.stop field.When d)
 op_in clock StartRendering d = op.StartRendering

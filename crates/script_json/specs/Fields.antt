@@ -2,6 +2,10 @@
 use Rattle.std.specs.Prelude.{ℕ, List, [], ◌∷◌, flat_map, Bool, true, false, not, ◌&&◌, if◌then◌else◌, ℤ, pos, neg_ℤ, nat_abs, Option, Some, None, option_and_then, option_map, unwrap_or, is_some}
 use Rattle.serde_json.specs.Data.{Data, Items, no_items}
 use Rattle.serde_json.specs.Find.{get, as_array, as_null, as_str}
+use Rattle.wa_base.specs.declared.graph_names.Mode.{Mode}
+use Rattle.wa_base.specs.declared.graph_names.Mode.TheVariants.{Max}
+use Rattle.wa_base.specs.declared.graph_names.Interp.{Interp}
+use Rattle.wa_base.specs.declared.graph_names.Interp.TheVariants.{Speakers}
 use Rattle.script_ast.specs.Entries.{fallback_in}
 use Rattle.script_ast.specs.declared.clocks.Clock.{Clock}
 use Rattle.script_ast.specs.declared.entries.Row.{Row}
@@ -9,6 +13,7 @@ use Rattle.script_ast.specs.declared.entries.Fallback.{Fallback}
 use Rattle.script_ast.specs.declared.entries.Fallback.TheVariants.{Needed, Null, Number, Count, NoCalls}
 use Rattle.script_ast.specs.declared.fields.Field.{Field}
 use Rattle.script_ast.specs.Fields.{field_word}
+use Rattle.script_ast.specs.Words.{mode_named, interp_named}
 use Rattle.script_json.specs.Values.{whole, frames, is_within, cause_of}
 use Rattle.script_json.specs.declared.faults.ScriptErr.{ScriptErr}
 use Rattle.script_json.specs.declared.faults.ScriptErr.TheVariants as fault
@@ -69,7 +74,7 @@ fields_faults clock n d rows = flat_map (field_faults clock n d) rows
 abbrev pub lack_faults : ℕ → Data → Field → List ScriptErr
 lack_faults n d field = if is_there field d then [] else fault.MissingField n field ∷ []
 
--- ---- values: of a field without a fault. Where it has one they are 0, empty or none, and nothing stands on them
+-- ---- values: of a field without a fault. Where it has one they are 0, empty, none or the first word of a list, and nothing stands on them
 
 -- the default that is a number
 abbrev pub default_number : Fallback → Option ℤ
@@ -124,3 +129,11 @@ text_in field d = unwrap_or (option_and_then as_str (member_at field d)) []
 -- the text of a field that may be null; none where it is null or absent
 unfoldable pub text_or_null_in : Field → Data → Option (List ℕ)
 text_or_null_in field d = option_and_then as_str (member_at field d)
+
+-- the ChannelCountMode of a field
+unfoldable pub mode_in : Field → Data → Mode
+mode_in field d = unwrap_or (option_and_then mode_named (option_and_then as_str (member_at field d))) Max
+
+-- the ChannelInterpretation of a field
+unfoldable pub interp_in : Field → Data → Interp
+interp_in field d = unwrap_or (option_and_then interp_named (option_and_then as_str (member_at field d))) Speakers

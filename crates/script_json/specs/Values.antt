@@ -1,5 +1,5 @@
 -- The kinds of fields: which JSON values each takes, and why it takes no other.
-use Rattle.std.specs.Prelude.{ℕ, List, Bool, ◌&&◌, if◌then◌else◌, ℤ, pos, neg_ℤ, int_le, Option, Some, None, option_and_then, is_some}
+use Rattle.std.specs.Prelude.{ℕ, List, Bool, ◌&&◌, if◌then◌else◌, ℤ, pos, neg_ℤ, int_le, Option, Some, None, option_and_then, option_map, is_some}
 use Rattle.serde_json.specs.Data.{Data}
 use Rattle.serde_json.specs.Find.{as_integer, as_number, as_str, as_array, as_object}
 use Rattle.script_ast.specs.declared.clocks.Clock.{Clock}
@@ -7,6 +7,7 @@ use Rattle.script_ast.specs.declared.clocks.Clock.TheVariants.{Frames}
 use Rattle.script_ast.specs.declared.entries.Kind.{Kind}
 use Rattle.script_ast.specs.declared.entries.Kind.TheVariants as kind
 use Rattle.script_ast.specs.Ranges.{is_new_name}
+use Rattle.script_ast.specs.Words.{mode_named, interp_named}
 use Rattle.script_json.specs.declared.values.Cause.{Cause}
 use Rattle.script_json.specs.declared.values.Cause.TheVariants.{WrongKind, OutOfRange}
 
@@ -32,6 +33,12 @@ abbrev pub new_name_cause : Option (List ℕ) → Option Cause
 new_name_cause None = Some WrongKind
 new_name_cause (Some name) = if is_new_name name then None else Some OutOfRange
 
+-- a text that is one of a list of words; what it names is given, if it names anything
+abbrev pub word_cause : {A : Type 0} → Option (Option A) → Option Cause
+word_cause None = Some WrongKind
+word_cause (Some None) = Some OutOfRange
+word_cause (Some (Some named)) = None
+
 -- any value of one kind of JSON
 abbrev pub kind_cause : Bool → Option Cause
 kind_cause holds = if holds then None else Some WrongKind
@@ -44,5 +51,7 @@ cause_of clock kind.Count d = number_cause (pos 0) (pos 4294967295) (whole d)
 cause_of clock kind.Version d = number_cause (pos 1) (pos 1) (whole d)
 cause_of clock kind.Name d = kind_cause (is_some (as_str d))
 cause_of clock kind.NewName d = new_name_cause (as_str d)
+cause_of clock kind.Mode d = word_cause (option_map mode_named (as_str d))
+cause_of clock kind.Interp d = word_cause (option_map interp_named (as_str d))
 cause_of clock kind.Calls d = kind_cause (is_some (as_array d))
 cause_of clock kind.Object d = kind_cause (is_some (as_object d))

@@ -7,8 +7,8 @@ ghost use Rattle.script_json.specs.Reading.{held_list, placed_at, call_read, cal
 
 use crate::faults::ScriptErr;
 use crate::members::{
-    check_fields, check_there, count, count_or_null, fix, is_there, list, text, text_or_null, time,
-    time_or_null,
+    check_fields, check_there, count, count_or_null, fix, interp, is_there, list, mode, text,
+    text_or_null, time, time_or_null,
 };
 use script_ast::{Call, Calls, Clock, Field, Op, OpName, entries};
 use serde_json::Value;
@@ -131,18 +131,11 @@ fn build(alloc: Global, clock: Clock, name: OpName, call: &Value) -> Result<Op, 
             name: text(alloc, call, Field::As)?,
             gain: fix(call, &entries::CREATE_GAIN, Field::Gain),
         }),
-        OpName::Connect => Ok(Op::Connect {
-            from: text(alloc, call, Field::From)?,
-            output: count(call, &entries::CONNECT, Field::Output),
-            to: text(alloc, call, Field::To)?,
-            input: count(call, &entries::CONNECT, Field::Input),
-        }),
-        OpName::Disconnect => Ok(Op::Disconnect {
-            from: text(alloc, call, Field::From)?,
-            output: count_or_null(call, Field::Output),
-            to: text_or_null(alloc, call, Field::To)?,
-            input: count_or_null(call, Field::Input),
-        }),
+        OpName::Connect => connect(alloc, call),
+        OpName::Disconnect => disconnect(alloc, call),
+        OpName::SetChannelCount => set_channel_count(alloc, call),
+        OpName::SetChannelCountMode => set_channel_count_mode(alloc, call),
+        OpName::SetChannelInterpretation => set_channel_interpretation(alloc, call),
         OpName::Start => Ok(Op::Start {
             node: text(alloc, call, Field::Node)?,
             when: time(clock, call, &entries::START, Field::When),
@@ -161,4 +154,55 @@ fn build(alloc: Global, clock: Clock, name: OpName, call: &Value) -> Result<Op, 
             feature: name.feature(),
         }),
     }
+}
+
+// No time stands in what the functions below build, so it is the same on every clock.
+
+fn connect(alloc: Global, call: &Value) -> Result<Op, NoMemory>
+    ensures { IfOk result (λ op. op ≡ op_in Clock.Frames OpName.Connect (view call.now)) }
+{
+    Ok(Op::Connect {
+        from: text(alloc, call, Field::From)?,
+        output: count(call, &entries::CONNECT, Field::Output),
+        to: text(alloc, call, Field::To)?,
+        input: count(call, &entries::CONNECT, Field::Input),
+    })
+}
+
+fn disconnect(alloc: Global, call: &Value) -> Result<Op, NoMemory>
+    ensures { IfOk result (λ op. op ≡ op_in Clock.Frames OpName.Disconnect (view call.now)) }
+{
+    Ok(Op::Disconnect {
+        from: text(alloc, call, Field::From)?,
+        output: count_or_null(call, Field::Output),
+        to: text_or_null(alloc, call, Field::To)?,
+        input: count_or_null(call, Field::Input),
+    })
+}
+
+fn set_channel_count(alloc: Global, call: &Value) -> Result<Op, NoMemory>
+    ensures { IfOk result (λ op. op ≡ op_in Clock.Frames OpName.SetChannelCount (view call.now)) }
+{
+    Ok(Op::SetChannelCount {
+        node: text(alloc, call, Field::Node)?,
+        value: count(call, &entries::SET_CHANNEL_COUNT, Field::Value),
+    })
+}
+
+fn set_channel_count_mode(alloc: Global, call: &Value) -> Result<Op, NoMemory>
+    ensures { IfOk result (λ op. op ≡ op_in Clock.Frames OpName.SetChannelCountMode (view call.now)) }
+{
+    Ok(Op::SetChannelCountMode {
+        node: text(alloc, call, Field::Node)?,
+        value: mode(call, Field::Value),
+    })
+}
+
+fn set_channel_interpretation(alloc: Global, call: &Value) -> Result<Op, NoMemory>
+    ensures { IfOk result (λ op. op ≡ op_in Clock.Frames OpName.SetChannelInterpretation (view call.now)) }
+{
+    Ok(Op::SetChannelInterpretation {
+        node: text(alloc, call, Field::Node)?,
+        value: interp(call, Field::Value),
+    })
 }

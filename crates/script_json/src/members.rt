@@ -1,7 +1,7 @@
 ghost use Rattle.std.specs.Prelude.{◌≡◌, Some, IfOk, option_map};
 ghost use Rattle.serde_json.specs.View.{view, items_view};
 ghost use Rattle.script_ast.specs.Entries.{fallback_in};
-ghost use Rattle.script_json.specs.Fields.{member_at, member_faults, field_faults, fields_faults, default_number, number_in, fix_in, time_in, time_or_null_in, count_in, list_in, text_in, count_or_null_in, text_or_null_in, is_there, lack_faults, is_needed, takes_null, given_number, number_within};
+ghost use Rattle.script_json.specs.Fields.{member_at, member_faults, field_faults, fields_faults, default_number, number_in, fix_in, time_in, time_or_null_in, count_in, list_in, text_in, count_or_null_in, text_or_null_in, mode_in, interp_in, is_there, lack_faults, is_needed, takes_null, given_number, number_within};
 ghost use Rattle.script_json.specs.Outcome.{outcome};
 ghost use Rattle.script_json.specs.Values.{whole, frames};
 
@@ -9,10 +9,10 @@ use crate::faults::ScriptErr;
 use crate::values::{
     Cause, MAX_COUNT, MAX_FIX, MAX_TIME, MIN_FIX, MIN_TIME, cause_of, frames, whole,
 };
-use script_ast::{Clock, Fallback, Field, Row, fallback_in};
+use script_ast::{Clock, Fallback, Field, Row, fallback_in, interp_named, mode_named};
 use serde_json::Value;
 use std::alloc::Global;
-use wa_base::{Fix, Name, NoMemory};
+use wa_base::{Fix, Interp, Mode, Name, NoMemory};
 
 /// The member with the field's name.
 pub fn member<'a>(object: &'a Value, field: Field) -> Option<&'a Value>
@@ -209,4 +209,26 @@ pub fn text_or_null(alloc: Global, object: &Value, field: Field) -> Result<Optio
         }
         None => Ok(None),
     }
+}
+
+/// The ChannelCountMode of a field.
+#[tactic(auto, unfolding(crate::specs::Fields::mode_in))]
+pub fn mode(object: &Value, field: Field) -> Mode
+    ensures { result ≡ mode_in field (view object.now) }
+{
+    member(object, field)
+        .and_then(Value::as_str)
+        .and_then(|word| mode_named(word))
+        .unwrap_or(Mode::Max)
+}
+
+/// The ChannelInterpretation of a field.
+#[tactic(auto, unfolding(crate::specs::Fields::interp_in))]
+pub fn interp(object: &Value, field: Field) -> Interp
+    ensures { result ≡ interp_in field (view object.now) }
+{
+    member(object, field)
+        .and_then(Value::as_str)
+        .and_then(|word| interp_named(word))
+        .unwrap_or(Interp::Speakers)
 }

@@ -2,9 +2,9 @@ ghost use Rattle.std.specs.Prelude.{◌≡◌, option_and_then, is_some};
 ghost use Rattle.serde_json.specs.Find.{as_str};
 ghost use Rattle.serde_json.specs.View.{view};
 ghost use Rattle.script_ast.specs.Ranges.{is_name_byte, has_name_length, has_name_bytes, is_new_name};
-ghost use Rattle.script_json.specs.Values.{whole, frames, cause_of, number_cause, new_name_cause, kind_cause};
+ghost use Rattle.script_json.specs.Values.{whole, frames, cause_of, number_cause, new_name_cause, word_cause, kind_cause};
 
-use script_ast::{Clock, Kind};
+use script_ast::{Clock, Kind, interp_named, mode_named};
 use serde_json::{Number, Value};
 
 /// Why a value is not taken for a field.
@@ -54,6 +54,8 @@ pub fn cause_of(clock: Clock, kind: Kind, value: &Value) -> Option<Cause>
         Kind::Version => number_cause(whole(value), 1, 1),
         Kind::Name => kind_cause(value.as_str().is_some()),
         Kind::NewName => new_name_cause(value),
+        Kind::Mode => word_cause(value.as_str().map(|word| mode_named(word))),
+        Kind::Interp => word_cause(value.as_str().map(|word| interp_named(word))),
         Kind::Calls => kind_cause(value.is_array()),
         Kind::Object => kind_cause(value.is_object()),
     }
@@ -92,6 +94,16 @@ fn new_name_cause(value: &Value) -> Option<Cause>
                 Some(Cause::OutOfRange)
             }
         }
+    }
+}
+
+fn word_cause<T: Copy>(named: Option<Option<T>>) -> Option<Cause>
+    ensures { result ≡ word_cause named }
+{
+    match named {
+        None => Some(Cause::WrongKind),
+        Some(None) => Some(Cause::OutOfRange),
+        Some(Some(_)) => None,
     }
 }
 

@@ -1,0 +1,31 @@
+-- The fields that hold one of a list of words: what each word stands for.
+use Rattle.std.specs.Prelude.{ℕ, List, [], ◌∷◌, bytes_eq, find, Option}
+use Rattle.wa_base.specs.GraphNames.{mode_word, interp_word}
+use Rattle.wa_base.specs.declared.graph_names.Mode.{Mode}
+use Rattle.wa_base.specs.declared.graph_names.Mode.TheVariants.{Max, ClampedMax, Explicit}
+use Rattle.wa_base.specs.declared.graph_names.Interp.{Interp}
+use Rattle.wa_base.specs.declared.graph_names.Interp.TheVariants.{Speakers, Discrete}
+
+-- every ChannelCountMode
+abbrev pub modes : List Mode
+modes = Max ∷ ClampedMax ∷ Explicit ∷ []
+
+-- the first of these modes that the text names
+abbrev pub first_mode : List ℕ → List Mode → Option Mode
+first_mode word listed = find (λ mode. bytes_eq (mode_word mode) word) listed
+
+-- the ChannelCountMode that a text names
+unfoldable pub mode_named : List ℕ → Option Mode
+mode_named word = first_mode word modes
+
+-- every ChannelInterpretation
+abbrev pub interps : List Interp
+interps = Speakers ∷ Discrete ∷ []
+
+-- the first of these interpretations that the text names
+abbrev pub first_interp : List ℕ → List Interp → Option Interp
+first_interp word listed = find (λ interp. bytes_eq (interp_word interp) word) listed
+
+-- the ChannelInterpretation that a text names
+unfoldable pub interp_named : List ℕ → Option Interp
+interp_named word = first_interp word interps

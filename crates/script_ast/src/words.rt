@@ -1,0 +1,38 @@
+ghost use Rattle.std.specs.Prelude.{◌≡◌, option_map};
+ghost use Rattle.script_ast.specs.Words.{first_mode, mode_named, first_interp, interp_named};
+
+use wa_base::{Interp, Mode};
+
+const MODES: [Mode; 3] = [Mode::Max, Mode::ClampedMax, Mode::Explicit];
+
+const INTERPS: [Interp; 2] = [Interp::Speakers, Interp::Discrete];
+
+/// The mode with this word; `None` where the word is no mode's.
+#[tactic(auto, unfolding(crate::specs::Words::mode_named))]
+pub fn mode_named(word: &str) -> Option<Mode>
+    ensures { result ≡ mode_named word.now }
+{
+    find_mode(&MODES, word).copied()
+}
+
+/// The interpretation with this word; `None` where the word is no interpretation's.
+#[tactic(auto, unfolding(crate::specs::Words::interp_named))]
+pub fn interp_named(word: &str) -> Option<Interp>
+    ensures { result ≡ interp_named word.now }
+{
+    find_interp(&INTERPS, word).copied()
+}
+
+// The first of the modes with this word.
+fn find_mode<'a>(modes: &'a [Mode], word: &str) -> Option<&'a Mode>
+    ensures { option_map (λ mode. mode.now) result ≡ first_mode word.now modes.now }
+{
+    modes.iter().find(|mode| mode.word() == word)
+}
+
+// The first of the interpretations with this word.
+fn find_interp<'a>(interps: &'a [Interp], word: &str) -> Option<&'a Interp>
+    ensures { option_map (λ interp. interp.now) result ≡ first_interp word.now interps.now }
+{
+    interps.iter().find(|interp| interp.word() == word)
+}
