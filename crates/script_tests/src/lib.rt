@@ -4,6 +4,8 @@
 #[cfg(test)]
 mod call_cases;
 #[cfg(test)]
+mod channel_cases;
+#[cfg(test)]
 mod connection_cases;
 #[cfg(test)]
 mod parts;
@@ -13,3 +15,5 @@ mod reading;
 mod script_cases;
 #[cfg(test)]
 mod texts;
+#[cfg(test)]
+mod word_cases;

@@ -1,9 +1,10 @@
 use script_ast::{
-    Call, Calls, Fallback, Field, Kind, Op, OpName, Path, Row, Script, fallback_in, is_built,
+    Call, Calls, Fallback, Field, Kind, Op, OpName, Path, Row, Script, fallback_in, interp_named,
+    is_built, mode_named,
 };
 use std::alloc::Global;
 use std::test::Fail;
-use wa_base::{ContextSpec, NoMemory};
+use wa_base::{ContextSpec, Interp, Mode, NoMemory};
 
 fn script(alloc: Global) -> Result<Script, NoMemory> {
     let mut calls = Calls::new(alloc);
@@ -46,21 +47,25 @@ fn finds_calls_by_their_ordinals(rt: HostRuntime) -> Result<(), Fail> {
     Ok(())
 }
 
-static BUILT: [&str; 7] = [
+static BUILT: [&str; 10] = [
     "createGain",
     "connect",
     "disconnect",
+    "setChannelCount",
+    "setChannelCountMode",
+    "setChannelInterpretation",
     "readTime",
     "startRendering",
     "createConvolver",
     "setListener",
 ];
 
-static NOT_BUILT: [&str; 6] = [
+static NOT_BUILT: [&str; 7] = [
     "",
     "Connect",
     "creategain",
     "disconnectParam",
+    "setCurve",
     "suspend",
     "then",
 ];
@@ -106,6 +111,21 @@ fn a_disconnect_has_the_fields_of_the_format(rt: HostRuntime) {
 }
 
 #[test]
+fn what_sets_channels_has_the_fields_of_the_format(rt: HostRuntime) {
+    for (name, kind) in [
+        (OpName::SetChannelCount, Kind::Count),
+        (OpName::SetChannelCountMode, Kind::Mode),
+        (OpName::SetChannelInterpretation, Kind::Interp),
+    ] {
+        let want = [
+            row(Field::Node, Kind::Name, Fallback::Needed),
+            row(Field::Value, kind, Fallback::Needed),
+        ];
+        assert_eq!(rt; name.fields(), want.as_slice(), "of {}", name.word());
+    }
+}
+
+#[test]
 fn a_field_has_the_default_of_its_row(rt: HostRuntime) {
     for (field, want) in [
         (Field::Node, Fallback::Needed),
@@ -118,6 +138,33 @@ fn a_field_has_the_default_of_its_row(rt: HostRuntime) {
             want,
             "of {field}"
         );
+    }
+}
+
+#[test]
+fn a_mode_has_its_word(rt: HostRuntime) {
+    for (word, want) in [
+        ("max", Some(Mode::Max)),
+        ("clamped-max", Some(Mode::ClampedMax)),
+        ("explicit", Some(Mode::Explicit)),
+        ("Max", None),
+        ("", None),
+        ("speakers", None),
+    ] {
+        assert_eq!(rt; mode_named(word), want, "of {word}");
+    }
+}
+
+#[test]
+fn an_interpretation_has_its_word(rt: HostRuntime) {
+    for (word, want) in [
+        ("speakers", Some(Interp::Speakers)),
+        ("discrete", Some(Interp::Discrete)),
+        ("Discrete", None),
+        ("", None),
+        ("max", None),
+    ] {
+        assert_eq!(rt; interp_named(word), want, "of {word}");
     }
 }
 

@@ -1,7 +1,9 @@
 use crate::call_cases::CALLS;
+use crate::channel_cases::CHANNEL_COUNTS;
 use crate::connection_cases::{DISCONNECTS, GAINS};
 use crate::script_cases::SCRIPTS;
 use crate::texts::reading;
+use crate::word_cases::{INTERPS, MODES};
 use script_json::{ScriptErr, read};
 use std::alloc::{AllocError, Global};
 use std::test::Fail;
@@ -52,6 +54,27 @@ fn reads_gains(rt: HostRuntime) -> Result<(), Fail> {
 #[test]
 fn reads_disconnects(rt: HostRuntime) -> Result<(), Fail> {
     let misread = first_misread(rt.alloc(), BEFORE, AFTER, &DISCONNECTS)?;
+    assert_eq!(rt; misread, None);
+    Ok(())
+}
+
+#[test]
+fn reads_channel_counts(rt: HostRuntime) -> Result<(), Fail> {
+    let misread = first_misread(rt.alloc(), BEFORE, AFTER, &CHANNEL_COUNTS)?;
+    assert_eq!(rt; misread, None);
+    Ok(())
+}
+
+#[test]
+fn reads_modes(rt: HostRuntime) -> Result<(), Fail> {
+    let misread = first_misread(rt.alloc(), BEFORE, AFTER, &MODES)?;
+    assert_eq!(rt; misread, None);
+    Ok(())
+}
+
+#[test]
+fn reads_interpretations(rt: HostRuntime) -> Result<(), Fail> {
+    let misread = first_misread(rt.alloc(), BEFORE, AFTER, &INTERPS)?;
     assert_eq!(rt; misread, None);
     Ok(())
 }

@@ -1,7 +1,7 @@
 use script_ast::{Call, Op, Script};
 use script_json::read;
 use std::alloc::{AllocError, Global};
-use wa_base::Name;
+use wa_base::{Interp, Mode, Name};
 
 fn text(name: &Name) -> &str {
     str::from_utf8(name.as_slice()).unwrap_or("no text")
@@ -30,6 +30,21 @@ fn disconnect_text(
     format!(in alloc; "disconnect {from} {output} {to} {input}")
 }
 
+fn mode_text(mode: Mode) -> &'static str {
+    match mode {
+        Mode::Max => "max",
+        Mode::ClampedMax => "clamped-max",
+        Mode::Explicit => "explicit",
+    }
+}
+
+fn interp_text(interp: Interp) -> &'static str {
+    match interp {
+        Interp::Speakers => "speakers",
+        Interp::Discrete => "discrete",
+    }
+}
+
 fn op_text(alloc: Global, op: &Op) -> Result<String, AllocError> {
     match op {
         Op::CreateConstantSource { name, offset } => {
@@ -48,6 +63,19 @@ fn op_text(alloc: Global, op: &Op) -> Result<String, AllocError> {
             to,
             input,
         } => disconnect_text(alloc, text(from), *output, to, *input),
+        Op::SetChannelCount { node, value } => {
+            format!(in alloc; "setChannelCount {} {value}", text(node))
+        }
+        Op::SetChannelCountMode { node, value } => {
+            format!(in alloc; "setChannelCountMode {} {}", text(node), mode_text(*value))
+        }
+        Op::SetChannelInterpretation { node, value } => {
+            format!(in alloc;
+                "setChannelInterpretation {} {}",
+                text(node),
+                interp_text(*value)
+            )
+        }
         Op::Start {
             node,
             when,
