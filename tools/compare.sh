@@ -54,7 +54,8 @@ for script in "$@"; do
         [ "$status" -eq 0 ] || fail "$script: status $status"
         python3 "$top/tools/expected.py" "$script" --check "$work/out.wav" || fail "$script: another WAV file"
     else
-        [ "$status" -eq 3 ] || fail "$script: status $status"
+        grep -q '^script: ' "$work/expected" && wanted=4 || wanted=3
+        [ "$status" -eq "$wanted" ] || fail "$script: status $status"
         [ ! -e "$work/out.wav" ] || fail "$script: a WAV file where there is none"
     fi
 done

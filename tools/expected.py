@@ -13,14 +13,15 @@ can be compared with those of the program. It needs Python 3 and nothing else.
 The sums are of samples as the WAV file has them: whole numbers of 24 bits, in units of 2^-23. They
 are not sums of rendered values, which are in units of 2^-24 and are rounded for the file.
 
-A script is taken to have no fault of reading. The operations are those of docs/FORMATS.md that are
-built, and those that are left out.
+The operations are those of docs/FORMATS.md that are built, and those that are left out. Of a script
+with a fault of reading, the transcript is the fault's line. Only a script that is too long is not told.
 """
 
 import argparse
 import hashlib
 import json
 import os
+import re
 import struct
 import sys
 
@@ -38,6 +39,136 @@ LEFT_OUT = dict(pair.split(":") for pair in """
     createMediaStreamTrackSource:media-stream-track-source
     createMediaStreamDestination:media-stream-destination
     createScriptProcessor:script-processor createAudioWorkletNode:audio-worklet""".split())
+
+
+# The fields of the operations that are built: of each its name, its kind, and its default where it has one.
+OPERATIONS = {
+    "createConstantSource": [("as", "new name"), ("offset", "fix", ONE)],
+    "createGain": [("as", "new name"), ("gain", "fix", ONE)],
+    "connect": [("from", "name"), ("output", "count", 0), ("to", "name"), ("input", "count", 0)],
+    "disconnect": [("from", "name"), ("output", "count", None), ("to", "name", None), ("input", "count", None)],
+    "start": [("node", "name"), ("when", "time", 0), ("offset", "time", 0), ("duration", "time", None)],
+    "stop": [("node", "name"), ("when", "time", 0)],
+    "startRendering": [("then", "calls", [])],
+    "resume": [],
+    "readState": [],
+    "readTime": [],
+}
+
+RANGES = {"fix": (-(2**31), 2**31 - 1), "time": (-(2**40), 2**40), "count": (0, 2**32 - 1)}
+
+
+# Reading.
+
+class Fault(Exception):
+    """A fault of a script, with what its line says."""
+
+
+class Members(list):
+    """The members of a JSON object as they are written, repeated ones too."""
+
+
+def bad_json(*_):
+    raise Fault("BadJson")
+
+
+def fraction(text):
+    value = float(text)
+    return value if abs(value) < float("inf") else bad_json()
+
+
+def whole(text):
+    value = fraction(text)
+    is_whole = text != "-0" and len(text) <= 20 and -(2**63) <= int(text) < 2**64
+    return int(text) if is_whole else value
+
+
+def looked_through(value, room):
+    """The value with objects for members. There is room for so many arrays and objects, one in another."""
+    if isinstance(value, list) and room == 0:
+        bad_json()
+    if isinstance(value, Members):
+        return {looked_through(key, 0): looked_through(it, room - 1) for key, it in value}
+    if isinstance(value, list):
+        return [looked_through(it, room - 1) for it in value]
+    if isinstance(value, str):
+        value.encode()  # fails where there is a lone surrogate
+    return value
+
+
+def json_of(data):
+    try:
+        value = json.loads(data.decode(), object_pairs_hook=Members, parse_constant=bad_json,
+                           parse_float=fraction, parse_int=whole)
+        return looked_through(value, 127)
+    except (ValueError, RecursionError):
+        bad_json()
+
+
+def cause(value, kind):
+    """What is wrong with a value that is to be of the kind, if anything is. A kind that is none of
+    the others is a list of words."""
+    if kind in RANGES:
+        low, high = RANGES[kind]
+        return "WrongKind" if type(value) is not int else None if low <= value <= high else "OutOfRange"
+    if kind in ("object", "calls"):
+        return None if isinstance(value, dict if kind == "object" else list) else "WrongKind"
+    if not isinstance(value, str):
+        return "WrongKind"
+    if kind == "new name":
+        fits = re.fullmatch("[A-Za-z0-9_-]{1,64}", value) and value != "destination"
+    else:
+        fits = kind == "name" or value in kind.split()
+    return None if fits else "OutOfRange"
+
+
+def look_at(ordinal, members, field, kind, *default):
+    if field not in members:
+        wrong = None if default else "MissingField"
+    elif members[field] is None and default == (None,):
+        wrong = None
+    else:
+        wrong = cause(members[field], kind)
+    if wrong:
+        raise Fault("%d %s %s" % (ordinal, field, wrong))
+
+
+def look_at_calls(calls, first):
+    """Looks at the calls of a list, and at those that they hold. The answer is the next ordinal."""
+    for call in calls:
+        ordinal = first
+        first += 1
+        if not isinstance(call, dict):
+            raise Fault("%d call WrongKind" % ordinal)
+        op = call.get("op")
+        if not isinstance(op, str) or op not in OPERATIONS and op not in LEFT_OUT:
+            raise Fault("%d op UnknownOp" % ordinal)
+        fields = OPERATIONS.get(op, [])
+        for field in fields:
+            look_at(ordinal, call, *field)
+        if op == "disconnect" and call.get("input") is not None:
+            for field in ("to", "output"):
+                if call.get(field) is None:
+                    raise Fault("%d %s MissingField" % (ordinal, field))
+        if ("then", "calls", []) in fields:
+            first = look_at_calls(call.get("then", []), first)
+    return first
+
+
+def script_of(data):
+    """The script that the bytes are."""
+    script = json_of(data)
+    if not isinstance(script, dict):
+        raise Fault("0 script WrongKind")
+    look_at(0, script, "version", "count")
+    if script["version"] != 1:
+        raise Fault("0 version OutOfRange")
+    look_at(0, script, "context", "object")
+    for field in ("channels", "length", "rate"):
+        look_at(0, script["context"], field, "count")
+    look_at(0, script, "calls", "calls")
+    look_at_calls(script["calls"], 1)
+    return script
 
 
 # Numbers.
@@ -289,11 +420,15 @@ def wav_bytes(session):
             + b"data" + struct.pack("<I", len(body)) + body + b"\0" * padding)
 
 
-def replayed(script):
-    """The session of a script that was read as JSON, when it is through, and its transcript."""
+def replayed(data):
+    """What a script of these bytes gives: the status, the text, and the session when it is through."""
+    try:
+        script = script_of(data)
+    except Fault as fault:
+        return 4, "script: %s\n" % fault, None
     session = Session(script["context"])
     last = session.replay(numbered(script["calls"], 1)[0])
-    return session, "\n".join(session.lines + [last]) + "\n"
+    return 3 if session.samples is None else 0, "\n".join(session.lines + [last]) + "\n", session
 
 
 def main():
@@ -303,8 +438,8 @@ def main():
     words.add_argument("--check", metavar="WAV")
     words = words.parse_args()
     with open(words.script, "rb") as file:
-        session, text = replayed(json.loads(file.read()))
-    wav = wav_bytes(session) if session.samples is not None else b""
+        status, text, session = replayed(file.read())
+    wav = wav_bytes(session) if status == 0 else b""
     if words.check:
         with open(words.check, "rb") as file:
             found = file.read()

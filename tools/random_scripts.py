@@ -384,18 +384,19 @@ def measure(program, folder):
 
 def differences(program, script):
     """What differs at a script, and its transcript."""
-    session, text = expected.replayed(script)
-    wav = None if session.samples is None else expected.wav_bytes(session)
+    data = json.dumps(script).encode()
+    status, text, session = expected.replayed(data)
+    wav = expected.wav_bytes(session) if status == 0 else None
     out = "%d.wav" % os.getpid()
     if os.path.exists(out):
         os.remove(out)
-    ran = subprocess.run([program, out], input=json.dumps(script).encode(), stdout=subprocess.PIPE, timeout=600)
+    ran = subprocess.run([program, out], input=data, stdout=subprocess.PIPE, timeout=600)
     found = None
     if os.path.exists(out):
         with open(out, "rb") as file:
             found = file.read()
     wrong = []
-    if ran.returncode != (3 if wav is None else 0):
+    if ran.returncode != status:
         wrong.append("status %d" % ran.returncode)
     if ran.stdout != text.encode():
         wrong.append("transcript")
