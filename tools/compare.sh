@@ -2,7 +2,8 @@
 # Compares what waplay gives for scripts with what tools/expected.py works out, and with the
 # transcript in the file beside the script. Status 0 where all agree. Run it from anywhere:
 #
-#     tools/compare.sh             each examples/NAME.json; the tests must have the same texts
+#     tools/compare.sh             each examples/NAME.json; the tests must have the same texts, and
+#                                  mixing the rows that were worked out by hand
 #     tools/compare.sh FILE..      these scripts; the transcript of NAME.json is NAME.txt, if any
 #
 # It runs ./waplay, or the program that the variable WAPLAY names.
@@ -33,6 +34,7 @@ sys.exit(not any(form in test for form in (text, literal) for test in tests))' \
 }
 
 if [ $# -eq 0 ]; then
+    python3 "$top/tools/expected.py" --rows >"$work/rows" || fail "$(cat "$work/rows")"
     set -- "$top"/examples/*.json
     for script in "$@"; do
         is_in_tests "$script" || fail "$script: no test has this text"

@@ -9,6 +9,9 @@ can be compared with those of the program. It needs Python 3 and nothing else.
     python3 tools/expected.py SCRIPT --lines       the transcript alone
     python3 tools/expected.py SCRIPT --check WAV   no output and status 0 where WAV is the file to the
                                                    byte, else a line on what differs and status 1
+    python3 tools/expected.py --rows               compares mixing with rows that were worked out by
+                                                   hand, and with all pairs of 1 to 32 channels that
+                                                   have no equation
 
 The sums are of samples as the WAV file has them: whole numbers of 24 bits, in units of 2^-23. They
 are not sums of rendered values, which are in units of 2^-24 and are rounded for the file.
@@ -20,6 +23,7 @@ with a fault of reading, the transcript is the fault's line. Only a script that 
 import argparse
 import hashlib
 import json
+import math
 import os
 import re
 import struct
@@ -47,6 +51,9 @@ OPERATIONS = {
     "createGain": [("as", "new name"), ("gain", "fix", ONE)],
     "connect": [("from", "name"), ("output", "count", 0), ("to", "name"), ("input", "count", 0)],
     "disconnect": [("from", "name"), ("output", "count", None), ("to", "name", None), ("input", "count", None)],
+    "setChannelCount": [("node", "name"), ("value", "count")],
+    "setChannelCountMode": [("node", "name"), ("value", "max clamped-max explicit")],
+    "setChannelInterpretation": [("node", "name"), ("value", "speakers discrete")],
     "start": [("node", "name"), ("when", "time", 0), ("offset", "time", 0), ("duration", "time", None)],
     "stop": [("node", "name"), ("when", "time", 0)],
     "startRendering": [("then", "calls", [])],
@@ -189,10 +196,79 @@ def sample_of(value):
     return max(-(2**23), min(2**23 - 1, rounded_quotient(value, 2)))
 
 
-def up_mixed(mono, channels):
-    """One channel in the speaker layout of so many channels."""
-    places = {2: [0, 1], 4: [0, 1], 6: [2]}.get(channels, [0])
-    return [mono if channel in places else 0 for channel in range(channels)]
+# Mixing. The equations are those of the recommendation's "Channel Up-Mixing and Down-Mixing", for
+# speakers. That of a pair of counts takes as many channels as the first, and gives as many as the
+# second, times 2^24.
+
+HALF, QUARTER = ONE // 2, ONE // 4
+ROOT_HALF = math.isqrt(2**47)  # the root of 2^47 is 11,863,283.2: this is the nearest whole number
+
+EQUATIONS = {
+    (1, 2): lambda m: [ONE * m, ONE * m],
+    (1, 4): lambda m: [ONE * m, ONE * m, 0, 0],
+    (1, 6): lambda m: [0, 0, ONE * m, 0, 0, 0],
+    (2, 4): lambda l, r: [ONE * l, ONE * r, 0, 0],
+    (2, 6): lambda l, r: [ONE * l, ONE * r, 0, 0, 0, 0],
+    (4, 6): lambda l, r, sl, sr: [ONE * l, ONE * r, 0, 0, ONE * sl, ONE * sr],
+    (2, 1): lambda l, r: [HALF * (l + r)],
+    (4, 1): lambda l, r, sl, sr: [QUARTER * (l + r + sl + sr)],
+    (6, 1): lambda l, r, c, lfe, sl, sr: [ROOT_HALF * (l + r) + ONE * c + HALF * (sl + sr)],
+    (4, 2): lambda l, r, sl, sr: [HALF * (l + sl), HALF * (r + sr)],
+    (6, 2): lambda l, r, c, lfe, sl, sr: [ONE * l + ROOT_HALF * (c + sl), ONE * r + ROOT_HALF * (c + sr)],
+    (6, 4): lambda l, r, c, lfe, sl, sr: [ONE * l + ROOT_HALF * c, ONE * r + ROOT_HALF * c, ONE * sl, ONE * sr],
+}
+
+
+def mixed(channels, count, interpretation):
+    """Channels mixed to so many. Where there is no equation, each stays in its place: those that are
+    too many are dropped, and those that are missing are 0."""
+    equation = EQUATIONS.get((len(channels), count))
+    if interpretation == "discrete" or equation is None:
+        return (channels + [0] * count)[:count]
+    return [rounded_quotient(sum_of_products, ONE) for sum_of_products in equation(*channels)]
+
+
+# Rows that were worked out by hand: channels, interpretation, and what they are mixed to. K is ROOT_HALF.
+FIVE_POINT_ONE = [1000000, 2000000, 3000000, 4000000, 5000000, -6000000]  # L, R, C, LFE, SL, SR
+ROWS = [
+    ([16777216], "speakers", [0, 0, 16777216, 0, 0, 0]),  # one channel goes to the centre
+    (FIVE_POINT_ONE, "speakers", [6656854, -121320]),     # 10^6 + K * 8 * 10^6, 2 * 10^6 - K * 3 * 10^6
+    (FIVE_POINT_ONE, "speakers", [4621320]),              # K * 3 * 10^6 + 3 * 10^6 - 10^6 / 2
+    (FIVE_POINT_ONE, "speakers", [3121320, 4121320, 5000000, -6000000]),  # to both K * 3 * 10^6
+    ([0, 0, -(2**31), 0, 0, 0], "speakers", [-1518500224] * 2),  # -128 * 11,863,283: K is a whole number
+    ([1, 1, 1, -1], "speakers", [1]),                     # a half goes up
+    ([-1, -1, -1, 1], "speakers", [0]),                   # here too
+    ([0, 3, 1, 4], "speakers", [1, 4]),                   # 1/2 and 7/2
+    ([1, 2], "speakers", [2]),                            # 3/2
+    ([7], "speakers", [7, 7]),
+    ([7], "speakers", [7, 7, 0, 0]),
+    ([1, 2], "speakers", [1, 2, 0, 0]),
+    ([1, 2], "speakers", [1, 2, 0, 0, 0, 0]),
+    ([1, 2, 3, 4], "speakers", [1, 2, 0, 0, 3, 4]),
+    ([1, 2, 3], "speakers", [1, 2, 3, 0, 0, 0]),          # three channels have no layout
+    ([1], "discrete", [1, 0, 0, 0, 0, 0]),
+    ([1, 2, 3, 4, 5, 6], "discrete", [1, 2]),
+]
+
+
+def rows_that_differ():
+    """The rows, with one more for each pair of counts that has no equation; and those that mixing
+    gives otherwise."""
+    rows = list(ROWS)
+    for several in range(1, 33):
+        channels = [100 + c for c in range(several)]
+        for count in range(1, 33):
+            kept = [100 + c if c < several else 0 for c in range(count)]
+            rows.append((channels, "discrete", kept))
+            if several == count or not {several, count} <= {1, 2, 4, 6}:
+                rows.append((channels, "speakers", kept))
+    return rows, [row for row in rows if mixed(row[0], len(row[2]), row[1]) != row[2]]
+
+
+def computed_count(mode, channel_count, counts):
+    """How many channels an input has, whose connections have these counts."""
+    greatest = max(counts, default=1)
+    return {"max": greatest, "clamped-max": min(greatest, channel_count), "explicit": channel_count}[mode]
 
 
 # The session.
@@ -205,11 +281,17 @@ def profile(feature):
     return Refused("NotSupportedError profile:" + feature)
 
 
+# The attributes that a call sets, and those of each kind of node that cannot change.
+ATTRIBUTES = {"setChannelCount": "count", "setChannelCountMode": "mode", "setChannelInterpretation": "interpretation"}
+FIXED = {"destination": ("count", "mode"), "constant": (), "gain": ()}
+
+
 class Node:
     """A node. The value is a source's offset or a gain's gain."""
 
-    def __init__(self, kind, name, value):
+    def __init__(self, kind, name, value, count=2, mode="max"):
         self.kind, self.name, self.value = kind, name, value
+        self.count, self.mode, self.interpretation = count, mode, "speakers"
         self.inputs = 0 if kind == "constant" else 1
         self.start = self.stop = None
         self.ended = False
@@ -226,7 +308,7 @@ class Node:
 class Session:
     def __init__(self, context):
         self.channels, self.length, self.rate = (context[k] for k in ("channels", "length", "rate"))
-        self.nodes = [Node("destination", "destination", None)]
+        self.nodes = [Node("destination", "destination", None, self.channels, "explicit")]
         self.names = {"destination": 0}
         self.edges = set()  # of (from, output, to, input)
         self.now, self.state = 0, "suspended"
@@ -277,6 +359,15 @@ class Session:
         self.edges -= meant
         return "ok"
 
+    def set_attribute(self, call):
+        node, attribute = self.nodes[self.find(call["node"])], ATTRIBUTES[call["op"]]
+        if attribute == "count" and not 1 <= call["value"] <= 32:
+            raise Refused("NotSupportedError")
+        if attribute in FIXED[node.kind] and call["value"] != getattr(node, attribute):
+            raise Refused("InvalidStateError")
+        setattr(node, attribute, call["value"])
+        return "ok"
+
     def schedule(self, call):
         node = self.nodes[self.find(call["node"], ("constant",))]
         frame = max(call.get("when", 0), self.now)
@@ -310,6 +401,7 @@ class Session:
             "createGain": lambda: self.create("gain", call["as"], call.get("gain", ONE)),
             "connect": lambda: self.connect(call),
             "disconnect": lambda: self.disconnect(call),
+            **dict.fromkeys(ATTRIBUTES, lambda: self.set_attribute(call)),
             "start": lambda: self.schedule(call),
             "stop": lambda: self.schedule(call),
             "startRendering": lambda: self.start_rendering(ordinal, held),
@@ -367,34 +459,48 @@ class Session:
                 found.add(number)
         return found
 
-    def row(self, playing, muted):
-        """The samples of a frame in which these sources play. All nodes but the destination have
-        one channel. Each begins with 0, and the equations of all nodes are worked out anew until
+    def counts(self, sources, muted):
+        """How many channels each node has. Each begins with one, and all are worked out anew until
         a round changes nothing; this ends, since no node that is not muted waits for itself."""
-        values = [0] * len(self.nodes)
+        counts = [1] * len(self.nodes)
         while True:
-            before = values
-            sums = [0] * len(self.nodes)
-            for source, _, target, _ in self.edges:
-                sums[target] += before[source]
-            values = []
+            before = counts
+            counts = [1 if number in muted or node.kind == "constant" else
+                      computed_count(node.mode, node.count, [before[source] for source in sources[number]])
+                      for number, node in enumerate(self.nodes)]
+            if counts == before:
+                return counts
+
+    def row(self, playing, sources, muted, counts):
+        """The samples of a frame in which these sources play, worked out as the counts are: each
+        channel begins with 0."""
+        values = [[0] * count for count in counts]
+        while True:
+            before, values = values, []
             for number, node in enumerate(self.nodes):
-                if number in muted or node.kind == "destination":
-                    values.append(0)
+                if number in muted:
+                    values.append([0])
                 elif node.kind == "constant":
-                    values.append(node.value if number in playing else 0)
+                    values.append([node.value if number in playing else 0])
                 else:
-                    values.append(product(saturated(sums[number]), node.value))
+                    mixes = [mixed(before[source], counts[number], node.interpretation)
+                             for source in sources[number]]
+                    heard = [saturated(sum(mix[c] for mix in mixes)) for c in range(counts[number])]
+                    values.append(heard if number == 0 else [product(x, node.value) for x in heard])
             if values == before:
-                return [sample_of(v) for v in up_mixed(saturated(sums[0]), self.channels)]
+                return [sample_of(v) for v in values[0]]
 
     def render(self):
         """The samples, frame by frame. Frames in which the same sources play are alike."""
+        sources = [[] for _ in self.nodes]
+        for source, _, target, _ in self.edges:
+            sources[target].append(source)
         muted, rows, samples = self.muted(), {}, []
+        counts = self.counts(sources, muted)
         for frame in range(self.length):
             playing = frozenset(n for n, node in enumerate(self.nodes) if node.plays_at(frame))
             if playing not in rows:
-                rows[playing] = self.row(playing, muted)
+                rows[playing] = self.row(playing, sources, muted, counts)
             samples.append(rows[playing])
         return samples
 
@@ -433,10 +539,20 @@ def replayed(data):
 
 def main():
     words = argparse.ArgumentParser(usage=__doc__)
-    words.add_argument("script")
+    words.add_argument("script", nargs="?")
     words.add_argument("--lines", action="store_true")
     words.add_argument("--check", metavar="WAV")
+    words.add_argument("--rows", action="store_true")
     words = words.parse_args()
+    if words.script is None and not words.rows:
+        print("a SCRIPT or --rows is wanted")
+        return 2
+    if words.rows:
+        rows, wrong = rows_that_differ()
+        for row in wrong:
+            print("%s, %s: not %s" % row)
+        print("%d rows of mixing, %d differences" % (len(rows), len(wrong)))
+        return 1 if wrong else 0
     with open(words.script, "rb") as file:
         status, text, session = replayed(file.read())
     wav = wav_bytes(session) if status == 0 else b""
