@@ -2,8 +2,9 @@
 """Makes random scripts, and compares what waplay gives for them with what tools/expected.py works out.
 
 Of each script it compares the exit status, the transcript and every byte of the WAV file. A script
-hangs on the seed and its number alone, so each can be made again by itself. It needs Python 3, and
-for --measure GNU time.
+hangs on the seed and its number, and on which operations the program reads of those that set an
+attribute of a node: what it does not read is in no script, and gets a line. So each script can be
+made again by itself. It needs Python 3, and for --measure GNU time.
 
     python3 tools/random_scripts.py                       compares 1,000 scripts with the program that
                                                           ./waplay has built
@@ -51,12 +52,13 @@ class Maker:
     """One script in the making. It keeps which names it gave to which kind of object, whether or not
     the call that gives them will be refused: a call that names what is not there is wanted too."""
 
-    def __init__(self, rng):
+    def __init__(self, rng, attributes):
         self.rng = rng
+        self.attributes = attributes  # the operations that set one
         self.names = {}  # of a name, its kind
         self.made = 0
         self.depth = 0  # of the lists of calls
-        self.length = 1
+        self.length = self.channels = 1
 
     # Chances and values.
 
@@ -154,6 +156,25 @@ class Maker:
                 call[field] = None
         return call
 
+    def set_attribute(self):
+        some = self.rng.randint(0, 9)
+        name = "destination" if some == 0 else self.name(lambda kind: kind.inputs or some < 3)
+        return self.attribute(self.rng.choice(self.attributes), name)
+
+    def attribute(self, op, name):
+        """Mostly a count that has a layout, and of the destination often the one that is there."""
+        kind = dict(field[:2] for field in expected.OPERATIONS[op])["value"]
+        some = self.rng.randint(0, 9)
+        if kind != "count":
+            value = self.rng.choice(kind.split())
+        elif name == "destination" and some < 4:
+            value = self.channels
+        elif some < 7:
+            value = self.rng.choice([1, 2, 4, 6])
+        else:
+            value = self.rng.randint(1, 32) if some < 9 else self.rng.choice([0, 1, 32, 33, 2**32 - 1])
+        return self.call(op, [("node", name), ("value", value)])
+
     def start(self):
         return self.call("start", [("node", self.source())], when=self.time(),
                          offset=self.time(), duration=self.rng.choice([None, self.time()]))
@@ -174,8 +195,8 @@ class Maker:
         return {"op": self.rng.choice(list(expected.LEFT_OUT)), "as": self.new_name()}
 
     def any_call(self):
-        makes = [make for _, make in OPERATIONS]
-        return self.rng.choices(makes, [often for often, _ in OPERATIONS])[0](self)
+        rows = [row for row in OPERATIONS if self.attributes or row[1] is not Maker.set_attribute]
+        return self.rng.choices([make for _, make in rows], [often for often, _ in rows])[0](self)
 
     def held(self):
         """The calls of a list that a call holds."""
@@ -198,19 +219,25 @@ class Maker:
 
     def graph(self):
         """Nodes and connections, cycles in some; every source starts, some stop, and in some graphs
-        connections are taken away."""
+        attributes are set, before and after connections, and connections are taken away."""
         calls = [self.create_source() for _ in range(self.rng.randint(1, 8))]
         calls += [self.create_place() for _ in range(self.rng.randint(0, self.rng.choice([3, 12, 40])))]
         places = list(dict.fromkeys(call["as"] for call in calls))
         starts = [{"op": "start", "node": name, "when": max(0, self.time())}
                   for name in places if self.names[name].plays]
         backward = self.rng.choice([0, 0, 0.02, 0.3])
+        often = self.rng.choice([0, 0.1, 0.5, 0.9])
+        sets = [self.attribute(op, name) for name in places + ["destination"] for op in self.attributes
+                if self.may(often)]
+        self.rng.shuffle(sets)
+        early = self.rng.randint(0, len(sets))
+        calls += sets[:early]
         for _ in range(self.rng.randint(1, 3 * len(places))):
             a, b = self.rng.randrange(len(places)), self.rng.randrange(len(places) + 1)
             if b <= a and not self.may(backward):
                 b = len(places)
             calls.append({"op": "connect", "from": places[a], "to": (places + ["destination"])[b]})
-        calls += starts + [self.stop() for _ in range(self.rng.choice([0, 0, 1, 4]))]
+        calls += sets[early:] + starts + [self.stop() for _ in range(self.rng.choice([0, 0, 1, 4]))]
         calls += [self.disconnect() for _ in range(self.rng.choice([0, 0, 0, 1, 4]))]
         return calls + [self.start_rendering()]
 
@@ -230,6 +257,27 @@ class Maker:
         self.length = min(self.length, 130)
         return calls + [self.any_call() for _ in range(30)] + [self.start_rendering()]
 
+    def faulty(self):
+        """Any calls. One member of the script or more is spoiled afterwards."""
+        return self.mixed()
+
+    def spoil(self, script):
+        objects = [script, script["context"]]
+        for object in objects:  # which grows
+            for value in object.values():
+                if isinstance(value, list):
+                    objects += [it for it in value if isinstance(it, dict)]
+        for _ in range(self.rng.choice([1, 1, 2, 5])):
+            object = self.rng.choice(objects if self.may(0.9) else objects[:2])
+            names = list(object) + [name for name, *_ in expected.OPERATIONS.get(object.get("op"), [])]
+            name = self.rng.choice(names or ["op"])
+            if self.may(0.2):
+                object.pop(name, None)
+            elif isinstance(object.get(name), list) and self.may(0.5):
+                object[name] = object[name] + [self.rng.choice(SPOILED)]
+            else:
+                object[name] = self.rng.choice(SPOILED)
+
     def unrendered(self):
         """A context at the ends of its ranges, within or past them. Rendering is not started."""
         return [call for call in self.mixed() if call["op"] != "startRendering"]
@@ -240,6 +288,7 @@ class Maker:
         self.length = rng.choice([1, 2, 127, 128, 129, 255, 256, 257]) if self.may(0.2) else rng.randint(1, 600)
         channels = rng.choice([1, 1, 2, 2, 4, 6, rng.randint(1, 32), 32])
         rate = rng.choice([8000, 44100, 48000, 96000, rng.randint(8000, 96000)])
+        self.channels = channels
         calls = shape(self)
         if shape is Maker.unrendered:
             channels = rng.choice([0, 1, 2, 3, 32, 33, 2**32 - 1])
@@ -247,7 +296,10 @@ class Maker:
             rate = rng.choice([0, 7999, 8000, 48000, 96000, 96001, 2**32 - 1])
         elif self.may(0.02):
             channels = rng.choice([0, 33, 2**32 - 1])
-        return {"version": 1, "context": {"channels": channels, "length": self.length, "rate": rate}, "calls": calls}
+        script = {"version": 1, "context": {"channels": channels, "length": self.length, "rate": rate}, "calls": calls}
+        if shape is Maker.faulty:
+            self.spoil(script)
+        return script
 
 
 # How often each operation is called, and what makes a call of it.
@@ -255,6 +307,7 @@ OPERATIONS = [
     (24, Maker.create_node),
     (30, Maker.connect),
     (10, Maker.disconnect),
+    (14, Maker.set_attribute),
     (16, Maker.start),
     (8, Maker.stop),
     (2, Maker.start_rendering),
@@ -270,10 +323,15 @@ KINDS = {
     "createGain": Kind(14, Maker.create_gain, 1, 1, False),
 }
 
+# What a member is spoiled with: much of it is of a wrong kind or out of range for most fields.
+SPOILED = [None, True, 0, 1, -1, 1.0, 1e2, 2**31, 2**32, 2**40 + 1, 2**63, 2**64, -(2**63) - 1, "", "n1", "x" * 65,
+           "a b", "destination", "\ud800", "max", "Explicit", "discrete", "connect", "createFoo", [], {}, [7], [{}]]
+
 # How often a script has each shape. The last two take long to work out.
 SHAPES = [
     (1200, Maker.mixed),
     (1000, Maker.graph),
+    (200, Maker.faulty),
     (100, Maker.unrendered),
     (4, Maker.crowd),
     (2, Maker.tangle),
@@ -293,7 +351,13 @@ end completed
 end idle
 end refused NotSupportedError
 rejected InvalidStateError
+script: BadJson
+script: MissingField
+script: WrongKind
+script: UnknownOp
+script: OutOfRange
 throw TypeError
+throw NotSupportedError
 throw IndexSizeError
 throw InvalidStateError
 throw InvalidAccessError
@@ -304,8 +368,19 @@ throw NotSupportedError profile:destination-output""".split("\n") + [
     "throw NotSupportedError profile:" + feature for feature in expected.LEFT_OUT.values()]
 
 
-def script_of(seed, number):
-    return Maker(random.Random("%d %d" % (seed, number))).script()
+def script_of(seed, number, attributes):
+    return Maker(random.Random("%d %d" % (seed, number)), attributes).script()
+
+
+def attributes_of(program):
+    """The operations that set an attribute, as far as the program reads them."""
+    read = []
+    for op in expected.ATTRIBUTES:
+        script = {"version": 1, "context": {"channels": 1, "length": 1, "rate": 8000}, "calls": [{"op": op}]}
+        ran = subprocess.run([program, os.devnull], input=json.dumps(script).encode(), stdout=subprocess.PIPE)
+        if ran.stdout != b"script: 1 op UnknownOp\n":
+            read.append(op)
+    return read
 
 
 # The loads.
@@ -406,12 +481,12 @@ def differences(program, script):
 
 
 def compared(job):
-    program, seed, number = job
+    program, seed, attributes, number = job
     try:
-        wrong, text = differences(program, script_of(seed, number))
+        wrong, text = differences(program, script_of(seed, number, attributes))
     except Exception as error:
         wrong, text = ["no comparison: %r" % error], ""
-    answers = [re.sub(r"^\d+ ", "", line) for line in text.splitlines()]
+    answers = [re.sub(r"^\d+ |(?<=^script: )\d+ \S+ ", "", line) for line in text.splitlines()]
     return number, wrong, collections.Counter(re.sub(r"^(ended|complete|time) .*", r"\1", it) for it in answers)
 
 
@@ -431,10 +506,10 @@ def shrunk(program, script):
 
 
 def compare(program, seed, count, jobs):
-    wrong, answers = 0, collections.Counter()
+    wrong, answers, attributes = 0, collections.Counter(), attributes_of(program)
     with tempfile.TemporaryDirectory() as work:
         with multiprocessing.Pool(jobs, os.chdir, [work]) as pool:
-            jobs = ((program, seed, number) for number in range(count))
+            jobs = ((program, seed, attributes, number) for number in range(count))
             for number, different, seen in pool.imap_unordered(compared, jobs, 20):
                 answers.update(seen)
                 if different:
@@ -443,8 +518,11 @@ def compare(program, seed, count, jobs):
     for answer, often in answers.most_common():
         print("%9d %s" % (often, answer))
     for answer in ANSWERS:
-        if answer not in answers:
+        if answer not in answers and (attributes or answer != "throw NotSupportedError"):
             print("     none %s" % answer)
+    for op in expected.ATTRIBUTES:
+        if op not in attributes:
+            print("%s is not read by this program, and is in no script" % op)
     print("%d scripts, %d differences" % (count, wrong))
     return 1 if wrong else 0
 
@@ -461,9 +539,7 @@ def main():
     words.add_argument("--measure", metavar="FOLDER")
     words = words.parse_args()
     program = os.path.abspath(words.program)
-    if words.print is not None:
-        print(json.dumps(script_of(words.seed, words.print)))
-    elif words.loads:
+    if words.loads:
         os.makedirs(words.loads, exist_ok=True)
         for name, load in LOADS.items():
             with open(os.path.join(words.loads, name + ".json"), "w") as file:
@@ -473,10 +549,12 @@ def main():
         return 2
     elif words.measure:
         measure(program, words.measure)
+    elif words.print is not None:
+        print(json.dumps(script_of(words.seed, words.print, attributes_of(program))))
     elif words.shrink is not None:
         with tempfile.TemporaryDirectory() as work:
             os.chdir(work)
-            print(json.dumps(shrunk(program, script_of(words.seed, words.shrink))))
+            print(json.dumps(shrunk(program, script_of(words.seed, words.shrink, attributes_of(program)))))
     else:
         return compare(program, words.seed, words.count, words.jobs)
     return 0
