@@ -11,7 +11,8 @@ made again by itself. It needs Python 3, and for --measure GNU time.
     python3 tools/random_scripts.py --count 20000 --seed 7 --jobs 4 --program FILE
                                                           so many, of this seed, in so many processes,
                                                           with this program
-    python3 tools/random_scripts.py --seed 7 --print 12   the script with the number 12
+    python3 tools/random_scripts.py --seed 7 --print 12   the script with the number 12; without a program
+                                                          that of one that reads all operations
     python3 tools/random_scripts.py --seed 7 --shrink 12  the same with as few calls as still differ
     python3 tools/random_scripts.py --loads FOLDER        writes the scripts that speed is measured
                                                           with: FOLDER/a.json and so on (see LOADS)
@@ -23,8 +24,8 @@ A comparison prints a line for each difference, then how often each answer came 
 that can come up did not, and last how many scripts differ. The status is 0 where none does.
 
 A new operation gets a function in "The operations" and a row in OPERATIONS, or in KINDS where it
-makes a node: from then on other calls name nodes of the kind. An answer that only it gives gets a
-row in ANSWERS.
+makes a node: from then on other calls name nodes of the kind. One that sets an attribute needs its
+row in expected.ATTRIBUTES alone. An answer that only it gives gets a row in ANSWERS.
 """
 
 import argparse
@@ -241,6 +242,25 @@ class Maker:
         calls += [self.disconnect() for _ in range(self.rng.choice([0, 0, 0, 1, 4]))]
         return calls + [self.start_rendering()]
 
+    def wide(self):
+        """Nodes behind one another, most of them with a count of channels that is set: what comes from
+        the sources is mixed up and down on its way."""
+        calls = [self.create_source() for _ in range(self.rng.randint(1, 3))]
+        calls += [{"op": "start", "node": call["as"]} for call in calls]
+        places = [call["as"] for call in calls[:len(calls) // 2]]
+        for _ in range(self.rng.randint(2, 12)):
+            place = self.create_place()
+            calls += [place] + [self.attribute(op, place["as"]) for op in self.attributes if self.may(0.8)]
+            if "setChannelCountMode" in self.attributes and self.may(0.6):
+                calls.append({"op": "setChannelCountMode", "node": place["as"], "value": "explicit"})
+            calls += [{"op": "connect", "from": name, "to": place["as"]}
+                      for name in [places[-1], *self.rng.sample(places, self.rng.randint(0, 1))]]
+            places.append(place["as"])
+        calls += [{"op": "connect", "from": name, "to": "destination"}
+                  for name in [places[-1], *self.rng.sample(places, self.rng.randint(0, 2))]]
+        calls += [self.attribute(op, "destination") for op in self.attributes if self.may(0.4)]
+        return calls + [self.start_rendering()]
+
     def crowd(self):
         """More nodes than there may be, and then any calls."""
         calls = [self.create_node() for _ in range(1030)]
@@ -269,8 +289,8 @@ class Maker:
                     objects += [it for it in value if isinstance(it, dict)]
         for _ in range(self.rng.choice([1, 1, 2, 5])):
             object = self.rng.choice(objects if self.may(0.9) else objects[:2])
-            names = list(object) + [name for name, *_ in expected.OPERATIONS.get(object.get("op"), [])]
-            name = self.rng.choice(names or ["op"])
+            fields = expected.OPERATIONS.get(str(object.get("op")), [])
+            name = self.rng.choice([*object, "op", *(field for field, *_ in fields)])
             if self.may(0.2):
                 object.pop(name, None)
             elif isinstance(object.get(name), list) and self.may(0.5):
@@ -285,6 +305,8 @@ class Maker:
     def script(self):
         rng = self.rng
         shape = rng.choices([shape for _, shape in SHAPES], [often for often, _ in SHAPES])[0]
+        if shape is Maker.wide and not self.attributes:
+            shape = Maker.graph
         self.length = rng.choice([1, 2, 127, 128, 129, 255, 256, 257]) if self.may(0.2) else rng.randint(1, 600)
         channels = rng.choice([1, 1, 2, 2, 4, 6, rng.randint(1, 32), 32])
         rate = rng.choice([8000, 44100, 48000, 96000, rng.randint(8000, 96000)])
@@ -331,6 +353,7 @@ SPOILED = [None, True, 0, 1, -1, 1.0, 1e2, 2**31, 2**32, 2**40 + 1, 2**63, 2**64
 SHAPES = [
     (1200, Maker.mixed),
     (1000, Maker.graph),
+    (600, Maker.wide),
     (200, Maker.faulty),
     (100, Maker.unrendered),
     (4, Maker.crowd),
@@ -539,7 +562,10 @@ def main():
     words.add_argument("--measure", metavar="FOLDER")
     words = words.parse_args()
     program = os.path.abspath(words.program)
-    if words.loads:
+    if words.print is not None:
+        attributes = attributes_of(program) if os.access(program, os.X_OK) else list(expected.ATTRIBUTES)
+        print(json.dumps(script_of(words.seed, words.print, attributes)))
+    elif words.loads:
         os.makedirs(words.loads, exist_ok=True)
         for name, load in LOADS.items():
             with open(os.path.join(words.loads, name + ".json"), "w") as file:
@@ -549,8 +575,6 @@ def main():
         return 2
     elif words.measure:
         measure(program, words.measure)
-    elif words.print is not None:
-        print(json.dumps(script_of(words.seed, words.print, attributes_of(program))))
     elif words.shrink is not None:
         with tempfile.TemporaryDirectory() as work:
             os.chdir(work)
