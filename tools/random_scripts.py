@@ -515,7 +515,7 @@ def compared(job):
 
 def shrunk(program, script):
     """The script without calls of its main list that no difference hangs on."""
-    size = len(script["calls"])
+    size = len(script["calls"]) if isinstance(script.get("calls"), list) else 0
     while size:
         at = 0
         while at < len(script["calls"]):
