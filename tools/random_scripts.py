@@ -244,20 +244,38 @@ class Maker:
 
     def wide(self):
         """Nodes behind one another, most of them with a count of channels that is set: what comes from
-        the sources is mixed up and down on its way."""
+        the sources is mixed up and down on its way. Some begin with 5.1 and quad, where it comes to the
+        surround channels, and some have a node that is connected to itself at their side."""
         calls = [self.create_source() for _ in range(self.rng.randint(1, 3))]
         calls += [{"op": "start", "node": call["as"]} for call in calls]
         places = [call["as"] for call in calls[:len(calls) // 2]]
-        for _ in range(self.rng.randint(2, 12)):
-            place = self.create_place()
-            calls += [place] + [self.attribute(op, place["as"]) for op in self.attributes if self.may(0.8)]
-            if "setChannelCountMode" in self.attributes and self.may(0.6):
-                calls.append({"op": "setChannelCountMode", "node": place["as"], "value": "explicit"})
-            calls += [{"op": "connect", "from": name, "to": place["as"]}
-                      for name in [places[-1], *self.rng.sample(places, self.rng.randint(0, 1))]]
-            places.append(place["as"])
-        calls += [{"op": "connect", "from": name, "to": "destination"}
-                  for name in [places[-1], *self.rng.sample(places, self.rng.randint(0, 2))]]
+
+        def joined_to(target, *sources):
+            return [{"op": "connect", "from": source, "to": target} for source in sources]
+
+        def set_to(place, **values):
+            return [{"op": op, "node": place, "value": values[attribute]}
+                    for op, attribute in expected.ATTRIBUTES.items()
+                    if op in self.attributes and attribute in values]
+
+        surround = [(6, "speakers"), (4, "discrete"), (6, "speakers")]
+        for count, interpretation in surround[:self.rng.choice([0, 0, 2, 3])]:
+            calls.append(self.create_place())
+            place = calls[-1]["as"]
+            calls += set_to(place, count=count, mode="explicit", interpretation=interpretation)
+            calls += joined_to(place, places[-1])
+            places.append(place)
+        for _ in range(self.rng.randint(1, 10)):
+            calls.append(self.create_place())
+            place = calls[-1]["as"]
+            calls += [self.attribute(op, place) for op in self.attributes if self.may(0.8)]
+            calls += set_to(place, mode="explicit") if self.may(0.6) else []
+            calls += joined_to(place, places[-1], *self.rng.sample(places, self.rng.randint(0, 1)))
+            if self.may(0.1):
+                calls += joined_to(place, place) + joined_to(self.rng.choice(places), place)
+            else:
+                places.append(place)
+        calls += joined_to("destination", places[-1], *self.rng.sample(places, self.rng.randint(0, 2)))
         calls += [self.attribute(op, "destination") for op in self.attributes if self.may(0.4)]
         return calls + [self.start_rendering()]
 
