@@ -270,12 +270,12 @@ class Maker:
             place = calls[-1]["as"]
             calls += [self.attribute(op, place) for op in self.attributes if self.may(0.8)]
             calls += set_to(place, mode="explicit") if self.may(0.6) else []
-            calls += joined_to(place, places[-1], *self.rng.sample(places, self.rng.randint(0, 1)))
+            calls += joined_to(place, places[-1], *self.rng.choices(places, k=self.rng.randint(0, 1)))
             if self.may(0.1):
                 calls += joined_to(place, place) + joined_to(self.rng.choice(places), place)
             else:
                 places.append(place)
-        calls += joined_to("destination", places[-1], *self.rng.sample(places, self.rng.randint(0, 2)))
+        calls += joined_to("destination", places[-1], *self.rng.choices(places, k=self.rng.randint(0, 2)))
         calls += [self.attribute(op, "destination") for op in self.attributes if self.may(0.4)]
         return calls + [self.start_rendering()]
 
@@ -296,8 +296,10 @@ class Maker:
         return calls + [self.any_call() for _ in range(30)] + [self.start_rendering()]
 
     def faulty(self):
-        """Any calls. One member of the script or more is spoiled afterwards."""
-        return self.mixed()
+        """Any calls, in some scripts many that set attributes. One member of the script or more is
+        spoiled afterwards."""
+        sets = [self.set_attribute() for _ in range(self.rng.choice([0, 5, 50]) if self.attributes else 0)]
+        return sets + self.mixed()
 
     def spoil(self, script):
         objects = [script, script["context"]]
@@ -372,7 +374,7 @@ SHAPES = [
     (1200, Maker.mixed),
     (1000, Maker.graph),
     (600, Maker.wide),
-    (200, Maker.faulty),
+    (300, Maker.faulty),
     (100, Maker.unrendered),
     (4, Maker.crowd),
     (2, Maker.tangle),
