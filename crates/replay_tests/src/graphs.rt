@@ -397,6 +397,133 @@ end completed
     sums: &[0, 0, -639_631_360, 0, 0, 0],
 };
 
+const STEREO_INTO_ONE_CHANNEL: Example = Example {
+    script: r#"{
+  "version": 1,
+  "context": { "channels": 2, "length": 128, "rate": 48000 },
+  "calls": [
+    { "op": "createConstantSource", "as": "a", "offset": 4194305 },
+    { "op": "createConstantSource", "as": "b", "offset": 1048576 },
+    { "op": "createGain", "as": "left" },
+    { "op": "createGain", "as": "one" },
+    { "op": "connect", "from": "a", "to": "left" },
+    { "op": "connect", "from": "left", "to": "one" },
+    { "op": "connect", "from": "b", "to": "one" },
+    { "op": "connect", "from": "one", "to": "destination" },
+    { "op": "setChannelCountMode", "node": "left", "value": "explicit" },
+    { "op": "setChannelInterpretation", "node": "left", "value": "discrete" },
+    { "op": "setChannelCount", "node": "one", "value": 1 },
+    { "op": "setChannelCountMode", "node": "one", "value": "explicit" },
+    { "op": "setChannelCount", "node": "one", "value": 0 },
+    { "op": "setChannelCount", "node": "one", "value": 33 },
+    { "op": "setChannelCount", "node": "nobody", "value": 33 },
+    { "op": "start", "node": "a" },
+    { "op": "start", "node": "b" },
+    { "op": "startRendering", "then": [
+      { "op": "setChannelCount", "node": "one", "value": 2 }
+    ] }
+  ]
+}
+"#,
+    lines: r"1 ok
+2 ok
+3 ok
+4 ok
+5 ok
+6 ok
+7 ok
+8 ok
+9 ok
+10 ok
+11 ok
+12 ok
+13 throw NotSupportedError
+14 throw NotSupportedError
+15 throw TypeError
+16 ok
+17 ok
+18 pending
+18 resolved
+19 ok
+complete 128
+end completed
+",
+    size: 812,
+    sums: &[201_326_720, 201_326_720],
+};
+
+const DISCRETE_AGAINST_SPEAKERS: Example = Example {
+    script: r#"{
+  "version": 1,
+  "context": { "channels": 6, "length": 128, "rate": 48000 },
+  "calls": [
+    { "op": "createConstantSource", "as": "a", "offset": 4194304 },
+    { "op": "createConstantSource", "as": "b", "offset": 2097152 },
+    { "op": "createGain", "as": "six" },
+    { "op": "createGain", "as": "four", "gain": 8388608 },
+    { "op": "createGain", "as": "surround" },
+    { "op": "setChannelCount", "node": "six", "value": 6 },
+    { "op": "setChannelCountMode", "node": "six", "value": "explicit" },
+    { "op": "setChannelCount", "node": "four", "value": 4 },
+    { "op": "setChannelCountMode", "node": "four", "value": "explicit" },
+    { "op": "setChannelInterpretation", "node": "four", "value": "discrete" },
+    { "op": "setChannelCount", "node": "surround", "value": 6 },
+    { "op": "setChannelCountMode", "node": "surround", "value": "explicit" },
+    { "op": "setChannelInterpretation", "node": "destination", "value": "discrete" },
+    { "op": "setChannelCount", "node": "destination", "value": 6 },
+    { "op": "setChannelCount", "node": "destination", "value": 2 },
+    { "op": "setChannelCount", "node": "destination", "value": 33 },
+    { "op": "setChannelCountMode", "node": "destination", "value": "explicit" },
+    { "op": "setChannelCountMode", "node": "destination", "value": "max" },
+    { "op": "connect", "from": "a", "to": "destination" },
+    { "op": "connect", "from": "b", "to": "six" },
+    { "op": "connect", "from": "six", "to": "destination" },
+    { "op": "connect", "from": "six", "to": "four" },
+    { "op": "connect", "from": "four", "to": "destination" },
+    { "op": "connect", "from": "four", "to": "surround" },
+    { "op": "connect", "from": "surround", "to": "destination" },
+    { "op": "start", "node": "a" },
+    { "op": "start", "node": "b" },
+    { "op": "startRendering" }
+  ]
+}
+"#,
+    lines: r"1 ok
+2 ok
+3 ok
+4 ok
+5 ok
+6 ok
+7 ok
+8 ok
+9 ok
+10 ok
+11 ok
+12 ok
+13 ok
+14 ok
+15 throw InvalidStateError
+16 throw NotSupportedError
+17 ok
+18 throw InvalidStateError
+19 ok
+20 ok
+21 ok
+22 ok
+23 ok
+24 ok
+25 ok
+26 ok
+27 ok
+28 pending
+28 resolved
+complete 128
+end completed
+",
+    size: 2_348,
+    sums: &[268_435_456, 0, 201_326_592, 0, 67_108_864, 0],
+};
+
 const REFUSED_CALLS: Example = Example {
     script: r#"{
   "version": 1,
@@ -634,6 +761,18 @@ fn name_bound_again(rt: HostRuntime) -> Result<(), Fail> {
 #[test]
 fn six_channels(rt: HostRuntime) -> Result<(), Fail> {
     assert!(rt; is_met(rt.alloc(), SIX_CHANNELS)?);
+    Ok(())
+}
+
+#[test]
+fn stereo_into_one_channel(rt: HostRuntime) -> Result<(), Fail> {
+    assert!(rt; is_met(rt.alloc(), STEREO_INTO_ONE_CHANNEL)?);
+    Ok(())
+}
+
+#[test]
+fn discrete_against_speakers(rt: HostRuntime) -> Result<(), Fail> {
+    assert!(rt; is_met(rt.alloc(), DISCRETE_AGAINST_SPEAKERS)?);
     Ok(())
 }
 
