@@ -5,7 +5,7 @@ use wa_base::{
     ContextSpec, Exc, Feature, Fix, Interp, Mode, NoMemory, NodeId, ONE, ParamName, Refusal,
 };
 
-const AT_LIMIT: Refusal = Refusal::Exc(Exc::NotSupported(Some(Feature::NodeLimit)));
+const AT_LIMIT: Exc = Exc::NotSupported(Some(Feature::NodeLimit));
 
 // The nodes of a context with so many channels, before the first creation.
 fn begin(alloc: Global, channels: u32) -> Result<Nodes, Refusal> {
@@ -105,14 +105,19 @@ fn kinds_have_their_ports_and_parameters(rt: HostRuntime) {
 
 fn refuses_the_1025th(alloc: Global) -> Result<bool, Refusal> {
     let mut nodes = begin(alloc, 1)?;
+    let refused = Err(Refusal::Exc(AT_LIMIT));
+    let gain = Kind::Gain { gain: 1 };
     for number in 1..1_024 {
-        if create_gain(&mut nodes, 0, 128)? != NodeId(number) {
+        if nodes.creation_refusal(&gain).is_some()
+            || create_gain(&mut nodes, 0, 128)? != NodeId(number)
+        {
             return Ok(false);
         }
     }
     Ok(
-        create_gain(&mut nodes, 1, 256) == Err(AT_LIMIT)
-            && create_gain(&mut nodes, 1, 256) == Err(AT_LIMIT)
+        nodes.creation_refusal(&gain) == Some(AT_LIMIT)
+            && create_gain(&mut nodes, 1, 256) == refused
+            && create_gain(&mut nodes, 1, 256) == refused
             && nodes.len() == 1_024
             && kind_of(&nodes, 1_023) == Some(&Kind::Gain { gain: 0 })
             && kind_of(&nodes, 1_024).is_none(),
@@ -122,6 +127,116 @@ fn refuses_the_1025th(alloc: Global) -> Result<bool, Refusal> {
 #[test]
 fn there_are_at_most_1024_nodes(rt: HostRuntime) -> Result<(), Fail> {
     assert!(rt; refuses_the_1025th(rt.alloc())?);
+    Ok(())
+}
+
+const NOT_SUPPORTED: Option<Exc> = Some(Exc::NotSupported(None));
+
+const INVALID_STATE: Option<Exc> = Some(Exc::InvalidState);
+
+// A node's number, a value for one of its attributes, and the exception that refuses it. The nodes are
+// a destination of six channels, a constant and a gain; each row finds them as those before left them.
+type Row<T> = (u32, T, Option<Exc>);
+
+const COUNTS: [Row<u32>; 10] = [
+    (0, 0, NOT_SUPPORTED),
+    (0, 33, NOT_SUPPORTED),
+    (0, 2, INVALID_STATE),
+    (0, 6, None),
+    (1, 0, NOT_SUPPORTED),
+    (1, 33, NOT_SUPPORTED),
+    (1, 32, None),
+    (2, 33, NOT_SUPPORTED),
+    (2, 1, None),
+    (2, 0, NOT_SUPPORTED),
+];
+
+const MODES: [Row<Mode>; 6] = [
+    (0, Mode::Max, INVALID_STATE),
+    (0, Mode::ClampedMax, INVALID_STATE),
+    (0, Mode::Explicit, None),
+    (1, Mode::ClampedMax, None),
+    (2, Mode::Explicit, None),
+    (2, Mode::Max, None),
+];
+
+const INTERPS: [Row<Interp>; 4] = [
+    (0, Interp::Discrete, None),
+    (1, Interp::Discrete, None),
+    (1, Interp::Speakers, None),
+    (2, Interp::Discrete, None),
+];
+
+// What a node has after a call: what it had, where the call was refused.
+fn after(refusal: Option<Exc>, before: Attrs, set: Attrs) -> Option<Attrs> {
+    Some(if refusal.is_some() { before } else { set })
+}
+
+fn sets_count(nodes: &mut Nodes, row: Row<u32>) -> bool {
+    let (number, count, refusal) = row;
+    if number >= nodes.len() {
+        return false;
+    }
+    let before = nodes.attrs(NodeId(number));
+    nodes.count_refusal(NodeId(number), count) == refusal
+        && nodes.set_count(NodeId(number), count).err() == refusal
+        && attrs_of(nodes, number) == after(refusal, before, Attrs { count, ..before })
+}
+
+fn sets_mode(nodes: &mut Nodes, row: Row<Mode>) -> bool {
+    let (number, mode, refusal) = row;
+    if number >= nodes.len() {
+        return false;
+    }
+    let before = nodes.attrs(NodeId(number));
+    nodes.mode_refusal(NodeId(number), mode) == refusal
+        && nodes.set_mode(NodeId(number), mode).err() == refusal
+        && attrs_of(nodes, number) == after(refusal, before, Attrs { mode, ..before })
+}
+
+fn sets_interp(nodes: &mut Nodes, row: Row<Interp>) -> bool {
+    let (number, interp, refusal) = row;
+    if number >= nodes.len() {
+        return false;
+    }
+    let before = nodes.attrs(NodeId(number));
+    nodes.interp_refusal(NodeId(number), interp) == refusal
+        && nodes.set_interp(NodeId(number), interp).err() == refusal
+        && attrs_of(nodes, number) == after(refusal, before, Attrs { interp, ..before })
+}
+
+fn with_interp(interp: Interp, attrs: Attrs) -> Attrs {
+    Attrs { interp, ..attrs }
+}
+
+// Whether each of the three nodes has what was set on it, and nothing that was set on another.
+fn are_set(nodes: &Nodes) -> bool {
+    let discrete = Interp::Discrete;
+    attrs_of(nodes, 0) == Some(with_interp(discrete, attrs(6, Mode::Explicit, 0)))
+        && attrs_of(nodes, 1) == Some(attrs(32, Mode::ClampedMax, 0))
+        && attrs_of(nodes, 2) == Some(with_interp(discrete, attrs(1, Mode::Max, 1_280)))
+}
+
+fn three(alloc: Global) -> Result<Nodes, Refusal> {
+    let mut nodes = begin(alloc, 6)?;
+    nodes.create(Kind::Constant { offset: -7 }, 0)?;
+    create_gain(&mut nodes, ONE, 1_280)?;
+    Ok(nodes)
+}
+
+#[test]
+fn attributes_are_set_unless_they_are_fixed(rt: HostRuntime) -> Result<(), Fail> {
+    let mut nodes = three(rt.alloc())?;
+    for row in COUNTS {
+        assert!(rt; sets_count(&mut nodes, row), "{row:?}");
+    }
+    for row in MODES {
+        assert!(rt; sets_mode(&mut nodes, row), "{row:?}");
+    }
+    for row in INTERPS {
+        assert!(rt; sets_interp(&mut nodes, row), "{row:?}");
+    }
+    assert!(rt; are_set(&nodes));
     Ok(())
 }
 

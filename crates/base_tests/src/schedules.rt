@@ -48,8 +48,11 @@ fn a_source_sounds_from_its_start_until_its_end(rt: HostRuntime) {
 
 fn stays_unstarted() -> bool {
     let mut sched = Sched::constant();
-    sched.stop(0, -1) == Err(Exc::InvalidState)
+    sched.stop_refusal(-1) == Some(Exc::InvalidState)
+        && sched.stop(0, -1) == Err(Exc::InvalidState)
+        && sched.start_refusal(-1, 0, None) == Some(Exc::Range)
         && sched.start(0, -1, 0, None, 0) == Err(Exc::Range)
+        && sched.start_refusal(0, -5, Some(-6)).is_none()
         && sched == Sched::constant()
         && !sched.is_started()
         && sched.start_frame().is_none()
@@ -60,8 +63,11 @@ fn stays_started() -> bool {
     let is_started = sched.start(128, 200, -5, Some(-6), 7) == Ok(());
     let started = sched;
     is_started
+        && sched.start_refusal(-1, 0, None) == Some(Exc::InvalidState)
         && sched.start(128, -1, 0, None, 0) == Err(Exc::InvalidState)
+        && sched.stop_refusal(-1) == Some(Exc::Range)
         && sched.stop(128, -1) == Err(Exc::Range)
+        && sched.stop_refusal(0).is_none()
         && sched == started
         && sched.is_started()
         && sched.start_frame() == Some(200)
