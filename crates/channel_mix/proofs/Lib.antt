@@ -5,3 +5,4 @@ pub mod Mixed
 pub mod Rows
 pub mod Shifts
 pub mod Sums
+pub mod Weighing

@@ -6,7 +6,7 @@ use Rattle.std.specs.Int.{w32, w64, int_div_euclid}
 use Rattle.std.proofs.lemmas.Int.{ints, to_z-of_z}
 use lib.Signed.{shr_z, mag_shr}
 use Rattle.wa_base.specs.Numbers.{rnd}
-use Rattle.channel_mix.specs.Blocks.{IsWithin}
+use Rattle.lane_kern.specs.Blocks.{IsWithin}
 
 twice_over_twice : (n : ℕ) (z : ℤ) → int_div_euclid (z +ℤ z) (pos (2 * n)) ≡ shr_z z n
 twice_over_twice n (pos a) =

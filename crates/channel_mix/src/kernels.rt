@@ -1,8 +1,12 @@
-ghost use Rattle.std.specs.Prelude.{◌≡◌, ◌<◌, ◌≤◌, ◌*◌, ◌^◌, ◌+ℤ◌, ◌*ℤ◌, pos, length, IsTrue, All};
+ghost use Rattle.std.specs.Prelude.{◌≡◌, ◌≤◌, ◌+◌, ◌*◌, ◌^◌, ◌+ℤ◌, ◌*ℤ◌, pos, length, take, drop, All};
 ghost use Rattle.wa_base.specs.Numbers.{rnd};
-ghost use Rattle.channel_mix.specs.Blocks.{at, frame_at, IsWithin, Adds};
+ghost use Rattle.lane_kern.specs.Blocks.{at, IsWithin};
+ghost use Rattle.channel_mix.specs.Blocks.{frame_at, Adds};
 ghost use Rattle.channel_mix.specs.Mixing.{one, weighed};
-ghost use Rattle.channel_mix.specs.Outputs.{are_small};
+ghost use Rattle.channel_mix.specs.Outputs.{factors_of, weighed_five, AreSmall};
+
+use crate::outputs::Factors;
+use lane_kern::add_into;
 
 const FRACTION_BITS: u32 = 24;
 
@@ -14,9 +18,7 @@ pub(crate) fn add_channel(sums: &mut [i64], samples: &[i32])
     requires room { All (IsWithin (2 ^ 47)) sums.old }
     ensures { Adds (at samples.now) sums.old sums.new }
 {
-    for (k, sum) in sums.iter_mut().enumerate() {
-        *sum += i64::from(samples[k]);
-    }
+    add_into(sums, samples);
 }
 
 /// Adds half of two channels to the sums, rounded at each frame.
@@ -45,18 +47,34 @@ pub(crate) fn add_quarters(sums: &mut [i64], l: &[i32], r: &[i32], sl: &[i32], s
     }
 }
 
-/// Adds the weighed sum of the six channels of a block to the sums, rounded at each frame. The factors
-/// are in units of 2^-24.
-pub(crate) fn add_weighed(sums: &mut [i64], factors: &[i32; 6], src: &[i32])
+/// Adds the weighed sum of L, R, C, SL and SR of a block of six channels to the sums, rounded at each
+/// frame.
+pub(crate) fn add_weighed(sums: &mut [i64], factors: Factors, src: &[i32])
     requires src { 6 * length sums.old ≤ length src.now }
-    requires small { IsTrue (are_small factors.now) }
+    requires small { AreSmall factors }
     requires room { All (IsWithin (2 ^ 47)) sums.old }
-    ensures { Adds (λ k. rnd (weighed factors.now 0 (frame_at (length sums.old) src.now k)) one) sums.old sums.new }
+    ensures { Adds (λ k. rnd (weighed (factors_of factors) 0 (frame_at (length sums.old) src.now k)) one) sums.old sums.new }
 {
     let frames = sums.len();
+    let (l, r, c) = (
+        channel_of(src, frames, 0),
+        channel_of(src, frames, 1),
+        channel_of(src, frames, 2),
+    );
+    let (sl, sr) = (channel_of(src, frames, 4), channel_of(src, frames, 5));
     for (k, sum) in sums.iter_mut().enumerate() {
-        *sum += weighed_at(factors, src, frames, k);
+        *sum += weighed_of(factors, l[k], r[k], c[k], sl[k], sr[k]);
     }
+}
+
+/// The frames of one channel.
+pub(crate) fn channel_of(src: &[i32], frames: usize, channel: usize) -> &[i32]
+    requires { channel * frames + frames ≤ length src.now }
+    ensures value { result.now ≡ take frames (drop (channel * frames) src.now) }
+    ensures length { length result.now ≡ frames }
+{
+    let first = channel * frames;
+    &src[first..first + frames]
 }
 
 // Half of the sum, rounded.
@@ -84,29 +102,32 @@ fn sum_of(x: i32, y: i32) -> i64
 }
 
 // The weighed sum of the channels at a frame, rounded.
-fn weighed_at(factors: &[i32; 6], src: &[i32], frames: usize, k: usize) -> i64
-    requires k { k < frames }
-    requires src { 6 * frames ≤ length src.now }
-    requires small { IsTrue (are_small factors.now) }
-    ensures value { result ≡ rnd (weighed factors.now 0 (frame_at frames src.now k)) one }
+fn weighed_of(factors: Factors, l: i32, r: i32, c: i32, sl: i32, sr: i32) -> i64
+    requires small { AreSmall factors }
+    ensures value { result ≡ rnd (weighed_five factors l r c sl sr) one }
     ensures small { IsWithin (2 ^ 34) result }
 {
-    (weighed_sum(factors, src, frames, k) + HALF) >> FRACTION_BITS
+    (weighed_sum(factors, l, r, c, sl, sr) + HALF) >> FRACTION_BITS
 }
 
-// The sum of the channels at a frame, each times its factor in units of 2^-24.
-fn weighed_sum(factors: &[i32; 6], src: &[i32], frames: usize, k: usize) -> i64
-    requires k { k < frames }
-    requires src { 6 * frames ≤ length src.now }
-    requires small { IsTrue (are_small factors.now) }
-    ensures value { result ≡ weighed factors.now 0 (frame_at frames src.now k) }
-    ensures small { IsWithin (6 * 2 ^ 55) result }
+// The weighed sum of the channels at a frame.
+fn weighed_sum(factors: Factors, l: i32, r: i32, c: i32, sl: i32, sr: i32) -> i64
+    requires small { AreSmall factors }
+    ensures value { result ≡ weighed_five factors l r c sl sr }
+    ensures small { IsWithin (5 * 2 ^ 55) result }
 {
-    let mut sum = 0;
-    for (channel, factor) in factors.iter().enumerate() {
-        sum += weigh(*factor, src[channel * frames + k]);
-    }
-    sum
+    let front = plus(weigh(factors.l, l), weigh(factors.r, r));
+    let surround = plus(weigh(factors.sl, sl), weigh(factors.sr, sr));
+    front + weigh(factors.c, c) + surround
+}
+
+fn plus(x: i64, y: i64) -> i64
+    requires x { IsWithin (2 ^ 55) x }
+    requires y { IsWithin (2 ^ 55) y }
+    ensures value { result ≡ x +ℤ y }
+    ensures small { IsWithin (2 * 2 ^ 55) result }
+{
+    x + y
 }
 
 fn weigh(factor: i32, sample: i32) -> i64

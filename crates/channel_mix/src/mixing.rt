@@ -1,9 +1,10 @@
-ghost use Rattle.std.specs.Prelude.{◌≡◌, ◌<◌, ◌≤◌, ◌+◌, ◌-◌, ◌*◌, ◌^◌, ◌+ℤ◌, ℕ, length, take, drop, IsTrue, All};
-ghost use Rattle.channel_mix.specs.Blocks.{sample, frame_at, IsWithin, Adds};
+ghost use Rattle.std.specs.Prelude.{◌≡◌, ◌<◌, ◌≤◌, ◌-◌, ◌+◌, ◌*◌, ◌^◌, ◌+ℤ◌, ℕ, length, All};
+ghost use Rattle.lane_kern.specs.Blocks.{IsWithin};
+ghost use Rattle.channel_mix.specs.Blocks.{sample, frame_at, Adds};
 ghost use Rattle.channel_mix.specs.Mixing.{mix};
-ghost use Rattle.channel_mix.specs.Outputs.{value_of, needed, has_small_factors};
+ghost use Rattle.channel_mix.specs.Outputs.{value_of, needed, HasSmallFactors};
 
-use crate::kernels::{add_channel, add_halves, add_quarters, add_weighed};
+use crate::kernels::{add_channel, add_halves, add_quarters, add_weighed, channel_of};
 use crate::outputs::Output;
 use wa_base::Interp;
 
@@ -40,7 +41,7 @@ pub fn mix_add(acc: &mut [i64], to: usize, src: &[i32], from: usize, interp: Int
 // Adds an output channel to its sums.
 fn add_output(sums: &mut [i64], output: Output, src: &[i32])
     requires src { needed output * length sums.old ≤ length src.now }
-    requires small { IsTrue (has_small_factors output) }
+    requires small { HasSmallFactors output }
     requires room { All (IsWithin (2 ^ 47)) sums.old }
     ensures { Adds (λ k. value_of output (frame_at (length sums.old) src.now k)) sums.old sums.new }
 {
@@ -56,16 +57,6 @@ fn add_output(sums: &mut [i64], output: Output, src: &[i32])
             let (sl, sr) = (channel_of(src, frames, 2), channel_of(src, frames, 3));
             add_quarters(sums, l, r, sl, sr);
         }
-        Output::Weighed(factors) => add_weighed(sums, &factors, src),
+        Output::Weighed(factors) => add_weighed(sums, factors, src),
     }
-}
-
-// The frames of one channel.
-fn channel_of(src: &[i32], frames: usize, channel: usize) -> &[i32]
-    requires { channel * frames + frames ≤ length src.now }
-    ensures value { result.now ≡ take frames (drop (channel * frames) src.now) }
-    ensures length { length result.now ≡ frames }
-{
-    let first = channel * frames;
-    &src[first..first + frames]
 }

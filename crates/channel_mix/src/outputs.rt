@@ -1,6 +1,6 @@
-ghost use Rattle.std.specs.Prelude.{◌≡◌, ◌<◌, ◌≤◌, ℕ, IsTrue, MatchOption};
+ghost use Rattle.std.specs.Prelude.{◌≡◌, ◌<◌, ◌≤◌, ℕ, MatchOption};
 ghost use Rattle.channel_mix.specs.Mixing.{form, table, layout, kept};
-ghost use Rattle.channel_mix.specs.Outputs.{form_of, needed, has_small_factors, IsRow};
+ghost use Rattle.channel_mix.specs.Outputs.{form_of, needed, HasSmallFactors, IsRow};
 
 use wa_base::Interp;
 
@@ -13,6 +13,59 @@ const ROOT_HALF: i32 = 11_863_283;
 // One half.
 const HALF: i32 = 8_388_608;
 
+/// The factors of L, R, C, SL and SR, in units of 2^-24. LFE is in no sum.
+#[derive(Clone, Copy)]
+pub(crate) struct Factors {
+    pub(crate) l: i32,
+    pub(crate) r: i32,
+    pub(crate) c: i32,
+    pub(crate) sl: i32,
+    pub(crate) sr: i32,
+}
+
+// All five speakers as one.
+const ALL_SPEAKERS: Factors = Factors {
+    l: ROOT_HALF,
+    r: ROOT_HALF,
+    c: ONE,
+    sl: HALF,
+    sr: HALF,
+};
+
+// The speakers on the left, and those on the right.
+const LEFT_SPEAKERS: Factors = Factors {
+    l: ONE,
+    r: 0,
+    c: ROOT_HALF,
+    sl: ROOT_HALF,
+    sr: 0,
+};
+
+const RIGHT_SPEAKERS: Factors = Factors {
+    l: 0,
+    r: ONE,
+    c: ROOT_HALF,
+    sl: 0,
+    sr: ROOT_HALF,
+};
+
+// Those in front.
+const FRONT_LEFT: Factors = Factors {
+    l: ONE,
+    r: 0,
+    c: ROOT_HALF,
+    sl: 0,
+    sr: 0,
+};
+
+const FRONT_RIGHT: Factors = Factors {
+    l: 0,
+    r: ONE,
+    c: ROOT_HALF,
+    sl: 0,
+    sr: 0,
+};
+
 /// What one output channel is made of.
 #[derive(Clone, Copy)]
 pub(crate) enum Output {
@@ -23,8 +76,8 @@ pub(crate) enum Output {
     HalfOfTwo(usize, usize),
     /// A quarter of the sum of L, R, SL and SR.
     QuarterOfFour,
-    /// The sum of L, R, C, LFE, SL and SR, each times its factor in units of 2^-24.
-    Weighed([i32; 6]),
+    /// The sum of L, R, C, SL and SR, each times its factor.
+    Weighed(Factors),
 }
 
 use Output::{Channel, HalfOfTwo, QuarterOfFour, Silence, Weighed};
@@ -72,16 +125,13 @@ const QUAD_TO_FIVE_POINT_ONE: [Output; 6] = [
 ];
 
 // From L, R, C, LFE, SL, SR:
-const FIVE_POINT_ONE_TO_MONO: [Output; 1] = [Weighed([ROOT_HALF, ROOT_HALF, ONE, 0, HALF, HALF])];
+const FIVE_POINT_ONE_TO_MONO: [Output; 1] = [Weighed(ALL_SPEAKERS)];
 
-const FIVE_POINT_ONE_TO_STEREO: [Output; 2] = [
-    Weighed([ONE, 0, ROOT_HALF, 0, ROOT_HALF, 0]),
-    Weighed([0, ONE, ROOT_HALF, 0, 0, ROOT_HALF]),
-];
+const FIVE_POINT_ONE_TO_STEREO: [Output; 2] = [Weighed(LEFT_SPEAKERS), Weighed(RIGHT_SPEAKERS)];
 
 const FIVE_POINT_ONE_TO_QUAD: [Output; 4] = [
-    Weighed([ONE, 0, ROOT_HALF, 0, 0, 0]),
-    Weighed([0, ONE, ROOT_HALF, 0, 0, 0]),
+    Weighed(FRONT_LEFT),
+    Weighed(FRONT_RIGHT),
     Channel(4),
     Channel(5),
 ];
@@ -115,7 +165,7 @@ impl Output {
         requires { channel < to }
         ensures form { form_of from result ≡ form interp from to channel }
         ensures needed { needed result ≤ from }
-        ensures small { IsTrue (has_small_factors result) }
+        ensures small { HasSmallFactors result }
     {
         match interp {
             Interp::Speakers => match by_speakers(from, to) {
@@ -130,7 +180,7 @@ impl Output {
     fn kept(from: usize, channel: usize) -> Output
         ensures form { (to : ℕ) → channel < to → form_of from result ≡ kept from to channel }
         ensures needed { needed result ≤ from }
-        ensures small { IsTrue (has_small_factors result) }
+        ensures small { HasSmallFactors result }
     {
         if channel < from {
             Channel(channel)

@@ -1,6 +1,6 @@
 use Rattle.std.proofs.Common.{pos, ◌+ℤ◌}
 use Rattle.wa_base.specs.Numbers.{rnd}
-use Rattle.channel_mix.specs.Blocks.{at}
+use Rattle.lane_kern.specs.Blocks.{at}
 use Rattle.channel_mix.proofs.Sums.{AddsBelow}
 use Rattle.channel_mix.proofs.kernels.add_halves.Given as goal
 

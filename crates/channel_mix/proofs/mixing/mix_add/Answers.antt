@@ -2,7 +2,8 @@ use Rattle.std.proofs.Common.{◌≡◌, ◌<◌, ◌≤◌, ◌+◌, ◌-◌, �
 use Rattle.std.proofs.Math.Nat.{mul-div_cancel_left, mul-div-le}
 use Rattle.std.proofs.lemmas.List.{places}
 use Rattle.std.proofs.lemmas.Nat.{mul-le}
-use Rattle.channel_mix.specs.Blocks.{at, frame_at, sample}
+use Rattle.lane_kern.specs.Blocks.{at}
+use Rattle.channel_mix.specs.Blocks.{frame_at, sample}
 use Rattle.channel_mix.specs.Outputs.{value_of}
 use Rattle.channel_mix.specs.Mixing.{mix}
 use Rattle.channel_mix.proofs.Forms.{value_of-mix}
