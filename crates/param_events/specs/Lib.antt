@@ -1,3 +1,6 @@
+pub mod Edits
 pub mod Events
+pub mod Lines
+pub mod Places
 pub mod Timeline
 pub mod Values

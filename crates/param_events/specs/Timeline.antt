@@ -29,10 +29,14 @@ abbrev pub IsOrderedFrom : ℕ → List Event → Type 0
 IsOrderedFrom frame [] = Unit {0}
 IsOrderedFrom frame (event ∷ events) = (frame ≤ time_of event) × IsSound event × IsOrderedFrom (end_of event) events
 
+abbrev pub IsNoRamp : Event → Type 0
+IsNoRamp (Ramp time value) = ⊥
+IsNoRamp other = Unit {0}
+
 -- the first event is no ramp
 abbrev pub IsBegun : List Event → Type 0
-IsBegun (Ramp time value ∷ events) = ⊥
-IsBegun other = Unit {0}
+IsBegun [] = Unit {0}
+IsBegun (event ∷ events) = IsNoRamp event
 
 -- what holds of the events of every timeline
 pub record IsTimeline (events : List Event) : Type 0 where

@@ -1,4 +1,6 @@
-ghost use Rattle.std.specs.Prelude.{◌≡◌, IfOk};
+ghost use Rattle.std.specs.Prelude.{◌≡◌, IfOk, Some};
+ghost use Rattle.param_events.specs.Edits as edits;
+ghost use Rattle.param_events.specs.Events.{time_of};
 
 use std::alloc::Global;
 use wa_base::{Fix, NoMemory, Samples};
@@ -27,6 +29,61 @@ pub enum Event {
 }
 
 impl Event {
+    /// The frame from which the event holds: the end of a ramp, and the first frame of a curve.
+    pub fn time(&self) -> u64
+        ensures { result ≡ time_of self.now }
+    {
+        match self {
+            Event::Set { time, .. } | Event::Ramp { time, .. } | Event::Curve { time, .. } => *time,
+        }
+    }
+
+    // Whether it is a curve that is under way at a time.
+    pub(crate) fn runs_at(&self, at: u64) -> bool
+        ensures { result ≡ edits.runs_at at self.now }
+    {
+        match self {
+            Event::Curve { time, end, .. } => *time <= at && at < *end,
+            _ => false,
+        }
+    }
+
+    // Whether it lies strictly between two times.
+    pub(crate) fn lies_between(&self, start: u64, finish: u64) -> bool
+        ensures { result ≡ edits.lies_between start finish self.now }
+    {
+        start < self.time() && self.time() < finish
+    }
+
+    // Whether it stays where all is cancelled from a time on.
+    pub(crate) fn stays(&self, at: u64) -> bool
+        ensures { result ≡ edits.stays at self.now }
+    {
+        match self {
+            Event::Curve { time, end, .. } => *time < at && *end < at,
+            _ => self.time() < at,
+        }
+    }
+
+    // Whether it is a curve that ends after a time.
+    pub(crate) fn goes_past(&self, at: u64) -> bool
+        ensures { result ≡ edits.goes_past at (Some self.now) }
+    {
+        match self {
+            Event::Curve { end, .. } => at < *end,
+            _ => false,
+        }
+    }
+
+    // Ends a curve at a time; its points and its duration stay.
+    pub(crate) fn cut_at(&mut self, at: u64)
+        ensures { self.new ≡ edits.cut_at at self.old }
+    {
+        if let Event::Curve { end, .. } = self {
+            *end = at;
+        }
+    }
+
     /// An equal event with memory of its own.
     pub fn copy(&self) -> Result<Event, NoMemory>
         ensures { IfOk result (λ copy. copy ≡ self.now) }

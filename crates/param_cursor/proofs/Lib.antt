@@ -1,0 +1,5 @@
+mod Counting
+mod Draws
+mod Neighbours
+mod Parts
+mod Stays

@@ -1,0 +1,73 @@
+use Rattle.std.proofs.Common.{rules, ◌≡◌, ◌≤◌, ◌+◌, ◌-◌, ◌^◌, ◌+ℤ◌, ◌-ℤ◌, ◌*◌, pos, FitsSigned, ap, sym, refl, subst, ◌∙◌, arith}
+use Rattle.std.specs.Int.{w32, w64, int_div_euclid}
+use Rattle.std.specs.Prelude.{unsigned_abs}
+use Rattle.std.proofs.lemmas.Int.{to_z-of_z}
+use Rattle.param_cursor.specs.Rising.{Rising, share_rising}
+use Rattle.param_cursor.proofs.Draws.{drawn_more, rounded_by_half, share_next, share_small, rise_small, gain_small, line_fits, widened}
+use Rattle.param_cursor.proofs.drawing.draw_steps.Goals as goal
+
+pub overflow_add-out : goal.overflow_add-out
+overflow_add-out c =
+    let from : FitsSigned w32 c.args.segment.from = search rules in
+    let to : FitsSigned w32 c.args.segment.to = search rules in
+    let wide : FitsSigned w64 c.args.segment.from = search rules in
+    let part : FitsSigned w64 c.value.result = search rules in
+    let share = c.value.ensures ∙ ap (λ (r : Rising). int_div_euclid r.numerator (pos r.divisor)) c.loop-m.invariant.slope ∙ rounded_by_half _ c.args.segment.parts c.requires.some in
+    let sum = line_fits c.args.segment.from c.args.segment.to c.value.result _ c.args.segment.parts from to c.requires.some (c.requires.before c.loop-m.m (omega arith) (omega arith)) share in
+    simp (to_z-of_z _ _ from, to_z-of_z _ _ wide, to_z-of_z _ _ part) (widened _ sum)
+
+pub overflow_cast-out-in-loop-m : goal.overflow_cast-out-in-loop-m
+overflow_cast-out-in-loop-m c =
+    let from : FitsSigned w32 c.args.segment.from = search rules in
+    let to : FitsSigned w32 c.args.segment.to = search rules in
+    let wide : FitsSigned w64 c.args.segment.from = search rules in
+    let part : FitsSigned w64 c.value.result = search rules in
+    let share = c.value.ensures ∙ ap (λ (r : Rising). int_div_euclid r.numerator (pos r.divisor)) c.loop-m.invariant.slope ∙ rounded_by_half _ c.args.segment.parts c.requires.some in
+    let sum = line_fits c.args.segment.from c.args.segment.to c.value.result _ c.args.segment.parts from to c.requires.some (c.requires.before c.loop-m.m (omega arith) (omega arith)) share in
+    simp (to_z-of_z _ _ from, to_z-of_z _ _ wide, to_z-of_z _ _ part, to_z-of_z _ _ (widened _ sum)) sum
+
+pub advance-requires-clause-numerator : goal.advance-requires-clause-numerator
+advance-requires-clause-numerator c =
+    let from : FitsSigned w32 c.args.segment.from = search rules in
+    let to : FitsSigned w32 c.args.segment.to = search rules in
+    subst (λ (r : Rising). unsigned_abs r.numerator ≤ 2 ^ 34 * r.divisor) (sym c.loop-m.invariant.slope)
+    (share_small (c.args.segment.to -ℤ c.args.segment.from) (c.args.n + c.args.gain * (c.loop-m.m - c.args.at)) c.args.gain c.args.segment.parts (rise_small _ _ from to) (c.requires.before c.loop-m.m (omega arith) (omega arith)))
+
+pub advance-requires-clause-step : goal.advance-requires-clause-step
+advance-requires-clause-step c =
+    let from : FitsSigned w32 c.args.segment.from = search rules in
+    let to : FitsSigned w32 c.args.segment.to = search rules in
+    let small = gain_small (c.args.segment.to -ℤ c.args.segment.from) c.args.gain c.args.segment.parts (rise_small _ _ from to) c.requires.gain in
+    subst (λ (r : Rising). unsigned_abs r.step ≤ 2 ^ 34 * r.divisor) (sym c.loop-m.invariant.slope) (omega (arith, small))
+
+pub loop-m-preserved : goal.loop-m-preserved
+loop-m-preserved c =
+    let one : c.loop-m.m + 1 - c.args.at ≡ c.loop-m.m - c.args.at + 1 = omega arith in
+    let next : c.args.n + c.args.gain * (c.loop-m.m - c.args.at) + c.args.gain ≡ c.args.n + c.args.gain * (c.loop-m.m + 1 - c.args.at) = rw one (omega arith) in
+    let from : FitsSigned w32 c.args.segment.from = search rules in
+    let to : FitsSigned w32 c.args.segment.to = search rules in
+    let wide : FitsSigned w64 c.args.segment.from = search rules in
+    let part : FitsSigned w64 c.value.result = search rules in
+    let share = c.value.ensures ∙ ap (λ (r : Rising). int_div_euclid r.numerator (pos r.divisor)) c.loop-m.invariant.slope ∙ rounded_by_half _ c.args.segment.parts c.requires.some in
+    let sum = line_fits c.args.segment.from c.args.segment.to c.value.result _ c.args.segment.parts from to c.requires.some (c.requires.before c.loop-m.m (omega arith) (omega arith)) share in
+    record {
+      drawn = drawn_more _ _ _ _ _ _ c.loop-m.invariant.drawn (omega arith) (omega arith)
+          (simp (to_z-of_z _ _ from, to_z-of_z _ _ wide, to_z-of_z _ _ part, to_z-of_z _ _ (widened _ sum), to_z-of_z _ _ sum) (ap (λ z. c.args.segment.from +ℤ z) share));
+      slope = c.advance.ensures ∙ ap (λ (r : Rising). let s : Rising = record r { numerator = r.numerator +ℤ r.step } in s) c.loop-m.invariant.slope
+          ∙ share_next (c.args.segment.to -ℤ c.args.segment.from) (c.args.n + c.args.gain * (c.loop-m.m - c.args.at)) c.args.gain c.args.segment.parts
+          ∙ ap (λ k. share_rising (c.args.segment.to -ℤ c.args.segment.from) k c.args.gain c.args.segment.parts) next;
+    }
+
+pub loop-m-init : goal.loop-m-init
+loop-m-init c =
+    let r : FitsSigned w64 c.rise.result = search rules in
+    let zero : c.args.at - c.args.at ≡ 0 = omega arith in
+    let start : c.args.n ≡ c.args.n + c.args.gain * (c.args.at - c.args.at) = rw zero (omega arith) in
+    record {
+      drawn = record { drawn = λ m low high. absurd (omega arith); kept = λ m low. refl };
+      slope = c.share_from-slope.ensures ∙ ap (λ z. share_rising z c.args.n c.args.gain c.args.segment.parts) (to_z-of_z _ _ r ∙ search rules)
+          ∙ ap (λ k. share_rising (c.args.segment.to -ℤ c.args.segment.from) k c.args.gain c.args.segment.parts) start;
+    }
+
+pub returns : goal.returns
+returns c = record { drawn = λ m low high. c.loop-m.invariant.drawn.drawn m low (omega arith); kept = c.loop-m.invariant.drawn.kept }

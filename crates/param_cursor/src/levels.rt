@@ -1,0 +1,67 @@
+ghost use Rattle.std.specs.Prelude.{◌≡◌, IfSome, option_copied};
+ghost use Rattle.param_events.specs.Edits as edits;
+ghost use Rattle.param_events.specs.Timeline.{IsSound};
+ghost use Rattle.param_cursor.specs.Cursors as cursors;
+
+use param_events::{Event, curve_value};
+use wa_base::Fix;
+
+/// A value that every frame has until another one.
+#[derive(Clone, Copy, Debug, PartialEq, Eq)]
+pub struct Level {
+    pub value: Fix,
+    /// The frame before which the value stays.
+    pub until: u64,
+}
+
+// Whether the event is a curve that ends after a frame.
+fn goes_past(here: Option<&Event>, frame: u64) -> bool
+    ensures { result ≡ edits.goes_past frame (option_copied here.entry) }
+{
+    match here {
+        Some(Event::Curve { end, .. }) => frame < *end,
+        _ => false,
+    }
+}
+
+fn is_ramp(next: Option<&Event>) -> bool
+    ensures { result ≡ edits.is_ramp (option_copied next.entry) }
+{
+    matches!(next, Some(Event::Ramp { .. }))
+}
+
+// Whether the value moves from a frame on, after one event and before the next.
+pub(crate) fn moves(here: Option<&Event>, next: Option<&Event>, frame: u64) -> bool
+    ensures { result ≡ cursors.moves (option_copied here.entry) (option_copied next.entry) frame }
+{
+    goes_past(here, frame) || is_ramp(next)
+}
+
+// The value that an event leaves, and the base where there is none.
+pub(crate) fn left_value(base: Fix, here: Option<&Event>) -> Fix
+    requires sound { IfSome (option_copied here) IsSound }
+    ensures { result ≡ cursors.left_value base (option_copied here.entry) }
+{
+    match here {
+        None => base,
+        Some(Event::Set { value, .. } | Event::Ramp { value, .. }) => *value,
+        Some(
+            Event::Curve {
+                time,
+                duration,
+                end,
+                points,
+            },
+        ) => curve_value(points.as_slice(), *duration, *end - *time),
+    }
+}
+
+// The frame of the next event, and the last of all where there is none.
+pub(crate) fn next_time(next: Option<&Event>) -> u64
+    ensures { result ≡ cursors.next_time (option_copied next.entry) }
+{
+    match next {
+        Some(event) => event.time(),
+        None => u64::MAX,
+    }
+}
