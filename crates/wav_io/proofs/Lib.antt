@@ -1,3 +1,10 @@
 pub mod WavLemmas
+mod ChunkList
 mod Rounding
+mod Decoding
+mod Ranges
+mod FileBack
+mod HeaderBack
+mod ReadingBack
 mod Steps
+pub mod Widths

@@ -1,1 +1,4 @@
 pub mod WavText
+pub mod WavGrammar
+pub mod WavRest
+pub mod WavLaw

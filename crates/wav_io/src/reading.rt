@@ -1,0 +1,117 @@
+ghost use Rattle.std.specs.Prelude.{◌≡◌, ◌≢◌, ◌≤◌, ◌+◌, true, false, length, Ok, Err, IfOk, IfErr, IsTrue};
+ghost use Rattle.std.specs.Str.{bytes_eq};
+ghost use Rattle.wav_io.specs.WavGrammar as grammar;
+ghost use Rattle.wav_io.specs.WavRest.{IsRest};
+
+use crate::chunk_walk::{Chunk, HEAD_LEN, chunk_at};
+use crate::format_chunk::{Format, format_in};
+use crate::values::values_in;
+use crate::wav::{Wav, WavErr};
+use std::alloc::Global;
+
+const RIFF_LEN: usize = 12;
+
+/// The samples of a WAV file of PCM samples with 8, 16, 24 or 32 bits, or the file's first fault.
+/// The chunks are read one by one: those with other names than `fmt ` and `data` are skipped, and so
+/// is what follows the first `data` chunk. Its body may reach past the end of the file: the whole
+/// blocks that are there count.
+///
+/// The memory of the samples is taken at once, and none beside it.
+///
+/// The format is that of "RIFF/WAVE PCM, Multimedia Programming Interface and Data Specifications 1.0".
+pub fn decode(alloc: Global, bytes: &[u8]) -> Result<Wav, WavErr>
+    ensures ok { IfOk result (λ wav. grammar.wav_of bytes.now ≡ Ok wav) }
+    ensures fault { IfErr result (λ e. e ≢ WavErr.NoMemory → grammar.wav_of bytes.now ≡ Err e) }
+    ensures recording { IfOk result (λ wav. grammar.IsRecording wav) }
+{
+    if !is_riff(bytes) {
+        return Err(WavErr::NotRiff(0));
+    }
+    let format_chunk = find_format(bytes)?;
+    let format = format_in(bytes, &format_chunk)?;
+    let data_chunk = find_data(bytes, format_chunk.next_place())?;
+    wav_in(alloc, bytes, &format, &data_chunk)
+}
+
+#[tactic(auto, unfolding(crate::specs::WavGrammar::is_riff))]
+fn is_riff(bytes: &[u8]) -> bool
+    ensures value { result ≡ grammar.is_riff bytes.now }
+    ensures room { (result ≡ true) → 12 ≤ length bytes.now }
+{
+    bytes.len() >= RIFF_LEN && is_text(&bytes[0..4], b"RIFF") && is_text(&bytes[8..12], b"WAVE")
+}
+
+fn is_text(bytes: &[u8], text: &[u8; 4]) -> bool
+    ensures { result ≡ bytes_eq bytes.now text.now }
+{
+    bytes == text.as_slice()
+}
+
+// The first `fmt ` chunk, or the fault where there is none or a `data` chunk comes before it.
+fn find_format(bytes: &[u8]) -> Result<Chunk, WavErr>
+    requires { 12 ≤ length bytes.now }
+    ensures value { let chunks = grammar.chunks_from bytes.now 12 in
+        result ≡ grammar.format_chunk_of (grammar.first_format chunks) (grammar.first_data chunks) (grammar.end_of bytes.now 12 chunks) }
+    ensures there { IfOk result (λ chunk. chunk.place + 8 ≤ length bytes.now) }
+    // The data is looked for after the format.
+    ensures rest { IfOk result (λ chunk. grammar.is_cut bytes.now chunk ≡ false → IsRest bytes.now chunk) }
+{
+    let mut place = RIFF_LEN;
+    'chunks: while let Some(chunk) = chunk_at(bytes, place) {
+        if chunk.is_format() {
+            return Ok(chunk);
+        }
+        if chunk.is_data() {
+            return Err(WavErr::DataFirst(place as u64));
+        }
+        if chunk.is_cut(bytes) {
+            return Err(WavErr::NoFormat(place as u64));
+        }
+        place = chunk.next_place();
+    }
+    Err(WavErr::NoFormat(place as u64))
+}
+
+// The first `data` chunk from a place on, or the fault where there is none.
+fn find_data(bytes: &[u8], start: usize) -> Result<Chunk, WavErr>
+    requires { start ≤ length bytes.now + 1 }
+    ensures value { let chunks = grammar.chunks_from bytes.now start in
+        result ≡ grammar.data_chunk_of (grammar.first_data chunks) (grammar.end_of bytes.now start chunks) }
+    ensures there { IfOk result (λ chunk. chunk.place + 8 ≤ length bytes.now) }
+{
+    let mut place = start;
+    'chunks: while let Some(chunk) = chunk_at(bytes, place) {
+        if chunk.is_data() {
+            return Ok(chunk);
+        }
+        if chunk.is_cut(bytes) {
+            return Err(WavErr::NoData(place as u64));
+        }
+        place = chunk.next_place();
+    }
+    Err(WavErr::NoData(place as u64))
+}
+
+// What is in a data chunk, of which the file may have a part.
+fn wav_in(alloc: Global, bytes: &[u8], format: &Format, chunk: &Chunk) -> Result<Wav, WavErr>
+    requires width { IsTrue (grammar.is_width format.now.bits) }
+    requires channels_low { 1 ≤ format.now.channels }
+    requires channels_high { format.now.channels ≤ 32 }
+    requires there { chunk.now.place + 8 ≤ length bytes.now }
+    ensures ok { IfOk result (λ wav. grammar.wav_in bytes.now format.now chunk.now ≡ Ok wav) }
+    ensures fault { IfErr result (λ e. e ≢ WavErr.NoMemory → grammar.wav_in bytes.now format.now chunk.now ≡ Err e) }
+    ensures recording { IfOk result (λ wav. grammar.IsRecording wav) }
+{
+    let start = chunk.place + HEAD_LEN;
+    let block = (format.channels * (format.bits / 8)) as usize;
+    let frames = (bytes.len().min(chunk.body_end()) - start) / block;
+    if frames == 0 {
+        return Err(WavErr::NoData(chunk.place as u64));
+    }
+    Ok(Wav {
+        rate: format.rate,
+        channels: format.channels,
+        frames: frames as u64,
+        samples: values_in(alloc, bytes, format, start, frames)?,
+    })
+}
