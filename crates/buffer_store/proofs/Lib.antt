@@ -1,0 +1,2 @@
+pub mod BufferLists
+pub mod Writing

@@ -1,0 +1,72 @@
+ghost use Rattle.std.specs.Prelude.{◌≡◌, ◌<◌, ◌≤◌, ◌+◌, ◌-◌, ◌*◌, ◌++◌, length, take, drop, min, IfOk};
+ghost use Rattle.buffer_store.specs.Buffers as spec;
+
+use wa_base::{Fix, NoMemory, Samples};
+
+/// What a buffer has besides its samples.
+#[derive(Clone, Copy, Debug, PartialEq, Eq)]
+pub struct Shape {
+    /// The number of channels (numberOfChannels), from 1 to 32.
+    pub channels: u32,
+    /// The number of frames of each channel (length), at least 1.
+    pub frames: u64,
+    /// The frames a second (sampleRate).
+    pub rate: u32,
+    /// Whether a source acquired the buffer, so that it can't be written any more.
+    pub frozen: bool,
+}
+
+/// A buffer (AudioBuffer).
+#[derive(Debug, Drop)]
+pub struct Buffer {
+    pub shape: Shape,
+    /// The samples, one channel after another.
+    pub samples: Samples,
+}
+
+impl Buffer {
+    /// The samples of a channel.
+    pub(crate) fn channel(&self, channel: u32) -> &[Fix]
+        requires buffer { spec.IsBuffer self.now }
+        requires small { length self.now.samples ≤ 134217728 }
+        requires channel { channel < self.now.shape.channels }
+        ensures { result.now ≡ spec.channel_of self.now channel }
+    {
+        let frames = self.shape.frames as usize;
+        let start = channel as usize * frames;
+        &self.samples.as_slice()[start..start + frames]
+    }
+
+    /// Writes samples of a channel from a frame on. What would lie past the channel's end is dropped.
+    pub(crate) fn write(&mut self, channel: u32, samples: &[Fix], at: u64)
+        requires buffer { spec.IsBuffer self.old }
+        requires small { length self.old.samples ≤ 134217728 }
+        requires channel { channel < self.old.shape.channels }
+        ensures { self.new ≡ spec.with_written channel samples.now at self.old }
+    {
+        if at >= self.shape.frames {
+            return;
+        }
+        let room = (self.shape.frames - at) as usize;
+        let start = channel as usize * self.shape.frames as usize + at as usize;
+        let count = samples.len().min(room);
+        write_at(self.samples.as_mut_slice(), start, &samples[..count]);
+    }
+
+    /// An equal buffer with memory of its own.
+    pub(crate) fn copy(&self) -> Result<Buffer, NoMemory>
+        ensures { IfOk result (λ copy. copy ≡ self.now) }
+    {
+        Ok(Buffer {
+            shape: self.shape,
+            samples: self.samples.copy()?,
+        })
+    }
+}
+
+fn write_at(out: &mut [Fix], start: usize, samples: &[Fix])
+    requires { start + length samples.now ≤ length out.old }
+    ensures { out.new ≡ take start out.old ++ (samples.now ++ drop (start + length samples.now) out.old) }
+{
+    out[start..start + samples.len()].copy_from_slice(samples);
+}
