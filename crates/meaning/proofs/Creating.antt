@@ -13,9 +13,9 @@ use Rattle.param_events.specs.Timeline.{IsTimeline}
 use Rattle.node_table.specs.Kinds.{is_destination, param_base, IsInEntry}
 use Rattle.node_table.specs.Nodes.{creation_refusal, node_of}
 use Rattle.node_table.specs.declared.kinds.Kind.{Kind}
-use Rattle.node_table.specs.declared.kinds.Kind.TheVariants.{Destination, Constant, Gain}
+use Rattle.node_table.specs.declared.kinds.Kind.TheVariants.{Destination, Constant, Gain, Splitter, Merger}
 use Rattle.node_table.specs.declared.nodes.Node.{Node}
-use Rattle.node_table.proofs.NodeLists.{room_left, created_node}
+use Rattle.node_table.proofs.NodeLists.{room_left, ports_of_accepted, created_node}
 use Rattle.conn_graph.proofs.Graphs.{IsGraph-with_node}
 use Rattle.meaning.specs.declared.world.World.{World}
 use Rattle.meaning.specs.declared.params.Param.{Param}
@@ -80,11 +80,26 @@ new_each node (Gain gain) param.Gain = ((λ h. refl), (λ h. inl refl))
 new_each node (Gain gain) param.DelayTime = ((λ h. let e = new_id_name node param.Gain param.DelayTime gain h in absurd cc), (λ h. absurd (none_there h)))
 new_each node (Gain gain) param.PlaybackRate = ((λ h. let e = new_id_name node param.Gain param.PlaybackRate gain h in absurd cc), (λ h. absurd (none_there h)))
 new_each node (Gain gain) param.Detune = ((λ h. let e = new_id_name node param.Gain param.Detune gain h in absurd cc), (λ h. absurd (none_there h)))
+new_each node (Splitter ports) param.Offset = ((λ h. absurd h), (λ h. absurd (none_there h)))
+new_each node (Splitter ports) param.Gain = ((λ h. absurd h), (λ h. absurd (none_there h)))
+new_each node (Splitter ports) param.DelayTime = ((λ h. absurd h), (λ h. absurd (none_there h)))
+new_each node (Splitter ports) param.PlaybackRate = ((λ h. absurd h), (λ h. absurd (none_there h)))
+new_each node (Splitter ports) param.Detune = ((λ h. absurd h), (λ h. absurd (none_there h)))
+new_each node (Merger ports) param.Offset = ((λ h. absurd h), (λ h. absurd (none_there h)))
+new_each node (Merger ports) param.Gain = ((λ h. absurd h), (λ h. absurd (none_there h)))
+new_each node (Merger ports) param.DelayTime = ((λ h. absurd h), (λ h. absurd (none_there h)))
+new_each node (Merger ports) param.PlaybackRate = ((λ h. absurd h), (λ h. absurd (none_there h)))
+new_each node (Merger ports) param.Detune = ((λ h. absurd h), (λ h. absurd (none_there h)))
 
 new_line : (node : ℕ) (p : Option (ParamName × ℤ)) (x : Param) → IsIn x (new_params node p) → IsTimeline x.line.events
 new_line node None x is = absurd is
 new_line node (Some p) x (inl same) = subst (λ (y : Param). IsTimeline y.line.events) (sym same) (record { begun = tt; ordered = tt })
 new_line node (Some p) x (inr none) = absurd none
+
+new_still : (node : ℕ) (p : Option (ParamName × ℤ)) (x : Param) → IsIn x (new_params node p) → x.line.events ≡ []
+new_still node None x is = absurd is
+new_still node (Some p) x (inl same) = ap (λ (y : Param). y.line.events) same
+new_still node (Some p) x (inr none) = absurd none
 
 ids_once : (node : ℕ) (ids : List ParamId) (p : Option (ParamName × ℤ)) → AreDistinct ids → ((id : ParamId) → IsIn id ids → id.node.0 < node) → AreDistinct (ids ++ new_ids node p)
 ids_once node ids None once low = rw (append-nil ids) once
@@ -133,7 +148,7 @@ module _ (w : World) (kind : Kind) (now : ℕ) (valid : IsValid w) (other : is_d
     first = rw (kept 0 valid.nodes.some) valid.nodes.first;
     others = λ i low high. elim (place_of w.nodes (node_of kind now) i high) [
       | there l ↦ rw (kept i l) (valid.nodes.others i low l)
-      | newest is ↦ rw (last i is) (created_node kind now other entry)
+      | newest is ↦ rw (last i is) (created_node kind now other entry (ports_of_accepted w.nodes kind accepted))
     ];
   }
 
@@ -167,6 +182,7 @@ module _ (w : World) (kind : Kind) (now : ℕ) (valid : IsValid w) (other : is_d
     ];
     once = rw ids (ids_once count (param_ids w) (param_of kind) valid.params.once valid.params.there);
     lines = λ p is. elim (IsIn-append w.params.items _ p is) [ inl k ↦ valid.params.lines p k | inr k ↦ new_line count (param_of kind) p k ];
+    still = λ p is. elim (IsIn-append w.params.items _ p is) [ inl k ↦ valid.params.still p k | inr k ↦ new_still count (param_of kind) p k ];
     targets = λ e id is leads. rw ids (IsIn-append_first _ _ _ (valid.params.targets e id is leads));
   }
 

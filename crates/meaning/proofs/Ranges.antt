@@ -8,7 +8,7 @@ use Rattle.wa_base.specs.declared.graph_names.ParamId.{ParamId}
 use Rattle.wa_base.specs.declared.graph_names.ParamName.TheVariants as param
 use Rattle.law_base.proofs.SchemeLaws.{moment-zero}
 use Rattle.node_table.specs.declared.kinds.Kind.{Kind}
-use Rattle.node_table.specs.declared.kinds.Kind.TheVariants.{Destination, Constant, Gain}
+use Rattle.node_table.specs.declared.kinds.Kind.TheVariants.{Destination, Constant, Gain, Splitter, Merger}
 use Rattle.conn_graph.specs.Ends.{height, muted}
 use Rattle.meaning.specs.declared.world.World.{World}
 use Rattle.meaning.specs.World.{kind_of, param_id, nominal, sounds_at}
@@ -35,6 +35,8 @@ nominal_fix : (kind : Kind) (x : ℤ) → IsFix (nominal kind x)
 nominal_fix Destination x = sat_fix x
 nominal_fix (Constant offset) x = sat_fix x
 nominal_fix (Gain gain) x = sat_fix x
+nominal_fix (Splitter ports) x = sat_fix x
+nominal_fix (Merger ports) x = sat_fix x
 
 computed_fix : (q f : ℕ) (past : ℕ → Frame) (here : Frame) (id : ParamId) → IsFix (computed_value q f past here id)
 unfolding computed_value
@@ -44,6 +46,8 @@ kind_fix : (q f : ℕ) (past : ℕ → Frame) (here : Frame) (kind : Kind) (e : 
 kind_fix q f past here Destination e o c = input_fix here e.node.0 0 c
 kind_fix q f past here (Constant offset) e o c = either_fix (sounds_at here.world e.node.0 f) _ (pos 0) (computed_fix q f past here (param_id e.node.0 param.Offset)) zero_fix
 kind_fix q f past here (Gain gain) e o c = sat_fix _
+kind_fix q f past here (Splitter ports) e o c = input_fix here e.node.0 0 o
+kind_fix q f past here (Merger ports) e o c = input_fix here e.node.0 c 0
 
 equation_fix : (q f : ℕ) (past : ℕ → Frame) (here : Frame) (e : End) (o c : ℕ) → IsFix (equation q f past here e o c)
 unfolding equation

@@ -71,6 +71,7 @@ set_valid w node refusal change keeps fine valid = record {
     there = λ id is. rw same (valid.params.there id is);
     once = valid.params.once;
     lines = valid.params.lines;
+    still = valid.params.still;
     targets = valid.params.targets;
   };
   scheds = record {

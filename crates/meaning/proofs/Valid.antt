@@ -37,6 +37,7 @@ valid_of w w' spec nodes graph params plays valid = record {
     there = λ id is. rw nodes (valid.params.there id (rw params at is));
     once = rw params valid.params.once;
     lines = λ p is. valid.params.lines p (rw params at is);
+    still = λ p is. valid.params.still p (rw params at is);
     targets = λ e id is to. rw params (valid.params.targets e id (rw graph at is) to);
   };
   scheds = record { each = λ i. rw (plays, nodes) (valid.scheds.each i); once = rw plays valid.scheds.once };
@@ -75,7 +76,7 @@ with_graph_valid w g valid graph nodes targets = record {
   nodes = record { some = valid.nodes.some; few = valid.nodes.few; first = valid.nodes.first; others = valid.nodes.others };
   graph = graph;
   ports = nodes ∙ valid.ports;
-  params = record { each = valid.params.each; there = valid.params.there; once = valid.params.once; lines = valid.params.lines; targets = targets };
+  params = record { each = valid.params.each; there = valid.params.there; once = valid.params.once; lines = valid.params.lines; still = valid.params.still; targets = targets };
   scheds = record { each = valid.scheds.each; once = valid.scheds.once };
 }
 

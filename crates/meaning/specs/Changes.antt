@@ -11,7 +11,7 @@ use Rattle.sched_source.specs.Schedule.{Schedule, start_refusal, started, stop_r
 use Rattle.node_table.specs.Kinds.{is_destination, IsInEntry}
 use Rattle.node_table.specs.Nodes.{creation_refusal, node_of, with_count, with_mode, with_interp, count_refusal, mode_refusal, interp_refusal, changed_at, refusal_at}
 use Rattle.node_table.specs.declared.kinds.Kind.{Kind}
-use Rattle.node_table.specs.declared.kinds.Kind.TheVariants.{Destination, Constant, Gain}
+use Rattle.node_table.specs.declared.kinds.Kind.TheVariants.{Destination, Constant, Gain, Splitter, Merger}
 use Rattle.node_table.specs.declared.nodes.Node.{Node}
 use Rattle.conn_graph.specs.Edges.{form_node}
 use Rattle.conn_graph.specs.Graph.{Connections, with_node, connect_refusal, connected, disconnect_refusal, disconnected}
@@ -39,6 +39,8 @@ abbrev pub param_of : Kind → Option (ParamName × ℤ)
 param_of Destination = None
 param_of (Constant offset) = Some (param.Offset, offset)
 param_of (Gain gain) = Some (param.Gain, gain)
+param_of (Splitter ports) = None
+param_of (Merger ports) = None
 
 abbrev pub new_params : ℕ → Option (ParamName × ℤ) → List Param
 new_params node None = []

@@ -1,5 +1,5 @@
 -- What holds of every world of a session.
-use Rattle.std.specs.Prelude.{ℕ, ◌≡◌, ◌↔◌, ◌<◌, ◌≤◌, List, length, map, IsSome, true}
+use Rattle.std.specs.Prelude.{ℕ, ◌≡◌, ◌↔◌, ◌<◌, ◌≤◌, List, [], length, map, IsSome, true}
 use Rattle.wa_base.specs.Contexts.{IsSupported}
 use Rattle.wa_base.specs.declared.contexts.ContextSpec.{ContextSpec}
 use Rattle.wa_base.specs.declared.graph_names.ParamId.{ParamId}
@@ -46,6 +46,8 @@ pub record HasParams (w : World) : Type 0 where
   pub there : (id : ParamId) → IsIn id (param_ids w) → id.node.0 < length w.nodes
   pub once : AreDistinct (param_ids w)
   pub lines : (p : Param) → IsIn p w.params.items → IsTimeline p.line.events
+  -- no operation that is built schedules an event
+  pub still : (p : Param) → IsIn p w.params.items → p.line.events ≡ []
   pub targets : (e : Edge) (id : ParamId) → IsIn e w.graph.value.edges → e.to ≡ to_param id → IsIn id (param_ids w)
 
 abbrev pub play_nodes : World → List ℕ

@@ -10,7 +10,7 @@ use Rattle.law_base.specs.Heights.{Scheme, at_moment}
 use Rattle.channel_mix.specs.Mixing.{mix, fan_in}
 use Rattle.node_table.specs.Kinds.{outputs}
 use Rattle.node_table.specs.declared.kinds.Kind.{Kind}
-use Rattle.node_table.specs.declared.kinds.Kind.TheVariants.{Destination, Constant, Gain}
+use Rattle.node_table.specs.declared.kinds.Kind.TheVariants.{Destination, Constant, Gain, Splitter, Merger}
 use Rattle.conn_graph.specs.declared.edges.Edge.{Edge}
 use Rattle.conn_graph.specs.Graph.{edges_to_input, edges_to_param}
 use Rattle.conn_graph.specs.Ends.{reader_of, height, muted}
@@ -71,6 +71,9 @@ value_by_kind q f past here (Constant offset) e o c =
     if sounds_at here.world e.node.0 f then computed_value q f past here (param_id e.node.0 param.Offset) else pos 0
 value_by_kind q f past here (Gain gain) e o c =
     scale (input_value here e.node.0 0 c) (computed_value q f past here (param_id e.node.0 param.Gain))
+-- an output of a splitter is a channel of its input, and a channel of a merger is one of its inputs, mixed to one channel
+value_by_kind q f past here (Splitter outputs) e o c = input_value here e.node.0 0 o
+value_by_kind q f past here (Merger inputs) e o c = input_value here e.node.0 c 0
 
 -- whether an end has channel c of output o
 abbrev pub has_channel : World → Counts → End → ℕ → ℕ → Bool

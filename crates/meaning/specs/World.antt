@@ -12,7 +12,7 @@ use Rattle.wa_base.specs.declared.graph_names.Rate.TheVariants.{A, K}
 use Rattle.param_events.specs.Values.{value_at}
 use Rattle.sched_source.specs.Schedule.{plays_at}
 use Rattle.node_table.specs.declared.kinds.Kind.{Kind}
-use Rattle.node_table.specs.declared.kinds.Kind.TheVariants.{Destination, Constant, Gain}
+use Rattle.node_table.specs.declared.kinds.Kind.TheVariants.{Destination, Constant, Gain, Splitter, Merger}
 use Rattle.node_table.specs.declared.nodes.Node.{Node}
 use Rattle.conn_graph.specs.Edges.{same_param}
 use Rattle.conn_graph.specs.Graph.{Connections, no_connections}
@@ -84,6 +84,8 @@ abbrev pub nominal : Kind → ℤ → ℤ
 nominal Destination x = sat x
 nominal (Constant offset) x = sat x
 nominal (Gain gain) x = sat x
+nominal (Splitter ports) x = sat x
+nominal (Merger ports) x = sat x
 
 -- ---- its schedules
 
@@ -91,6 +93,8 @@ abbrev pub is_source : Kind → Bool
 is_source Destination = false
 is_source (Constant offset) = true
 is_source (Gain gain) = false
+is_source (Splitter ports) = false
+is_source (Merger ports) = false
 
 -- a source that was not started
 abbrev pub not_started : ℕ → Play

@@ -43,7 +43,7 @@ fn param_of(kind: &Kind) -> Option<(ParamName, Fix)>
     ensures { result ≡ changes.param_of kind.now }
 {
     match kind {
-        Kind::Destination => None,
+        Kind::Destination | Kind::Splitter { .. } | Kind::Merger { .. } => None,
         Kind::Constant { offset } => Some((ParamName::Offset, *offset)),
         Kind::Gain { gain } => Some((ParamName::Gain, *gain)),
     }

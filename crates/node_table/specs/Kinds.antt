@@ -1,6 +1,8 @@
 -- What the kinds of nodes have.
-use Rattle.std.specs.Prelude.{ℕ, ℤ, Bool, true, false, Option, Some, None}
+use Rattle.std.specs.Prelude.{ℕ, ℤ, ◌≤◌, ◌&&◌, nat_le, Bool, true, false, if◌then◌else◌, Option, Some, None}
 use Rattle.wa_base.specs.Numbers.{IsFix}
+use Rattle.wa_base.specs.declared.exceptions.Exc.{Exc}
+use Rattle.wa_base.specs.declared.exceptions.Exc.TheVariants.{IndexSize}
 use Rattle.wa_base.specs.declared.graph_names.Interp.{Interp}
 use Rattle.wa_base.specs.declared.graph_names.Interp.TheVariants.{Speakers, Discrete}
 use Rattle.wa_base.specs.declared.graph_names.Mode.{Mode}
@@ -8,30 +10,38 @@ use Rattle.wa_base.specs.declared.graph_names.Mode.TheVariants.{Max, ClampedMax,
 use Rattle.wa_base.specs.declared.graph_names.ParamName.{ParamName}
 use Rattle.wa_base.specs.declared.graph_names.ParamName.TheVariants as param
 use Rattle.node_table.specs.declared.kinds.Kind.{Kind}
-use Rattle.node_table.specs.declared.kinds.Kind.TheVariants.{Destination, Constant, Gain}
+use Rattle.node_table.specs.declared.kinds.Kind.TheVariants.{Destination, Constant, Gain, Splitter, Merger}
 
 abbrev pub is_destination : Kind → Bool
 is_destination Destination = true
 is_destination (Constant offset) = false
 is_destination (Gain gain) = false
+is_destination (Splitter ports) = false
+is_destination (Merger ports) = false
 
 -- the number of inputs: a source has none
 abbrev pub inputs : Kind → ℕ
 inputs Destination = 1
 inputs (Constant offset) = 0
 inputs (Gain gain) = 1
+inputs (Splitter ports) = 1
+inputs (Merger ports) = ports
 
 -- the number of outputs
 abbrev pub outputs : Kind → ℕ
 outputs Destination = 1
 outputs (Constant offset) = 1
 outputs (Gain gain) = 1
+outputs (Splitter ports) = ports
+outputs (Merger ports) = 1
 
 -- whether each output has one channel, whatever comes in
 abbrev pub is_mono : Kind → Bool
 is_mono Destination = false
 is_mono (Constant offset) = true
 is_mono (Gain gain) = false
+is_mono (Splitter ports) = true
+is_mono (Merger ports) = false
 
 -- ---- how the channels of its inputs are mixed
 
@@ -40,18 +50,24 @@ abbrev pub first_count : Kind → ℕ
 first_count Destination = 2
 first_count (Constant offset) = 2
 first_count (Gain gain) = 2
+first_count (Splitter ports) = ports
+first_count (Merger ports) = 1
 
 -- its channelCountMode
 abbrev pub first_mode : Kind → Mode
 first_mode Destination = Explicit
 first_mode (Constant offset) = Max
 first_mode (Gain gain) = Max
+first_mode (Splitter ports) = Explicit
+first_mode (Merger ports) = Explicit
 
 -- its channelInterpretation
 abbrev pub first_interp : Kind → Interp
 first_interp Destination = Speakers
 first_interp (Constant offset) = Speakers
 first_interp (Gain gain) = Speakers
+first_interp (Splitter ports) = Discrete
+first_interp (Merger ports) = Speakers
 
 abbrev pub same_mode : Mode → Mode → Bool
 same_mode Max Max = true
@@ -69,18 +85,24 @@ abbrev pub fixed_count : Kind → Bool
 fixed_count Destination = true
 fixed_count (Constant offset) = false
 fixed_count (Gain gain) = false
+fixed_count (Splitter ports) = true
+fixed_count (Merger ports) = true
 
 -- whether its channelCountMode does
 abbrev pub fixed_mode : Kind → Bool
 fixed_mode Destination = true
 fixed_mode (Constant offset) = false
 fixed_mode (Gain gain) = false
+fixed_mode (Splitter ports) = true
+fixed_mode (Merger ports) = true
 
 -- whether its channelInterpretation does
 abbrev pub fixed_interp : Kind → Bool
 fixed_interp Destination = false
 fixed_interp (Constant offset) = false
 fixed_interp (Gain gain) = false
+fixed_interp (Splitter ports) = true
+fixed_interp (Merger ports) = false
 
 -- ---- what it renders
 
@@ -88,6 +110,8 @@ abbrev pub is_delay_kind : Kind → Bool
 is_delay_kind Destination = false
 is_delay_kind (Constant offset) = false
 is_delay_kind (Gain gain) = false
+is_delay_kind (Splitter ports) = false
+is_delay_kind (Merger ports) = false
 
 -- what of a kind stays as long as its node is there
 abbrev pub lasting : Kind → Kind
@@ -98,6 +122,8 @@ abbrev pub remembers : Kind → Bool
 remembers Destination = false
 remembers (Constant offset) = false
 remembers (Gain gain) = false
+remembers (Splitter ports) = false
+remembers (Merger ports) = false
 
 -- the value with which a parameter was created, where the kind has it
 abbrev pub param_base : Kind → ParamName → Option ℤ
@@ -105,8 +131,32 @@ param_base (Constant offset) param.Offset = Some offset
 param_base (Gain gain) param.Gain = Some gain
 param_base kind name = None
 
--- the ranges of what a node of a kind is created with
+-- the ranges of the values that a node of a kind is created with
 abbrev pub IsInEntry : Kind → Type 0
 IsInEntry Destination = Unit {0}
 IsInEntry (Constant offset) = IsFix offset
 IsInEntry (Gain gain) = IsFix gain
+IsInEntry (Splitter ports) = Unit {0}
+IsInEntry (Merger ports) = Unit {0}
+
+-- ---- how many ports it may have
+
+-- a node cannot have so many outputs, or so many inputs
+abbrev pub port_refusal : ℕ → Option Exc
+port_refusal ports = if nat_le 1 ports && nat_le ports 32 then None else Some IndexSize
+
+-- why a node of a kind is refused because of the number of its ports
+abbrev pub ports_refusal : Kind → Option Exc
+ports_refusal Destination = None
+ports_refusal (Constant offset) = None
+ports_refusal (Gain gain) = None
+ports_refusal (Splitter ports) = port_refusal ports
+ports_refusal (Merger ports) = port_refusal ports
+
+-- so many ports a node has
+abbrev pub HasPorts : Kind → Type 0
+HasPorts Destination = Unit {0}
+HasPorts (Constant offset) = Unit {0}
+HasPorts (Gain gain) = Unit {0}
+HasPorts (Splitter ports) = (1 ≤ ports) × (ports ≤ 32)
+HasPorts (Merger ports) = (1 ≤ ports) × (ports ≤ 32)

@@ -1,5 +1,6 @@
 -- The nodes of a graph, in order of creation.
 use Rattle.std.specs.Prelude.{ℕ, zero, suc, ◌≡◌, ◌≤◌, ◌==◌, ◌&&◌, not, nat_le, List, [], ◌∷◌, length, drop, slice_get, nat_lt, All, Bool, true, false, if◌then◌else◌, Option, Some, None, IfSome, option_map, option_and_then}
+use Rattle.std.specs.Option.{option_or}
 use Rattle.wa_base.specs.declared.contexts.ContextSpec.{ContextSpec}
 use Rattle.wa_base.specs.declared.exceptions.Exc.{Exc}
 use Rattle.wa_base.specs.declared.exceptions.Exc.TheVariants.{NotSupported, InvalidState}
@@ -12,7 +13,7 @@ use Rattle.node_table.specs.declared.kinds.Kind.{Kind}
 use Rattle.node_table.specs.declared.kinds.Kind.TheVariants.{Destination}
 use Rattle.node_table.specs.declared.nodes.Attrs.{Attrs}
 use Rattle.node_table.specs.declared.nodes.Node.{Node}
-use Rattle.node_table.specs.Kinds.{is_destination, first_count, first_mode, first_interp, fixed_count, fixed_mode, fixed_interp, same_mode, same_interp, IsInEntry}
+use Rattle.node_table.specs.Kinds.{is_destination, first_count, first_mode, first_interp, fixed_count, fixed_mode, fixed_interp, same_mode, same_interp, IsInEntry, ports_refusal, HasPorts}
 
 -- the destination of a context
 abbrev pub destination_of : ContextSpec → Node
@@ -30,9 +31,9 @@ node_of kind birth = record { kind = kind; attrs = first_attrs kind birth }
 abbrev pub has_room : List Node → Bool
 has_room nodes = nat_lt (length nodes) 1024
 
--- the exception with which the creation of a node is refused, if it is
+-- the exception with which the creation of a node is refused, if it is: the number of its ports comes first
 abbrev pub creation_refusal : List Node → Kind → Option Exc
-creation_refusal nodes kind = if has_room nodes then None else Some (NotSupported (Some NodeLimit))
+creation_refusal nodes kind = option_or (ports_refusal kind) (if has_room nodes then None else Some (NotSupported (Some NodeLimit)))
 
 -- what a node is, if it is there
 abbrev pub kind_at : List Node → ℕ → Option Kind
@@ -95,10 +96,11 @@ pub record IsFirst (node : Node) : Type 0 where
   pub mode : node.attrs.mode ≡ Explicit
   pub birth : node.attrs.birth ≡ 0
 
--- a node that was created: what it was created with is in range, and what is fixed is as it was then
+-- a node that was created: what it was created with is in range, it has 1 to 32 ports where it was told how many, and what is fixed is as it was then
 pub record IsCreated (node : Node) : Type 0 where
   pub kind : is_destination node.kind ≡ false
   pub entry : IsInEntry node.kind
+  pub ports : HasPorts node.kind
   pub count_low : 1 ≤ node.attrs.count
   pub count_high : node.attrs.count ≤ 32
   pub fixed : KeepsFixed (first_attrs node.kind node.attrs.birth) node

@@ -1,7 +1,7 @@
 ghost use Rattle.std.specs.Prelude.{◌≡◌, IfOk};
 ghost use Rattle.node_table.specs.Kinds as spec;
 
-use wa_base::{Fix, NoMemory, ParamName};
+use wa_base::{Exc, Fix, NoMemory, ParamName};
 
 /// What a node is, with what it was created with.
 #[derive(Debug, Drop, PartialEq)]
@@ -18,7 +18,19 @@ pub enum Kind {
         /// The value that the parameter `gain` was created with.
         gain: Fix,
     },
+    /// A node whose outputs are the channels of its input, one each (ChannelSplitterNode).
+    Splitter {
+        /// The number of outputs (numberOfOutputs), from 1 to 32 once the node is there.
+        outputs: u32,
+    },
+    /// A node whose output's channels are its inputs, one each (ChannelMergerNode).
+    Merger {
+        /// The number of inputs (numberOfInputs), from 1 to 32 once the node is there.
+        inputs: u32,
+    },
 }
+
+const MAX_PORTS: u32 = 32;
 
 impl Kind {
     /// The number of inputs (numberOfInputs).
@@ -26,8 +38,9 @@ impl Kind {
         ensures { result ≡ spec.inputs self.now }
     {
         match self {
-            Kind::Destination | Kind::Gain { .. } => 1,
+            Kind::Destination | Kind::Gain { .. } | Kind::Splitter { .. } => 1,
             Kind::Constant { .. } => 0,
+            Kind::Merger { inputs } => *inputs,
         }
     }
 
@@ -37,7 +50,8 @@ impl Kind {
         ensures { result ≡ spec.outputs self.now }
     {
         match self {
-            Kind::Destination | Kind::Constant { .. } | Kind::Gain { .. } => 1,
+            Kind::Splitter { outputs } => *outputs,
+            _ => 1,
         }
     }
 
@@ -46,7 +60,11 @@ impl Kind {
         ensures { result ≡ spec.is_delay_kind self.now }
     {
         match self {
-            Kind::Destination | Kind::Constant { .. } | Kind::Gain { .. } => false,
+            Kind::Destination
+            | Kind::Constant { .. }
+            | Kind::Gain { .. }
+            | Kind::Splitter { .. }
+            | Kind::Merger { .. } => false,
         }
     }
 
@@ -55,7 +73,7 @@ impl Kind {
         ensures { result ≡ spec.fixed_count self.now }
     {
         match self {
-            Kind::Destination => true,
+            Kind::Destination | Kind::Splitter { .. } | Kind::Merger { .. } => true,
             Kind::Constant { .. } | Kind::Gain { .. } => false,
         }
     }
@@ -65,7 +83,7 @@ impl Kind {
         ensures { result ≡ spec.fixed_mode self.now }
     {
         match self {
-            Kind::Destination => true,
+            Kind::Destination | Kind::Splitter { .. } | Kind::Merger { .. } => true,
             Kind::Constant { .. } | Kind::Gain { .. } => false,
         }
     }
@@ -75,7 +93,21 @@ impl Kind {
         ensures { result ≡ spec.fixed_interp self.now }
     {
         match self {
-            Kind::Destination | Kind::Constant { .. } | Kind::Gain { .. } => false,
+            Kind::Splitter { .. } => true,
+            Kind::Destination | Kind::Constant { .. } | Kind::Gain { .. } | Kind::Merger { .. } =>
+                false,
+        }
+    }
+
+    // The exception with which a node of the kind is refused because of the number of its ports.
+    pub(crate) fn ports_refusal(&self) -> Option<Exc>
+        ensures { result ≡ spec.ports_refusal self.now }
+    {
+        match self {
+            Kind::Destination | Kind::Constant { .. } | Kind::Gain { .. } => None,
+            Kind::Splitter { outputs: ports } | Kind::Merger { inputs: ports } => {
+                port_refusal(*ports)
+            }
         }
     }
 
@@ -96,7 +128,7 @@ impl Kind {
         ensures { spec.IsInEntry self.now }
     {
         match self {
-            Kind::Destination => {}
+            Kind::Destination | Kind::Splitter { .. } | Kind::Merger { .. } => {}
             Kind::Constant { offset: entry } | Kind::Gain { gain: entry } => {
                 let _value = *entry;
             }
@@ -111,6 +143,19 @@ impl Kind {
             Kind::Destination => Kind::Destination,
             Kind::Constant { offset } => Kind::Constant { offset: *offset },
             Kind::Gain { gain } => Kind::Gain { gain: *gain },
+            Kind::Splitter { outputs } => Kind::Splitter { outputs: *outputs },
+            Kind::Merger { inputs } => Kind::Merger { inputs: *inputs },
         })
+    }
+}
+
+// Why a node cannot have so many ports.
+fn port_refusal(ports: u32) -> Option<Exc>
+    ensures { result ≡ spec.port_refusal ports }
+{
+    if ports == 0 || ports > MAX_PORTS {
+        Some(Exc::IndexSize)
+    } else {
+        None
     }
 }

@@ -28,14 +28,16 @@ impl Attrs {
     fn first(kind: &Kind, birth: u64) -> Attrs
         ensures { result ≡ table.first_attrs kind.now birth }
     {
-        let mode = match kind {
-            Kind::Destination => Mode::Explicit,
-            Kind::Constant { .. } | Kind::Gain { .. } => Mode::Max,
+        let (count, mode, interp) = match kind {
+            Kind::Destination => (2, Mode::Explicit, Interp::Speakers),
+            Kind::Constant { .. } | Kind::Gain { .. } => (2, Mode::Max, Interp::Speakers),
+            Kind::Splitter { outputs } => (*outputs, Mode::Explicit, Interp::Discrete),
+            Kind::Merger { .. } => (1, Mode::Explicit, Interp::Speakers),
         };
         Attrs {
-            count: 2,
+            count,
             mode,
-            interp: Interp::Speakers,
+            interp,
             birth,
         }
     }
@@ -118,8 +120,9 @@ impl Nodes {
     /// Creates a node of a kind other than the destination at the frame `birth`. Its number is the
     /// count of the nodes that were there before, and its attributes are the kind's defaults.
     ///
-    /// It is refused with NotSupportedError and the feature `node-limit` where 1,024 nodes are there,
-    /// the destination among them. After a refusal, and after `NoMemory`, the nodes are as before, and
+    /// It is refused with IndexSizeError where a splitter would have no output or more than 32, or a
+    /// merger so many inputs, and then with NotSupportedError and the feature `node-limit` where 1,024
+    /// nodes are there, the destination among them. After a refusal, and after `NoMemory`, the nodes are as before, and
     /// the kind is dropped.
     #[tactic(auto, using(crate::proofs::NodeLists::are_nodes_with_another))]
     pub fn create(&mut self, kind: Kind, birth: u64) -> Result<NodeId, Refusal>
@@ -142,9 +145,12 @@ impl Nodes {
     }
 
     /// The exception with which `create` would refuse a node of a kind now.
-    pub fn creation_refusal(&self, _kind: &Kind) -> Option<Exc>
-        ensures { result ≡ table.creation_refusal self.now _kind.now }
+    pub fn creation_refusal(&self, kind: &Kind) -> Option<Exc>
+        ensures { result ≡ table.creation_refusal self.now kind.now }
     {
+        if let Some(exc) = kind.ports_refusal() {
+            return Some(exc);
+        }
         if self.nodes.len() >= MAX_NODES {
             return Some(Exc::NotSupported(Some(Feature::NodeLimit)));
         }

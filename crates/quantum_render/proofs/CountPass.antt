@@ -7,8 +7,6 @@ use Rattle.std.proofs.lemmas.Bool.Decides.{nat_tests}
 use Rattle.wa_base.specs.declared.graph_names.End.{End}
 use Rattle.law_base.specs.Members.{IsIn}
 use Rattle.node_table.specs.Kinds.{outputs, is_mono}
-use Rattle.node_table.specs.declared.kinds.Kind.{Kind}
-use Rattle.node_table.specs.declared.kinds.Kind.TheVariants.{Destination, Constant, Gain}
 use Rattle.conn_graph.specs.Ends.{same_end, ends}
 use Rattle.conn_graph.specs.Orders.{IsLegalAfter, IsLegalOrder}
 use Rattle.conn_graph.proofs.EndLaws.{same_end_is}
@@ -23,22 +21,17 @@ use Rattle.quantum_render.specs.Blocks.{slot, counts_in}
 use Rattle.quantum_render.specs.Fits.{AreInRange}
 use Rattle.quantum_render.specs.Plans.{AreCounted}
 use Rattle.quantum_render.proofs.Orders.{no_end, next_in_order}
+use Rattle.quantum_render.proofs.Ports.{outputs_few}
 use Rattle.quantum_render.proofs.Slots.{slot_low, slot_apart, slot-half, not_same}
 use Rattle.quantum_render.proofs.Sources.{end_low}
 
--- no kind has more than 32 outputs
-outputs_few : (kind : Kind) → outputs kind ≤ 32
-outputs_few Destination = omega arith
-outputs_few (Constant offset) = omega arith
-outputs_few (Gain gain) = omega arith
-
 -- where each end has one channel
-pub one_each : (w : World) (counts : List ℕ) → length counts ≡ 2 * length w.nodes → ((k : ℕ) → k < length counts → slice_index_or counts k 1 ≡ 1) → AreInRange w counts
-one_each w counts places ones = record {
+pub one_each : (w : World) → IsValid w → (counts : List ℕ) → length counts ≡ 2 * length w.nodes → ((k : ℕ) → k < length counts → slice_index_or counts k 1 ≡ 1) → AreInRange w counts
+one_each w valid counts places ones = record {
   places = places;
   low = λ k l. let e = ones k l in omega arith;
   high = λ k l. let e = ones k l in omega arith;
-  lanes = λ k l. let few = outputs_few (kind_of w (k / 2)) in rw (ones k l) (omega arith);
+  lanes = λ k l. let few = outputs_few w valid (k / 2) in rw (ones k l) (omega arith);
   mono = λ k l t. ones k l;
 }
 
@@ -54,7 +47,7 @@ pub counting_begins : (w : World) → IsValid w → (order : List End) → IsLeg
 counting_begins w valid order legal counts places ones = record {
   done = [];
   legal = legal;
-  range = one_each w counts places ones;
+  range = one_each w valid counts places ones;
   known = λ tape d in_d k. elim k [
     | inl m ↦ ones (slot d) (subst (λ n. slot d < n) (sym places) (slot_low d (length w.nodes) (end_low w valid d in_d))) ∙ sym (muted_one 128 (omega arith) w (joined w valid) tape d in_d m)
     | inr none ↦ absurd none

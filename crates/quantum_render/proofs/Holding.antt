@@ -7,7 +7,8 @@ use Rattle.std.proofs.lemmas.List.{get_or-take, get_or-drop, length-drop, length
 use Rattle.std.proofs.lemmas.Nat.{div-mul-add}
 use Rattle.std.proofs.lemmas.Int.{ints}
 use Rattle.std.proofs.lemmas.Bool.Decides.{nat_tests}
-use Rattle.channel_mix.specs.Blocks.{sample, frame_at, IsWithin}
+use Rattle.lane_kern.specs.Blocks.{IsWithin}
+use Rattle.channel_mix.specs.Blocks.{sample, frame_at}
 use Rattle.quantum_render.specs.Blocks.{BlockView, at, shown, carried, all_values}
 use Rattle.quantum_render.specs.Sums.{moving_sums}
 

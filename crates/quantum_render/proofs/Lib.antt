@@ -3,9 +3,11 @@ pub mod Connections
 pub mod Made
 pub mod Sources
 pub mod InputLaws
+pub mod Lanes
 pub mod LevelLaws
 pub mod Orders
 pub mod PassLaws
+pub mod Ports
 pub mod CountingLaws
 pub mod CountPass
 pub mod Passing

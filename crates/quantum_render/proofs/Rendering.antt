@@ -30,27 +30,42 @@ module _ (s : SiteView) (site : IsSite s.world s.end s.into s.counts s.first) (o
   pub own_within : k < length old
   own_within = subst (λ j. j < length old) (sym here) slot_within
 
-  module _ (single : outputs (kind_of s.world s.end.node.0) ≡ 1) where
-    own_lanes : (block_of old s.end).lanes ≡ counts_in s.counts s.end
-    own_lanes = fit.lanes s.end site.there ∙ ap (λ n. n * counts_in s.counts s.end) single ∙ omega arith
+  pub mono_own : is_mono (kind_of s.world s.end.node.0) ≡ true → counts_in s.counts s.end ≡ 1
+  mono_own is = site.range.mono (slot s.end) (site_slot s.world s.end s.into s.counts s.first site) (subst (λ n. is_mono (kind_of s.world n) ≡ true) (sym (slot-half s.end)) is)
 
-    -- of one output there is room for the end's channels
-    pub own_room : (d : BlockView) → counts_in s.counts s.end * 128 ≤ room_of (slice_index_or old k d)
-    own_room d =
+  -- the block has so many lanes in all
+  module _ (all : ℕ) (are : outputs (kind_of s.world s.end.node.0) * counts_in s.counts s.end ≡ all) where
+    own_lanes : (block_of old s.end).lanes ≡ all
+    own_lanes = fit.lanes s.end site.there ∙ are
+
+    -- there is room for them
+    pub all_room : (d : BlockView) → all * 128 ≤ room_of (slice_index_or old k d)
+    all_room d =
         let same : slice_index_or old k d ≡ block_of old s.end = get_or_default old k d no_block own_within ∙ ap (λ j. slice_index_or old j no_block) here in
-        let lanes : (slice_index_or old k d).lanes ≡ counts_in s.counts s.end = ap (λ (x : BlockView). x.lanes) same ∙ own_lanes in
+        let lanes : (slice_index_or old k d).lanes ≡ all = ap (λ (x : BlockView). x.lanes) same ∙ own_lanes in
         omega arith
 
-    pub mono_own : is_mono (kind_of s.world s.end.node.0) ≡ true → counts_in s.counts s.end ≡ 1
-    mono_own is = site.range.mono (slot s.end) (site_slot s.world s.end s.into s.counts s.first site) (subst (λ n. is_mono (kind_of s.world n) ≡ true) (sym (slot-half s.end)) is)
+    pub writes_all : (b : BlockView) → b.lanes ≡ all → Writes old (slice_set old k b) s.end
+    writes_all b lanes = writes_one old s.end k b here (lanes ∙ sym own_lanes)
+
+  -- and they are those that were written
+  pub lane_own : (b : BlockView) (lane m : ℕ) → at (block_of (slice_set old k b) s.end) lane m ≡ at b lane m
+  lane_own b lane m = ap (λ (x : BlockView). at x lane m) (written old s.end k b here slot_within)
+
+  -- of one output they are the end's channels
+  module _ (single : outputs (kind_of s.world s.end.node.0) ≡ 1) where
+    channels_own : outputs (kind_of s.world s.end.node.0) * counts_in s.counts s.end ≡ counts_in s.counts s.end
+    channels_own = ap (λ n. n * counts_in s.counts s.end) single ∙ omega arith
+
+    pub own_room : (d : BlockView) → counts_in s.counts s.end * 128 ≤ room_of (slice_index_or old k d)
+    own_room d = all_room _ channels_own d
 
     pub writes_own : (b : BlockView) → b.lanes ≡ counts_in s.counts s.end → Writes old (slice_set old k b) s.end
-    writes_own b lanes = writes_one old s.end k b here (lanes ∙ sym own_lanes)
+    writes_own b lanes = writes_all _ channels_own b lanes
 
-    -- and its lanes are the channels
     pub renders_own : (b : BlockView) (value : ℕ → ℕ → ℤ) → ((c m : ℕ) → c < counts_in s.counts s.end → m < 128 → at b c m ≡ value m c)
         → (o c m : ℕ) → o < 1 → c < counts_in s.counts s.end → m < 128 → at (block_of (slice_set old k b) s.end) (o * counts_in s.counts s.end + c) m ≡ value m c
     renders_own b value each o c m output low now =
-        ap (λ (x : BlockView). at x (o * counts_in s.counts s.end + c) m) (written old s.end k b here slot_within)
+        lane_own b (o * counts_in s.counts s.end + c) m
         ∙ ap (λ lane. at b lane m) (lane-only o (counts_in s.counts s.end) c output)
         ∙ each c m low now

@@ -2,13 +2,15 @@
 use Rattle.std.specs.Prelude.{◌≡◌}
 use Rattle.quantum_render.specs.Blocks.{BlockView, room_of}
 
--- what contracts see of a bench: what an input carries, and the levels of a parameter
+-- what contracts see of a bench: what an input carries, the levels of a parameter, and what several inputs carry, one lane each
 pub record BenchView : Type 0 where
   pub heard : BlockView
   pub levels : BlockView
+  pub merged : BlockView
 
 -- there is room for every input, and for the one channel of a parameter
 pub record IsBench (b : BenchView) : Type 0 where
   pub heard : room_of b.heard ≡ 4096
   pub levels : room_of b.levels ≡ 128
   pub mono : b.levels.lanes ≡ 1
+  pub merged : room_of b.merged ≡ 4096

@@ -18,11 +18,12 @@ use std::marker::Model;
 use wa_base::{Interp, NoMemory, ParamId, ParamName, Rate};
 
 // What is at hand while an end is rendered, one end after another: what its input carries, the
-// levels of its parameter, and the sums that both are made of.
+// levels of its parameter, what its inputs carry, one lane each, and the sums that all are made of.
 #[derive(Drop)]
 pub(crate) struct Bench {
     pub heard: Block,
     pub levels: Block,
+    pub merged: Block,
     sums: Sums,
 }
 
@@ -31,9 +32,9 @@ impl Model for Bench {
 
     ghost Value = { BenchView };
 
-    ghost view = { λ b. record { heard = b.heard; levels = b.levels } };
+    ghost view = { λ b. record { heard = b.heard; levels = b.levels; merged = b.merged } };
 
-    ghost invariant = { λ b. IsBench (record { heard = b.heard; levels = b.levels }) };
+    ghost invariant = { λ b. IsBench (record { heard = b.heard; levels = b.levels; merged = b.merged }) };
 }
 
 impl Bench {
@@ -41,6 +42,7 @@ impl Bench {
         Ok(Bench {
             heard: Block::new(alloc, CHANNELS)?,
             levels: Block::new(alloc, 1)?,
+            merged: Block::new(alloc, CHANNELS)?,
             sums: Sums::new(alloc)?,
         })
     }
@@ -50,6 +52,7 @@ impl Bench {
         requires low { 1 ≤ channels }
         requires high { channels ≤ 32 }
         requires fit { AreFit site.now.world site.now.counts blocks.now }
+        ensures merged { self.new.merged ≡ self.old.merged }
         ensures lanes { self.new.heard.lanes ≡ channels }
         ensures input { channels ≡ input_channels (plain site.now.world) (counts_in site.now.counts) site.now.end.node.0 input →
             (c m : ℕ) → c < channels → m < 128 → at self.new.heard c m ≡ input_value (here_of site.now blocks.now m) site.now.end.node.0 input c }
@@ -68,6 +71,21 @@ impl Bench {
         }
         self.sums.gather(blocks, site, inlet);
         self.heard.saturate(&self.sums);
+    }
+
+    // Hears what each of so many inputs carries, mixed to one channel.
+    pub(crate) fn take_inputs(&mut self, blocks: &[Block], site: &Site, inputs: usize)
+        requires few { inputs ≤ 32 }
+        requires fit { AreFit site.now.world site.now.counts blocks.now }
+        ensures lanes { self.new.merged.lanes ≡ inputs }
+        ensures inputs { ((i : ℕ) → i < inputs → 1 ≡ input_channels (plain site.now.world) (counts_in site.now.counts) site.now.end.node.0 i) →
+            (i m : ℕ) → i < inputs → m < 128 → at self.new.merged i m ≡ input_value (here_of site.now blocks.now m) site.now.end.node.0 i 0 }
+    {
+        self.merged.begin(inputs);
+        for input in 0..inputs {
+            self.take_input(blocks, site, input as u32, 1);
+            self.merged.set_lane(input, &self.heard);
+        }
     }
 
     // Takes the computed values of a parameter of the end's node.

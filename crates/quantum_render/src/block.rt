@@ -10,7 +10,7 @@ ghost use Rattle.quantum_render.specs.Held.{IsHeld, IsCarried};
 use crate::held::Held;
 use crate::kernels::{
     copy_values, fill, is_silent, is_throughout, level_of, move_on, saturate, scale_all,
-    scale_channels, scale_steady, silence, sound, spread,
+    scale_channels, scale_steady, silence, sound, spread, unfold_if,
 };
 use crate::sums::Sums;
 use std::alloc::Global;
@@ -288,6 +288,69 @@ impl Block {
         self.lanes = lanes;
         self.steady = false;
         copy_values(&mut self.values[0..lanes * QUANTUM], values);
+    }
+
+    // Has so many lanes. Their values may be any.
+    pub(crate) fn begin(&mut self, lanes: usize)
+        requires few { lanes ≤ 32 }
+        requires room { lanes * 128 ≤ room_of self.old }
+        ensures lanes { self.new.lanes ≡ lanes }
+        ensures room { room_of self.new ≡ room_of self.old }
+    {
+        self.lanes = lanes;
+        self.steady = true;
+    }
+
+    // Of another block's one lane, makes one of its own.
+    pub(crate) fn set_lane(&mut self, lane: usize, other: &Block)
+        requires lane { lane < self.old.lanes }
+        requires mono { other.now.lanes ≡ 1 }
+        ensures lanes { self.new.lanes ≡ self.old.lanes }
+        ensures room { room_of self.new ≡ room_of self.old }
+        ensures own { (m : ℕ) → m < 128 → at self.new lane m ≡ at other.now 0 m }
+        ensures others { (l m : ℕ) → l < self.old.lanes → (l ≡ lane → ⊥) → m < 128 → at self.new l m ≡ at self.old l m }
+    {
+        match other.held() {
+            Held::Steady(held) => self.set_steady(lane, held[0]),
+            Held::Moving(values) => self.set_moving(lane, values),
+        }
+    }
+
+    fn set_steady(&mut self, lane: usize, value: Fix)
+        requires lane { lane < self.old.lanes }
+        ensures lanes { self.new.lanes ≡ self.old.lanes }
+        ensures room { room_of self.new ≡ room_of self.old }
+        ensures own { (m : ℕ) → m < 128 → at self.new lane m ≡ value }
+        ensures others { (l m : ℕ) → l < self.old.lanes → (l ≡ lane → ⊥) → m < 128 → at self.new l m ≡ at self.old l m }
+    {
+        if self.steady {
+            self.values[lane] = value;
+        } else {
+            fill(
+                &mut self.values[lane * QUANTUM..(lane + 1) * QUANTUM],
+                value,
+            );
+        }
+    }
+
+    fn set_moving(&mut self, lane: usize, values: &[Fix])
+        requires lane { lane < self.old.lanes }
+        requires length { length values.now ≡ 128 }
+        ensures lanes { self.new.lanes ≡ self.old.lanes }
+        ensures room { room_of self.new ≡ room_of self.old }
+        ensures own { (m : ℕ) → m < 128 → at self.new lane m ≡ slice_index_or values.now m (pos 0) }
+        ensures others { (l m : ℕ) → l < self.old.lanes → (l ≡ lane → ⊥) → m < 128 → at self.new l m ≡ at self.old l m }
+    {
+        unfold_if(
+            &mut self.values[0..self.lanes * QUANTUM],
+            self.lanes,
+            self.steady,
+        );
+        self.steady = false;
+        copy_values(
+            &mut self.values[lane * QUANTUM..(lane + 1) * QUANTUM],
+            values,
+        );
     }
 
     // Becomes what another block is, multiplied at each frame by the gain there.

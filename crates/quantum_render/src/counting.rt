@@ -54,7 +54,8 @@ fn count_of(counts: &[u32], world: &World, end: End, into: &[Edge]) -> u32
     ensures mono { is_mono (kind_of world.now end.node.0) ≡ true → result ≡ 1 }
 {
     match world.nodes.kind(end.node) {
-        Kind::Constant { .. } => 1,
+        Kind::Constant { .. } | Kind::Splitter { .. } => 1,
+        Kind::Merger { inputs } => *inputs,
         Kind::Destination | Kind::Gain { .. } => input_count(counts, world, end.node, into),
     }
 }

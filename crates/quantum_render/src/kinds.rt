@@ -1,6 +1,6 @@
 ghost use Rattle.std.specs.Prelude.{◌≡◌, ◌<◌, ◌-◌, ◌^◌, ℕ, ℤ, Some};
 ghost use Rattle.sched_source.specs.Schedule.{is_between};
-ghost use Rattle.node_table.specs.declared.kinds.Kind.TheVariants.{Destination, Constant, Gain};
+ghost use Rattle.node_table.specs.declared.kinds.Kind.TheVariants.{Destination, Constant, Gain, Splitter, Merger};
 ghost use Rattle.meaning.specs.Validity.{IsValid};
 ghost use Rattle.meaning.specs.World.{kind_of, sounds_at};
 ghost use Rattle.quantum_render.specs.Blocks.{Writes};
@@ -27,6 +27,8 @@ impl Bench {
             Kind::Destination => self.render_destination(blocks, site),
             Kind::Constant { .. } => self.render_constant(blocks, site),
             Kind::Gain { .. } => self.render_gain(blocks, site),
+            Kind::Splitter { .. } => self.render_splitter(blocks, site),
+            Kind::Merger { .. } => self.render_merger(blocks, site),
         }
     }
 
@@ -61,6 +63,28 @@ impl Bench {
         self.take_input(blocks, site, 0, site.channels());
         self.take_levels(blocks, site, ParamName::Gain);
         blocks[slot(site.end)].scale(&self.heard, &self.levels);
+    }
+
+    // The channels of its input, one on each output.
+    fn render_splitter(&mut self, blocks: &mut [Block], site: &Site)
+        requires fit { AreFit site.now.world site.now.counts blocks.old }
+        requires kind { (ports : ℕ) × (kind_of site.now.world site.now.end.node.0 ≡ Splitter ports) }
+        ensures writes { Writes blocks.old blocks.new site.now.end }
+        ensures renders { (ports : ℕ) → kind_of site.now.world site.now.end.node.0 ≡ Splitter ports → Renders site.now blocks.old blocks.new (Splitter ports) }
+    {
+        self.take_input(blocks, site, 0, site.outputs() as usize);
+        blocks[slot(site.end)].copy(&self.heard);
+    }
+
+    // Its inputs, one on each channel.
+    fn render_merger(&mut self, blocks: &mut [Block], site: &Site)
+        requires fit { AreFit site.now.world site.now.counts blocks.old }
+        requires kind { (ports : ℕ) × (kind_of site.now.world site.now.end.node.0 ≡ Merger ports) }
+        ensures writes { Writes blocks.old blocks.new site.now.end }
+        ensures renders { (ports : ℕ) → kind_of site.now.world site.now.end.node.0 ≡ Merger ports → Renders site.now blocks.old blocks.new (Merger ports) }
+    {
+        self.take_inputs(blocks, site, site.channels());
+        blocks[slot(site.end)].copy(&self.merged);
     }
 }
 

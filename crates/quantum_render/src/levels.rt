@@ -1,4 +1,4 @@
-ghost use Rattle.std.specs.Prelude.{◌≡◌, ℕ};
+ghost use Rattle.std.specs.Prelude.{◌≡◌, ℕ, []};
 ghost use Rattle.std.specs.List.{list_any};
 ghost use Rattle.std.specs.Option.{option_map_or};
 ghost use Rattle.param_events.specs.Values.{value_at};
@@ -34,13 +34,11 @@ pub(crate) fn automation(world: &World, id: ParamId, near: Near) -> (Fix, Rate)
     }
 }
 
-// The intrinsic value, which is the same at every frame, since no event can be there.
+// The intrinsic value, which is the same at every frame, since there is no event.
 #[tactic(auto, unfolding(param_events::specs::Values::value_at))]
 fn intrinsic(line: &Timeline) -> Fix
+    requires { line.now.events ≡ [] }
     ensures { (frame : ℕ) → value_at line.now.base line.now.events frame ≡ result }
 {
-    match line.len() {
-        0 => line.base(),
-        _ => unreachable!(),
-    }
+    line.base()
 }

@@ -48,6 +48,18 @@ create_gain =
     row field.As kind.NewName Needed ∷
     row field.Gain kind.Fix (Number (pos 16777216)) ∷ []
 
+-- `createChannelSplitter`
+abbrev pub create_channel_splitter : List Row
+create_channel_splitter =
+    row field.As kind.NewName Needed ∷
+    row field.NumberOfOutputs kind.Count (Count 6) ∷ []
+
+-- `createChannelMerger`
+abbrev pub create_channel_merger : List Row
+create_channel_merger =
+    row field.As kind.NewName Needed ∷
+    row field.NumberOfInputs kind.Count (Count 6) ∷ []
+
 -- `connect`
 abbrev pub connect : List Row
 connect =

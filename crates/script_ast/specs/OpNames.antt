@@ -10,7 +10,7 @@ use Rattle.script_ast.specs.declared.entries.Row.{Row}
 use Rattle.script_ast.specs.declared.op_names.LeftOutName.{LeftOutName}
 use Rattle.script_ast.specs.declared.op_names.LeftOutName.TheVariants as left_out
 use Rattle.script_ast.specs.declared.op_names.OpName.{OpName}
-use Rattle.script_ast.specs.declared.op_names.OpName.TheVariants.{CreateConstantSource, CreateGain, Connect, Disconnect, SetChannelCount, SetChannelCountMode, SetChannelInterpretation, Start, Stop, StartRendering, Resume, ReadState, ReadTime, LeftOut}
+use Rattle.script_ast.specs.declared.op_names.OpName.TheVariants.{CreateConstantSource, CreateGain, CreateChannelSplitter, CreateChannelMerger, Connect, Disconnect, SetChannelCount, SetChannelCountMode, SetChannelInterpretation, Start, Stop, StartRendering, Resume, ReadState, ReadTime, LeftOut}
 
 -- the `op` of an operation that the profile leaves out
 abbrev pub left_out_word : LeftOutName → List ℕ
@@ -52,6 +52,8 @@ left_out_feature left_out.CreateConvolver = feature.Convolver
 abbrev pub op_word : OpName → List ℕ
 op_word CreateConstantSource = codes "createConstantSource"
 op_word CreateGain = codes "createGain"
+op_word CreateChannelSplitter = codes "createChannelSplitter"
+op_word CreateChannelMerger = codes "createChannelMerger"
 op_word Connect = codes "connect"
 op_word Disconnect = codes "disconnect"
 op_word SetChannelCount = codes "setChannelCount"
@@ -70,6 +72,8 @@ abbrev pub operations : List OpName
 operations =
     CreateConstantSource ∷
     CreateGain ∷
+    CreateChannelSplitter ∷
+    CreateChannelMerger ∷
     Connect ∷
     Disconnect ∷
     SetChannelCount ∷
@@ -109,6 +113,8 @@ op_named word = first_named word operations
 abbrev pub fields_of : OpName → List Row
 fields_of CreateConstantSource = entry.create_constant_source
 fields_of CreateGain = entry.create_gain
+fields_of CreateChannelSplitter = entry.create_channel_splitter
+fields_of CreateChannelMerger = entry.create_channel_merger
 fields_of Connect = entry.connect
 fields_of Disconnect = entry.disconnect
 fields_of SetChannelCount = entry.set_channel_count

@@ -89,6 +89,16 @@ pub const CREATE_GAIN: [Row; 2] = [
     row!(Gain, Fix, Number(16_777_216)),
 ];
 
+pub const CREATE_CHANNEL_SPLITTER: [Row; 2] = [
+    row!(As, NewName, Needed),
+    row!(NumberOfOutputs, Count, Count(6)),
+];
+
+pub const CREATE_CHANNEL_MERGER: [Row; 2] = [
+    row!(As, NewName, Needed),
+    row!(NumberOfInputs, Count, Count(6)),
+];
+
 pub const CONNECT: [Row; 4] = [
     row!(From, Name, Needed),
     row!(Output, Count, Count(0)),

@@ -2,8 +2,9 @@ ghost use Rattle.std.specs.Prelude.{◌≡◌, Some, IsTrue, ◌↔◌, IsSome, 
 ghost use Rattle.script_ast.specs.OpNames.{left_out_word, left_out_feature, op_word, op_named, first_named, fields_of, has_calls};
 
 use crate::entries::{
-    CONNECT, CREATE_CONSTANT_SOURCE, CREATE_GAIN, DISCONNECT, Kind, Row, SET_CHANNEL_COUNT,
-    SET_CHANNEL_COUNT_MODE, SET_CHANNEL_INTERPRETATION, START, START_RENDERING, STOP,
+    CONNECT, CREATE_CHANNEL_MERGER, CREATE_CHANNEL_SPLITTER, CREATE_CONSTANT_SOURCE, CREATE_GAIN,
+    DISCONNECT, Kind, Row, SET_CHANNEL_COUNT, SET_CHANNEL_COUNT_MODE, SET_CHANNEL_INTERPRETATION,
+    START, START_RENDERING, STOP,
 };
 use wa_base::Feature;
 
@@ -82,6 +83,8 @@ impl LeftOutName {
 pub enum OpName {
     CreateConstantSource,
     CreateGain,
+    CreateChannelSplitter,
+    CreateChannelMerger,
     Connect,
     Disconnect,
     SetChannelCount,
@@ -97,9 +100,11 @@ pub enum OpName {
 }
 
 /// Every operation.
-pub const OP_NAMES: [OpName; 28] = [
+pub const OP_NAMES: [OpName; 30] = [
     OpName::CreateConstantSource,
     OpName::CreateGain,
+    OpName::CreateChannelSplitter,
+    OpName::CreateChannelMerger,
     OpName::Connect,
     OpName::Disconnect,
     OpName::SetChannelCount,
@@ -138,6 +143,8 @@ impl OpName {
         match self {
             OpName::CreateConstantSource => "createConstantSource",
             OpName::CreateGain => "createGain",
+            OpName::CreateChannelSplitter => "createChannelSplitter",
+            OpName::CreateChannelMerger => "createChannelMerger",
             OpName::Connect => "connect",
             OpName::Disconnect => "disconnect",
             OpName::SetChannelCount => "setChannelCount",
@@ -174,6 +181,8 @@ impl OpName {
         match self {
             OpName::CreateConstantSource => &CREATE_CONSTANT_SOURCE,
             OpName::CreateGain => &CREATE_GAIN,
+            OpName::CreateChannelSplitter => &CREATE_CHANNEL_SPLITTER,
+            OpName::CreateChannelMerger => &CREATE_CHANNEL_MERGER,
             OpName::Connect => &CONNECT,
             OpName::Disconnect => &DISCONNECT,
             OpName::SetChannelCount => &SET_CHANNEL_COUNT,

@@ -12,7 +12,7 @@ use Rattle.script_ast.specs.declared.clocks.Clock.{Clock}
 use Rattle.script_ast.specs.declared.clocks.Clock.TheVariants.{Frames}
 use Rattle.script_ast.specs.declared.call_list.Script.{Script}
 use Rattle.script_ast.specs.declared.op_names.OpName.{OpName}
-use Rattle.script_ast.specs.declared.op_names.OpName.TheVariants.{CreateConstantSource, CreateGain, Connect, Disconnect, SetChannelCount, SetChannelCountMode, SetChannelInterpretation, Start, Stop, StartRendering, Resume, ReadState, ReadTime, LeftOut}
+use Rattle.script_ast.specs.declared.op_names.OpName.TheVariants.{CreateConstantSource, CreateGain, CreateChannelSplitter, CreateChannelMerger, Connect, Disconnect, SetChannelCount, SetChannelCountMode, SetChannelInterpretation, Start, Stop, StartRendering, Resume, ReadState, ReadTime, LeftOut}
 use Rattle.script_ast.proofs.Nesting.{IsBlock, none_block, next_block, block_nested}
 use Rattle.script_json.proofs.CallSteps.{both_none, outcome_ok, is_call}
 use Rattle.script_json.proofs.PlacedLaws.{placed_all}
@@ -27,6 +27,8 @@ use Rattle.script_json.specs.Script.{main_list, calls_of, head_faults, script_fa
 holds_calls-op_in : (clock : Clock) (name : OpName) (d : Data) → holds_calls (op_in clock name d) ≡ has_calls name
 holds_calls-op_in clock CreateConstantSource d = refl
 holds_calls-op_in clock CreateGain d = refl
+holds_calls-op_in clock CreateChannelSplitter d = refl
+holds_calls-op_in clock CreateChannelMerger d = refl
 holds_calls-op_in clock Connect d = refl
 holds_calls-op_in clock Disconnect d = refl
 holds_calls-op_in clock SetChannelCount d = refl

@@ -22,7 +22,7 @@ use Rattle.script_ast.specs.declared.entries.Row.{Row}
 use Rattle.script_ast.specs.declared.fields.Field.{Field}
 use Rattle.script_ast.specs.declared.fields.Field.TheVariants as field
 use Rattle.script_ast.specs.declared.op_names.OpName.{OpName}
-use Rattle.script_ast.specs.declared.op_names.OpName.TheVariants.{CreateConstantSource, CreateGain, Connect, Disconnect, SetChannelCount, SetChannelCountMode, SetChannelInterpretation, Start, Stop, StartRendering, Resume, ReadState, ReadTime, LeftOut}
+use Rattle.script_ast.specs.declared.op_names.OpName.TheVariants.{CreateConstantSource, CreateGain, CreateChannelSplitter, CreateChannelMerger, Connect, Disconnect, SetChannelCount, SetChannelCountMode, SetChannelInterpretation, Start, Stop, StartRendering, Resume, ReadState, ReadTime, LeftOut}
 use Rattle.script_json.proofs.CallSteps.{both_none, length-calls, outcome_ok}
 use Rattle.script_json.proofs.FormLaws.{disconnect_form}
 use Rattle.script_json.proofs.PlacedLaws.{placed_all}
@@ -120,6 +120,8 @@ text_in-new_name clock n d h = new_name_member clock n (member_at field.As d) h
 pub op_in-range : (clock : Clock) (n : ℕ) (d : Data) (name : OpName) → op_faults clock n d name ≡ [] → IsInRange (op_in clock name d)
 op_in-range clock n d CreateConstantSource h = (text_in-new_name clock n d (both_none _ _ (both_none _ _ h).0).0, fix_in-range _ _ d)
 op_in-range clock n d CreateGain h = (text_in-new_name clock n d (both_none _ _ (both_none _ _ h).0).0, fix_in-range _ _ d)
+op_in-range clock n d CreateChannelSplitter h = (text_in-new_name clock n d (both_none _ _ (both_none _ _ h).0).0, count_in-range _ _ d)
+op_in-range clock n d CreateChannelMerger h = (text_in-new_name clock n d (both_none _ _ (both_none _ _ h).0).0, count_in-range _ _ d)
 op_in-range clock n d Connect h = (count_in-range _ _ d, count_in-range _ _ d)
 op_in-range clock n d Disconnect h =
     let e = both_none _ _ h in

@@ -9,7 +9,7 @@ use Rattle.script_ast.specs.declared.call_list.Call.{Call}
 use Rattle.script_ast.specs.declared.clocks.Clock.{Clock}
 use Rattle.script_ast.specs.declared.fields.Field.TheVariants as field
 use Rattle.script_ast.specs.declared.op_names.OpName.{OpName}
-use Rattle.script_ast.specs.declared.op_names.OpName.TheVariants.{CreateConstantSource, CreateGain, Connect, Disconnect, SetChannelCount, SetChannelCountMode, SetChannelInterpretation, Start, Stop, StartRendering, Resume, ReadState, ReadTime, LeftOut}
+use Rattle.script_ast.specs.declared.op_names.OpName.TheVariants.{CreateConstantSource, CreateGain, CreateChannelSplitter, CreateChannelMerger, Connect, Disconnect, SetChannelCount, SetChannelCountMode, SetChannelInterpretation, Start, Stop, StartRendering, Resume, ReadState, ReadTime, LeftOut}
 use Rattle.script_ast.specs.declared.operations.Op.{Op}
 use Rattle.script_ast.specs.declared.operations.Op.TheVariants as op
 use Rattle.script_json.specs.Fields.{is_there, fields_faults, lack_faults, text_in, text_or_null_in, fix_in, time_in, time_or_null_in, count_in, count_or_null_in, mode_in, interp_in}
@@ -88,6 +88,8 @@ call_faults clock call = if is_some (as_object call.value) then name_faults cloc
 abbrev pub op_in : Clock → OpName → Data → Op
 op_in clock CreateConstantSource d = op.CreateConstantSource (text_in field.As d) (fix_in entry.create_constant_source field.Offset d)
 op_in clock CreateGain d = op.CreateGain (text_in field.As d) (fix_in entry.create_gain field.Gain d)
+op_in clock CreateChannelSplitter d = op.CreateChannelSplitter (text_in field.As d) (count_in entry.create_channel_splitter field.NumberOfOutputs d)
+op_in clock CreateChannelMerger d = op.CreateChannelMerger (text_in field.As d) (count_in entry.create_channel_merger field.NumberOfInputs d)
 op_in clock Connect d = op.Connect (text_in field.From d) (count_in entry.connect field.Output d) (text_in field.To d) (count_in entry.connect field.Input d)
 op_in clock Disconnect d = op.Disconnect (text_in field.From d) (count_or_null_in field.Output d) (text_or_null_in field.To d) (count_or_null_in field.Input d)
 op_in clock SetChannelCount d = op.SetChannelCount (text_in field.Node d) (count_in entry.set_channel_count field.Value d)

@@ -131,6 +131,8 @@ fn build(alloc: Global, clock: Clock, name: OpName, call: &Value) -> Result<Op, 
             name: text(alloc, call, Field::As)?,
             gain: fix(call, &entries::CREATE_GAIN, Field::Gain),
         }),
+        OpName::CreateChannelSplitter => create_channel_splitter(alloc, call),
+        OpName::CreateChannelMerger => create_channel_merger(alloc, call),
         OpName::Connect => connect(alloc, call),
         OpName::Disconnect => disconnect(alloc, call),
         OpName::SetChannelCount => set_channel_count(alloc, call),
@@ -157,6 +159,28 @@ fn build(alloc: Global, clock: Clock, name: OpName, call: &Value) -> Result<Op, 
 }
 
 // No time stands in what the functions below build, so it is the same on every clock.
+
+fn create_channel_splitter(alloc: Global, call: &Value) -> Result<Op, NoMemory>
+    ensures { IfOk result (λ op. op ≡ op_in Clock.Frames OpName.CreateChannelSplitter (view call.now)) }
+{
+    Ok(Op::CreateChannelSplitter {
+        name: text(alloc, call, Field::As)?,
+        number_of_outputs: count(
+            call,
+            &entries::CREATE_CHANNEL_SPLITTER,
+            Field::NumberOfOutputs,
+        ),
+    })
+}
+
+fn create_channel_merger(alloc: Global, call: &Value) -> Result<Op, NoMemory>
+    ensures { IfOk result (λ op. op ≡ op_in Clock.Frames OpName.CreateChannelMerger (view call.now)) }
+{
+    Ok(Op::CreateChannelMerger {
+        name: text(alloc, call, Field::As)?,
+        number_of_inputs: count(call, &entries::CREATE_CHANNEL_MERGER, Field::NumberOfInputs),
+    })
+}
 
 fn connect(alloc: Global, call: &Value) -> Result<Op, NoMemory>
     ensures { IfOk result (λ op. op ≡ op_in Clock.Frames OpName.Connect (view call.now)) }

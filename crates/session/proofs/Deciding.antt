@@ -12,7 +12,7 @@ use Rattle.script_ast.specs.declared.operations.Op.TheVariants as op
 use Rattle.name_book.specs.Book.{object_of}
 use Rattle.name_book.specs.declared.book.Object.{Object}
 use Rattle.name_book.specs.declared.book.Object.TheVariants as object
-use Rattle.node_table.specs.declared.kinds.Kind.TheVariants.{Constant, Gain}
+use Rattle.node_table.specs.declared.kinds.Kind.TheVariants.{Constant, Gain, Splitter, Merger}
 use Rattle.conn_graph.specs.Edges.{form_node}
 use Rattle.meaning.specs.declared.change.Edit.{Edit}
 use Rattle.meaning.specs.declared.change.Edit.TheVariants as edit
@@ -76,6 +76,8 @@ pub decided_for : (m : Machine) → IsSteady m → (o : Op) → IsInRange o → 
 unfolding decided
 decided_for m steady (op.CreateConstantSource name offset) in_range = edits_for m steady (op.CreateConstantSource name offset) (edit.Create (Constant offset)) (refl, in_range.1) refl
 decided_for m steady (op.CreateGain name gain) in_range = edits_for m steady (op.CreateGain name gain) (edit.Create (Gain gain)) (refl, in_range.1) refl
+decided_for m steady (op.CreateChannelSplitter name outputs) in_range = edits_for m steady (op.CreateChannelSplitter name outputs) (edit.Create (Splitter outputs)) (refl, tt) refl
+decided_for m steady (op.CreateChannelMerger name inputs) in_range = edits_for m steady (op.CreateChannelMerger name inputs) (edit.Create (Merger inputs)) (refl, tt) refl
 decided_for m steady (op.LeftOut left_out) in_range = tt
 decided_for m steady (op.Connect from output to input) in_range =
     nodes_for m steady (op.Connect from output to input) (node_named m from) (node_named m to) (λ node target. edit.Connect (edge_of output input node target))
@@ -105,6 +107,8 @@ decided_for m steady other in_range = tt
 pub is_new : (o : Op) (name : List ℕ) → IsInRange o → new_name o ≡ Some name → IsNewName name
 is_new (op.CreateConstantSource new offset) name in_range is = subst (λ (x : Option (List ℕ)). IfSome x IsNewName) is in_range.0
 is_new (op.CreateGain new gain) name in_range is = subst (λ (x : Option (List ℕ)). IfSome x IsNewName) is in_range.0
+is_new (op.CreateChannelSplitter new outputs) name in_range is = subst (λ (x : Option (List ℕ)). IfSome x IsNewName) is in_range.0
+is_new (op.CreateChannelMerger new inputs) name in_range is = subst (λ (x : Option (List ℕ)). IfSome x IsNewName) is in_range.0
 is_new other name in_range is = absurd cc
 
 -- ---- what a call leaves

@@ -7,7 +7,7 @@ use Rattle.wa_base.specs.declared.graph_names.NodeId.{NodeId}
 use Rattle.script_ast.specs.declared.call_list.Call.{Call}
 use Rattle.script_ast.specs.declared.operations.Op.{Op}
 use Rattle.script_ast.specs.declared.operations.Op.TheVariants as op
-use Rattle.node_table.specs.declared.kinds.Kind.TheVariants.{Constant, Gain}
+use Rattle.node_table.specs.declared.kinds.Kind.TheVariants.{Constant, Gain, Splitter, Merger}
 use Rattle.meaning.specs.declared.change.Edit.{Edit}
 use Rattle.meaning.specs.declared.change.Edit.TheVariants as edit
 use Rattle.meaning.specs.Changes.{refusal}
@@ -53,6 +53,8 @@ module _ (machine : Machine) (call : Call) where
   unfolding decided
   op_starts (op.CreateConstantSource name offset) = ap (λ s. is_some s) (edits_leaves (edit.Create (Constant offset)))
   op_starts (op.CreateGain name gain) = ap (λ s. is_some s) (edits_leaves (edit.Create (Gain gain)))
+  op_starts (op.CreateChannelSplitter name outputs) = ap (λ s. is_some s) (edits_leaves (edit.Create (Splitter outputs)))
+  op_starts (op.CreateChannelMerger name inputs) = ap (λ s. is_some s) (edits_leaves (edit.Create (Merger inputs)))
   op_starts (op.LeftOut left_out) = refl
   op_starts (op.Connect from output to input) = ap (λ s. is_some s) (nodes_leaves (node_named machine from) (node_named machine to) (λ node target. edit.Connect (edge_of output input node target)))
   op_starts (op.Disconnect from output to input) = ap (λ s. is_some s) (disconnects_leaves (node_named machine from) output to input)

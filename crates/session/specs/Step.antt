@@ -13,7 +13,7 @@ use Rattle.transcript.specs.declared.lines.Answer.TheVariants as answer
 use Rattle.name_book.specs.declared.book.Object.{Object}
 use Rattle.name_book.specs.declared.book.Object.TheVariants as object
 use Rattle.name_book.specs.Book.{bound, first_named, object_of}
-use Rattle.node_table.specs.declared.kinds.Kind.TheVariants.{Constant, Gain}
+use Rattle.node_table.specs.declared.kinds.Kind.TheVariants.{Constant, Gain, Splitter, Merger}
 use Rattle.conn_graph.specs.declared.edges.Edge.{Edge}
 use Rattle.conn_graph.specs.declared.edges.Form.{Form}
 use Rattle.conn_graph.specs.declared.edges.Form.TheVariants as form
@@ -41,6 +41,8 @@ node_named machine name = node_bound (object_of machine.bindings name)
 abbrev pub new_name : Op → Option (List ℕ)
 new_name (op.CreateConstantSource name offset) = Some name
 new_name (op.CreateGain name gain) = Some name
+new_name (op.CreateChannelSplitter name number_of_outputs) = Some name
+new_name (op.CreateChannelMerger name number_of_inputs) = Some name
 new_name other = None
 
 -- ---- what an operation comes to
@@ -99,6 +101,8 @@ resumes state.Closed = answer.Rejected InvalidState
 unfoldable pub decided : Machine → Op → Decided
 decided machine (op.CreateConstantSource name offset) = edits machine (edit.Create (Constant offset))
 decided machine (op.CreateGain name gain) = edits machine (edit.Create (Gain gain))
+decided machine (op.CreateChannelSplitter name number_of_outputs) = edits machine (edit.Create (Splitter number_of_outputs))
+decided machine (op.CreateChannelMerger name number_of_inputs) = edits machine (edit.Create (Merger number_of_inputs))
 decided machine (op.LeftOut left_out) = refused (NotSupported (Some left_out))
 decided machine (op.Connect from output to input) = edits_nodes machine (node_named machine from) (node_named machine to) (λ node target. edit.Connect (edge_of output input node target))
 decided machine (op.Disconnect from output to input) = disconnects machine (node_named machine from) output to input

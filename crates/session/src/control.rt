@@ -105,6 +105,22 @@ impl Control {
             Op::CreateGain { gain, .. } => self.edits(Edit::Create {
                 kind: Kind::Gain { gain: *gain },
             }),
+            Op::CreateChannelSplitter {
+                number_of_outputs,
+                ..
+            } => self.edits(Edit::Create {
+                kind: Kind::Splitter {
+                    outputs: *number_of_outputs,
+                },
+            }),
+            Op::CreateChannelMerger {
+                number_of_inputs,
+                ..
+            } => self.edits(Edit::Create {
+                kind: Kind::Merger {
+                    inputs: *number_of_inputs,
+                },
+            }),
             Op::LeftOut { feature } => refused(Exc::NotSupported(Some(*feature))),
             Op::Connect {
                 from,
@@ -403,7 +419,10 @@ fn new_name(op: &Op) -> Option<&Name>
     ensures { option_map (λ name. name.now) result ≡ spec.new_name op.now }
 {
     match op {
-        Op::CreateConstantSource { name, .. } | Op::CreateGain { name, .. } => Some(name),
+        Op::CreateConstantSource { name, .. }
+        | Op::CreateGain { name, .. }
+        | Op::CreateChannelSplitter { name, .. }
+        | Op::CreateChannelMerger { name, .. } => Some(name),
         _ => None,
     }
 }

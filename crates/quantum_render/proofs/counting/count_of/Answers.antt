@@ -1,10 +1,11 @@
-use Rattle.std.proofs.Common.{ℕ, false, ◌≡◌, inl, inr, sym, ◌∙◌, ap}
-use Rattle.node_table.specs.Kinds.{is_mono}
+use Rattle.std.proofs.Common.{ℕ, false, ◌≡◌, ◌*◌, ◌≤◌, inl, inr, sym, ◌∙◌, ap, subst, arith}
+use Rattle.node_table.specs.Kinds.{outputs, is_mono, HasPorts}
 use Rattle.node_table.specs.declared.kinds.Kind.{Kind}
 use Rattle.meaning.specs.World.{plain, kind_of}
 use Rattle.meaning.specs.Counts.{count_by_kind}
 use Rattle.quantum_render.specs.Blocks.{counts_in}
 use Rattle.quantum_render.proofs.InputLaws.{kind_is}
+use Rattle.quantum_render.proofs.Ports.{ports_there, outputs_few}
 use Rattle.quantum_render.proofs.Sources.{end_low}
 use Rattle.quantum_render.proofs.counting.count_of.Goals as goal
 
@@ -16,8 +17,41 @@ input_count-requires-clause-node c = end_low c.args.world.now c.requires.valid c
 
 pub returns-in-Constant-clause-value : goal.returns-in-Constant-clause-value
 returns-in-Constant-clause-value c j earlier =
-    ap (λ (k : Kind). count_by_kind 128 (plain c.args.world.now) j earlier (counts_in c.args.counts.now) k c.args.end)
-    (sym (kind_is c.args.world.now c.args.end.node.0 c.kind.result.now (end_low c.args.world.now c.requires.valid c.args.end c.requires.there) c.kind.ensures.value ∙ c.in-Constant.is))
+    let table = kind_is c.args.world.now c.args.end.node.0 c.kind.result.now (end_low c.args.world.now c.requires.valid c.args.end c.requires.there) c.kind.ensures.value in
+    let counted : Kind → ℕ = λ k. count_by_kind 128 (plain c.args.world.now) j earlier (counts_in c.args.counts.now) k c.args.end in
+    elim c.in-Constant.is [
+      | inl is ↦ ap counted (sym (table ∙ is.1))
+      | inr is ↦ ap counted (sym (table ∙ is.1))
+    ]
+
+-- of a splitter each output has one channel
+pub returns-in-Constant-clause-lanes : goal.returns-in-Constant-clause-lanes
+returns-in-Constant-clause-lanes c = let few = outputs_few c.args.world.now c.requires.valid c.args.end.node.0 in omega (arith, few)
+
+pub returns-in-Merger-clause-value : goal.returns-in-Merger-clause-value
+returns-in-Merger-clause-value c j earlier =
+    let table = kind_is c.args.world.now c.args.end.node.0 c.kind.result.now (end_low c.args.world.now c.requires.valid c.args.end c.requires.there) c.kind.ensures.value in
+    let counted : Kind → ℕ = λ k. count_by_kind 128 (plain c.args.world.now) j earlier (counts_in c.args.counts.now) k c.args.end in
+    ap counted (sym (table ∙ c.in-Merger.is))
+
+-- the inputs of a merger are 1 to 32
+pub returns-in-Merger-clause-range : goal.returns-in-Merger-clause-range
+returns-in-Merger-clause-range c =
+    let table = kind_is c.args.world.now c.args.end.node.0 c.kind.result.now (end_low c.args.world.now c.requires.valid c.args.end c.requires.there) c.kind.ensures.value in
+    subst HasPorts (table ∙ c.in-Merger.is) (ports_there c.args.world.now c.requires.valid c.args.end.node.0)
+
+pub returns-in-Merger-clause-lanes : goal.returns-in-Merger-clause-lanes
+returns-in-Merger-clause-lanes c =
+    let table = kind_is c.args.world.now c.args.end.node.0 c.kind.result.now (end_low c.args.world.now c.requires.valid c.args.end c.requires.there) c.kind.ensures.value in
+    let one : outputs (kind_of c.args.world.now c.args.end.node.0) ≡ 1 = ap outputs (table ∙ c.in-Merger.is) in
+    let range = subst HasPorts (table ∙ c.in-Merger.is) (ports_there c.args.world.now c.requires.valid c.args.end.node.0) in
+    rw one (let high = range.1 in omega (arith, high))
+
+pub returns-in-Merger-clause-mono : goal.returns-in-Merger-clause-mono
+returns-in-Merger-clause-mono c mono =
+    let table = kind_is c.args.world.now c.args.end.node.0 c.kind.result.now (end_low c.args.world.now c.requires.valid c.args.end c.requires.there) c.kind.ensures.value in
+    let none : is_mono (kind_of c.args.world.now c.args.end.node.0) ≡ false = ap is_mono (table ∙ c.in-Merger.is) in
+    absurd cc
 
 pub returns-in-Destination-clause-value : goal.returns-in-Destination-clause-value
 returns-in-Destination-clause-value c j earlier =

@@ -35,6 +35,20 @@ render_gain-requires-clause-kind c = (
       (subst (λ (x : SiteView). kind_at x.world.nodes x.end.node.0 ≡ Some c.kind.result.now) c.site.view_is c.kind.ensures.value) ∙ c.in-Gain.is,
 )
 
+pub render_splitter-requires-clause-kind : goal.render_splitter-requires-clause-kind
+render_splitter-requires-clause-kind c = (
+  c.in-Splitter.outputs,
+  kind_of_site c.args.site.now (site_is c.args.site.now _ _ _ _ _ c.site.invariant c.site.view_is) c.kind.result.now
+      (subst (λ (x : SiteView). kind_at x.world.nodes x.end.node.0 ≡ Some c.kind.result.now) c.site.view_is c.kind.ensures.value) ∙ c.in-Splitter.is,
+)
+
+pub render_merger-requires-clause-kind : goal.render_merger-requires-clause-kind
+render_merger-requires-clause-kind c = (
+  c.in-Merger.inputs,
+  kind_of_site c.args.site.now (site_is c.args.site.now _ _ _ _ _ c.site.invariant c.site.view_is) c.kind.result.now
+      (subst (λ (x : SiteView). kind_at x.world.nodes x.end.node.0 ≡ Some c.kind.result.now) c.site.view_is c.kind.ensures.value) ∙ c.in-Merger.is,
+)
+
 pub returns-in-Destination-clause-renders : goal.returns-in-Destination-clause-renders
 returns-in-Destination-clause-renders c =
     subst (Renders c.args.site.now c.args.blocks.now c.render_destination.new.blocks)
@@ -55,3 +69,15 @@ returns-in-Gain-clause-renders c =
     (sym (kind_of_site c.args.site.now (site_is c.args.site.now _ _ _ _ _ c.site.invariant c.site.view_is) c.kind.result.now
     (subst (λ (x : SiteView). kind_at x.world.nodes x.end.node.0 ≡ Some c.kind.result.now) c.site.view_is c.kind.ensures.value) ∙ c.in-Gain.is))
     (c.render_gain.ensures.renders c.in-Gain.gain)
+
+pub returns-in-Splitter-clause-renders : goal.returns-in-Splitter-clause-renders
+returns-in-Splitter-clause-renders c =
+    let kind = kind_of_site c.args.site.now (site_is c.args.site.now _ _ _ _ _ c.site.invariant c.site.view_is) c.kind.result.now
+    (subst (λ (x : SiteView). kind_at x.world.nodes x.end.node.0 ≡ Some c.kind.result.now) c.site.view_is c.kind.ensures.value) ∙ c.in-Splitter.is in
+    subst (Renders c.args.site.now c.args.blocks.now c.render_splitter.new.blocks) (sym kind) (c.render_splitter.ensures.renders c.in-Splitter.outputs kind)
+
+pub returns-in-Merger-clause-renders : goal.returns-in-Merger-clause-renders
+returns-in-Merger-clause-renders c =
+    let kind = kind_of_site c.args.site.now (site_is c.args.site.now _ _ _ _ _ c.site.invariant c.site.view_is) c.kind.result.now
+    (subst (λ (x : SiteView). kind_at x.world.nodes x.end.node.0 ≡ Some c.kind.result.now) c.site.view_is c.kind.ensures.value) ∙ c.in-Merger.is in
+    subst (Renders c.args.site.now c.args.blocks.now c.render_merger.new.blocks) (sym kind) (c.render_merger.ensures.renders c.in-Merger.inputs kind)

@@ -17,7 +17,7 @@ pub copy-requires : goal.copy-requires
 copy-requires c =
     let site = site_is c.args.site.now _ _ _ _ _ c.site.invariant c.site.view_is in
     let here = c.slot.ensures ∙ ap (λ (x : SiteView). slot x.end) c.site.view_is in
-    subst (λ n. n * 128 ≤ room_of (slice_index_or c.args.blocks.now c.slot.result c.index-blocks-slot.result)) (mono_own c.args.site.now site c.args.blocks.now c.requires.fit c.slot.result here (ap outputs c.requires.kind.1) (ap is_mono c.requires.kind.1) ∙ sym c.sound.ensures.lanes)
+    subst (λ n. n * 128 ≤ room_of (slice_index_or c.args.blocks.now c.slot.result c.index-blocks-slot.result)) (mono_own c.args.site.now site c.args.blocks.now c.requires.fit c.slot.result here (ap is_mono c.requires.kind.1) ∙ sym c.sound.ensures.lanes)
     (own_room c.args.site.now site c.args.blocks.now c.requires.fit c.slot.result here (ap outputs c.requires.kind.1) c.index-blocks-slot.result)
 
 pub returns-clause-writes : goal.returns-clause-writes
@@ -25,7 +25,7 @@ returns-clause-writes c =
     let site = site_is c.args.site.now _ _ _ _ _ c.site.invariant c.site.view_is in
     let here = c.slot.ensures ∙ ap (λ (x : SiteView). slot x.end) c.site.view_is in
     writes_own c.args.site.now site c.args.blocks.now c.requires.fit c.slot.result here (ap outputs c.requires.kind.1) c.copy.new.self
-    (c.copy.ensures.lanes ∙ c.sound.ensures.lanes ∙ sym (mono_own c.args.site.now site c.args.blocks.now c.requires.fit c.slot.result here (ap outputs c.requires.kind.1) (ap is_mono c.requires.kind.1)))
+    (c.copy.ensures.lanes ∙ c.sound.ensures.lanes ∙ sym (mono_own c.args.site.now site c.args.blocks.now c.requires.fit c.slot.result here (ap is_mono c.requires.kind.1)))
 
 pub returns-clause-renders : goal.returns-clause-renders
 returns-clause-renders c offset j earlier counted before =

@@ -1,0 +1,22 @@
+use Rattle.std.proofs.Common.{◌≡◌, Some, sym, ◌∙◌, ap, subst}
+use Rattle.node_table.specs.Kinds.{inputs, outputs, HasPorts}
+use Rattle.node_table.specs.declared.kinds.Kind.{Kind}
+use Rattle.node_table.specs.Nodes.{kind_at}
+use Rattle.meaning.specs.World.{kind_of}
+use Rattle.quantum_render.specs.Sites.{SiteView}
+use Rattle.quantum_render.proofs.InputLaws.{kind_is}
+use Rattle.quantum_render.proofs.Ports.{ports_there}
+use Rattle.quantum_render.proofs.Sources.{end_low}
+use Rattle.quantum_render.proofs.site.Site.outputs.Goals as goal
+
+pub kind-requires : goal.kind-requires
+kind-requires c = end_low c.self.inside.world.now c.self.invariant.valid c.self.inside.end c.self.invariant.there
+
+pub returns-clause-count : goal.returns-clause-count
+returns-clause-count c =
+    c.outputs.ensures ∙ ap outputs (sym (kind_is c.self.inside.world.now c.self.inside.end.node.0 c.kind.result.now (end_low c.self.inside.world.now c.self.invariant.valid c.self.inside.end c.self.invariant.there) c.kind.ensures.value))
+    ∙ ap (λ (x : SiteView). outputs (kind_of x.world x.end.node.0)) c.self.view_is
+
+pub returns-clause-ports : goal.returns-clause-ports
+returns-clause-ports c =
+    subst (λ (x : SiteView). HasPorts (kind_of x.world x.end.node.0)) c.self.view_is (ports_there c.self.inside.world.now c.self.invariant.valid c.self.inside.end.node.0)
