@@ -11,7 +11,8 @@ can be compared with those of the program. It needs Python 3 and nothing else.
                                                    byte, else a line on what differs and status 1
     python3 tools/expected.py --rows               compares mixing with rows that were worked out by
                                                    hand, and with all pairs of 1 to 32 channels that
-                                                   have no equation
+                                                   have no equation; and compares whole sessions of
+                                                   splitters and mergers that were worked out by hand
 
 The sums are of samples as the WAV file has them: whole numbers of 24 bits, in units of 2^-23. They
 are not sums of rendered values, which are in units of 2^-24 and are rounded for the file.
@@ -49,6 +50,8 @@ LEFT_OUT = dict(pair.split(":") for pair in """
 OPERATIONS = {
     "createConstantSource": [("as", "new name"), ("offset", "fix", ONE)],
     "createGain": [("as", "new name"), ("gain", "fix", ONE)],
+    "createChannelSplitter": [("as", "new name"), ("numberOfOutputs", "count", 6)],
+    "createChannelMerger": [("as", "new name"), ("numberOfInputs", "count", 6)],
     "connect": [("from", "name"), ("output", "count", 0), ("to", "name"), ("input", "count", 0)],
     "disconnect": [("from", "name"), ("output", "count", None), ("to", "name", None), ("input", "count", None)],
     "setChannelCount": [("node", "name"), ("value", "count")],
@@ -265,6 +268,153 @@ def rows_that_differ():
     return rows, [row for row in rows if mixed(row[0], len(row[2]), row[1]) != row[2]]
 
 
+# Sessions of splitters and mergers that were worked out by hand: the calls, written OP FIELD=VALUE,
+# the context's channels, the answers of calls by their ordinals, and the samples of each frame, of
+# which the file has 128. A call that is not told has to be answered with ok, startRendering apart. A
+# script with a fault has its line in place of all that.
+TWO_MERGED = """createConstantSource as=a offset=2; createConstantSource as=b offset=4
+    createChannelMerger as=m numberOfInputs=2; connect from=a to=m input=0; connect from=b to=m input=1
+    connect from=m to=destination; start node=a; start node=b"""
+CROSSED = TWO_MERGED + """; disconnect from=m; createChannelSplitter as=p numberOfOutputs=2
+    createChannelMerger as=n numberOfInputs=2; connect from=m to=p; connect from=n to=destination
+    connect from=p output=0 to=n input=1; connect from=p output=1 to=n input=0"""
+STEREO_IN_ONE = TWO_MERGED + """; disconnect from=m; createChannelMerger as=n numberOfInputs=2
+    connect from=m to=n input=1; connect from=n to=destination"""
+PAST_THE_INPUT = TWO_MERGED + """; disconnect from=m; createChannelSplitter as=p; createGain as=g
+    connect from=m to=p; connect from=p output=2 to=g; connect from=p output=5 to=g
+    connect from=g to=destination"""
+SESSIONS = [
+    # Two constants merged: 2 on the left and 4 on the right, and half of that in the file.
+    (TWO_MERGED, 2, {}, [1, 2]),
+    (TWO_MERGED, 1, {}, [2]),  # (2 + 4) / 2 = 3, and 3 / 2 goes up
+    (TWO_MERGED + "; setChannelInterpretation node=destination value=discrete", 1, {}, [1]),  # channel 0 alone
+    (TWO_MERGED, 4, {}, [1, 2, 0, 0]),
+    # Crossed: output 0 goes to input 1 and output 1 to input 0.
+    (CROSSED, 2, {}, [2, 1]),
+    # What is fixed of a splitter, and setting it to what it is.
+    ("""createChannelSplitter as=p numberOfOutputs=0; createChannelSplitter as=p numberOfOutputs=33
+        createChannelSplitter as=p numberOfOutputs=2
+        setChannelCount node=p value=3; setChannelCount node=p value=2; setChannelCount node=p value=0
+        setChannelCount node=p value=33; setChannelCountMode node=p value=max
+        setChannelCountMode node=p value=explicit; setChannelInterpretation node=p value=speakers
+        setChannelInterpretation node=p value=discrete""", 1,
+     {1: "throw IndexSizeError", 2: "throw IndexSizeError", 4: "throw InvalidStateError",
+      6: "throw NotSupportedError", 7: "throw NotSupportedError", 8: "throw InvalidStateError",
+      10: "throw InvalidStateError"}, [0]),
+    # The same of a merger, whose interpretation is not fixed.
+    ("""createChannelMerger as=m numberOfInputs=0; createChannelMerger as=m numberOfInputs=33
+        createChannelMerger as=m numberOfInputs=2
+        setChannelCount node=m value=2; setChannelCount node=m value=1; setChannelCount node=m value=0
+        setChannelCountMode node=m value=clamped-max; setChannelCountMode node=m value=explicit
+        setChannelInterpretation node=m value=discrete; setChannelInterpretation node=m value=speakers""", 1,
+     {1: "throw IndexSizeError", 2: "throw IndexSizeError", 4: "throw InvalidStateError",
+      6: "throw NotSupportedError", 7: "throw InvalidStateError"}, [0]),
+    # An input of a merger has one channel: half of the sum of 2 and 4, and as discrete the first.
+    (STEREO_IN_ONE, 2, {}, [0, 2]),
+    (STEREO_IN_ONE + "; setChannelInterpretation node=n value=discrete", 2, {}, [0, 1]),
+    # Outputs of a splitter past the channels of its input are silent, and each output has one channel:
+    # a gain behind them has one, which goes to both sides.
+    (PAST_THE_INPUT, 2, {}, [0, 0]),
+    (PAST_THE_INPUT + "; connect from=p output=1 to=g", 2, {}, [2, 2]),
+    # A splitter keeps channels in their places: one of mono in, of six outputs, is output 0.
+    ("""createConstantSource as=c offset=6; createChannelSplitter as=p; connect from=c to=p
+        connect from=p output=0 to=destination; connect from=p output=2 to=destination; start node=c""", 1, {}, [3]),
+    # Outputs and inputs that are not there: 6 and more without a number, and 1 of one.
+    ("""createChannelSplitter as=p; createChannelMerger as=m; createGain as=g
+        connect from=p output=6 to=g; connect from=p output=5 to=m input=6; connect from=p output=5 to=m input=5
+        connect from=m output=1 to=p; connect from=m to=p input=1; connect from=p output=6 to=m input=6
+        disconnect from=p output=6; disconnect from=p output=4; disconnect from=p output=5 to=m input=6
+        disconnect from=p output=4 to=m input=5; disconnect from=p output=5 to=m input=4
+        disconnect from=p output=5 to=m input=5; disconnect from=p to=m""", 1,
+     {**dict.fromkeys((4, 5, 7, 8, 9, 10, 12), "throw IndexSizeError"),
+      **dict.fromkeys((13, 14, 16), "throw InvalidAccessError")}, [0]),
+    # The whole of a node is in a cycle, where one of its outputs is: output 1 of p leads to no cycle, and
+    # is muted as output 0. What is beside it is heard.
+    ("""createConstantSource as=c offset=8; createChannelSplitter as=p numberOfOutputs=2
+        createChannelMerger as=m numberOfInputs=2; start node=c
+        connect from=c to=p; connect from=c to=m input=1; connect from=m to=p; connect from=p to=m
+        connect from=p output=1 to=destination; connect from=m to=destination
+        connect from=c to=destination""", 1, {}, [4]),
+    # A muted merger has one channel: what else is heard beside it goes to both sides. From the centre of
+    # six it would come to them as 4, and 2 in the file.
+    ("""createConstantSource as=c offset=6; createChannelMerger as=m; createGain as=g
+        connect from=m to=m input=3; connect from=m to=g; connect from=c to=g; connect from=g to=destination
+        start node=c""", 2, {}, [3, 3]),
+    # An output of a splitter that is silent has one channel too.
+    ("""createConstantSource as=c offset=8; createConstantSource as=d offset=6
+        createChannelSplitter as=p; createGain as=g
+        connect from=c to=p; connect from=p output=5 to=g; connect from=d to=g; connect from=g to=destination
+        start node=c; start node=d""", 2, {}, [3, 3]),
+    # Connections from the same node to the same node differ by output and by input: 2 + 4 come to input
+    # 0, and 2 alone to input 1.
+    (TWO_MERGED + """; disconnect from=m; createChannelSplitter as=p numberOfOutputs=2
+        createChannelMerger as=n numberOfInputs=2; connect from=m to=p; connect from=n to=destination
+        connect from=p output=0 to=n input=0; connect from=p output=1 to=n input=0
+        connect from=p output=0 to=n input=1; connect from=p output=1 to=n input=1
+        connect from=p output=0 to=n input=0; disconnect from=p output=1 to=n input=1""", 2, {}, [3, 1]),
+    # One output has the first channel, and one input makes one channel, which goes to both sides.
+    (TWO_MERGED + """; disconnect from=m; createChannelSplitter as=p numberOfOutputs=1
+        createChannelMerger as=n numberOfInputs=1; connect from=m to=p; connect from=p to=n
+        connect from=n to=destination""", 2, {}, [1, 1]),
+    # A splitter of 32 outputs into eight mergers of 32 inputs: as many connections as there may be.
+    ("; ".join(["createChannelSplitter as=p numberOfOutputs=32"]
+               + ["createChannelMerger as=m%d numberOfInputs=32" % m for m in range(8)]
+               + ["connect from=p output=%d to=m%d input=%d" % (o, m, i)
+                  for o in range(32) for m in range(8) for i in range(32)]
+               + ["connect from=m0 to=destination", "connect from=p output=31 to=m7 input=31"]), 1,
+     {8202: "throw NotSupportedError profile:connection-limit"}, [0]),
+    # As many nodes as there may be. The numbers of outputs and inputs are refused before.
+    ("; ".join(["createChannelSplitter as=p numberOfOutputs=32"] * 512 + ["createChannelMerger as=m"] * 511
+               + ["createChannelSplitter as=p", "createChannelSplitter as=p numberOfOutputs=33",
+                  "createChannelMerger as=m", "createChannelMerger as=m numberOfInputs=0"]), 1,
+     {1024: "throw NotSupportedError profile:node-limit", 1025: "throw IndexSizeError",
+      1026: "throw NotSupportedError profile:node-limit", 1027: "throw IndexSizeError"}, [0]),
+    # Faults of reading.
+    ("createChannelSplitter as=p numberOfOutputs=4294967296", 1, "1 numberOfOutputs OutOfRange", None),
+    ("createChannelSplitter as=p numberOfOutputs=4294967295", 1, {1: "throw IndexSizeError"}, [0]),
+    ("createChannelSplitter as=p numberOfOutputs=-1", 1, "1 numberOfOutputs OutOfRange", None),
+    ("createChannelSplitter as=p numberOfOutputs=null", 1, "1 numberOfOutputs WrongKind", None),
+    ("createChannelSplitter as=p numberOfOutputs=2.0", 1, "1 numberOfOutputs WrongKind", None),
+    ("createChannelSplitter as=destination numberOfOutputs=-1", 1, "1 as OutOfRange", None),
+    ("createChannelSplitter numberOfOutputs=-1", 1, "1 as MissingField", None),
+    ("createChannelMerger as=m numberOfInputs=4294967296", 1, "1 numberOfInputs OutOfRange", None),
+    ("createChannelMerger as=m numberOfInputs=x", 1, "1 numberOfInputs WrongKind", None),
+    ("createChannelMerger numberOfInputs=2", 1, "1 as MissingField", None),
+]
+
+
+def script_with(calls, channels):
+    """The bytes of the script of calls that are written OP FIELD=VALUE, with startRendering behind them."""
+    written = []
+    for call in re.split("[;\n]", calls):
+        op, *fields = call.split()
+        written.append({"op": op})
+        for field in fields:
+            key, value = field.split("=")
+            is_json = re.fullmatch("null|-?[0-9.]+", value)
+            written[-1][key] = json.loads(value) if is_json else value
+    context = {"channels": channels, "length": QUANTUM, "rate": 48000}
+    return json.dumps({"version": 1, "context": context, "calls": written + [{"op": "startRendering"}]}).encode()
+
+
+def sessions_that_differ():
+    """The sessions that replaying gives otherwise, with what it gives."""
+    wrong = []
+    for calls, channels, answers, samples in SESSIONS:
+        data = script_with(calls, channels)
+        _, text, session = replayed(data)
+        if samples is None:
+            wanted, found = "script: %s\n" % answers, None
+        else:
+            last = len(json.loads(data)["calls"])
+            lines = ["%d %s" % (n, answers.get(n, "ok")) for n in range(1, last)]
+            lines += ["%d pending" % last, "%d resolved" % last, "complete %d" % QUANTUM, "end completed"]
+            wanted, found = "\n".join(lines) + "\n", session and session.samples
+        if text != wanted or found != (samples and [samples] * QUANTUM):
+            wrong.append((calls, text, found and found[0]))
+    return wrong
+
+
 def computed_count(mode, channel_count, counts):
     """How many channels an input has, whose connections have these counts."""
     greatest = max(counts, default=1)
@@ -283,16 +433,28 @@ def profile(feature):
 
 # The attributes that a call sets, and those of each kind of node that cannot change.
 ATTRIBUTES = {"setChannelCount": "count", "setChannelCountMode": "mode", "setChannelInterpretation": "interpretation"}
-FIXED = {"destination": ("count", "mode"), "constant": (), "gain": ()}
+FIXED = {
+    "destination": ("count", "mode"),
+    "constant": (),
+    "gain": (),
+    "splitter": ("count", "mode", "interpretation"),
+    "merger": ("count", "mode"),
+}
 
 
 class Node:
-    """A node. The value is a source's offset or a gain's gain."""
+    """A node. The value is a source's offset or a gain's gain, the number of a splitter's outputs or
+    of a merger's inputs, and the number of the destination's channels."""
 
-    def __init__(self, kind, name, value, count=2, mode="max"):
+    def __init__(self, kind, name, value):
         self.kind, self.name, self.value = kind, name, value
-        self.count, self.mode, self.interpretation = count, mode, "speakers"
-        self.inputs = 0 if kind == "constant" else 1
+        self.inputs = {"constant": 0, "merger": value}.get(kind, 1)
+        self.outputs = value if kind == "splitter" else 1
+        self.count, self.mode, self.interpretation = {
+            "destination": (value, "explicit", "speakers"),
+            "splitter": (value, "explicit", "discrete"),
+            "merger": (1, "explicit", "speakers"),
+        }.get(kind, (2, "max", "speakers"))
         self.start = self.stop = None
         self.ended = False
 
@@ -308,7 +470,7 @@ class Node:
 class Session:
     def __init__(self, context):
         self.channels, self.length, self.rate = (context[k] for k in ("channels", "length", "rate"))
-        self.nodes = [Node("destination", "destination", None, self.channels, "explicit")]
+        self.nodes = [Node("destination", "destination", self.channels)]
         self.names = {"destination": 0}
         self.edges = set()  # of (from, output, to, input)
         self.now, self.state = 0, "suspended"
@@ -316,13 +478,15 @@ class Session:
         self.lines = []
         self.samples = None
 
-    def find(self, name, kinds=("destination", "constant", "gain")):
+    def find(self, name, kinds=tuple(FIXED)):
         number = self.names.get(name)
         if number is None or self.nodes[number].kind not in kinds:
             raise Refused("TypeError")
         return number
 
     def create(self, kind, name, value):
+        if kind in ("splitter", "merger") and not 1 <= value <= 32:
+            raise Refused("IndexSizeError")
         if len(self.nodes) >= NODE_LIMIT:
             raise profile("node-limit")
         self.nodes.append(Node(kind, name, value))
@@ -334,7 +498,7 @@ class Session:
         output, place = call.get("output", 0), call.get("input", 0)
         if source == 0:
             raise profile("destination-output")
-        if output != 0 or place >= self.nodes[target].inputs:
+        if output >= self.nodes[source].outputs or place >= self.nodes[target].inputs:
             raise Refused("IndexSizeError")
         edge = (source, output, target, place)
         if edge not in self.edges and len(self.edges) >= CONNECTION_LIMIT:
@@ -348,7 +512,7 @@ class Session:
         target = None if to is None else self.find(to)
         if source == 0:
             raise profile("destination-output")
-        if output not in (None, 0):
+        if output is not None and output >= self.nodes[source].outputs:
             raise Refused("IndexSizeError")
         if place is not None and place >= self.nodes[target].inputs:
             raise Refused("IndexSizeError")
@@ -399,6 +563,8 @@ class Session:
         return {
             "createConstantSource": lambda: self.create("constant", call["as"], call.get("offset", ONE)),
             "createGain": lambda: self.create("gain", call["as"], call.get("gain", ONE)),
+            "createChannelSplitter": lambda: self.create("splitter", call["as"], call.get("numberOfOutputs", 6)),
+            "createChannelMerger": lambda: self.create("merger", call["as"], call.get("numberOfInputs", 6)),
             "connect": lambda: self.connect(call),
             "disconnect": lambda: self.disconnect(call),
             **dict.fromkeys(ATTRIBUTES, lambda: self.set_attribute(call)),
@@ -459,50 +625,74 @@ class Session:
                 found.add(number)
         return found
 
-    def counts(self, sources, muted):
-        """How many channels each node has. Each begins with one, and all are worked out anew until
-        a round changes nothing; this ends, since no node that is not muted waits for itself."""
+    def counts(self, connected, muted):
+        """How many channels each output of a node has. Each begins with one, and all are worked out
+        anew until a round changes nothing; this ends, since no node that is not muted waits for
+        itself."""
         counts = [1] * len(self.nodes)
         while True:
-            before = counts
-            counts = [1 if number in muted or node.kind == "constant" else
-                      computed_count(node.mode, node.count, [before[source] for source in sources[number]])
-                      for number, node in enumerate(self.nodes)]
+            before, counts = counts, []
+            for number, node in enumerate(self.nodes):
+                if number in muted or node.kind in ("constant", "splitter"):
+                    counts.append(1)
+                elif node.kind == "merger":
+                    counts.append(node.inputs)
+                else:
+                    counts.append(input_count(node, connected[number][0], before))
             if counts == before:
                 return counts
 
-    def row(self, playing, sources, muted, counts):
+    def carried(self, node, heard, is_playing):
+        """What each output of a node carries, which hears this on each of its inputs."""
+        if node.kind == "constant":
+            return [[node.value if is_playing else 0]]
+        if node.kind == "gain":
+            return [[product(x, node.value) for x in heard[0]]]
+        if node.kind == "splitter":  # its one input has as many channels as it has outputs
+            return [[x] for x in heard[0]]
+        if node.kind == "merger":  # each of its inputs has one channel
+            return [[x for channels in heard for x in channels]]
+        return heard
+
+    def row(self, playing, connected, muted, counts):
         """The samples of a frame in which these sources play, worked out as the counts are: each
         channel begins with 0."""
-        values = [[0] * count for count in counts]
+        values = [[[0] * count] * node.outputs for node, count in zip(self.nodes, counts)]
         while True:
             before, values = values, []
             for number, node in enumerate(self.nodes):
                 if number in muted:
-                    values.append([0])
-                elif node.kind == "constant":
-                    values.append([node.value if number in playing else 0])
-                else:
-                    mixes = [mixed(before[source], counts[number], node.interpretation)
-                             for source in sources[number]]
-                    heard = [saturated(sum(mix[c] for mix in mixes)) for c in range(counts[number])]
-                    values.append(heard if number == 0 else [product(x, node.value) for x in heard])
+                    values.append([[0]] * node.outputs)
+                    continue
+                heard = []
+                for edges in connected[number]:
+                    count = input_count(node, edges, counts)
+                    mixes = [mixed(before[source][output], count, node.interpretation) for source, output in edges]
+                    heard.append([saturated(sum(mix[c] for mix in mixes)) for c in range(count)])
+                values.append(self.carried(node, heard, number in playing))
             if values == before:
-                return [sample_of(v) for v in values[0]]
+                return [sample_of(v) for v in values[0][0]]
 
     def render(self):
         """The samples, frame by frame. Frames in which the same sources play are alike."""
-        sources = [[] for _ in self.nodes]
-        for source, _, target, _ in self.edges:
-            sources[target].append(source)
+        connected = [[[] for _ in range(node.inputs)] for node in self.nodes]
+        for source, output, target, place in self.edges:
+            connected[target][place].append((source, output))
         muted, rows, samples = self.muted(), {}, []
-        counts = self.counts(sources, muted)
+        counts = self.counts(connected, muted)
+        sources = [(n, node) for n, node in enumerate(self.nodes) if node.kind == "constant"]
         for frame in range(self.length):
-            playing = frozenset(n for n, node in enumerate(self.nodes) if node.plays_at(frame))
+            playing = frozenset(n for n, node in sources if node.plays_at(frame))
             if playing not in rows:
-                rows[playing] = self.row(playing, sources, muted, counts)
+                rows[playing] = self.row(playing, connected, muted, counts)
             samples.append(rows[playing])
         return samples
+
+
+def input_count(node, edges, counts):
+    """How many channels an input of a node has, to which these outputs are connected. The counts are
+    those of the outputs of each node."""
+    return computed_count(node.mode, node.count, [counts[source] for source, _ in edges])
 
 
 def numbered(calls, first):
@@ -552,7 +742,11 @@ def main():
         for row in wrong:
             print("%s, %s: not %s" % row)
         print("%d rows of mixing, %d differences" % (len(rows), len(wrong)))
-        return 1 if wrong else 0
+        sessions = sessions_that_differ()
+        for session in sessions:
+            print("%s\n%s%s" % session)
+        print("%d sessions of splitters and mergers, %d differences" % (len(SESSIONS), len(sessions)))
+        return 1 if wrong or sessions else 0
     with open(words.script, "rb") as file:
         status, text, session = replayed(file.read())
     wav = wav_bytes(session) if status == 0 else b""

@@ -2,9 +2,9 @@
 """Makes random scripts, and compares what waplay gives for them with what tools/expected.py works out.
 
 Of each script it compares the exit status, the transcript and every byte of the WAV file. A script
-hangs on the seed and its number, and on which operations the program reads of those that set an
-attribute of a node: what it does not read is in no script, and gets a line. So each script can be
-made again by itself. It needs Python 3, and for --measure GNU time.
+hangs on the seed and its number, and on which operations the program reads: what it does not read is
+in no script, and gets a line. So each script can be made again by itself. It needs Python 3, and for
+--measure GNU time.
 
     python3 tools/random_scripts.py                       compares 1,000 scripts with the program that
                                                           ./waplay has built
@@ -25,7 +25,8 @@ that can come up did not, and last how many scripts differ. The status is 0 wher
 
 A new operation gets a function in "The operations" and a row in OPERATIONS, or in KINDS where it
 makes a node: from then on other calls name nodes of the kind. One that sets an attribute needs its
-row in expected.ATTRIBUTES alone. An answer that only it gives gets a row in ANSWERS.
+row in expected.ATTRIBUTES alone. Its refusals get a row in REFUSALS, and an answer that only it gives
+one in ANSWERS.
 """
 
 import argparse
@@ -53,10 +54,11 @@ class Maker:
     """One script in the making. It keeps which names it gave to which kind of object, whether or not
     the call that gives them will be refused: a call that names what is not there is wanted too."""
 
-    def __init__(self, rng, attributes):
+    def __init__(self, rng, read):
         self.rng = rng
-        self.attributes = attributes  # the operations that set one
-        self.names = {}  # of a name, its kind
+        self.attributes = [op for op in expected.ATTRIBUTES if op in read]  # the operations that set one
+        self.kinds = {op: kind for op, kind in KINDS.items() if op in read}
+        self.names = {}  # of a name, its kind, with the inputs and outputs that it was given
         self.made = 0
         self.depth = 0  # of the lists of calls
         self.length = self.channels = 1
@@ -103,12 +105,19 @@ class Maker:
             return self.rng.choice([0, 1, 127, 128, 129, 256])
         return self.rng.choice([self.length + self.rng.randint(-1, 130), -1, TIME, -TIME])
 
-    def index(self, name, field):
-        """The number of an input or an output of a node, mostly one that is there."""
+    def index(self, name, field, chance=0.9):
+        """The number of an input or an output of a node, with this chance one that is there."""
         there = getattr(self.names.get(name), field, 1)
-        if there and self.may(0.9):
+        if there and self.may(chance):
             return self.rng.randrange(there)
-        return self.rng.choice([0, 1, 2, 31, 32, 2**32 - 1])
+        return self.rng.choice([0, 1, 2, 31, 32, 2**32 - 1, there, there, there + 1])
+
+    def number(self):
+        """The number of the outputs or inputs of a node, mostly a small one."""
+        some = self.rng.randint(0, 19)
+        if some < 12:
+            return self.rng.choice([1, 2, 2, 3, 4, 6])
+        return self.rng.randint(1, 32) if some < 19 else self.rng.choice([0, 32, 33, 2**32 - 1])
 
     def call(self, op, needed=(), **optional):
         """A call with its needed fields, and some of those that may be absent."""
@@ -124,8 +133,15 @@ class Maker:
         self.names[name] = KINDS[op]
         return self.call(op, [("as", name)], **optional)
 
+    def create_with(self, op, field, ports):
+        """A node that is told how many inputs or outputs it has, which are 6 where the call does not."""
+        call = self.create(op, **{field: self.number()})
+        there = call.get(field, 6)
+        self.names[call["as"]] = KINDS[op]._replace(**{ports: there if there <= 33 else 0})
+        return call
+
     def create_node(self, fits=lambda kind: True):
-        kinds = [kind for kind in KINDS.values() if fits(kind)]
+        kinds = [kind for kind in self.kinds.values() if fits(kind)]
         return self.rng.choices(kinds, [kind.often for kind in kinds])[0].make(self)
 
     def create_source(self):
@@ -140,10 +156,25 @@ class Maker:
     def create_gain(self):
         return self.create("createGain", gain=self.fix())
 
+    def create_splitter(self):
+        return self.create_with("createChannelSplitter", "numberOfOutputs", "outputs")
+
+    def create_merger(self):
+        return self.create_with("createChannelMerger", "numberOfInputs", "inputs")
+
     def connect(self):
         source, target = self.name(), self.target()
         return self.call("connect", [("from", source), ("to", target)],
                          output=self.index(source, "outputs"), input=self.index(target, "inputs"))
+
+    def joined(self, source, target):
+        """A connection from any output to any input, nearly always such that are there."""
+        call = {"op": "connect", "from": source, "to": target}
+        for field, name in ("output", source), ("input", target):
+            there = getattr(self.names.get(name), field + "s", 1)
+            if there != 1 or self.may(0.1):
+                call[field] = self.index(name, field + "s", 0.99)
+        return call
 
     def disconnect(self):
         source, target = self.name(), self.target()
@@ -163,13 +194,16 @@ class Maker:
         return self.attribute(self.rng.choice(self.attributes), name)
 
     def attribute(self, op, name):
-        """Mostly a count that has a layout, and of the destination often the one that is there."""
+        """Mostly a count that has a layout, and often the one that is there where it is fixed."""
         kind = dict(field[:2] for field in expected.OPERATIONS[op])["value"]
         some = self.rng.randint(0, 9)
         if kind != "count":
             value = self.rng.choice(kind.split())
         elif name == "destination" and some < 4:
             value = self.channels
+        elif some < 4:
+            there = self.names.get(name, KINDS["createGain"])
+            value = there.outputs if there.inputs == 1 else 1  # what a splitter and a merger have
         elif some < 7:
             value = self.rng.choice([1, 2, 4, 6])
         else:
@@ -237,7 +271,7 @@ class Maker:
             a, b = self.rng.randrange(len(places)), self.rng.randrange(len(places) + 1)
             if b <= a and not self.may(backward):
                 b = len(places)
-            calls.append({"op": "connect", "from": places[a], "to": (places + ["destination"])[b]})
+            calls.append(self.joined(places[a], (places + ["destination"])[b]))
         calls += sets[early:] + starts + [self.stop() for _ in range(self.rng.choice([0, 0, 1, 4]))]
         calls += [self.disconnect() for _ in range(self.rng.choice([0, 0, 0, 1, 4]))]
         return calls + [self.start_rendering()]
@@ -251,7 +285,7 @@ class Maker:
         places = [call["as"] for call in calls[:len(calls) // 2]]
 
         def joined_to(target, *sources):
-            return [{"op": "connect", "from": source, "to": target} for source in sources]
+            return [self.joined(source, target) for source in sources]
 
         def set_to(place, **values):
             return [{"op": op, "node": place, "value": values[attribute]}
@@ -278,6 +312,76 @@ class Maker:
         calls += joined_to("destination", places[-1], *self.rng.choices(places, k=self.rng.randint(0, 2)))
         calls += [self.attribute(op, "destination") for op in self.attributes if self.may(0.4)]
         return calls + [self.start_rendering()]
+
+    def woven(self):
+        """Splitters and mergers behind one another, with gains between, and most outputs and inputs in
+        use: what comes from the sources is on several channels and changes its places. Attributes are
+        set before and after, and some connections are taken away. Some go back to where they come from.
+        The sources are mostly quiet, so that sums stay within the range."""
+        calls = [self.create_source() for _ in range(self.rng.randint(2, 7))]
+        for call in calls:
+            if self.may(0.95):
+                call["offset"] = self.rng.randint(-10**5, 10**5)
+        calls += [{"op": "start", "node": call["as"]} for call in calls]
+        layer = [call["as"] for call in calls[:len(calls) // 2]]
+        backward = self.rng.choice([0, 0, 0, 0.1])
+        before = layer
+        for step in range(self.rng.randint(2, 7)):
+            make = self.create_merger
+            if step and self.may(0.8):
+                make = self.rng.choice([self.create_splitter, self.create_merger, self.create_gain])
+            made = [make() for _ in range(self.rng.randint(1, 3))]
+            for call in made:
+                if "gain" in call and self.may(0.9):
+                    call["gain"] = self.rng.randint(-ONE, ONE)
+            calls += made
+            after = [call["as"] for call in made]
+            for name in after:
+                if self.may(0.2):
+                    calls += [self.attribute(op, name) for op in self.attributes if self.may(0.6)]
+                # Each input is joined to an output, nearly all of them, and each output to an input.
+                for place in range(min(self.names[name].inputs, 40)):
+                    source = self.rng.choice(layer)
+                    if self.may(0.85):
+                        calls.append({**self.joined(source, name), "input": place})
+            for source in layer:
+                for output in range(min(self.names[source].outputs, 40)):
+                    if self.may(0.5):
+                        calls.append({**self.joined(source, self.rng.choice(after)), "output": output})
+            if self.may(backward):
+                calls.append(self.joined(self.rng.choice(after), self.rng.choice(layer)))
+            if self.may(0.1):
+                calls.append(self.joined(self.rng.choice(before), self.rng.choice(after)))
+            before, layer = layer, after
+        if self.may(0.5):  # what is there comes to the destination on as many channels as it has
+            calls.append({"op": "createChannelMerger", "as": "last", "numberOfInputs": self.channels})
+            self.names["last"] = KINDS["createChannelMerger"]._replace(inputs=self.channels)
+            calls += [{**self.joined(self.rng.choice(before + layer), "last"), "input": place}
+                      for place in range(self.channels) if self.may(0.9)]
+            layer = ["last"]
+        calls += [self.joined(name, "destination") for name in layer for _ in range(self.rng.randint(1, 3))]
+        sets = [self.set_attribute() for _ in range(self.rng.choice([0, 0, 3, 10]) if self.attributes else 0)]
+        cuts = [self.disconnect() for _ in range(self.rng.choice([0, 0, 1, 5]))]
+        again = [self.joined(self.rng.choice(layer), "destination") for _ in range(self.rng.choice([0, 1, 3]))]
+        return calls + sets + cuts + again + [self.start_rendering()]
+
+    def cables(self):
+        """A splitter of 32 outputs into eight mergers of 32 inputs, as many connections as there may be
+        or nearly so, and then any calls."""
+        calls = [self.create_source() for _ in range(3)]
+        calls += [{"op": "start", "node": call["as"]} for call in calls]
+        splitter, *mergers = ["splitter", *("merger%d" % i for i in range(8))]
+        self.names[splitter] = KINDS["createChannelSplitter"]._replace(outputs=32)
+        self.names.update(dict.fromkeys(mergers, KINDS["createChannelMerger"]._replace(inputs=32)))
+        calls.append({"op": "createChannelSplitter", "as": splitter, "numberOfOutputs": 32})
+        calls += [{"op": "createChannelMerger", "as": name, "numberOfInputs": 32} for name in mergers]
+        calls += [self.joined(calls[0]["as"], splitter)] * self.rng.randint(0, 1)
+        calls += [{"op": "connect", "from": splitter, "output": output, "to": merger, "input": place}
+                  for output in range(32) for merger in mergers for place in range(32)]
+        self.length = min(self.length, 130)
+        calls += [{**self.disconnect(), "from": splitter} for _ in range(self.rng.randint(0, 3))]
+        calls.append(self.joined(mergers[0], "destination"))
+        return calls + [self.any_call() for _ in range(30)] + [self.start_rendering()]
 
     def crowd(self):
         """More nodes than there may be, and then any calls."""
@@ -325,7 +429,8 @@ class Maker:
     def script(self):
         rng = self.rng
         shape = rng.choices([shape for _, shape in SHAPES], [often for often, _ in SHAPES])[0]
-        if shape is Maker.wide and not self.attributes:
+        if shape is Maker.wide and not self.attributes or shape in (Maker.woven, Maker.cables) and (
+                not {"createChannelSplitter", "createChannelMerger"} <= set(self.kinds)):
             shape = Maker.graph
         self.length = rng.choice([1, 2, 127, 128, 129, 255, 256, 257]) if self.may(0.2) else rng.randint(1, 600)
         channels = rng.choice([1, 1, 2, 2, 4, 6, rng.randint(1, 32), 32])
@@ -363,19 +468,23 @@ Kind = collections.namedtuple("Kind", "often make inputs outputs plays")
 KINDS = {
     "createConstantSource": Kind(10, Maker.create_constant, 0, 1, True),
     "createGain": Kind(14, Maker.create_gain, 1, 1, False),
+    "createChannelSplitter": Kind(5, Maker.create_splitter, 1, 6, False),
+    "createChannelMerger": Kind(5, Maker.create_merger, 6, 1, False),
 }
 
 # What a member is spoiled with: much of it is of a wrong kind or out of range for most fields.
 SPOILED = [None, True, 0, 1, -1, 1.0, 1e2, 2**31, 2**32, 2**40 + 1, 2**63, 2**64, -(2**63) - 1, "", "n1", "x" * 65,
            "a b", "destination", "\ud800", "max", "Explicit", "discrete", "connect", "createFoo", [], {}, [7], [{}]]
 
-# How often a script has each shape. The last two take long to work out.
+# How often a script has each shape. The last three take long to work out.
 SHAPES = [
     (1200, Maker.mixed),
     (1000, Maker.graph),
     (600, Maker.wide),
+    (600, Maker.woven),
     (300, Maker.faulty),
     (100, Maker.unrendered),
+    (2, Maker.cables),
     (4, Maker.crowd),
     (2, Maker.tangle),
 ]
@@ -393,37 +502,68 @@ complete
 end completed
 end idle
 end refused NotSupportedError
-rejected InvalidStateError
 script: BadJson
 script: MissingField
 script: WrongKind
 script: UnknownOp
-script: OutOfRange
-throw TypeError
-throw NotSupportedError
-throw IndexSizeError
-throw InvalidStateError
-throw InvalidAccessError
-throw RangeError
-throw NotSupportedError profile:node-limit
-throw NotSupportedError profile:connection-limit
-throw NotSupportedError profile:destination-output""".split("\n") + [
-    "throw NotSupportedError profile:" + feature for feature in expected.LEFT_OUT.values()]
+script: OutOfRange""".split("\n")
+
+# The refusals that are to come up, of each operation.
+PROFILE = "NotSupportedError profile:"
+REFUSALS = {
+    "createConstantSource": [PROFILE + "node-limit"],
+    "createGain": [PROFILE + "node-limit"],
+    "createChannelSplitter": ["IndexSizeError", PROFILE + "node-limit"],
+    "createChannelMerger": ["IndexSizeError", PROFILE + "node-limit"],
+    "connect": ["TypeError", PROFILE + "destination-output", "IndexSizeError", PROFILE + "connection-limit"],
+    "disconnect": ["TypeError", PROFILE + "destination-output", "IndexSizeError", "InvalidAccessError"],
+    "setChannelCount": ["TypeError", "NotSupportedError", "InvalidStateError"],
+    "setChannelCountMode": ["TypeError", "InvalidStateError"],
+    "setChannelInterpretation": ["TypeError", "InvalidStateError"],
+    "start": ["TypeError", "InvalidStateError", "RangeError"],
+    "stop": ["TypeError", "InvalidStateError", "RangeError"],
+    "startRendering": ["InvalidStateError"],
+    "resume": ["InvalidStateError"],
+    **{op: [PROFILE + feature] for op, feature in expected.LEFT_OUT.items()},
+}
+PROMISES = ("startRendering", "resume")
 
 
-def script_of(seed, number, attributes):
-    return Maker(random.Random("%d %d" % (seed, number)), attributes).script()
+def script_of(seed, number, read):
+    return Maker(random.Random("%d %d" % (seed, number)), read).script()
 
 
-def attributes_of(program):
-    """The operations that set an attribute, as far as the program reads them."""
+def read_by(program):
+    """The operations that are built, as far as the program reads them."""
     read = []
-    for op in expected.ATTRIBUTES:
+    for op in expected.OPERATIONS:
         script = {"version": 1, "context": {"channels": 1, "length": 1, "rate": 8000}, "calls": [{"op": op}]}
         ran = subprocess.run([program, os.devnull], input=json.dumps(script).encode(), stdout=subprocess.PIPE)
         if ran.stdout != b"script: 1 op UnknownOp\n":
             read.append(op)
     return read
+
+
+def operations_of(numbered):
+    """Of each ordinal of these calls and those that they hold, the operation."""
+    operations = {}
+    for ordinal, call, held in numbered:
+        operations.update({ordinal: call["op"], **operations_of(held)})
+    return operations
+
+
+def answers_of(script, text):
+    """The answers of a transcript as ANSWERS has them, and refusals with their operations before them."""
+    operations = {} if text.startswith("script: ") else operations_of(expected.numbered(script["calls"], 1)[0])
+    for line in text.splitlines():
+        if line.startswith("script: "):
+            yield re.sub(r"^script: \d+ \S+ ", "script: ", line)
+        elif re.match(r"(ended|complete|\d+ time) ", line):
+            yield re.sub(r"^(?:\d+ )?(\w+) .*", r"\1", line)
+        elif re.match(r"\d+ (throw|rejected) ", line):
+            yield operations[int(line.split()[0])] + " " + line.split(" ", 1)[1]
+        else:
+            yield re.sub(r"^\d+ ", "", line)
 
 
 # The loads.
@@ -476,11 +616,32 @@ def as_many_nodes_as_there_may_be():
     return script_with(1, 48000, calls)
 
 
+def stereo_gains_into_six_channels():
+    calls = []
+    for i in range(200):
+        calls += sounding("c%d" % i, 500 * i) + gain("g%d" % i, ONE, "c%d" % i)
+        calls.append({"op": "setChannelCountMode", "node": "g%d" % i, "value": "explicit"})
+        calls.append(joined("g%d" % i, "destination"))
+    return script_with(6, 480000, calls)
+
+
+def stereo_mergers_into_six_channels():
+    calls = []
+    for i in range(200):
+        calls += sounding("l%d" % i, 500 * i) + sounding("r%d" % i, -250 * i)
+        calls.append({"op": "createChannelMerger", "as": "m%d" % i, "numberOfInputs": 2})
+        calls += [joined("l%d" % i, "m%d" % i), {**joined("r%d" % i, "m%d" % i), "input": 1}]
+        calls.append(joined("m%d" % i, "destination"))
+    return script_with(6, 480000, calls)
+
+
 LOADS = {
-    "a": pairs_of_constants_and_gains,   # 200 constants into 200 gains, 2 channels, 480,000 frames
-    "b": chain_of_gains,                 # 400 gains one behind the other, 1 channel, 480,000 frames
-    "c": layers_of_gains,                # 30 layers of 30 gains with 9 connections each, 48,000 frames
-    "d": as_many_nodes_as_there_may_be,  # a constant into 1,022 gains, 1 channel, 48,000 frames
+    "a": pairs_of_constants_and_gains,      # 200 constants into 200 gains, 2 channels, 480,000 frames
+    "b": chain_of_gains,                    # 400 gains one behind the other, 1 channel, 480,000 frames
+    "c": layers_of_gains,                   # 30 layers of 30 gains with 9 connections each, 48,000 frames
+    "d": as_many_nodes_as_there_may_be,     # a constant into 1,022 gains, 1,023 nodes of one channel, 48,000 frames
+    "e": stereo_gains_into_six_channels,    # 200 constants, by gains of two channels into 5.1, 480,000 frames
+    "f": stereo_mergers_into_six_channels,  # 200 mergers of two constants each into 5.1, 480,000 frames
 }
 
 
@@ -524,13 +685,14 @@ def differences(program, script):
 
 
 def compared(job):
-    program, seed, attributes, number = job
+    program, seed, read, number = job
     try:
-        wrong, text = differences(program, script_of(seed, number, attributes))
+        script = script_of(seed, number, read)
+        wrong, text = differences(program, script)
+        answers = collections.Counter(answers_of(script, text))
     except Exception as error:
-        wrong, text = ["no comparison: %r" % error], ""
-    answers = [re.sub(r"^\d+ |(?<=^script: )\d+ \S+ ", "", line) for line in text.splitlines()]
-    return number, wrong, collections.Counter(re.sub(r"^(ended|complete|time) .*", r"\1", it) for it in answers)
+        wrong, answers = ["no comparison: %r" % error], collections.Counter()
+    return number, wrong, answers
 
 
 def shrunk(program, script):
@@ -549,10 +711,10 @@ def shrunk(program, script):
 
 
 def compare(program, seed, count, jobs):
-    wrong, answers, attributes = 0, collections.Counter(), attributes_of(program)
+    wrong, answers, read = 0, collections.Counter(), read_by(program)
     with tempfile.TemporaryDirectory() as work:
         with multiprocessing.Pool(jobs, os.chdir, [work]) as pool:
-            jobs = ((program, seed, attributes, number) for number in range(count))
+            jobs = ((program, seed, read, number) for number in range(count))
             for number, different, seen in pool.imap_unordered(compared, jobs, 20):
                 answers.update(seen)
                 if different:
@@ -560,11 +722,13 @@ def compare(program, seed, count, jobs):
                     print("script %d of seed %d: %s" % (number, seed, ", ".join(different)), flush=True)
     for answer, often in answers.most_common():
         print("%9d %s" % (often, answer))
-    for answer in ANSWERS:
-        if answer not in answers and (attributes or answer != "throw NotSupportedError"):
+    for answer in ANSWERS + [
+            "%s %s %s" % (op, "rejected" if op in PROMISES else "throw", refusal)
+            for op, refusals in REFUSALS.items() if op in read or op in expected.LEFT_OUT for refusal in refusals]:
+        if answer not in answers:
             print("     none %s" % answer)
-    for op in expected.ATTRIBUTES:
-        if op not in attributes:
+    for op in expected.OPERATIONS:
+        if op not in read:
             print("%s is not read by this program, and is in no script" % op)
     print("%d scripts, %d differences" % (count, wrong))
     return 1 if wrong else 0
@@ -583,8 +747,8 @@ def main():
     words = words.parse_args()
     program = os.path.abspath(words.program)
     if words.print is not None:
-        attributes = attributes_of(program) if os.access(program, os.X_OK) else list(expected.ATTRIBUTES)
-        print(json.dumps(script_of(words.seed, words.print, attributes)))
+        read = read_by(program) if os.access(program, os.X_OK) else list(expected.OPERATIONS)
+        print(json.dumps(script_of(words.seed, words.print, read)))
     elif words.loads:
         os.makedirs(words.loads, exist_ok=True)
         for name, load in LOADS.items():
@@ -598,7 +762,7 @@ def main():
     elif words.shrink is not None:
         with tempfile.TemporaryDirectory() as work:
             os.chdir(work)
-            print(json.dumps(shrunk(program, script_of(words.seed, words.shrink, attributes_of(program)))))
+            print(json.dumps(shrunk(program, script_of(words.seed, words.shrink, read_by(program)))))
     else:
         return compare(program, words.seed, words.count, words.jobs)
     return 0

@@ -1,9 +1,7 @@
-//! Tests of the lower crates: numbers, mixing, timelines, schedules, nodes, transcripts, names and WAV
+//! Tests of the lower crates: numbers, timelines, schedules, nodes, transcripts, names and WAV
 //! files. A crate with tests is proved twice, so they stand apart.
 #![tactic(auto)]
 
-#[cfg(test)]
-mod mixing;
 #[cfg(test)]
 mod names;
 #[cfg(test)]

@@ -103,6 +103,108 @@ fn kinds_have_their_ports_and_parameters(rt: HostRuntime) {
     assert!(rt; has(&Kind::Gain { gain: -9 }, 1, None, Some(-9)));
 }
 
+// A splitter and a merger have as many outputs and inputs as they were told.
+fn creates_ports(alloc: Global) -> Result<bool, Refusal> {
+    let mut nodes = begin(alloc, 2)?;
+    nodes.create(Kind::Splitter { outputs: 3 }, 0)?;
+    nodes.create(Kind::Merger { inputs: 32 }, 128)?;
+    let splitter = Kind::Splitter { outputs: 3 };
+    let merger = Kind::Merger { inputs: 32 };
+    let discrete = with_interp(Interp::Discrete, attrs(3, Mode::Explicit, 0));
+    Ok(
+        is_node(&nodes, 1, &splitter, discrete)
+            && is_node(&nodes, 2, &merger, attrs(1, Mode::Explicit, 128))
+            && (splitter.inputs(), splitter.outputs()) == (1, 3)
+            && (merger.inputs(), merger.outputs()) == (32, 1)
+            && !splitter.is_delay()
+            && !merger.is_delay()
+            && splitter.copy()? == splitter
+            && merger.copy()? == merger
+            && splitter.param_base(ParamName::Gain).is_none()
+            && merger.param_base(ParamName::Offset).is_none(),
+    )
+}
+
+fn refuses_ports(nodes: &mut Nodes, kind: Kind) -> bool {
+    nodes.creation_refusal(&kind) == Some(Exc::IndexSize)
+        && nodes.create(kind, 0) == Err(Refusal::Exc(Exc::IndexSize))
+}
+
+// What is refused, also where there is no room for another node.
+fn refuses_all_ports(nodes: &mut Nodes) -> bool {
+    refuses_ports(nodes, Kind::Splitter { outputs: 0 })
+        && refuses_ports(nodes, Kind::Splitter { outputs: 33 })
+        && refuses_ports(nodes, Kind::Merger { inputs: 0 })
+        && refuses_ports(nodes, Kind::Merger { inputs: u32::MAX })
+}
+
+fn refuses_before_the_limit(alloc: Global) -> Result<bool, Refusal> {
+    let mut nodes = begin(alloc, 1)?;
+    if !refuses_all_ports(&mut nodes) {
+        return Ok(false);
+    }
+    for _ in 1..1_024 {
+        nodes.create(Kind::Merger { inputs: 1 }, 0)?;
+    }
+    Ok(
+        refuses_all_ports(&mut nodes)
+            && nodes.creation_refusal(&Kind::Splitter { outputs: 32 }) == Some(AT_LIMIT),
+    )
+}
+
+// The nodes are a destination of two channels, a splitter of three outputs and a merger of two inputs.
+const PORT_COUNTS: [Row<u32>; 6] = [
+    (1, 3, None),
+    (1, 2, INVALID_STATE),
+    (1, 33, NOT_SUPPORTED),
+    (2, 1, None),
+    (2, 2, INVALID_STATE),
+    (2, 0, NOT_SUPPORTED),
+];
+
+const PORT_MODES: [Row<Mode>; 4] = [
+    (1, Mode::Explicit, None),
+    (1, Mode::Max, INVALID_STATE),
+    (2, Mode::Explicit, None),
+    (2, Mode::ClampedMax, INVALID_STATE),
+];
+
+const PORT_INTERPS: [Row<Interp>; 4] = [
+    (1, Interp::Discrete, None),
+    (1, Interp::Speakers, INVALID_STATE),
+    (2, Interp::Discrete, None),
+    (2, Interp::Speakers, None),
+];
+
+fn ports(alloc: Global) -> Result<Nodes, Refusal> {
+    let mut nodes = begin(alloc, 2)?;
+    nodes.create(Kind::Splitter { outputs: 3 }, 0)?;
+    nodes.create(Kind::Merger { inputs: 2 }, 0)?;
+    Ok(nodes)
+}
+
+#[test]
+fn splitters_and_mergers_have_their_ports(rt: HostRuntime) -> Result<(), Fail> {
+    assert!(rt; creates_ports(rt.alloc())?);
+    assert!(rt; refuses_before_the_limit(rt.alloc())?);
+    Ok(())
+}
+
+#[test]
+fn what_is_fixed_of_splitters_and_mergers_stays(rt: HostRuntime) -> Result<(), Fail> {
+    let mut nodes = ports(rt.alloc())?;
+    for row in PORT_COUNTS {
+        assert!(rt; sets_count(&mut nodes, row), "{row:?}");
+    }
+    for row in PORT_MODES {
+        assert!(rt; sets_mode(&mut nodes, row), "{row:?}");
+    }
+    for row in PORT_INTERPS {
+        assert!(rt; sets_interp(&mut nodes, row), "{row:?}");
+    }
+    Ok(())
+}
+
 fn refuses_the_1025th(alloc: Global) -> Result<bool, Refusal> {
     let mut nodes = begin(alloc, 1)?;
     let refused = Err(Refusal::Exc(AT_LIMIT));

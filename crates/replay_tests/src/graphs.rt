@@ -7,11 +7,11 @@ use wa_base::NoMemory;
 // A script, its transcript, the bytes of its WAV file in number, and for each channel the sum of its
 // samples there. The texts are those of examples/, and the sums are worked out by tools/expected.py.
 #[derive(Clone, Copy)]
-struct Example {
-    script: &'static str,
-    lines: &'static str,
-    size: usize,
-    sums: &'static [i64],
+pub(crate) struct Example {
+    pub(crate) script: &'static str,
+    pub(crate) lines: &'static str,
+    pub(crate) size: usize,
+    pub(crate) sums: &'static [i64],
 }
 
 const GAINS_IN_A_CHAIN: Example = Example {
@@ -652,7 +652,7 @@ fn is_left(left: &Left, lines: &[u8], size: usize, sums: &[i64]) -> bool {
     are_equal
 }
 
-fn is_met(alloc: Global, example: Example) -> Result<bool, NoMemory> {
+pub(crate) fn is_met(alloc: Global, example: Example) -> Result<bool, NoMemory> {
     let left = replay(alloc, &["out.wav"], example.script.as_bytes(), NONE)?;
     Ok(is_left(&left, example.lines.as_bytes(), example.size, example.sums))
 }

@@ -5,6 +5,10 @@
 #[cfg(test)]
 mod graphs;
 #[cfg(test)]
+mod pieces;
+#[cfg(test)]
+mod routing;
+#[cfg(test)]
 mod runs;
 #[cfg(test)]
 mod spelling;

@@ -10,6 +10,8 @@ mod connection_cases;
 #[cfg(test)]
 mod parts;
 #[cfg(test)]
+mod port_cases;
+#[cfg(test)]
 mod reading;
 #[cfg(test)]
 mod script_cases;

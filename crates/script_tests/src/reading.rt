@@ -1,6 +1,7 @@
 use crate::call_cases::CALLS;
 use crate::channel_cases::CHANNEL_COUNTS;
 use crate::connection_cases::{DISCONNECTS, GAINS};
+use crate::port_cases::PORTS;
 use crate::script_cases::SCRIPTS;
 use crate::texts::reading;
 use crate::word_cases::{INTERPS, MODES};
@@ -61,6 +62,13 @@ fn reads_disconnects(rt: HostRuntime) -> Result<(), Fail> {
 #[test]
 fn reads_channel_counts(rt: HostRuntime) -> Result<(), Fail> {
     let misread = first_misread(rt.alloc(), BEFORE, AFTER, &CHANNEL_COUNTS)?;
+    assert_eq!(rt; misread, None);
+    Ok(())
+}
+
+#[test]
+fn reads_ports(rt: HostRuntime) -> Result<(), Fail> {
+    let misread = first_misread(rt.alloc(), BEFORE, AFTER, &PORTS)?;
     assert_eq!(rt; misread, None);
     Ok(())
 }

@@ -51,6 +51,14 @@ fn op_text(alloc: Global, op: &Op) -> Result<String, AllocError> {
             format!(in alloc; "createConstantSource {} {offset}", text(name))
         }
         Op::CreateGain { name, gain } => format!(in alloc; "createGain {} {gain}", text(name)),
+        Op::CreateChannelSplitter {
+            name,
+            number_of_outputs,
+        } => { format!(in alloc; "createChannelSplitter {} {number_of_outputs}", text(name)) }
+        Op::CreateChannelMerger {
+            name,
+            number_of_inputs,
+        } => { format!(in alloc; "createChannelMerger {} {number_of_inputs}", text(name)) }
         Op::Connect {
             from,
             output,
