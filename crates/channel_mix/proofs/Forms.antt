@@ -4,13 +4,13 @@ use Rattle.std.specs.Int.{int_div_euclid}
 use Rattle.std.specs.List.{range_with_len}
 use Rattle.std.proofs.lemmas.Bool.Decides.{eqb_tells}
 use Rattle.std.proofs.lemmas.Int.{ints}
-use Rattle.std.proofs.Math.IntN.{pred_ℤ, suc_ℤ-*ℤ, pred_ℤ-*ℤ, suc_ℤ-+ℤ, pred_ℤ-+ℤ, +ℤ_idl, zero-*ℤ}
+use Rattle.std.proofs.Math.IntN.{pred_ℤ, suc_ℤ-*ℤ, pred_ℤ-*ℤ, suc_ℤ-+ℤ, pred_ℤ-+ℤ, +ℤ_idl, zero-*ℤ, *ℤ-zero, *ℤ_comm}
 use Rattle.wa_base.specs.Numbers.{rnd}
 use Rattle.wa_base.specs.declared.graph_names.Interp.{Interp}
 use Rattle.channel_mix.specs.declared.outputs.Output.{Output}
-use Rattle.channel_mix.specs.declared.outputs.Output.TheVariants.{Silence, Channel, HalfOfTwo, QuarterOfFour, Weighed}
-use Rattle.channel_mix.specs.Mixing.{Form, ◌⊕◌, channel, only, form, weighed, applied, mix}
-use Rattle.channel_mix.specs.Outputs.{value_of, form_of, needed}
+use Rattle.channel_mix.specs.declared.outputs.Output.TheVariants.{Silence, Channel, HalfOfTwo, QuarterOfFour, AllSpeakers, SideSpeakers, FrontSpeakers}
+use Rattle.channel_mix.specs.Mixing.{Form, ◌⊕◌, ◌⊙◌, channel, only, one, form, weighed, applied, mix}
+use Rattle.channel_mix.specs.Outputs.{all_speakers, side_speakers, front_speakers, value_of, form_of, needed}
 
 rnd_by_one : (z : ℤ) → rnd z (pos 1) ≡ z
 rnd_by_one (pos n) = omega (arith, ints)
@@ -34,6 +34,22 @@ times_sum (negsuc (suc n)) g x =
     let before = times_sum (negsuc n) g x in
     let right = pred_ℤ-*ℤ (negsuc n) x in
     ap (λ (z : ℤ). z *ℤ x) (pred_ℤ-+ℤ (negsuc n) g) ∙ pred_ℤ-*ℤ (negsuc n +ℤ g) x ∙ omega (arith, ints, before, right)
+
+-- a factor's product with a sum
+sum_times : (k x y : ℤ) → k *ℤ (x +ℤ y) ≡ k *ℤ x +ℤ k *ℤ y
+sum_times k x y = *ℤ_comm k (x +ℤ y) ∙ times_sum x y k ∙ ap₂ (λ (v w : ℤ). v +ℤ w) (*ℤ_comm x k) (*ℤ_comm y k)
+
+times_times : (k : ℕ) (f x : ℤ) → (pos k *ℤ f) *ℤ x ≡ pos k *ℤ (f *ℤ x)
+times_times zero f x = rw (zero-*ℤ f, zero-*ℤ x, zero-*ℤ (f *ℤ x)) refl
+times_times (suc k) f x =
+    ap (λ (z : ℤ). z *ℤ x) (suc_ℤ-*ℤ (pos k) f) ∙ times_sum (pos k *ℤ f) f x
+    ∙ ap (λ (z : ℤ). z +ℤ f *ℤ x) (times_times k f x) ∙ sym (suc_ℤ-*ℤ (pos k) (f *ℤ x))
+
+weighed_of_times : (k : ℕ) (fs : List ℤ) (i : ℕ) (frame : ℕ → ℤ) → weighed (pos k ⊙ fs) i frame ≡ pos k *ℤ weighed fs i frame
+weighed_of_times k [] i frame = sym (*ℤ-zero (pos k))
+weighed_of_times k (f ∷ fs) i frame =
+    ap₂ (λ (x y : ℤ). x +ℤ y) (times_times k f (frame i)) (weighed_of_times k fs (i + 1) frame)
+    ∙ sym (sum_times (pos k) (f *ℤ frame i) (weighed fs (i + 1) frame))
 
 weighed_of_sum : (fs gs : List ℤ) (i : ℕ) (frame : ℕ → ℤ) → weighed (fs ⊕ gs) i frame ≡ weighed fs i frame +ℤ weighed gs i frame
 weighed_of_sum [] gs i frame = omega (arith, ints)
@@ -79,17 +95,46 @@ weighed_channel from i frame there = weighed_among i 0 from frame (omega arith) 
 pub applied_channel : (from i : ℕ) (frame : ℕ → ℤ) → i < from → applied (only (channel from i)) frame ≡ frame i
 applied_channel from i frame there = ap (λ (z : ℤ). rnd z (pos 1)) (weighed_channel from i frame there) ∙ rnd_by_one (frame i)
 
+-- ---- sums and multiples of channels
+
+plus : (fs gs : List ℤ) (frame : ℕ → ℤ) (x y : ℤ) → weighed fs 0 frame ≡ x → weighed gs 0 frame ≡ y → weighed (fs ⊕ gs) 0 frame ≡ x +ℤ y
+plus fs gs frame x y left right = weighed_of_sum fs gs 0 frame ∙ ap₂ (λ (v w : ℤ). v +ℤ w) left right
+
+times : (k : ℕ) (fs : List ℤ) (frame : ℕ → ℤ) (x : ℤ) → weighed fs 0 frame ≡ x → weighed (pos k ⊙ fs) 0 frame ≡ pos k *ℤ x
+times k fs frame x is = weighed_of_times k fs 0 frame ∙ ap (λ (z : ℤ). pos k *ℤ z) is
+
+two_channels : (from i j : ℕ) (frame : ℕ → ℤ) → i < from → j < from → weighed (channel from i ⊕ channel from j) 0 frame ≡ frame i +ℤ frame j
+two_channels from i j frame left right = plus _ _ frame _ _ (weighed_channel from i frame left) (weighed_channel from j frame right)
+
+all_is : (from : ℕ) (frame : ℕ → ℤ) → 6 ≤ from → weighed (form_of from AllSpeakers).factors 0 frame ≡ all_speakers (frame 0) (frame 1) (frame 2) (frame 4) (frame 5)
+all_is from frame there =
+    let front = times 11863283 _ frame _ (two_channels from 0 1 frame (omega arith) (omega arith)) in
+    let centre = times 16777216 _ frame _ (weighed_channel from 2 frame (omega arith)) in
+    let surround = times 8388608 _ frame _ (two_channels from 4 5 frame (omega arith) (omega arith)) in
+    plus _ _ frame _ _ (plus _ _ frame _ _ front centre) surround
+
+side_is : (from i j : ℕ) (frame : ℕ → ℤ) → needed (SideSpeakers i j) ≤ from → weighed (form_of from (SideSpeakers i j)).factors 0 frame ≡ side_speakers (frame i) (frame 2) (frame j)
+side_is from i j frame there =
+    let front = times 16777216 _ frame _ (weighed_channel from i frame (omega arith)) in
+    let others = times 11863283 _ frame _ (two_channels from 2 j frame (omega arith) (omega arith)) in
+    plus _ _ frame _ _ front others
+
+front_is : (from i : ℕ) (frame : ℕ → ℤ) → needed (FrontSpeakers i) ≤ from → weighed (form_of from (FrontSpeakers i)).factors 0 frame ≡ front_speakers (frame i) (frame 2)
+front_is from i frame there =
+    let front = times 16777216 _ frame _ (weighed_channel from i frame (omega arith)) in
+    let centre = times 11863283 _ frame _ (weighed_channel from 2 frame (omega arith)) in
+    plus _ _ frame _ _ front centre
+
 value_of-form : (from : ℕ) (output : Output) (frame : ℕ → ℤ) → needed output ≤ from → value_of output frame ≡ applied (form_of from output) frame
 value_of-form from Silence frame there = refl
 value_of-form from (Channel i) frame there = sym (applied_channel from i frame there)
-value_of-form from (HalfOfTwo i j) frame there =
-    let left = weighed_channel from i frame (omega arith) in
-    let right = weighed_channel from j frame (omega arith) in
-    ap (λ (z : ℤ). rnd z (pos 2)) (sym (weighed_of_sum (channel from i) (channel from j) 0 frame ∙ ap₂ (λ (x y : ℤ). x +ℤ y) left right))
+value_of-form from (HalfOfTwo i j) frame there = ap (λ (z : ℤ). rnd z (pos 2)) (sym (two_channels from i j frame (omega arith) (omega arith)))
 value_of-form from QuarterOfFour frame there =
     let same : (frame 0 +ℤ frame 1) +ℤ (frame 2 +ℤ frame 3) ≡ weighed (form_of from QuarterOfFour).factors 0 frame = omega (arith, ints) in
     ap (λ (z : ℤ). rnd z (pos 4)) same
-value_of-form from (Weighed factors) frame there = refl
+value_of-form from AllSpeakers frame there = ap (λ (z : ℤ). rnd z one) (sym (all_is from frame there))
+value_of-form from (SideSpeakers i j) frame there = ap (λ (z : ℤ). rnd z one) (sym (side_is from i j frame there))
+value_of-form from (FrontSpeakers i) frame there = ap (λ (z : ℤ). rnd z one) (sym (front_is from i frame there))
 
 pub value_of-mix : (interp : Interp) (from to c : ℕ) (output : Output) (frame : ℕ → ℤ) → form_of from output ≡ form interp from to c → needed output ≤ from
     → value_of output frame ≡ mix interp from to frame c

@@ -1,8 +1,8 @@
 -- Rounding division by a power of two as a shift, and how far the result is from 0.
-use Rattle.std.proofs.Common.{◌≡◌, ◌≤◌, ◌+◌, ◌*◌, ◌/◌, ◌^◌, ℕ, ◌+ℤ◌, ◌*ℤ◌, suc, ℤ, pos, negsuc, FitsSigned, to_z, of_z, sym, ap, ◌∙◌, arith}
+use Rattle.std.proofs.Common.{◌≡◌, ◌≤◌, ◌+◌, ◌*◌, ◌/◌, ℕ, ◌+ℤ◌, ◌*ℤ◌, suc, ℤ, pos, negsuc, FitsSigned, to_z, of_z, sym, ap, ◌∙◌, arith}
 use Rattle.std.proofs.Math.Nat.{div-div-eq-div-mul, div-le_self}
 use Rattle.std.specs.Prelude.{unsigned_abs}
-use Rattle.std.specs.Int.{w32, w64, int_div_euclid}
+use Rattle.std.specs.Int.{w64, int_div_euclid}
 use Rattle.std.proofs.lemmas.Int.{ints, to_z-of_z}
 use lib.Signed.{shr_z, mag_shr}
 use Rattle.wa_base.specs.Numbers.{rnd}
@@ -37,14 +37,3 @@ shift_within n (negsuc a) = let less = div-le_self a n in omega arith
 
 pub rnd_within : (n half bound : ℕ) (z : ℤ) → n ≡ half + half → unsigned_abs (z +ℤ pos half) ≤ bound → IsWithin bound (rnd z (pos n))
 rnd_within n half bound z twice small = rw (rnd_by_shift n half z twice) (let less = shift_within n (z +ℤ pos half) in omega arith)
-
-shifted_within : (z : ℤ) → unsigned_abs z ≤ 2 ^ 58 → IsWithin (2 ^ 34) (shr_z z 16777216)
-shifted_within (pos a) small = omega arith
-shifted_within (negsuc a) small = omega arith
-
-pub rnd_by_one_within : (z : ℤ) → unsigned_abs (z +ℤ pos 8388608) ≤ 2 ^ 58 → IsWithin (2 ^ 34) (rnd z (pos 16777216))
-rnd_by_one_within z small = rw (rnd_by_shift 16777216 8388608 z (omega arith)) (shifted_within (z +ℤ pos 8388608) small)
-
--- a value of 32 bits as one of 64
-pub widened : (x r : ℤ) → FitsSigned w32 x → r ≡ to_z w32 (of_z w32 x) → to_z w64 (of_z w64 r) ≡ x
-widened x r fits is = omega (arith, ints)

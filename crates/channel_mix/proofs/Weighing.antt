@@ -1,41 +1,70 @@
--- The weighed sum of five channels, as the code adds it up.
-use Rattle.std.proofs.Common.{◌≡◌, ◌*◌, ◌^◌, ◌+ℤ◌, ◌*ℤ◌, ℕ, ℤ, pos, FitsSigned, to_z, of_z, refl, ap₂, ◌∙◌, arith}
+-- The sums of 5.1's speakers, as the code adds them up.
+use Rattle.std.proofs.Common.{◌≡◌, ◌^◌, ◌+ℤ◌, ◌*ℤ◌, ℤ, pos, FitsSigned, to_z, of_z, refl, ap₂, ◌∙◌, arith}
 use Rattle.std.specs.Int.{w32, w64}
 use Rattle.std.proofs.lemmas.Int.{ints, to_z-of_z}
-use Rattle.std.proofs.Math.IntN.{zero-*ℤ}
 use Rattle.lane_kern.specs.Blocks.{IsWithin}
-use Rattle.channel_mix.specs.Mixing.{weighed}
-use Rattle.channel_mix.specs.Outputs.{factors_of, weighed_five}
-use Rattle.channel_mix.specs.declared.outputs.Factors.{Factors}
+use Rattle.channel_mix.specs.Outputs.{all_speakers, side_speakers}
 
-factor_fits : (factor : ℤ) → IsWithin 16777216 factor → to_z w32 (of_z w32 factor) ≡ factor
-factor_fits factor small = omega (arith, ints)
+-- a value as the code reads it: one of 32 bits, and one of 64
+abbrev pub read : ℤ → ℤ
+read x = to_z w32 (of_z w32 x)
 
-pub product_is : (product factor sample : ℤ) → product ≡ to_z w32 (of_z w32 factor) *ℤ to_z w32 (of_z w32 sample) → IsWithin 16777216 factor → FitsSigned w32 sample
-    → product ≡ factor *ℤ sample
-product_is product factor sample is small fits = is ∙ ap₂ (λ (x y : ℤ). x *ℤ y) (factor_fits factor small) (to_z-of_z _ _ fits)
+abbrev pub held : ℤ → ℤ
+held x = to_z w64 (of_z w64 x)
 
-pub pair_is : (sum x y : ℤ) → sum ≡ to_z w64 (of_z w64 x) +ℤ to_z w64 (of_z w64 y) → IsWithin (2 ^ 55) x → IsWithin (2 ^ 55) y → sum ≡ x +ℤ y
-pair_is sum x y is small_x small_y = omega (arith, ints)
+pub read_is : (value x : ℤ) → value ≡ read x → FitsSigned w32 x → value ≡ x
+read_is value x is fits = is ∙ to_z-of_z _ _ fits
 
-pub three_are : (front c surround : ℤ) → IsWithin (2 * 2 ^ 55) front → IsWithin (2 ^ 55) c → IsWithin (2 * 2 ^ 55) surround
-    → to_z w64 (of_z w64 (to_z w64 (of_z w64 (to_z w64 (of_z w64 front) +ℤ to_z w64 (of_z w64 c))) +ℤ to_z w64 (of_z w64 surround))) ≡ (front +ℤ c) +ℤ surround
-three_are front c surround small_front small_c small_surround = omega (arith, ints)
+pub pair_is : (sum x y : ℤ) → sum ≡ read x +ℤ read y → FitsSigned w32 x → FitsSigned w32 y → sum ≡ x +ℤ y
+pair_is sum x y is left right = is ∙ ap₂ (λ (v w : ℤ). v +ℤ w) (to_z-of_z _ _ left) (to_z-of_z _ _ right)
 
-pub three_within : (front c surround : ℤ) → IsWithin (2 * 2 ^ 55) front → IsWithin (2 ^ 55) c → IsWithin (2 * 2 ^ 55) surround
-    → IsWithin (5 * 2 ^ 55) ((front +ℤ c) +ℤ surround)
-three_within front c surround small_front small_c small_surround = omega (arith, ints)
+pub read_within : (value x : ℤ) → value ≡ read x → FitsSigned w32 x → IsWithin (2 ^ 31) value
+read_within value x is fits = omega (arith, ints)
 
-pub three_fit : (front c surround : ℤ) → IsWithin (2 * 2 ^ 55) front → IsWithin (2 ^ 55) c → IsWithin (2 * 2 ^ 55) surround
-    → FitsSigned w64 (to_z w64 (of_z w64 (to_z w64 (of_z w64 front) +ℤ to_z w64 (of_z w64 c))) +ℤ to_z w64 (of_z w64 surround))
-three_fit front c surround small_front small_c small_surround = omega (arith, ints)
+pub held_is : (x : ℤ) → IsWithin (2 ^ 34) x → held x ≡ x
+held_is x small = omega (arith, ints)
 
--- LFE is left out
-pub weighed_is_five : (f : Factors) (frame : ℕ → ℤ) → weighed (factors_of f) 0 frame ≡ weighed_five f (frame 0) (frame 1) (frame 2) (frame 4) (frame 5)
-weighed_is_five f frame = added_up (f.l *ℤ frame 0) (f.r *ℤ frame 1) (f.c *ℤ frame 2) (pos 0 *ℤ frame 3) (f.sl *ℤ frame 4) (f.sr *ℤ frame 5) (zero-*ℤ (frame 3))
-  where
-    added_up : (l r c lfe sl sr : ℤ) → lfe ≡ pos 0 → l +ℤ (r +ℤ (c +ℤ (lfe +ℤ (sl +ℤ (sr +ℤ pos 0))))) ≡ (l +ℤ r) +ℤ c +ℤ (sl +ℤ sr)
-    added_up l r c lfe sl sr none = omega (arith, ints)
+-- ---- a channel, and another one or two times the square root of one half
 
-pub same_five : (f : Factors) (l l' r r' c c' sl sl' sr sr' : ℤ) → l ≡ l' → r ≡ r' → c ≡ c' → sl ≡ sl' → sr ≡ sr' → weighed_five f l r c sl sr ≡ weighed_five f l' r' c' sl' sr'
-same_five f l l' r r' c c' sl sl' sr sr' is_l is_r is_c is_sl is_sr = rw (is_l, is_r, is_c, is_sl, is_sr) refl
+pub two_are : (front others : ℤ) → IsWithin (2 ^ 31) front → IsWithin (2 ^ 32) others
+    → held (held (pos 16777216 *ℤ held front) +ℤ held (pos 11863283 *ℤ held others)) ≡ pos 16777216 *ℤ front +ℤ pos 11863283 *ℤ others
+two_are front others small_front small_others = omega (arith, ints)
+
+two_are_small : (front others : ℤ) → IsWithin (2 ^ 31) front → IsWithin (2 ^ 32) others → IsWithin (2 ^ 57) (pos 16777216 *ℤ front +ℤ pos 11863283 *ℤ others)
+two_are_small front others small_front small_others = omega (arith, ints)
+
+pub two_within : (front others : ℤ) → IsWithin (2 ^ 31) front → IsWithin (2 ^ 32) others
+    → IsWithin (2 ^ 57) (held (held (pos 16777216 *ℤ held front) +ℤ held (pos 11863283 *ℤ held others)))
+two_within front others small_front small_others = rw (two_are front others small_front small_others) (two_are_small front others small_front small_others)
+
+-- ---- all five channels
+
+pub five_fit : (front c surround : ℤ) → IsWithin (2 ^ 32) front → IsWithin (2 ^ 31) c → IsWithin (2 ^ 32) surround
+    → FitsSigned w64 (held (held (pos 11863283 *ℤ held front) +ℤ held (pos 16777216 *ℤ held c)) +ℤ held (pos 8388608 *ℤ held surround))
+five_fit front c surround small_front small_c small_surround = omega (arith, ints)
+
+pub five_are : (front c surround : ℤ) → IsWithin (2 ^ 32) front → IsWithin (2 ^ 31) c → IsWithin (2 ^ 32) surround
+    → held (held (held (pos 11863283 *ℤ held front) +ℤ held (pos 16777216 *ℤ held c)) +ℤ held (pos 8388608 *ℤ held surround))
+    ≡ pos 11863283 *ℤ front +ℤ pos 16777216 *ℤ c +ℤ pos 8388608 *ℤ surround
+five_are front c surround small_front small_c small_surround = omega (arith, ints)
+
+five_are_small : (front c surround : ℤ) → IsWithin (2 ^ 32) front → IsWithin (2 ^ 31) c → IsWithin (2 ^ 32) surround
+    → IsWithin (2 ^ 57) (pos 11863283 *ℤ front +ℤ pos 16777216 *ℤ c +ℤ pos 8388608 *ℤ surround)
+five_are_small front c surround small_front small_c small_surround = omega (arith, ints)
+
+pub five_within : (front c surround : ℤ) → IsWithin (2 ^ 32) front → IsWithin (2 ^ 31) c → IsWithin (2 ^ 32) surround
+    → IsWithin (2 ^ 57) (held (held (held (pos 11863283 *ℤ held front) +ℤ held (pos 16777216 *ℤ held c)) +ℤ held (pos 8388608 *ℤ held surround)))
+five_within front c surround small_front small_c small_surround =
+    rw (five_are front c surround small_front small_c small_surround) (five_are_small front c surround small_front small_c small_surround)
+
+pub same_sums : (front front' c c' surround surround' : ℤ) → front ≡ front' → c ≡ c' → surround ≡ surround'
+    → pos 11863283 *ℤ front +ℤ pos 16777216 *ℤ c +ℤ pos 8388608 *ℤ surround ≡ pos 11863283 *ℤ front' +ℤ pos 16777216 *ℤ c' +ℤ pos 8388608 *ℤ surround'
+same_sums front front' c c' surround surround' is_front is_c is_surround = rw (is_front, is_c, is_surround) refl
+
+-- ---- equal channels
+
+pub same_side : (front front' c c' surround surround' : ℤ) → front ≡ front' → c ≡ c' → surround ≡ surround' → side_speakers front c surround ≡ side_speakers front' c' surround'
+same_side front front' c c' surround surround' is_front is_c is_surround = rw (is_front, is_c, is_surround) refl
+
+pub same_five : (l l' r r' c c' sl sl' sr sr' : ℤ) → l ≡ l' → r ≡ r' → c ≡ c' → sl ≡ sl' → sr ≡ sr' → all_speakers l r c sl sr ≡ all_speakers l' r' c' sl' sr'
+same_five l l' r r' c c' sl sl' sr sr' is_l is_r is_c is_sl is_sr = rw (is_l, is_r, is_c, is_sl, is_sr) refl

@@ -1,20 +1,22 @@
 -- What the code knows of an output channel.
-use Rattle.std.specs.Prelude.{ℕ, suc, max, ◌≡◌, ℤ, pos, ◌+ℤ◌, ◌*ℤ◌, nat_le, IsTrue, List, [], ◌∷◌, map, All, Option, Some}
+use Rattle.std.specs.Prelude.{ℕ, suc, max, ◌≡◌, ℤ, pos, ◌+ℤ◌, ◌*ℤ◌, nat_le, IsTrue, List, [], ◌∷◌, map, Option, Some}
 use Rattle.std.specs.List.{list_all}
 use Rattle.wa_base.specs.Numbers.{rnd}
-use Rattle.lane_kern.specs.Blocks.{IsWithin}
-use Rattle.channel_mix.specs.Mixing.{Form, ◌⊕◌, ◌⊘◌, channel, only, silence, one, weighed}
-use Rattle.channel_mix.specs.declared.outputs.Factors.{Factors}
+use Rattle.channel_mix.specs.Mixing.{Form, ◌⊕◌, ◌⊙◌, ◌⊘◌, channel, only, silence, one, root_half, half}
 use Rattle.channel_mix.specs.declared.outputs.Output.{Output}
-use Rattle.channel_mix.specs.declared.outputs.Output.TheVariants.{Silence, Channel, HalfOfTwo, QuarterOfFour, Weighed}
+use Rattle.channel_mix.specs.declared.outputs.Output.TheVariants.{Silence, Channel, HalfOfTwo, QuarterOfFour, AllSpeakers, SideSpeakers, FrontSpeakers}
 
--- the factors of L, R, C, LFE, SL and SR: LFE is left out
-abbrev pub factors_of : Factors → List ℤ
-factors_of f = f.l ∷ f.r ∷ f.c ∷ pos 0 ∷ f.sl ∷ f.sr ∷ []
+-- L, R, C, SL and SR as one channel, before the sum is divided by one
+abbrev pub all_speakers : ℤ → ℤ → ℤ → ℤ → ℤ → ℤ
+all_speakers l r c sl sr = root_half *ℤ (l +ℤ r) +ℤ one *ℤ c +ℤ half *ℤ (sl +ℤ sr)
 
--- the sum of L, R, C, SL and SR, each times its factor
-abbrev pub weighed_five : Factors → ℤ → ℤ → ℤ → ℤ → ℤ → ℤ
-weighed_five f l r c sl sr = (f.l *ℤ l +ℤ f.r *ℤ r) +ℤ f.c *ℤ c +ℤ (f.sl *ℤ sl +ℤ f.sr *ℤ sr)
+-- L, C and SL as one channel, or R, C and SR, before the division
+abbrev pub side_speakers : ℤ → ℤ → ℤ → ℤ
+side_speakers front c surround = one *ℤ front +ℤ root_half *ℤ (c +ℤ surround)
+
+-- L and C as one channel, or R and C, before the division
+abbrev pub front_speakers : ℤ → ℤ → ℤ
+front_speakers front c = one *ℤ front +ℤ root_half *ℤ c
 
 -- its value, by the input's frame
 abbrev pub value_of : Output → (ℕ → ℤ) → ℤ
@@ -22,7 +24,9 @@ value_of Silence frame = pos 0
 value_of (Channel i) frame = frame i
 value_of (HalfOfTwo i j) frame = rnd (frame i +ℤ frame j) (pos 2)
 value_of QuarterOfFour frame = rnd ((frame 0 +ℤ frame 1) +ℤ (frame 2 +ℤ frame 3)) (pos 4)
-value_of (Weighed factors) frame = rnd (weighed (factors_of factors) 0 frame) one
+value_of AllSpeakers frame = rnd (all_speakers (frame 0) (frame 1) (frame 2) (frame 4) (frame 5)) one
+value_of (SideSpeakers i j) frame = rnd (side_speakers (frame i) (frame 2) (frame j)) one
+value_of (FrontSpeakers i) frame = rnd (front_speakers (frame i) (frame 2)) one
 
 -- its linear form, by the number of input channels
 abbrev pub form_of : ℕ → Output → Form
@@ -30,7 +34,9 @@ form_of from Silence = silence
 form_of from (Channel i) = only (channel from i)
 form_of from (HalfOfTwo i j) = channel from i ⊕ channel from j ⊘ pos 2
 form_of from QuarterOfFour = (pos 1 ∷ pos 1 ∷ pos 1 ∷ pos 1 ∷ []) ⊘ pos 4
-form_of from (Weighed factors) = factors_of factors ⊘ one
+form_of from AllSpeakers = root_half ⊙ (channel from 0 ⊕ channel from 1) ⊕ one ⊙ channel from 2 ⊕ half ⊙ (channel from 4 ⊕ channel from 5) ⊘ one
+form_of from (SideSpeakers i j) = one ⊙ channel from i ⊕ root_half ⊙ (channel from 2 ⊕ channel from j) ⊘ one
+form_of from (FrontSpeakers i) = one ⊙ channel from i ⊕ root_half ⊙ channel from 2 ⊘ one
 
 -- how many input channels it needs
 abbrev pub needed : Output → ℕ
@@ -38,25 +44,11 @@ needed Silence = 0
 needed (Channel i) = suc i
 needed (HalfOfTwo i j) = suc (max i j)
 needed QuarterOfFour = 4
-needed (Weighed factors) = 6
-
--- no factor is above one
-pub record AreSmall (f : Factors) : Type 0 where
-  pub l : IsWithin 16777216 f.l
-  pub r : IsWithin 16777216 f.r
-  pub c : IsWithin 16777216 f.c
-  pub sl : IsWithin 16777216 f.sl
-  pub sr : IsWithin 16777216 f.sr
-
-abbrev pub HasSmallFactors : Output → Type 0
-HasSmallFactors Silence = Unit {0}
-HasSmallFactors (Channel i) = Unit {0}
-HasSmallFactors (HalfOfTwo i j) = Unit {0}
-HasSmallFactors QuarterOfFour = Unit {0}
-HasSmallFactors (Weighed factors) = AreSmall factors
+needed AllSpeakers = 6
+needed (SideSpeakers i j) = suc (max 2 (max i j))
+needed (FrontSpeakers i) = suc (max 2 i)
 
 -- the outputs are a row of the table, and can be made of so many input channels
 pub record IsRow (from : ℕ) (outputs : List Output) (row : Option (List Form)) : Type 0 where
   pub forms : row ≡ Some (map (form_of from) outputs)
   pub enough : IsTrue (list_all (λ output. nat_le (needed output) from) outputs)
-  pub small : All HasSmallFactors outputs

@@ -1,14 +1,18 @@
-ghost use Rattle.std.specs.Prelude.{◌≡◌, ◌≤◌, ◌+◌, ◌*◌, ◌^◌, ◌+ℤ◌, ◌*ℤ◌, pos, length, take, drop, All};
+ghost use Rattle.std.specs.Prelude.{◌≡◌, ◌≤◌, ◌+◌, ◌*◌, ◌^◌, ◌+ℤ◌, pos, length, take, drop, All};
 ghost use Rattle.wa_base.specs.Numbers.{rnd};
 ghost use Rattle.lane_kern.specs.Blocks.{at, IsWithin};
-ghost use Rattle.channel_mix.specs.Blocks.{frame_at, Adds};
-ghost use Rattle.channel_mix.specs.Mixing.{one, weighed};
-ghost use Rattle.channel_mix.specs.Outputs.{factors_of, weighed_five, AreSmall};
+ghost use Rattle.channel_mix.specs.Blocks.{Adds};
+ghost use Rattle.channel_mix.specs.Mixing.{one};
+ghost use Rattle.channel_mix.specs.Outputs.{all_speakers, side_speakers, front_speakers};
 
-use crate::outputs::Factors;
 use lane_kern::add_into;
 
 const FRACTION_BITS: u32 = 24;
+
+// The factors one, the square root of one half, and one half, in units of 2^-24.
+const ONE: i64 = 16_777_216;
+
+const ROOT_HALF: i64 = 11_863_283;
 
 const HALF: i64 = 8_388_608;
 
@@ -47,23 +51,53 @@ pub(crate) fn add_quarters(sums: &mut [i64], l: &[i32], r: &[i32], sl: &[i32], s
     }
 }
 
-/// Adds the weighed sum of L, R, C, SL and SR of a block of six channels to the sums, rounded at each
-/// frame.
-pub(crate) fn add_weighed(sums: &mut [i64], factors: Factors, src: &[i32])
-    requires src { 6 * length sums.old ≤ length src.now }
-    requires small { AreSmall factors }
+/// Adds K (L + R) + C + (SL + SR) / 2 to the sums, rounded at each frame, where K is the square root of
+/// one half.
+pub(crate) fn add_all_speakers(
+    sums: &mut [i64],
+    l: &[i32],
+    r: &[i32],
+    c: &[i32],
+    sl: &[i32],
+    sr: &[i32],
+)
+    requires l { length l.now ≡ length sums.old }
+    requires r { length r.now ≡ length sums.old }
+    requires c { length c.now ≡ length sums.old }
+    requires sl { length sl.now ≡ length sums.old }
+    requires sr { length sr.now ≡ length sums.old }
     requires room { All (IsWithin (2 ^ 47)) sums.old }
-    ensures { Adds (λ k. rnd (weighed (factors_of factors) 0 (frame_at (length sums.old) src.now k)) one) sums.old sums.new }
+    ensures { Adds (λ k. rnd (all_speakers (at l.now k) (at r.now k) (at c.now k) (at sl.now k) (at sr.now k)) one) sums.old sums.new }
 {
-    let frames = sums.len();
-    let (l, r, c) = (
-        channel_of(src, frames, 0),
-        channel_of(src, frames, 1),
-        channel_of(src, frames, 2),
-    );
-    let (sl, sr) = (channel_of(src, frames, 4), channel_of(src, frames, 5));
     for (k, sum) in sums.iter_mut().enumerate() {
-        *sum += weighed_of(factors, l[k], r[k], c[k], sl[k], sr[k]);
+        *sum += all_speakers_of(l[k], r[k], c[k], sl[k], sr[k]);
+    }
+}
+
+/// Adds F + K (C + S) to the sums, rounded at each frame, where F is the channel in front, S is the
+/// surround channel and K is the square root of one half.
+pub(crate) fn add_side_speakers(sums: &mut [i64], front: &[i32], centre: &[i32], surround: &[i32])
+    requires front { length front.now ≡ length sums.old }
+    requires centre { length centre.now ≡ length sums.old }
+    requires surround { length surround.now ≡ length sums.old }
+    requires room { All (IsWithin (2 ^ 47)) sums.old }
+    ensures { Adds (λ k. rnd (side_speakers (at front.now k) (at centre.now k) (at surround.now k)) one) sums.old sums.new }
+{
+    for (k, sum) in sums.iter_mut().enumerate() {
+        *sum += side_speakers_of(front[k], centre[k], surround[k]);
+    }
+}
+
+/// Adds F + K C to the sums, rounded at each frame, where F is the channel in front and K is the square
+/// root of one half.
+pub(crate) fn add_front_speakers(sums: &mut [i64], front: &[i32], centre: &[i32])
+    requires front { length front.now ≡ length sums.old }
+    requires centre { length centre.now ≡ length sums.old }
+    requires room { All (IsWithin (2 ^ 47)) sums.old }
+    ensures { Adds (λ k. rnd (front_speakers (at front.now k) (at centre.now k)) one) sums.old sums.new }
+{
+    for (k, sum) in sums.iter_mut().enumerate() {
+        *sum += front_speakers_of(front[k], centre[k]);
     }
 }
 
@@ -101,39 +135,35 @@ fn sum_of(x: i32, y: i32) -> i64
     i64::from(x) + i64::from(y)
 }
 
-// The weighed sum of the channels at a frame, rounded.
-fn weighed_of(factors: Factors, l: i32, r: i32, c: i32, sl: i32, sr: i32) -> i64
-    requires small { AreSmall factors }
-    ensures value { result ≡ rnd (weighed_five factors l r c sl sr) one }
+// K (L + R) + C + (SL + SR) / 2, rounded.
+fn all_speakers_of(l: i32, r: i32, c: i32, sl: i32, sr: i32) -> i64
+    ensures value { result ≡ rnd (all_speakers l r c sl sr) one }
     ensures small { IsWithin (2 ^ 34) result }
 {
-    (weighed_sum(factors, l, r, c, sl, sr) + HALF) >> FRACTION_BITS
+    rounded(ROOT_HALF * sum_of(l, r) + ONE * i64::from(c) + HALF * sum_of(sl, sr))
 }
 
-// The weighed sum of the channels at a frame.
-fn weighed_sum(factors: Factors, l: i32, r: i32, c: i32, sl: i32, sr: i32) -> i64
-    requires small { AreSmall factors }
-    ensures value { result ≡ weighed_five factors l r c sl sr }
-    ensures small { IsWithin (5 * 2 ^ 55) result }
+// F + K (C + S), rounded.
+fn side_speakers_of(front: i32, centre: i32, surround: i32) -> i64
+    ensures value { result ≡ rnd (side_speakers front centre surround) one }
+    ensures small { IsWithin (2 ^ 34) result }
 {
-    let front = plus(weigh(factors.l, l), weigh(factors.r, r));
-    let surround = plus(weigh(factors.sl, sl), weigh(factors.sr, sr));
-    front + weigh(factors.c, c) + surround
+    rounded(ONE * i64::from(front) + ROOT_HALF * sum_of(centre, surround))
 }
 
-fn plus(x: i64, y: i64) -> i64
-    requires x { IsWithin (2 ^ 55) x }
-    requires y { IsWithin (2 ^ 55) y }
-    ensures value { result ≡ x +ℤ y }
-    ensures small { IsWithin (2 * 2 ^ 55) result }
+// F + K C, rounded.
+fn front_speakers_of(front: i32, centre: i32) -> i64
+    ensures value { result ≡ rnd (front_speakers front centre) one }
+    ensures small { IsWithin (2 ^ 34) result }
 {
-    x + y
+    rounded(ONE * i64::from(front) + ROOT_HALF * i64::from(centre))
 }
 
-fn weigh(factor: i32, sample: i32) -> i64
-    requires { IsWithin (2 ^ 24) factor }
-    ensures value { result ≡ factor *ℤ sample }
-    ensures small { IsWithin (2 ^ 55) result }
+// A sum of samples times factors, divided by the factor one and rounded.
+fn rounded(sum: i64) -> i64
+    requires { IsWithin (2 ^ 57) sum }
+    ensures value { result ≡ rnd sum one }
+    ensures small { IsWithin (2 ^ 34) result }
 {
-    i64::from(factor) * i64::from(sample)
+    (sum + HALF) >> FRACTION_BITS
 }

@@ -2,11 +2,17 @@ ghost use Rattle.std.specs.Prelude.{◌≡◌, ◌<◌, ◌≤◌, ◌-◌, ◌+
 ghost use Rattle.lane_kern.specs.Blocks.{IsWithin};
 ghost use Rattle.channel_mix.specs.Blocks.{sample, frame_at, Adds};
 ghost use Rattle.channel_mix.specs.Mixing.{mix};
-ghost use Rattle.channel_mix.specs.Outputs.{value_of, needed, HasSmallFactors};
+ghost use Rattle.channel_mix.specs.Outputs.{value_of, needed};
 
-use crate::kernels::{add_channel, add_halves, add_quarters, add_weighed, channel_of};
+use crate::kernels::{
+    add_all_speakers, add_channel, add_front_speakers, add_halves, add_quarters, add_side_speakers,
+    channel_of,
+};
 use crate::outputs::Output;
 use wa_base::Interp;
+
+// The index of C in 5.1.
+const CENTRE: usize = 2;
 
 /// Adds a connection's samples to the sums of an input, mixed to the input's number of channels.
 ///
@@ -41,7 +47,6 @@ pub fn mix_add(acc: &mut [i64], to: usize, src: &[i32], from: usize, interp: Int
 // Adds an output channel to its sums.
 fn add_output(sums: &mut [i64], output: Output, src: &[i32])
     requires src { needed output * length sums.old ≤ length src.now }
-    requires small { HasSmallFactors output }
     requires room { All (IsWithin (2 ^ 47)) sums.old }
     ensures { Adds (λ k. value_of output (frame_at (length sums.old) src.now k)) sums.old sums.new }
 {
@@ -57,6 +62,18 @@ fn add_output(sums: &mut [i64], output: Output, src: &[i32])
             let (sl, sr) = (channel_of(src, frames, 2), channel_of(src, frames, 3));
             add_quarters(sums, l, r, sl, sr);
         }
-        Output::Weighed(factors) => add_weighed(sums, factors, src),
+        Output::AllSpeakers => {
+            let (l, r) = (channel_of(src, frames, 0), channel_of(src, frames, 1));
+            let (sl, sr) = (channel_of(src, frames, 4), channel_of(src, frames, 5));
+            add_all_speakers(sums, l, r, channel_of(src, frames, CENTRE), sl, sr);
+        }
+        Output::SideSpeakers(i, j) => {
+            let (front, surround) = (channel_of(src, frames, i), channel_of(src, frames, j));
+            add_side_speakers(sums, front, channel_of(src, frames, CENTRE), surround);
+        }
+        Output::FrontSpeakers(i) => {
+            let centre = channel_of(src, frames, CENTRE);
+            add_front_speakers(sums, channel_of(src, frames, i), centre);
+        }
     }
 }

@@ -1,70 +1,8 @@
 ghost use Rattle.std.specs.Prelude.{◌≡◌, ◌<◌, ◌≤◌, ℕ, MatchOption};
 ghost use Rattle.channel_mix.specs.Mixing.{form, table, layout, kept};
-ghost use Rattle.channel_mix.specs.Outputs.{form_of, needed, HasSmallFactors, IsRow};
+ghost use Rattle.channel_mix.specs.Outputs.{form_of, needed, IsRow};
 
 use wa_base::Interp;
-
-// The factor one: factors are in units of 2^-24.
-const ONE: i32 = 16_777_216;
-
-// The square root of one half.
-const ROOT_HALF: i32 = 11_863_283;
-
-// One half.
-const HALF: i32 = 8_388_608;
-
-/// The factors of L, R, C, SL and SR, in units of 2^-24. LFE is in no sum.
-#[derive(Clone, Copy)]
-pub(crate) struct Factors {
-    pub(crate) l: i32,
-    pub(crate) r: i32,
-    pub(crate) c: i32,
-    pub(crate) sl: i32,
-    pub(crate) sr: i32,
-}
-
-// All five speakers as one.
-const ALL_SPEAKERS: Factors = Factors {
-    l: ROOT_HALF,
-    r: ROOT_HALF,
-    c: ONE,
-    sl: HALF,
-    sr: HALF,
-};
-
-// The speakers on the left, and those on the right.
-const LEFT_SPEAKERS: Factors = Factors {
-    l: ONE,
-    r: 0,
-    c: ROOT_HALF,
-    sl: ROOT_HALF,
-    sr: 0,
-};
-
-const RIGHT_SPEAKERS: Factors = Factors {
-    l: 0,
-    r: ONE,
-    c: ROOT_HALF,
-    sl: 0,
-    sr: ROOT_HALF,
-};
-
-// Those in front.
-const FRONT_LEFT: Factors = Factors {
-    l: ONE,
-    r: 0,
-    c: ROOT_HALF,
-    sl: 0,
-    sr: 0,
-};
-
-const FRONT_RIGHT: Factors = Factors {
-    l: 0,
-    r: ONE,
-    c: ROOT_HALF,
-    sl: 0,
-    sr: 0,
-};
 
 /// What one output channel is made of.
 #[derive(Clone, Copy)]
@@ -76,11 +14,17 @@ pub(crate) enum Output {
     HalfOfTwo(usize, usize),
     /// A quarter of the sum of L, R, SL and SR.
     QuarterOfFour,
-    /// The sum of L, R, C, SL and SR, each times its factor.
-    Weighed(Factors),
+    /// K (L + R) + C + (SL + SR) / 2, where K is the square root of one half.
+    AllSpeakers,
+    /// F + K (C + S) of a channel F in front and a surround channel S.
+    SideSpeakers(usize, usize),
+    /// F + K C of a channel F in front.
+    FrontSpeakers(usize),
 }
 
-use Output::{Channel, HalfOfTwo, QuarterOfFour, Silence, Weighed};
+use Output::{
+    AllSpeakers, Channel, FrontSpeakers, HalfOfTwo, QuarterOfFour, SideSpeakers, Silence,
+};
 
 // The output channels of each pair of the speakers' table, in order. From M:
 const MONO_TO_STEREO: [Output; 2] = [Channel(0), Channel(0)];
@@ -125,13 +69,13 @@ const QUAD_TO_FIVE_POINT_ONE: [Output; 6] = [
 ];
 
 // From L, R, C, LFE, SL, SR:
-const FIVE_POINT_ONE_TO_MONO: [Output; 1] = [Weighed(ALL_SPEAKERS)];
+const FIVE_POINT_ONE_TO_MONO: [Output; 1] = [AllSpeakers];
 
-const FIVE_POINT_ONE_TO_STEREO: [Output; 2] = [Weighed(LEFT_SPEAKERS), Weighed(RIGHT_SPEAKERS)];
+const FIVE_POINT_ONE_TO_STEREO: [Output; 2] = [SideSpeakers(0, 4), SideSpeakers(1, 5)];
 
 const FIVE_POINT_ONE_TO_QUAD: [Output; 4] = [
-    Weighed(FRONT_LEFT),
-    Weighed(FRONT_RIGHT),
+    FrontSpeakers(0),
+    FrontSpeakers(1),
     Channel(4),
     Channel(5),
 ];
@@ -165,7 +109,6 @@ impl Output {
         requires { channel < to }
         ensures form { form_of from result ≡ form interp from to channel }
         ensures needed { needed result ≤ from }
-        ensures small { HasSmallFactors result }
     {
         match interp {
             Interp::Speakers => match by_speakers(from, to) {
@@ -180,7 +123,6 @@ impl Output {
     fn kept(from: usize, channel: usize) -> Output
         ensures form { (to : ℕ) → channel < to → form_of from result ≡ kept from to channel }
         ensures needed { needed result ≤ from }
-        ensures small { HasSmallFactors result }
     {
         if channel < from {
             Channel(channel)

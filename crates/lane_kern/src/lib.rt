@@ -1,5 +1,4 @@
-//! The kernels of blocks: one plain loop over slices of equal length each, which the compiler makes
-//! into vector instructions.
+//! The kernels of blocks: one plain loop over slices of equal length each.
 #![tactic(auto)]
 
 ghost use Rattle.std.specs.Prelude.{◌≡◌, ◌<◌, ◌≤◌, ◌^◌, ◌+ℤ◌, ◌*ℤ◌, ℕ, length, All};

@@ -1,0 +1,9 @@
+use Rattle.wa_base.specs.Numbers.{rnd}
+use Rattle.lane_kern.specs.Blocks.{at}
+use Rattle.channel_mix.specs.Mixing.{one}
+use Rattle.channel_mix.specs.Outputs.{front_speakers}
+use Rattle.channel_mix.proofs.Sums.{AddsBelow}
+use Rattle.channel_mix.proofs.kernels.add_front_speakers.Given as goal
+
+abbrev pub invariant-loop-k : goal.invariant-loop-k
+invariant-loop-k l = AddsBelow (λ k. rnd (front_speakers (at l.front k) (at l.centre k)) one) l.k l.initial.sums l.sums

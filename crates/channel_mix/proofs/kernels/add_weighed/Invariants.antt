@@ -1,9 +1,0 @@
-use Rattle.wa_base.specs.Numbers.{rnd}
-use Rattle.lane_kern.specs.Blocks.{at}
-use Rattle.channel_mix.specs.Mixing.{one}
-use Rattle.channel_mix.specs.Outputs.{weighed_five}
-use Rattle.channel_mix.proofs.Sums.{AddsBelow}
-use Rattle.channel_mix.proofs.kernels.add_weighed.Given as goal
-
-abbrev pub invariant-loop-k : goal.invariant-loop-k
-invariant-loop-k l = AddsBelow (λ k. rnd (weighed_five l.factors (at l.l k) (at l.r k) (at l.c k) (at l.sl k) (at l.sr k)) one) l.k l.initial.sums l.sums

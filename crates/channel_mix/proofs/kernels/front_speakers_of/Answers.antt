@@ -1,0 +1,16 @@
+use Rattle.std.proofs.Common.{◌^◌, ◌∙◌, ℤ, ap, ap₂, arith}
+use Rattle.wa_base.specs.Numbers.{rnd}
+use Rattle.lane_kern.specs.Blocks.{IsWithin}
+use Rattle.channel_mix.specs.Mixing.{one}
+use Rattle.channel_mix.specs.Outputs.{front_speakers}
+use Rattle.channel_mix.proofs.Weighing.{read_is, read_within, held_is, two_are}
+use Rattle.channel_mix.proofs.kernels.front_speakers_of.Goals as goal
+
+pub returns-clause-value : goal.returns-clause-value
+returns-clause-value c =
+    let front = read_is _ _ c.from.ensures c.ranges.front in
+    let centre = read_is _ _ c.from-2.ensures c.ranges.centre in
+    let near = read_within _ _ c.from-2.ensures c.ranges.centre in
+    let small : IsWithin (2 ^ 32) c.from-2.result = omega arith in
+    let sum = two_are c.from.result c.from-2.result (read_within _ _ c.from.ensures c.ranges.front) small in
+    held_is _ c.rounded.ensures.small ∙ c.rounded.ensures.value ∙ ap (λ (z : ℤ). rnd z one) (sum ∙ ap₂ front_speakers front centre)
