@@ -1,9 +1,9 @@
 -- The entries: the members of a script and of its context, and the fields of each operation, in the order in which they are read.
--- Each row is the name of a field, its kind and its default: a field that is `Needed` has none, and one whose default is `Null` may hold null.
-use Rattle.std.specs.Prelude.{List, [], ◌∷◌, pos, bytes_eq, find, Option, Some, None}
+-- Each row is the name of a field, its kind and its default: a field that is `Needed` has none, and one whose default is `Null` may hold null, as may one of the kind `NameOrNull`.
+use Rattle.std.specs.Prelude.{List, [], ◌∷◌, pos, false, bytes_eq, find, Option, Some, None}
 use Rattle.script_ast.specs.Fields.{field_word}
 use Rattle.script_ast.specs.declared.entries.Fallback.{Fallback}
-use Rattle.script_ast.specs.declared.entries.Fallback.TheVariants.{Needed, Null, Number, Count, NoCalls}
+use Rattle.script_ast.specs.declared.entries.Fallback.TheVariants.{Needed, Null, Number, Count, Flag, NoCalls}
 use Rattle.script_ast.specs.declared.entries.Kind.{Kind}
 use Rattle.script_ast.specs.declared.entries.Kind.TheVariants as kind
 use Rattle.script_ast.specs.declared.entries.Row.{Row}
@@ -60,6 +60,24 @@ create_channel_merger =
     row field.As kind.NewName Needed ∷
     row field.NumberOfInputs kind.Count (Count 6) ∷ []
 
+-- `createBufferSource`
+abbrev pub create_buffer_source : List Row
+create_buffer_source =
+    row field.As kind.NewName Needed ∷
+    row field.Buffer kind.Name Null ∷
+    row field.Loop kind.Flag (Flag false) ∷
+    row field.LoopStart kind.Time (Number (pos 0)) ∷
+    row field.LoopEnd kind.Time (Number (pos 0)) ∷
+    row field.PlaybackRate kind.Fix (Number (pos 16777216)) ∷ []
+
+-- `createBuffer`
+abbrev pub create_buffer : List Row
+create_buffer =
+    row field.As kind.NewName Needed ∷
+    row field.Channels kind.Count Needed ∷
+    row field.Length kind.Count Needed ∷
+    row field.Rate kind.Count Needed ∷ []
+
 -- `connect`
 abbrev pub connect : List Row
 connect =
@@ -94,6 +112,38 @@ set_channel_interpretation =
     row field.Node kind.Name Needed ∷
     row field.Value kind.Interp Needed ∷ []
 
+-- `setBuffer`
+abbrev pub set_buffer : List Row
+set_buffer =
+    row field.Node kind.Name Needed ∷
+    row field.Buffer kind.NameOrNull Needed ∷ []
+
+-- `setLoop`
+abbrev pub set_loop : List Row
+set_loop =
+    row field.Node kind.Name Needed ∷
+    row field.Value kind.Flag Needed ∷ []
+
+-- `setLoopStart`
+abbrev pub set_loop_start : List Row
+set_loop_start =
+    row field.Node kind.Name Needed ∷
+    row field.Value kind.Time Needed ∷ []
+
+-- `setLoopEnd`
+abbrev pub set_loop_end : List Row
+set_loop_end =
+    row field.Node kind.Name Needed ∷
+    row field.Value kind.Time Needed ∷ []
+
+-- `copyToChannel`
+abbrev pub copy_to_channel : List Row
+copy_to_channel =
+    row field.Buffer kind.Name Needed ∷
+    row field.Channel kind.Count Needed ∷
+    row field.Samples kind.Fixes Needed ∷
+    row field.At kind.Count (Count 0) ∷ []
+
 -- `start`
 abbrev pub start : List Row
 start =
@@ -112,6 +162,12 @@ stop =
 abbrev pub start_rendering : List Row
 start_rendering =
     row field.Then kind.Calls NoCalls ∷ []
+
+-- `decodeAudioData`
+abbrev pub decode_audio_data : List Row
+decode_audio_data =
+    row field.As kind.NewName Needed ∷
+    row field.Path kind.Path Needed ∷ []
 
 -- ---- the default of a field
 

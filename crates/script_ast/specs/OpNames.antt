@@ -10,7 +10,7 @@ use Rattle.script_ast.specs.declared.entries.Row.{Row}
 use Rattle.script_ast.specs.declared.op_names.LeftOutName.{LeftOutName}
 use Rattle.script_ast.specs.declared.op_names.LeftOutName.TheVariants as left_out
 use Rattle.script_ast.specs.declared.op_names.OpName.{OpName}
-use Rattle.script_ast.specs.declared.op_names.OpName.TheVariants.{CreateConstantSource, CreateGain, CreateChannelSplitter, CreateChannelMerger, Connect, Disconnect, SetChannelCount, SetChannelCountMode, SetChannelInterpretation, Start, Stop, StartRendering, Resume, ReadState, ReadTime, LeftOut}
+use Rattle.script_ast.specs.declared.op_names.OpName.TheVariants.{CreateConstantSource, CreateGain, CreateChannelSplitter, CreateChannelMerger, CreateBufferSource, CreateBuffer, Connect, Disconnect, SetChannelCount, SetChannelCountMode, SetChannelInterpretation, SetBuffer, SetLoop, SetLoopStart, SetLoopEnd, CopyToChannel, Start, Stop, StartRendering, Resume, DecodeAudioData, ReadState, ReadTime, LeftOut}
 
 -- the `op` of an operation that the profile leaves out
 abbrev pub left_out_word : LeftOutName → List ℕ
@@ -54,15 +54,23 @@ op_word CreateConstantSource = codes "createConstantSource"
 op_word CreateGain = codes "createGain"
 op_word CreateChannelSplitter = codes "createChannelSplitter"
 op_word CreateChannelMerger = codes "createChannelMerger"
+op_word CreateBufferSource = codes "createBufferSource"
+op_word CreateBuffer = codes "createBuffer"
 op_word Connect = codes "connect"
 op_word Disconnect = codes "disconnect"
 op_word SetChannelCount = codes "setChannelCount"
 op_word SetChannelCountMode = codes "setChannelCountMode"
 op_word SetChannelInterpretation = codes "setChannelInterpretation"
+op_word SetBuffer = codes "setBuffer"
+op_word SetLoop = codes "setLoop"
+op_word SetLoopStart = codes "setLoopStart"
+op_word SetLoopEnd = codes "setLoopEnd"
+op_word CopyToChannel = codes "copyToChannel"
 op_word Start = codes "start"
 op_word Stop = codes "stop"
 op_word StartRendering = codes "startRendering"
 op_word Resume = codes "resume"
+op_word DecodeAudioData = codes "decodeAudioData"
 op_word ReadState = codes "readState"
 op_word ReadTime = codes "readTime"
 op_word (LeftOut name) = left_out_word name
@@ -74,15 +82,23 @@ operations =
     CreateGain ∷
     CreateChannelSplitter ∷
     CreateChannelMerger ∷
+    CreateBufferSource ∷
+    CreateBuffer ∷
     Connect ∷
     Disconnect ∷
     SetChannelCount ∷
     SetChannelCountMode ∷
     SetChannelInterpretation ∷
+    SetBuffer ∷
+    SetLoop ∷
+    SetLoopStart ∷
+    SetLoopEnd ∷
+    CopyToChannel ∷
     Start ∷
     Stop ∷
     StartRendering ∷
     Resume ∷
+    DecodeAudioData ∷
     ReadState ∷
     ReadTime ∷
     LeftOut left_out.CreateOscillator ∷
@@ -115,15 +131,23 @@ fields_of CreateConstantSource = entry.create_constant_source
 fields_of CreateGain = entry.create_gain
 fields_of CreateChannelSplitter = entry.create_channel_splitter
 fields_of CreateChannelMerger = entry.create_channel_merger
+fields_of CreateBufferSource = entry.create_buffer_source
+fields_of CreateBuffer = entry.create_buffer
 fields_of Connect = entry.connect
 fields_of Disconnect = entry.disconnect
 fields_of SetChannelCount = entry.set_channel_count
 fields_of SetChannelCountMode = entry.set_channel_count_mode
 fields_of SetChannelInterpretation = entry.set_channel_interpretation
+fields_of SetBuffer = entry.set_buffer
+fields_of SetLoop = entry.set_loop
+fields_of SetLoopStart = entry.set_loop_start
+fields_of SetLoopEnd = entry.set_loop_end
+fields_of CopyToChannel = entry.copy_to_channel
 fields_of Start = entry.start
 fields_of Stop = entry.stop
 fields_of StartRendering = entry.start_rendering
 fields_of Resume = []
+fields_of DecodeAudioData = entry.decode_audio_data
 fields_of ReadState = []
 fields_of ReadTime = []
 fields_of (LeftOut name) = []
@@ -135,7 +159,11 @@ is_calls kind.Time = false
 is_calls kind.Count = false
 is_calls kind.Version = false
 is_calls kind.Name = false
+is_calls kind.NameOrNull = false
 is_calls kind.NewName = false
+is_calls kind.Flag = false
+is_calls kind.Fixes = false
+is_calls kind.Path = false
 is_calls kind.Mode = false
 is_calls kind.Interp = false
 is_calls kind.Calls = true

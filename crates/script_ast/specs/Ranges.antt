@@ -54,6 +54,10 @@ is_new_name name = has_name_length name && has_name_bytes name && not (bytes_eq 
 abbrev pub IsNewName : List ℕ → Type 0
 IsNewName name = IsTrue (is_new_name name)
 
+-- 1 to 255 bytes
+abbrev pub is_path : List ℕ → Bool
+is_path path = nat_le 1 (length path) && nat_le (length path) 255
+
 -- a path has 1 to 255 bytes
 abbrev pub IsPath : List ℕ → Type 0
 IsPath path = (1 ≤ length path) × (length path ≤ 255)

@@ -16,8 +16,16 @@ pub enum Kind {
     Version,
     /// Any string.
     Name,
+    /// Any string, or null, which is a value here and no default.
+    NameOrNull,
     /// A string that an object may be given as its name.
     NewName,
+    /// True or false.
+    Flag,
+    /// An array of whole numbers from -2^31 to 2^31 - 1.
+    Fixes,
+    /// A string of 1 to 255 bytes.
+    Path,
     /// The word of a ChannelCountMode.
     Mode,
     /// The word of a ChannelInterpretation.
@@ -39,6 +47,8 @@ pub enum Fallback {
     Number(i64),
     /// A count.
     Count(u32),
+    /// True or false.
+    Flag(bool),
     /// The empty list of calls.
     NoCalls,
 }
@@ -99,6 +109,22 @@ pub const CREATE_CHANNEL_MERGER: [Row; 2] = [
     row!(NumberOfInputs, Count, Count(6)),
 ];
 
+pub const CREATE_BUFFER_SOURCE: [Row; 6] = [
+    row!(As, NewName, Needed),
+    row!(Buffer, Name, Null),
+    row!(Loop, Flag, Flag(false)),
+    row!(LoopStart, Time, Number(0)),
+    row!(LoopEnd, Time, Number(0)),
+    row!(PlaybackRate, Fix, Number(16_777_216)),
+];
+
+pub const CREATE_BUFFER: [Row; 4] = [
+    row!(As, NewName, Needed),
+    row!(Channels, Count, Needed),
+    row!(Length, Count, Needed),
+    row!(Rate, Count, Needed),
+];
+
 pub const CONNECT: [Row; 4] = [
     row!(From, Name, Needed),
     row!(Output, Count, Count(0)),
@@ -122,6 +148,21 @@ pub const SET_CHANNEL_INTERPRETATION: [Row; 2] = [
     row!(Value, Interp, Needed),
 ];
 
+pub const SET_BUFFER: [Row; 2] = [row!(Node, Name, Needed), row!(Buffer, NameOrNull, Needed)];
+
+pub const SET_LOOP: [Row; 2] = [row!(Node, Name, Needed), row!(Value, Flag, Needed)];
+
+pub const SET_LOOP_START: [Row; 2] = [row!(Node, Name, Needed), row!(Value, Time, Needed)];
+
+pub const SET_LOOP_END: [Row; 2] = [row!(Node, Name, Needed), row!(Value, Time, Needed)];
+
+pub const COPY_TO_CHANNEL: [Row; 4] = [
+    row!(Buffer, Name, Needed),
+    row!(Channel, Count, Needed),
+    row!(Samples, Fixes, Needed),
+    row!(At, Count, Count(0)),
+];
+
 pub const START: [Row; 4] = [
     row!(Node, Name, Needed),
     row!(When, Time, Number(0)),
@@ -132,6 +173,8 @@ pub const START: [Row; 4] = [
 pub const STOP: [Row; 2] = [row!(Node, Name, Needed), row!(When, Time, Number(0))];
 
 pub const START_RENDERING: [Row; 1] = [row!(Then, Calls, NoCalls)];
+
+pub const DECODE_AUDIO_DATA: [Row; 2] = [row!(As, NewName, Needed), row!(Path, Path, Needed)];
 
 /// The default of the field with this name in an entry; a field that the entry has not is needed.
 pub fn fallback_in(rows: &[Row], field: Field) -> Fallback

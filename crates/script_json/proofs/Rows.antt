@@ -1,5 +1,5 @@
 -- Texts that are written out, and what reading them gives.
-use Rattle.std.specs.Prelude.{◌≡◌, codes, Ok, Err, Some, None, pos, refl, [], ◌∷◌}
+use Rattle.std.specs.Prelude.{◌≡◌, codes, Ok, Err, Some, None, false, pos, neg_ℤ, refl, [], ◌∷◌}
 use Rattle.serde_json.proofs.OnLiterals.{serde_json_on_literals}
 use Rattle.serde_json.specs.Read.{read}
 use Rattle.script_ast.specs.OpNames.{op_named}
@@ -10,7 +10,7 @@ use Rattle.script_ast.specs.Words.{mode_named, interp_named}
 use Rattle.script_ast.specs.declared.fields.Field.TheVariants as field
 use Rattle.script_ast.specs.declared.operations.Op.TheVariants as op
 use Rattle.script_json.specs.Calls.{placed, call_faults, call_of}
-use Rattle.script_json.specs.Fields.{number_in, text_in, time_or_null_in, count_or_null_in, text_or_null_in, mode_in, interp_in}
+use Rattle.script_json.specs.Fields.{number_in, flag_in, fixes_of, text_in, time_or_null_in, count_or_null_in, text_or_null_in, mode_in, interp_in}
 use Rattle.script_json.specs.Script.{context_in, main_list, calls_of, head_faults, script_faults, script_in, script_or_fault}
 use Rattle.script_json.specs.declared.faults.ScriptErr.TheVariants.{BadJson, MissingField, WrongKind, UnknownOp, OutOfRange}
 
@@ -93,3 +93,33 @@ mode_as_interp = refl
 mode_is_null : script_or_fault (read (codes "{\"version\":1,\"context\":{\"channels\":1,\"length\":1,\"rate\":1},\"calls\":[{\"op\":\"setChannelCountMode\",\"node\":\"a\",\"value\":null}]}")) ≡ Err (WrongKind 1 field.Value)
 unfolding serde_json_on_literals context_in main_list calls_of head_faults script_faults placed call_faults op_named mode_named
 mode_is_null = refl
+
+-- a source without a buffer, which does not loop
+buffer_source : script_or_fault (read (codes "{\"version\":1,\"context\":{\"channels\":1,\"length\":1,\"rate\":1},\"calls\":[{\"op\":\"createBufferSource\",\"as\":\"s\"}]}"))
+    ≡ Ok (record { context = record { channels = 1; length = 1; rate = 1 }; calls = record { ordinal = 1; holder = 0; op = op.CreateBufferSource (codes "s") None false (pos 0) (pos 0) (pos 16777216) } ∷ [] })
+unfolding serde_json_on_literals context_in main_list calls_of head_faults script_faults script_in placed call_faults call_of op_named is_new_name number_in flag_in text_in text_or_null_in
+buffer_source = refl
+
+-- null takes a buffer away, and stands for no buffer that is left out
+buffer_taken : script_or_fault (read (codes "{\"version\":1,\"context\":{\"channels\":1,\"length\":1,\"rate\":1},\"calls\":[{\"op\":\"setBuffer\",\"node\":\"s\",\"buffer\":null}]}"))
+    ≡ Ok (record { context = record { channels = 1; length = 1; rate = 1 }; calls = record { ordinal = 1; holder = 0; op = op.SetBuffer (codes "s") None } ∷ [] })
+unfolding serde_json_on_literals context_in main_list calls_of head_faults script_faults script_in placed call_faults call_of op_named number_in text_in text_or_null_in
+buffer_taken = refl
+
+no_buffer : script_or_fault (read (codes "{\"version\":1,\"context\":{\"channels\":1,\"length\":1,\"rate\":1},\"calls\":[{\"op\":\"setBuffer\",\"node\":\"s\"}]}")) ≡ Err (MissingField 1 field.Buffer)
+unfolding serde_json_on_literals context_in main_list calls_of head_faults script_faults placed call_faults op_named
+no_buffer = refl
+
+-- an item that is no whole number comes before one that is out of range, wherever they stand
+list_of_another_kind : script_or_fault (read (codes "{\"version\":1,\"context\":{\"channels\":1,\"length\":1,\"rate\":1},\"calls\":[{\"op\":\"copyToChannel\",\"buffer\":\"b\",\"channel\":0,\"samples\":[2147483648,\"a\"]}]}")) ≡ Err (WrongKind 1 field.Samples)
+unfolding serde_json_on_literals context_in main_list calls_of head_faults script_faults placed call_faults op_named
+list_of_another_kind = refl
+
+samples_copied : script_or_fault (read (codes "{\"version\":1,\"context\":{\"channels\":1,\"length\":1,\"rate\":1},\"calls\":[{\"op\":\"copyToChannel\",\"buffer\":\"b\",\"channel\":0,\"samples\":[1,-2]}]}"))
+    ≡ Ok (record { context = record { channels = 1; length = 1; rate = 1 }; calls = record { ordinal = 1; holder = 0; op = op.CopyToChannel (codes "b") 0 (pos 1 ∷ neg_ℤ (pos 2) ∷ []) 0 } ∷ [] })
+unfolding serde_json_on_literals context_in main_list calls_of head_faults script_faults script_in placed call_faults call_of op_named number_in fixes_of text_in
+samples_copied = refl
+
+path_is_empty : script_or_fault (read (codes "{\"version\":1,\"context\":{\"channels\":1,\"length\":1,\"rate\":1},\"calls\":[{\"op\":\"decodeAudioData\",\"as\":\"b\",\"path\":\"\"}]}")) ≡ Err (OutOfRange 1 field.Path)
+unfolding serde_json_on_literals context_in main_list calls_of head_faults script_faults placed call_faults op_named is_new_name
+path_is_empty = refl

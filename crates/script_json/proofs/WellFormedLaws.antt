@@ -1,16 +1,17 @@
 -- A script that is read is well-formed.
 use Rattle.std.proofs.Common.{◌≡◌, ◌≤◌, ◌+◌, ◌⊎◌, ℕ, suc, List, [], ◌∷◌, ◌++◌, length, refl, Ok, Option, Some, None, Bool, true, false, arith, ℤ, pos, negsuc, neg_ℤ, T}
-use Rattle.std.specs.Prelude.{◌≤ℤ◌, flat_map, filter_map, is_some, option_map, option_and_then, unwrap_or, int_le, nat_abs, ◌&&◌, if◌then◌else◌}
+use Rattle.std.specs.Prelude.{◌≤ℤ◌, map, flat_map, filter_map, is_some, option_map, option_and_then, unwrap_or, int_le, nat_abs, ◌&&◌, if◌then◌else◌}
 use Rattle.std.specs.List.{cons_option}
 use Rattle.std.specs.Int.Signed.{le_z_yes}
 use Rattle.std.proofs.lemmas.Grind.{flat_map-append}
+use Rattle.std.proofs.lemmas.Bool.{leb-true}
 use Rattle.std.proofs.lemmas.Int.{ints}
 use Rattle.std.proofs.lemmas.List.Elements.{filter_map-append}
-use Rattle.serde_json.specs.Data.{Data, Items}
+use Rattle.serde_json.specs.Data.{Data, Items, no_items, item}
 use Rattle.serde_json.specs.Find.{as_object, as_str}
 use Rattle.wa_base.specs.declared.contexts.ContextSpec.{ContextSpec}
 use Rattle.wa_base.specs.Numbers.{IsFix}
-use Rattle.script_ast.specs.Ranges.{IsTime, IsTimeIfSome, IsCount, IsCountIfSome, IsNewName, IsInRange, is_new_name}
+use Rattle.script_ast.specs.Ranges.{IsTime, IsTimeIfSome, IsCount, IsCountIfSome, AreFixes, IsNewName, IsPath, IsInRange, is_new_name, is_path}
 use Rattle.script_ast.specs.WellFormed.{IsCallAt, AreCallsAfter, IsWellFormed}
 use Rattle.script_ast.specs.declared.call_list.Call.{Call}
 use Rattle.script_ast.specs.declared.clocks.Clock.{Clock}
@@ -22,16 +23,16 @@ use Rattle.script_ast.specs.declared.entries.Row.{Row}
 use Rattle.script_ast.specs.declared.fields.Field.{Field}
 use Rattle.script_ast.specs.declared.fields.Field.TheVariants as field
 use Rattle.script_ast.specs.declared.op_names.OpName.{OpName}
-use Rattle.script_ast.specs.declared.op_names.OpName.TheVariants.{CreateConstantSource, CreateGain, CreateChannelSplitter, CreateChannelMerger, Connect, Disconnect, SetChannelCount, SetChannelCountMode, SetChannelInterpretation, Start, Stop, StartRendering, Resume, ReadState, ReadTime, LeftOut}
+use Rattle.script_ast.specs.declared.op_names.OpName.TheVariants.{CreateConstantSource, CreateGain, CreateChannelSplitter, CreateChannelMerger, CreateBufferSource, CreateBuffer, Connect, Disconnect, SetChannelCount, SetChannelCountMode, SetChannelInterpretation, SetBuffer, SetLoop, SetLoopStart, SetLoopEnd, CopyToChannel, Start, Stop, StartRendering, Resume, DecodeAudioData, ReadState, ReadTime, LeftOut}
 use Rattle.script_json.proofs.CallSteps.{both_none, length-calls, outcome_ok}
 use Rattle.script_json.proofs.FormLaws.{disconnect_form}
 use Rattle.script_json.proofs.PlacedLaws.{placed_all}
 use Rattle.script_json.specs.Calls.{Placed, placed, has_then, call_faults, call_of, name_in, name_faults, op_faults, op_in}
-use Rattle.script_json.specs.Fields.{field_faults, cause_faults, member_faults, member_at, number_in, number_within, given_number, time_or_null_in, count_in, count_or_null_in, text_in}
+use Rattle.script_json.specs.Fields.{field_faults, cause_faults, member_faults, member_at, number_in, number_within, given_number, time_or_null_in, count_in, count_or_null_in, fix_of, fixes_of, fixes_in, list_in, text_in}
 use Rattle.script_json.specs.Outcome.{outcome}
 use Rattle.script_json.specs.Reading.{placed_at, calls_read}
 use Rattle.script_json.specs.Script.{context_in, context_of, head_faults}
-use Rattle.script_json.specs.Values.{whole, frames, is_within, new_name_cause}
+use Rattle.script_json.specs.Values.{whole, wholes, frames, is_within, text_cause}
 use Rattle.script_json.specs.declared.values.Cause.TheVariants.{OutOfRange}
 use Rattle.script_json.specs.declared.faults.ScriptErr.TheVariants.{WrongKind}
 
@@ -105,7 +106,7 @@ new_name_test : (n : ℕ) (name : List ℕ) (b : Bool) → is_new_name name ≡ 
 new_name_test n name true h none = h
 new_name_test n name false h none = cc
 
-new_name_text : (n : ℕ) (o : Option (List ℕ)) → cause_faults n field.As (new_name_cause o) ≡ [] → IsNewName (unwrap_or o [])
+new_name_text : (n : ℕ) (o : Option (List ℕ)) → cause_faults n field.As (text_cause (option_map is_new_name o)) ≡ [] → IsNewName (unwrap_or o [])
 new_name_text n None h = cc
 new_name_text n (Some name) h = new_name_test n name _ refl h
 
@@ -117,11 +118,37 @@ pub text_in-new_name : (clock : Clock) (n : ℕ) (d : Data) → field_faults clo
 unfolding text_in
 text_in-new_name clock n d h = new_name_member clock n (member_at field.As d) h
 
+path_test : (n : ℕ) (path : List ℕ) (b : Bool) → is_path path ≡ b → cause_faults n field.Path (if b then None else Some OutOfRange) ≡ [] → IsPath path
+path_test n path true h none = let e = both_true _ _ h in (leb-true _ _ e.0, leb-true _ _ e.1)
+path_test n path false h none = cc
+
+path_text : (n : ℕ) (o : Option (List ℕ)) → cause_faults n field.Path (text_cause (option_map is_path o)) ≡ [] → IsPath (unwrap_or o [])
+path_text n None h = cc
+path_text n (Some path) h = path_test n path _ refl h
+
+path_member : (clock : Clock) (n : ℕ) (o : Option Data) → member_faults clock n (row field.Path kind.Path Needed) o ≡ [] → IsPath (unwrap_or (option_and_then as_str o) [])
+path_member clock n None h = cc
+path_member clock n (Some d) h = path_text n (as_str d) h
+
+pub text_in-path : (clock : Clock) (n : ℕ) (d : Data) → field_faults clock n d (row field.Path kind.Path Needed) ≡ [] → IsPath (text_in field.Path d)
+unfolding text_in
+text_in-path clock n d h = path_member clock n (member_at field.Path d) h
+
+fixes_of-range : (ds : Items) → AreFixes (map fix_of (wholes ds))
+fixes_of-range no_items = tt
+fixes_of-range (item d ds) = (within_or_zero _ _ (whole d) (le_z_yes tt) (le_z_yes tt), fixes_of-range ds)
+
+pub fixes_in-range : (field : Field) (d : Data) → AreFixes (fixes_in field d)
+unfolding fixes_of
+fixes_in-range field d = fixes_of-range (list_in field d)
+
 pub op_in-range : (clock : Clock) (n : ℕ) (d : Data) (name : OpName) → op_faults clock n d name ≡ [] → IsInRange (op_in clock name d)
 op_in-range clock n d CreateConstantSource h = (text_in-new_name clock n d (both_none _ _ (both_none _ _ h).0).0, fix_in-range _ _ d)
 op_in-range clock n d CreateGain h = (text_in-new_name clock n d (both_none _ _ (both_none _ _ h).0).0, fix_in-range _ _ d)
 op_in-range clock n d CreateChannelSplitter h = (text_in-new_name clock n d (both_none _ _ (both_none _ _ h).0).0, count_in-range _ _ d)
 op_in-range clock n d CreateChannelMerger h = (text_in-new_name clock n d (both_none _ _ (both_none _ _ h).0).0, count_in-range _ _ d)
+op_in-range clock n d CreateBufferSource h = (text_in-new_name clock n d (both_none _ _ (both_none _ _ h).0).0, time_in-range clock _ _ d, time_in-range clock _ _ d, fix_in-range _ _ d)
+op_in-range clock n d CreateBuffer h = (text_in-new_name clock n d (both_none _ _ (both_none _ _ h).0).0, count_in-range _ _ d, count_in-range _ _ d, count_in-range _ _ d)
 op_in-range clock n d Connect h = (count_in-range _ _ d, count_in-range _ _ d)
 op_in-range clock n d Disconnect h =
     let e = both_none _ _ h in
@@ -129,10 +156,18 @@ op_in-range clock n d Disconnect h =
 op_in-range clock n d SetChannelCount h = count_in-range _ _ d
 op_in-range clock n d SetChannelCountMode h = tt
 op_in-range clock n d SetChannelInterpretation h = tt
+op_in-range clock n d SetBuffer h = tt
+op_in-range clock n d SetLoop h = tt
+op_in-range clock n d SetLoopStart h = time_in-range clock _ _ d
+op_in-range clock n d SetLoopEnd h = time_in-range clock _ _ d
+op_in-range clock n d CopyToChannel h = (count_in-range _ _ d, fixes_in-range field.Samples d, count_in-range _ _ d)
 op_in-range clock n d Start h = (time_in-range clock _ _ d, time_in-range clock _ _ d, time_or_null_in-range clock _ d)
 op_in-range clock n d Stop h = time_in-range clock _ _ d
 op_in-range clock n d StartRendering h = tt
 op_in-range clock n d Resume h = tt
+op_in-range clock n d DecodeAudioData h =
+    let e = both_none _ _ (both_none _ _ h).0 in
+    (text_in-new_name clock n d e.0, text_in-path clock n d (both_none _ _ e.1).0)
 op_in-range clock n d ReadState h = tt
 op_in-range clock n d ReadTime h = tt
 op_in-range clock n d (LeftOut name) h = tt

@@ -9,10 +9,10 @@ use Rattle.script_ast.specs.declared.call_list.Call.{Call}
 use Rattle.script_ast.specs.declared.clocks.Clock.{Clock}
 use Rattle.script_ast.specs.declared.fields.Field.TheVariants as field
 use Rattle.script_ast.specs.declared.op_names.OpName.{OpName}
-use Rattle.script_ast.specs.declared.op_names.OpName.TheVariants.{CreateConstantSource, CreateGain, CreateChannelSplitter, CreateChannelMerger, Connect, Disconnect, SetChannelCount, SetChannelCountMode, SetChannelInterpretation, Start, Stop, StartRendering, Resume, ReadState, ReadTime, LeftOut}
+use Rattle.script_ast.specs.declared.op_names.OpName.TheVariants.{CreateConstantSource, CreateGain, CreateChannelSplitter, CreateChannelMerger, CreateBufferSource, CreateBuffer, Connect, Disconnect, SetChannelCount, SetChannelCountMode, SetChannelInterpretation, SetBuffer, SetLoop, SetLoopStart, SetLoopEnd, CopyToChannel, Start, Stop, StartRendering, Resume, DecodeAudioData, ReadState, ReadTime, LeftOut}
 use Rattle.script_ast.specs.declared.operations.Op.{Op}
 use Rattle.script_ast.specs.declared.operations.Op.TheVariants as op
-use Rattle.script_json.specs.Fields.{is_there, fields_faults, lack_faults, text_in, text_or_null_in, fix_in, time_in, time_or_null_in, count_in, count_or_null_in, mode_in, interp_in}
+use Rattle.script_json.specs.Fields.{is_there, fields_faults, lack_faults, text_in, text_or_null_in, fix_in, time_in, time_or_null_in, count_in, count_or_null_in, flag_in, fixes_in, mode_in, interp_in}
 use Rattle.script_json.specs.declared.faults.ScriptErr.{ScriptErr}
 use Rattle.script_json.specs.declared.faults.ScriptErr.TheVariants.{WrongKind, UnknownOp}
 
@@ -90,15 +90,23 @@ op_in clock CreateConstantSource d = op.CreateConstantSource (text_in field.As d
 op_in clock CreateGain d = op.CreateGain (text_in field.As d) (fix_in entry.create_gain field.Gain d)
 op_in clock CreateChannelSplitter d = op.CreateChannelSplitter (text_in field.As d) (count_in entry.create_channel_splitter field.NumberOfOutputs d)
 op_in clock CreateChannelMerger d = op.CreateChannelMerger (text_in field.As d) (count_in entry.create_channel_merger field.NumberOfInputs d)
+op_in clock CreateBufferSource d = op.CreateBufferSource (text_in field.As d) (text_or_null_in field.Buffer d) (flag_in entry.create_buffer_source field.Loop d) (time_in clock entry.create_buffer_source field.LoopStart d) (time_in clock entry.create_buffer_source field.LoopEnd d) (fix_in entry.create_buffer_source field.PlaybackRate d)
+op_in clock CreateBuffer d = op.CreateBuffer (text_in field.As d) (count_in entry.create_buffer field.Channels d) (count_in entry.create_buffer field.Length d) (count_in entry.create_buffer field.Rate d)
 op_in clock Connect d = op.Connect (text_in field.From d) (count_in entry.connect field.Output d) (text_in field.To d) (count_in entry.connect field.Input d)
 op_in clock Disconnect d = op.Disconnect (text_in field.From d) (count_or_null_in field.Output d) (text_or_null_in field.To d) (count_or_null_in field.Input d)
 op_in clock SetChannelCount d = op.SetChannelCount (text_in field.Node d) (count_in entry.set_channel_count field.Value d)
 op_in clock SetChannelCountMode d = op.SetChannelCountMode (text_in field.Node d) (mode_in field.Value d)
 op_in clock SetChannelInterpretation d = op.SetChannelInterpretation (text_in field.Node d) (interp_in field.Value d)
+op_in clock SetBuffer d = op.SetBuffer (text_in field.Node d) (text_or_null_in field.Buffer d)
+op_in clock SetLoop d = op.SetLoop (text_in field.Node d) (flag_in entry.set_loop field.Value d)
+op_in clock SetLoopStart d = op.SetLoopStart (text_in field.Node d) (time_in clock entry.set_loop_start field.Value d)
+op_in clock SetLoopEnd d = op.SetLoopEnd (text_in field.Node d) (time_in clock entry.set_loop_end field.Value d)
+op_in clock CopyToChannel d = op.CopyToChannel (text_in field.Buffer d) (count_in entry.copy_to_channel field.Channel d) (fixes_in field.Samples d) (count_in entry.copy_to_channel field.At d)
 op_in clock Start d = op.Start (text_in field.Node d) (time_in clock entry.start field.When d) (time_in clock entry.start field.Offset d) (time_or_null_in clock field.Duration d)
 op_in clock Stop d = op.Stop (text_in field.Node d) (time_in clock entry.stop field.When d)
 op_in clock StartRendering d = op.StartRendering
 op_in clock Resume d = op.Resume
+op_in clock DecodeAudioData d = op.DecodeAudioData (text_in field.As d) (text_in field.Path d)
 op_in clock ReadState d = op.ReadState
 op_in clock ReadTime d = op.ReadTime
 op_in clock (LeftOut name) d = op.LeftOut (left_out_feature name)

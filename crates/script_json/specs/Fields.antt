@@ -1,7 +1,7 @@
 -- The members of a call, of a script or of its context, by the rows of its entry: their faults, and their values.
-use Rattle.std.specs.Prelude.{ℕ, List, [], ◌∷◌, flat_map, Bool, true, false, not, ◌&&◌, if◌then◌else◌, ℤ, pos, neg_ℤ, nat_abs, Option, Some, None, option_and_then, option_map, unwrap_or, is_some}
+use Rattle.std.specs.Prelude.{ℕ, List, [], ◌∷◌, flat_map, map, Bool, true, false, not, ◌&&◌, if◌then◌else◌, ℤ, pos, neg_ℤ, nat_abs, Option, Some, None, option_and_then, option_map, unwrap_or, is_some}
 use Rattle.serde_json.specs.Data.{Data, Items, no_items}
-use Rattle.serde_json.specs.Find.{get, as_array, as_null, as_str}
+use Rattle.serde_json.specs.Find.{get, as_array, as_bool, as_null, as_str}
 use Rattle.wa_base.specs.declared.graph_names.Mode.{Mode}
 use Rattle.wa_base.specs.declared.graph_names.Mode.TheVariants.{Max}
 use Rattle.wa_base.specs.declared.graph_names.Interp.{Interp}
@@ -10,11 +10,11 @@ use Rattle.script_ast.specs.Entries.{fallback_in}
 use Rattle.script_ast.specs.declared.clocks.Clock.{Clock}
 use Rattle.script_ast.specs.declared.entries.Row.{Row}
 use Rattle.script_ast.specs.declared.entries.Fallback.{Fallback}
-use Rattle.script_ast.specs.declared.entries.Fallback.TheVariants.{Needed, Null, Number, Count, NoCalls}
+use Rattle.script_ast.specs.declared.entries.Fallback.TheVariants.{Needed, Null, Number, Count, Flag, NoCalls}
 use Rattle.script_ast.specs.declared.fields.Field.{Field}
 use Rattle.script_ast.specs.Fields.{field_word}
 use Rattle.script_ast.specs.Words.{mode_named, interp_named}
-use Rattle.script_json.specs.Values.{whole, frames, is_within, cause_of}
+use Rattle.script_json.specs.Values.{whole, wholes, frames, is_within, cause_of}
 use Rattle.script_json.specs.declared.faults.ScriptErr.{ScriptErr}
 use Rattle.script_json.specs.declared.faults.ScriptErr.TheVariants as fault
 use Rattle.script_json.specs.declared.values.Cause.{Cause}
@@ -41,6 +41,7 @@ is_needed Needed = true
 is_needed Null = false
 is_needed (Number z) = false
 is_needed (Count n) = false
+is_needed (Flag b) = false
 is_needed NoCalls = false
 
 -- a field whose default is null may hold null
@@ -49,6 +50,7 @@ takes_null Needed = false
 takes_null Null = true
 takes_null (Number z) = false
 takes_null (Count n) = false
+takes_null (Flag b) = false
 takes_null NoCalls = false
 
 -- the fault of a field whose value may not stand in it
@@ -74,7 +76,7 @@ fields_faults clock n d rows = flat_map (field_faults clock n d) rows
 abbrev pub lack_faults : ℕ → Data → Field → List ScriptErr
 lack_faults n d field = if is_there field d then [] else fault.MissingField n field ∷ []
 
--- ---- values: of a field without a fault. Where it has one they are 0, empty, none or the first word of a list, and nothing stands on them
+-- ---- values: of a field without a fault. Where it has one they are 0, false, empty, none or the first word of a list, and nothing stands on them
 
 -- the default that is a number
 abbrev pub default_number : Fallback → Option ℤ
@@ -82,7 +84,17 @@ default_number Needed = None
 default_number Null = None
 default_number (Number z) = Some z
 default_number (Count n) = Some (pos n)
+default_number (Flag b) = None
 default_number NoCalls = None
+
+-- the default that is true or false
+abbrev pub default_flag : Fallback → Bool
+default_flag Needed = false
+default_flag Null = false
+default_flag (Number z) = false
+default_flag (Count n) = false
+default_flag (Flag b) = b
+default_flag NoCalls = false
 
 -- a number from low to high
 abbrev pub number_within : ℤ → ℤ → Option ℤ → Option ℤ
@@ -118,9 +130,25 @@ count_in entry field d = nat_abs (number_in whole (pos 0) (pos 4294967295) entry
 unfoldable pub count_or_null_in : Field → Data → Option ℕ
 count_or_null_in field d = option_map nat_abs (number_within (pos 0) (pos 4294967295) (option_and_then whole (member_at field d)))
 
+-- whether a field of an entry is true: its own value, or the default where it has none
+unfoldable pub flag_in : List Row → Field → Data → Bool
+flag_in entry field d = unwrap_or (option_and_then as_bool (member_at field d)) (default_flag (fallback_in entry field))
+
 -- the list of a field
 abbrev pub list_in : Field → Data → Items
 list_in field d = unwrap_or (option_and_then as_array (member_at field d)) no_items
+
+-- the value that an item of a list is, in units of 2^-24
+abbrev pub fix_of : Option ℤ → ℤ
+fix_of number = unwrap_or (number_within (neg_ℤ (pos 2147483648)) (pos 2147483647) number) (pos 0)
+
+-- the values of the items of an array, in their order
+unfoldable pub fixes_of : Items → List ℤ
+fixes_of ds = map fix_of (wholes ds)
+
+-- the values of a field that is a list of them
+abbrev pub fixes_in : Field → Data → List ℤ
+fixes_in field d = fixes_of (list_in field d)
 
 -- the text of a field
 unfoldable pub text_in : Field → Data → List ℕ

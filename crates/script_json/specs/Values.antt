@@ -1,12 +1,13 @@
 -- The kinds of fields: which JSON values each takes, and why it takes no other.
-use Rattle.std.specs.Prelude.{ℕ, List, Bool, ◌&&◌, if◌then◌else◌, ℤ, pos, neg_ℤ, int_le, Option, Some, None, option_and_then, option_map, is_some}
-use Rattle.serde_json.specs.Data.{Data}
-use Rattle.serde_json.specs.Find.{as_integer, as_number, as_str, as_array, as_object}
+use Rattle.std.specs.Prelude.{List, Bool, [], ◌∷◌, false, ◌&&◌, ◌||◌, if◌then◌else◌, ℤ, pos, neg_ℤ, int_le, Option, Some, None, option_and_then, option_map, is_some}
+use Rattle.std.specs.List.{list_all}
+use Rattle.serde_json.specs.Data.{Data, Items, no_items, item}
+use Rattle.serde_json.specs.Find.{as_integer, as_number, as_bool, as_null, as_str, as_array, as_object}
 use Rattle.script_ast.specs.declared.clocks.Clock.{Clock}
 use Rattle.script_ast.specs.declared.clocks.Clock.TheVariants.{Frames}
 use Rattle.script_ast.specs.declared.entries.Kind.{Kind}
 use Rattle.script_ast.specs.declared.entries.Kind.TheVariants as kind
-use Rattle.script_ast.specs.Ranges.{is_new_name}
+use Rattle.script_ast.specs.Ranges.{is_new_name, is_path}
 use Rattle.script_ast.specs.Words.{mode_named, interp_named}
 use Rattle.script_json.specs.declared.values.Cause.{Cause}
 use Rattle.script_json.specs.declared.values.Cause.TheVariants.{WrongKind, OutOfRange}
@@ -28,10 +29,25 @@ abbrev pub number_cause : ℤ → ℤ → Option ℤ → Option Cause
 number_cause low high None = Some WrongKind
 number_cause low high (Some z) = if is_within low high z then None else Some OutOfRange
 
--- a text that an object may be given as its name
-abbrev pub new_name_cause : Option (List ℕ) → Option Cause
-new_name_cause None = Some WrongKind
-new_name_cause (Some name) = if is_new_name name then None else Some OutOfRange
+-- the items of an array, each as the whole number that it is
+abbrev pub wholes : Items → List (Option ℤ)
+wholes no_items = []
+wholes (item d ds) = whole d ∷ wholes ds
+
+-- a whole number from -2^31 to 2^31 - 1
+abbrev pub is_fix : Option ℤ → Bool
+is_fix None = false
+is_fix (Some z) = is_within (neg_ℤ (pos 2147483648)) (pos 2147483647) z
+
+-- an array whose items are whole numbers, and then are all in range, wherever the one that is not stands
+abbrev pub fixes_cause : Option (List (Option ℤ)) → Option Cause
+fixes_cause None = Some WrongKind
+fixes_cause (Some numbers) = if list_all is_some numbers then (if list_all is_fix numbers then None else Some OutOfRange) else Some WrongKind
+
+-- a text of which a test holds
+abbrev pub text_cause : Option Bool → Option Cause
+text_cause None = Some WrongKind
+text_cause (Some holds) = if holds then None else Some OutOfRange
 
 -- a text that is one of a list of words; what it names is given, if it names anything
 abbrev pub word_cause : {A : Type 0} → Option (Option A) → Option Cause
@@ -50,7 +66,11 @@ cause_of clock kind.Time d = number_cause (neg_ℤ (pos 1099511627776)) (pos 109
 cause_of clock kind.Count d = number_cause (pos 0) (pos 4294967295) (whole d)
 cause_of clock kind.Version d = number_cause (pos 1) (pos 1) (whole d)
 cause_of clock kind.Name d = kind_cause (is_some (as_str d))
-cause_of clock kind.NewName d = new_name_cause (as_str d)
+cause_of clock kind.NameOrNull d = kind_cause (is_some (as_str d) || is_some (as_null d))
+cause_of clock kind.NewName d = text_cause (option_map is_new_name (as_str d))
+cause_of clock kind.Flag d = kind_cause (is_some (as_bool d))
+cause_of clock kind.Fixes d = fixes_cause (option_map wholes (as_array d))
+cause_of clock kind.Path d = text_cause (option_map is_path (as_str d))
 cause_of clock kind.Mode d = word_cause (option_map mode_named (as_str d))
 cause_of clock kind.Interp d = word_cause (option_map interp_named (as_str d))
 cause_of clock kind.Calls d = kind_cause (is_some (as_array d))

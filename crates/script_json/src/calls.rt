@@ -1,16 +1,14 @@
 ghost use Rattle.std.specs.Prelude.{◌≡◌, ◌≢◌, ◌+◌, ◌<◌, Ok, Err, Some, IfOk, IfErr, OnOk, length, option_map};
 ghost use Rattle.serde_json.specs.View.{view, items_view};
 ghost use Rattle.serde_json.specs.Data.{items_depth};
-ghost use Rattle.script_json.specs.Calls.{name_in, placed, form_faults, op_faults, op_in};
+ghost use Rattle.script_json.specs.Calls.{name_in, placed, form_faults, op_faults};
 ghost use Rattle.script_json.specs.Outcome.{outcome};
 ghost use Rattle.script_json.specs.Reading.{held_list, placed_at, call_read, calls_read};
 
 use crate::faults::ScriptErr;
-use crate::members::{
-    check_fields, check_there, count, count_or_null, fix, interp, is_there, list, mode, text,
-    text_or_null, time, time_or_null,
-};
-use script_ast::{Call, Calls, Clock, Field, Op, OpName, entries};
+use crate::members::{check_fields, check_there, is_there, list};
+use crate::ops::build;
+use script_ast::{Call, Calls, Clock, Field, OpName};
 use serde_json::Value;
 use std::alloc::Global;
 use wa_base::NoMemory;
@@ -116,117 +114,4 @@ fn held_list(call: &Value) -> &[Value]
         Some(name) if name.has_calls() => list(call, Field::Then),
         _ => &[],
     }
-}
-
-// The operation with its fields, which have no fault.
-fn build(alloc: Global, clock: Clock, name: OpName, call: &Value) -> Result<Op, NoMemory>
-    ensures { IfOk result (λ op. op ≡ op_in clock name (view call.now)) }
-{
-    match name {
-        OpName::CreateConstantSource => Ok(Op::CreateConstantSource {
-            name: text(alloc, call, Field::As)?,
-            offset: fix(call, &entries::CREATE_CONSTANT_SOURCE, Field::Offset),
-        }),
-        OpName::CreateGain => Ok(Op::CreateGain {
-            name: text(alloc, call, Field::As)?,
-            gain: fix(call, &entries::CREATE_GAIN, Field::Gain),
-        }),
-        OpName::CreateChannelSplitter => create_channel_splitter(alloc, call),
-        OpName::CreateChannelMerger => create_channel_merger(alloc, call),
-        OpName::Connect => connect(alloc, call),
-        OpName::Disconnect => disconnect(alloc, call),
-        OpName::SetChannelCount => set_channel_count(alloc, call),
-        OpName::SetChannelCountMode => set_channel_count_mode(alloc, call),
-        OpName::SetChannelInterpretation => set_channel_interpretation(alloc, call),
-        OpName::Start => Ok(Op::Start {
-            node: text(alloc, call, Field::Node)?,
-            when: time(clock, call, &entries::START, Field::When),
-            offset: time(clock, call, &entries::START, Field::Offset),
-            duration: time_or_null(clock, call, Field::Duration),
-        }),
-        OpName::Stop => Ok(Op::Stop {
-            node: text(alloc, call, Field::Node)?,
-            when: time(clock, call, &entries::STOP, Field::When),
-        }),
-        OpName::StartRendering => Ok(Op::StartRendering),
-        OpName::Resume => Ok(Op::Resume),
-        OpName::ReadState => Ok(Op::ReadState),
-        OpName::ReadTime => Ok(Op::ReadTime),
-        OpName::LeftOut(name) => Ok(Op::LeftOut {
-            feature: name.feature(),
-        }),
-    }
-}
-
-// No time stands in what the functions below build, so it is the same on every clock.
-
-fn create_channel_splitter(alloc: Global, call: &Value) -> Result<Op, NoMemory>
-    ensures { IfOk result (λ op. op ≡ op_in Clock.Frames OpName.CreateChannelSplitter (view call.now)) }
-{
-    Ok(Op::CreateChannelSplitter {
-        name: text(alloc, call, Field::As)?,
-        number_of_outputs: count(
-            call,
-            &entries::CREATE_CHANNEL_SPLITTER,
-            Field::NumberOfOutputs,
-        ),
-    })
-}
-
-fn create_channel_merger(alloc: Global, call: &Value) -> Result<Op, NoMemory>
-    ensures { IfOk result (λ op. op ≡ op_in Clock.Frames OpName.CreateChannelMerger (view call.now)) }
-{
-    Ok(Op::CreateChannelMerger {
-        name: text(alloc, call, Field::As)?,
-        number_of_inputs: count(call, &entries::CREATE_CHANNEL_MERGER, Field::NumberOfInputs),
-    })
-}
-
-fn connect(alloc: Global, call: &Value) -> Result<Op, NoMemory>
-    ensures { IfOk result (λ op. op ≡ op_in Clock.Frames OpName.Connect (view call.now)) }
-{
-    Ok(Op::Connect {
-        from: text(alloc, call, Field::From)?,
-        output: count(call, &entries::CONNECT, Field::Output),
-        to: text(alloc, call, Field::To)?,
-        input: count(call, &entries::CONNECT, Field::Input),
-    })
-}
-
-fn disconnect(alloc: Global, call: &Value) -> Result<Op, NoMemory>
-    ensures { IfOk result (λ op. op ≡ op_in Clock.Frames OpName.Disconnect (view call.now)) }
-{
-    Ok(Op::Disconnect {
-        from: text(alloc, call, Field::From)?,
-        output: count_or_null(call, Field::Output),
-        to: text_or_null(alloc, call, Field::To)?,
-        input: count_or_null(call, Field::Input),
-    })
-}
-
-fn set_channel_count(alloc: Global, call: &Value) -> Result<Op, NoMemory>
-    ensures { IfOk result (λ op. op ≡ op_in Clock.Frames OpName.SetChannelCount (view call.now)) }
-{
-    Ok(Op::SetChannelCount {
-        node: text(alloc, call, Field::Node)?,
-        value: count(call, &entries::SET_CHANNEL_COUNT, Field::Value),
-    })
-}
-
-fn set_channel_count_mode(alloc: Global, call: &Value) -> Result<Op, NoMemory>
-    ensures { IfOk result (λ op. op ≡ op_in Clock.Frames OpName.SetChannelCountMode (view call.now)) }
-{
-    Ok(Op::SetChannelCountMode {
-        node: text(alloc, call, Field::Node)?,
-        value: mode(call, Field::Value),
-    })
-}
-
-fn set_channel_interpretation(alloc: Global, call: &Value) -> Result<Op, NoMemory>
-    ensures { IfOk result (λ op. op ≡ op_in Clock.Frames OpName.SetChannelInterpretation (view call.now)) }
-{
-    Ok(Op::SetChannelInterpretation {
-        node: text(alloc, call, Field::Node)?,
-        value: interp(call, Field::Value),
-    })
 }

@@ -4,6 +4,7 @@
 mod calls;
 mod faults;
 mod members;
+mod ops;
 mod scripts;
 mod tree;
 mod values;

@@ -1,7 +1,7 @@
 ghost use Rattle.std.specs.Prelude.{◌≡◌, Some, IfOk, option_map};
 ghost use Rattle.serde_json.specs.View.{view, items_view};
 ghost use Rattle.script_ast.specs.Entries.{fallback_in};
-ghost use Rattle.script_json.specs.Fields.{member_at, member_faults, field_faults, fields_faults, default_number, number_in, fix_in, time_in, time_or_null_in, count_in, list_in, text_in, count_or_null_in, text_or_null_in, mode_in, interp_in, is_there, lack_faults, is_needed, takes_null, given_number, number_within};
+ghost use Rattle.script_json.specs.Fields.{member_at, member_faults, field_faults, fields_faults, default_number, default_flag, number_in, fix_in, time_in, time_or_null_in, count_in, flag_in, list_in, fix_of, fixes_of, fixes_in, text_in, count_or_null_in, text_or_null_in, mode_in, interp_in, is_there, lack_faults, is_needed, takes_null, given_number, number_within};
 ghost use Rattle.script_json.specs.Outcome.{outcome};
 ghost use Rattle.script_json.specs.Values.{whole, frames};
 
@@ -9,10 +9,10 @@ use crate::faults::ScriptErr;
 use crate::values::{
     Cause, MAX_COUNT, MAX_FIX, MAX_TIME, MIN_FIX, MIN_TIME, cause_of, frames, whole,
 };
-use script_ast::{Clock, Fallback, Field, Row, fallback_in, interp_named, mode_named};
+use script_ast::{Clock, Fallback, Field, Path, Row, fallback_in, interp_named, mode_named};
 use serde_json::Value;
 use std::alloc::Global;
-use wa_base::{Fix, Interp, Mode, Name, NoMemory};
+use wa_base::{Fix, Interp, Mode, Name, NoMemory, Samples};
 
 /// The member with the field's name.
 pub fn member<'a>(object: &'a Value, field: Field) -> Option<&'a Value>
@@ -103,6 +103,15 @@ fn default_number(fallback: Fallback) -> Option<i128>
     }
 }
 
+fn default_flag(fallback: Fallback) -> bool
+    ensures { result ≡ default_flag fallback }
+{
+    match fallback {
+        Fallback::Flag(flag) => flag,
+        _ => false,
+    }
+}
+
 fn given_number(fallback: Fallback, number: Option<Option<i128>>) -> Option<i128>
     ensures { result ≡ given_number fallback number }
 {
@@ -128,7 +137,12 @@ fn number_within(number: Option<i128>, low: i64, high: i64) -> Option<i64>
 pub fn fix(object: &Value, entry: &[Row], field: Field) -> Fix
     ensures { result ≡ fix_in entry.now field (view object.now) }
 {
-    let number = given_number(fallback_in(entry, field), member(object, field).map(whole));
+    fix_of(given_number(fallback_in(entry, field), member(object, field).map(whole)))
+}
+
+fn fix_of(number: Option<i128>) -> Fix
+    ensures { result ≡ fix_of number }
+{
     match number_within(number, MIN_FIX, MAX_FIX) {
         Some(number) => number as Fix,
         None => 0,
@@ -177,6 +191,16 @@ pub fn count_or_null(object: &Value, field: Field) -> Option<u32>
     }
 }
 
+/// Whether a field of an entry is true.
+#[tactic(auto, unfolding(crate::specs::Fields::flag_in))]
+pub fn flag(object: &Value, entry: &[Row], field: Field) -> bool
+    ensures { result ≡ flag_in entry.now field (view object.now) }
+{
+    member(object, field)
+        .and_then(Value::as_bool)
+        .unwrap_or(default_flag(fallback_in(entry, field)))
+}
+
 /// The list of a field.
 pub fn list(object: &Value, field: Field) -> &[Value]
     ensures { items_view result.now ≡ list_in field (view object.now) }
@@ -185,6 +209,25 @@ pub fn list(object: &Value, field: Field) -> &[Value]
         Some(list) => list.as_slice(),
         None => &[],
     }
+}
+
+/// The values of a field that is a list of them.
+pub fn fixes(alloc: Global, object: &Value, field: Field) -> Result<Samples, NoMemory>
+    ensures { IfOk result (λ fixes. fixes ≡ fixes_in field (view object.now)) }
+{
+    let fixes = fixes_of(alloc, list(object, field))?;
+    Ok(Samples::from(fixes))
+}
+
+// The values of the items of a list, in memory that is taken once.
+fn fixes_of(alloc: Global, list: &[Value]) -> Result<Vec<Fix>, NoMemory>
+    ensures { IfOk result (λ fixes. fixes.items ≡ fixes_of (items_view list.now)) }
+{
+    let mut fixes = Vec::with_capacity(alloc, list.len())?;
+    for item in list {
+        fixes.push_reserved(fix_of(whole(item)));
+    }
+    Ok(fixes)
 }
 
 /// The text of a field.
@@ -209,6 +252,15 @@ pub fn text_or_null(alloc: Global, object: &Value, field: Field) -> Result<Optio
         }
         None => Ok(None),
     }
+}
+
+/// The path of a field.
+#[tactic(auto, unfolding(crate::specs::Fields::text_in))]
+pub fn path(alloc: Global, object: &Value, field: Field) -> Result<Path, NoMemory>
+    ensures { IfOk result (λ path. path ≡ text_in field (view object.now)) }
+{
+    let text = member(object, field).and_then(Value::as_str).unwrap_or("");
+    Path::new(alloc, text)
 }
 
 /// The ChannelCountMode of a field.

@@ -1,8 +1,9 @@
-ghost use Rattle.std.specs.Prelude.{◌≡◌, option_and_then, is_some};
-ghost use Rattle.serde_json.specs.Find.{as_str};
-ghost use Rattle.serde_json.specs.View.{view};
-ghost use Rattle.script_ast.specs.Ranges.{is_name_byte, has_name_length, has_name_bytes, is_new_name};
-ghost use Rattle.script_json.specs.Values.{whole, frames, cause_of, number_cause, new_name_cause, word_cause, kind_cause};
+ghost use Rattle.std.specs.Prelude.{◌≡◌, option_and_then, option_map, is_some};
+ghost use Rattle.std.specs.List.{list_all};
+ghost use Rattle.serde_json.specs.Find.{as_array};
+ghost use Rattle.serde_json.specs.View.{view, items_view};
+ghost use Rattle.script_ast.specs.Ranges.{is_name_byte, has_name_length, has_name_bytes, is_new_name, is_path};
+ghost use Rattle.script_json.specs.Values.{whole, wholes, is_fix, frames, cause_of, number_cause, fixes_cause, text_cause, word_cause, kind_cause};
 
 use script_ast::{Clock, Kind, interp_named, mode_named};
 use serde_json::{Number, Value};
@@ -26,6 +27,8 @@ pub const MAX_TIME: i64 = 1_099_511_627_776;
 pub const MAX_COUNT: i64 = 4_294_967_295;
 
 const MAX_NAME: usize = 64;
+
+const MAX_PATH: usize = 255;
 
 /// The whole number that a value is: none with a fraction or an exponent, past 64 bits, or `-0`.
 pub fn whole(value: &Value) -> Option<i128>
@@ -53,7 +56,11 @@ pub fn cause_of(clock: Clock, kind: Kind, value: &Value) -> Option<Cause>
         Kind::Count => number_cause(whole(value), 0, MAX_COUNT),
         Kind::Version => number_cause(whole(value), 1, 1),
         Kind::Name => kind_cause(value.as_str().is_some()),
-        Kind::NewName => new_name_cause(value),
+        Kind::NameOrNull => kind_cause(value.as_str().is_some() || value.is_null()),
+        Kind::NewName => text_cause(value.as_str().map(|name| is_new_name(name))),
+        Kind::Flag => kind_cause(value.as_bool().is_some()),
+        Kind::Fixes => fixes_cause(value),
+        Kind::Path => text_cause(value.as_str().map(|path| is_path(path))),
         Kind::Mode => word_cause(value.as_str().map(|word| mode_named(word))),
         Kind::Interp => word_cause(value.as_str().map(|word| interp_named(word))),
         Kind::Calls => kind_cause(value.is_array()),
@@ -82,18 +89,50 @@ fn number_cause(number: Option<i128>, low: i64, high: i64) -> Option<Cause>
     }
 }
 
-fn new_name_cause(value: &Value) -> Option<Cause>
-    ensures { result ≡ new_name_cause (as_str (view value.now)) }
+// An item that is no whole number comes before one that is out of range.
+fn fixes_cause(value: &Value) -> Option<Cause>
+    ensures { result ≡ fixes_cause (option_map wholes (as_array (view value.now))) }
 {
-    match value.as_str() {
+    let Some(list) = value.as_array() else {
+        return Some(Cause::WrongKind);
+    };
+    if !are_whole(list.as_slice()) {
+        return Some(Cause::WrongKind);
+    }
+    if !are_fixes(list.as_slice()) {
+        return Some(Cause::OutOfRange);
+    }
+    None
+}
+
+fn are_whole(list: &[Value]) -> bool
+    ensures { result ≡ list_all is_some (wholes (items_view list.now)) }
+{
+    list.iter().all(|item| whole(item).is_some())
+}
+
+fn are_fixes(list: &[Value]) -> bool
+    ensures { result ≡ list_all is_fix (wholes (items_view list.now)) }
+{
+    list.iter().all(|item| is_fix(whole(item)))
+}
+
+fn is_fix(number: Option<i128>) -> bool
+    ensures { result ≡ is_fix number }
+{
+    match number {
+        Some(number) => i128::from(MIN_FIX) <= number && number <= i128::from(MAX_FIX),
+        None => false,
+    }
+}
+
+fn text_cause(holds: Option<bool>) -> Option<Cause>
+    ensures { result ≡ text_cause holds }
+{
+    match holds {
         None => Some(Cause::WrongKind),
-        Some(name) => {
-            if is_new_name(name) {
-                None
-            } else {
-                Some(Cause::OutOfRange)
-            }
-        }
+        Some(true) => None,
+        Some(false) => Some(Cause::OutOfRange),
     }
 }
 
@@ -113,6 +152,13 @@ fn is_new_name(name: &str) -> bool
     ensures { result ≡ is_new_name name.now }
 {
     has_name_length(name) && has_name_bytes(name) && name != "destination"
+}
+
+// Whether a file may have the path.
+fn is_path(path: &str) -> bool
+    ensures { result ≡ is_path path.now }
+{
+    1 <= path.len() && path.len() <= MAX_PATH
 }
 
 fn has_name_length(name: &str) -> bool

@@ -2,6 +2,8 @@
 #![tactic(auto)]
 
 #[cfg(test)]
+mod buffer_cases;
+#[cfg(test)]
 mod call_cases;
 #[cfg(test)]
 mod channel_cases;

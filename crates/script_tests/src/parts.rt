@@ -47,13 +47,21 @@ fn finds_calls_by_their_ordinals(rt: HostRuntime) -> Result<(), Fail> {
     Ok(())
 }
 
-static BUILT: [&str; 10] = [
+static BUILT: [&str; 18] = [
     "createGain",
     "connect",
     "disconnect",
     "setChannelCount",
     "setChannelCountMode",
     "setChannelInterpretation",
+    "createBufferSource",
+    "createBuffer",
+    "setBuffer",
+    "setLoop",
+    "setLoopStart",
+    "setLoopEnd",
+    "copyToChannel",
+    "decodeAudioData",
     "readTime",
     "startRendering",
     "createConvolver",
@@ -123,6 +131,30 @@ fn what_sets_channels_has_the_fields_of_the_format(rt: HostRuntime) {
         ];
         assert_eq!(rt; name.fields(), want.as_slice(), "of {}", name.word());
     }
+}
+
+#[test]
+fn a_buffer_source_has_the_fields_of_the_format(rt: HostRuntime) {
+    let want = [
+        row(Field::As, Kind::NewName, Fallback::Needed),
+        row(Field::Buffer, Kind::Name, Fallback::Null),
+        row(Field::Loop, Kind::Flag, Fallback::Flag(false)),
+        row(Field::LoopStart, Kind::Time, Fallback::Number(0)),
+        row(Field::LoopEnd, Kind::Time, Fallback::Number(0)),
+        row(Field::PlaybackRate, Kind::Fix, Fallback::Number(16_777_216)),
+    ];
+    assert_eq!(rt; OpName::CreateBufferSource.fields(), want.as_slice());
+}
+
+#[test]
+fn what_writes_samples_has_the_fields_of_the_format(rt: HostRuntime) {
+    let want = [
+        row(Field::Buffer, Kind::Name, Fallback::Needed),
+        row(Field::Channel, Kind::Count, Fallback::Needed),
+        row(Field::Samples, Kind::Fixes, Fallback::Needed),
+        row(Field::At, Kind::Count, Fallback::Count(0)),
+    ];
+    assert_eq!(rt; OpName::CopyToChannel.fields(), want.as_slice());
 }
 
 #[test]

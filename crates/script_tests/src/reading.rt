@@ -1,3 +1,4 @@
+use crate::buffer_cases::BUFFERS;
 use crate::call_cases::CALLS;
 use crate::channel_cases::CHANNEL_COUNTS;
 use crate::connection_cases::{DISCONNECTS, GAINS};
@@ -5,27 +6,33 @@ use crate::port_cases::PORTS;
 use crate::script_cases::SCRIPTS;
 use crate::texts::reading;
 use crate::word_cases::{INTERPS, MODES};
+use script_ast::{Call, Op, Script};
 use script_json::{ScriptErr, read};
 use std::alloc::{AllocError, Global};
 use std::test::Fail;
+use wa_base::Fix;
 
 const BEFORE: &str =
     "{\"version\":1,\"context\":{\"channels\":1,\"length\":128,\"rate\":48000},\"calls\":[";
 
 const AFTER: &str = "]}";
 
-// The first case whose text, put between the two others, is read otherwise than the case says.
+// The first case that does not hold. A case is a text, ` => ` and what reading that text gives, where
+// it is put between the two others.
 fn first_misread<'a>(
     alloc: Global,
     before: &str,
     after: &str,
-    cases: &'a [(&'a str, &'a str)],
+    cases: &'a [&'a str],
 ) -> Result<Option<&'a str>, AllocError> {
-    for (text, want) in cases {
+    for case in cases {
+        let Some((text, want)) = case.split_once(" => ") else {
+            return Ok(Some(case));
+        };
         let script = format!(in alloc; "{before}{text}{after}")?;
         let got = reading(alloc, script.as_bytes())?;
-        if got.as_str() != *want {
-            return Ok(Some(text));
+        if got.as_str() != want {
+            return Ok(Some(case));
         }
     }
     Ok(None)
@@ -74,6 +81,13 @@ fn reads_ports(rt: HostRuntime) -> Result<(), Fail> {
 }
 
 #[test]
+fn reads_buffers(rt: HostRuntime) -> Result<(), Fail> {
+    let misread = first_misread(rt.alloc(), BEFORE, AFTER, &BUFFERS)?;
+    assert_eq!(rt; misread, None);
+    Ok(())
+}
+
+#[test]
 fn reads_modes(rt: HostRuntime) -> Result<(), Fail> {
     let misread = first_misread(rt.alloc(), BEFORE, AFTER, &MODES)?;
     assert_eq!(rt; misread, None);
@@ -93,6 +107,75 @@ fn repeated(alloc: Global, before: &str, part: &str, count: u32) -> Result<Strin
         all.push_str(part)?;
     }
     Ok(all)
+}
+
+// What is read of a script that decodes the file whose path is the part, repeated.
+fn decoded(alloc: Global, part: &str, count: u32) -> Result<String, AllocError> {
+    let path = repeated(alloc, "", part, count)?;
+    let script = format!(in alloc;
+        "{BEFORE}{{\"op\":\"decodeAudioData\",\"as\":\"b\",\"path\":\"{path}\"}}{AFTER}"
+    )?;
+    reading(alloc, script.as_bytes())
+}
+
+// The length is one of bytes: a letter with an accent has two.
+#[test]
+fn a_path_has_255_bytes_at_most(rt: HostRuntime) -> Result<(), Fail> {
+    for (part, count) in [("a", 255), ("é", 127)] {
+        let path = repeated(rt.alloc(), "1 0 decodeAudioData b ", part, count)?;
+        let got = decoded(rt.alloc(), part, count)?;
+        assert_eq!(rt; got.as_str(), path.as_str(), "with {count} letters");
+    }
+    for (part, count) in [("a", 256), ("é", 128)] {
+        let got = decoded(rt.alloc(), part, count)?;
+        assert_eq!(rt; got.as_str(), "1 path OutOfRange", "with {count} letters");
+    }
+    Ok(())
+}
+
+// A script that writes a million samples and this item after them.
+fn long_list(alloc: Global, last: &str) -> Result<String, AllocError> {
+    let call = "{\"op\":\"copyToChannel\",\"buffer\":\"b\",\"channel\":0,\"samples\":[";
+    let open = format!(in alloc; "{BEFORE}{call}")?;
+    let items = repeated(alloc, open.as_str(), "7,", 1_000_000)?;
+    format!(in alloc; "{items}{last}]}}{AFTER}")
+}
+
+// How many samples a script with one call copies, and the last of them.
+fn samples_copied(script: &Script) -> Option<(usize, Option<Fix>)> {
+    match script.calls.as_slice() {
+        [
+            Call {
+                op: Op::CopyToChannel { samples, .. },
+                ..
+            },
+        ] => { Some((samples.len(), samples.as_slice().last().copied())) }
+        _ => None,
+    }
+}
+
+#[test]
+fn a_list_of_a_million_items_is_read(rt: HostRuntime) -> Result<(), Fail> {
+    let script = long_list(rt.alloc(), "-8")?;
+    let got = match read(rt.alloc(), script.as_bytes()) {
+        Ok(script) => samples_copied(&script),
+        Err(_) => None,
+    };
+    assert_eq!(rt; got, Some((1_000_001, Some(-8))));
+    Ok(())
+}
+
+#[test]
+fn a_fault_behind_a_million_items_is_found(rt: HostRuntime) -> Result<(), Fail> {
+    for (last, want) in [
+        ("null", "1 samples WrongKind"),
+        ("2147483648", "1 samples OutOfRange"),
+    ] {
+        let script = long_list(rt.alloc(), last)?;
+        let got = reading(rt.alloc(), script.as_bytes())?;
+        assert_eq!(rt; got.as_str(), want, "with {last}");
+    }
+    Ok(())
 }
 
 // What is read of a script with a member that no one reads, which holds arrays nested `count` deep.

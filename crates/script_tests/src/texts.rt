@@ -1,7 +1,7 @@
 use script_ast::{Call, Op, Script};
 use script_json::read;
 use std::alloc::{AllocError, Global};
-use wa_base::{Interp, Mode, Name};
+use wa_base::{Fix, Interp, Mode, Name};
 
 fn text(name: &Name) -> &str {
     str::from_utf8(name.as_slice()).unwrap_or("no text")
@@ -14,6 +14,25 @@ fn count_text(alloc: Global, count: Option<u32>) -> Result<String, AllocError> {
     }
 }
 
+fn text_or_none(name: &Option<Name>) -> &str {
+    match name {
+        Some(name) => text(name),
+        None => "none",
+    }
+}
+
+fn values_text(alloc: Global, values: &[Fix]) -> Result<String, AllocError> {
+    let mut all = String::new(alloc);
+    for value in values {
+        if !all.is_empty() {
+            all.push_str(" ")?;
+        }
+        let value = format!(in alloc; "{value}")?;
+        all.push_str(value.as_str())?;
+    }
+    Ok(all)
+}
+
 fn disconnect_text(
     alloc: Global,
     from: &str,
@@ -23,10 +42,7 @@ fn disconnect_text(
 ) -> Result<String, AllocError> {
     let output = count_text(alloc, output)?;
     let input = count_text(alloc, input)?;
-    let to = match to {
-        Some(to) => text(to),
-        None => "none",
-    };
+    let to = text_or_none(to);
     format!(in alloc; "disconnect {from} {output} {to} {input}")
 }
 
@@ -42,6 +58,54 @@ fn interp_text(interp: Interp) -> &'static str {
     match interp {
         Interp::Speakers => "speakers",
         Interp::Discrete => "discrete",
+    }
+}
+
+// Of the operations on buffers and on the sources that play them.
+fn buffer_text(alloc: Global, op: &Op) -> Result<String, AllocError> {
+    match op {
+        Op::CreateBufferSource {
+            name,
+            buffer,
+            looping,
+            loop_start,
+            loop_end,
+            playback_rate,
+        } => {
+            let parts = format!(in alloc; "{looping} {loop_start} {loop_end} {playback_rate}")?;
+            format!(in alloc;
+                "createBufferSource {} {} {parts}",
+                text(name),
+                text_or_none(buffer)
+            )
+        }
+        Op::CreateBuffer {
+            name,
+            channels,
+            length,
+            rate,
+        } => format!(in alloc; "createBuffer {} {channels} {length} {rate}", text(name)),
+        Op::SetBuffer { node, buffer } => {
+            format!(in alloc; "setBuffer {} {}", text(node), text_or_none(buffer))
+        }
+        Op::SetLoop { node, value } => format!(in alloc; "setLoop {} {value}", text(node)),
+        Op::SetLoopStart { node, value } => {
+            format!(in alloc; "setLoopStart {} {value}", text(node))
+        }
+        Op::SetLoopEnd { node, value } => format!(in alloc; "setLoopEnd {} {value}", text(node)),
+        Op::CopyToChannel {
+            buffer,
+            channel,
+            samples,
+            at,
+        } => {
+            let values = values_text(alloc, samples.as_slice())?;
+            format!(in alloc; "copyToChannel {} {channel} [{values}] {at}", text(buffer))
+        }
+        Op::DecodeAudioData { name, path } => {
+            format!(in alloc; "decodeAudioData {} {}", text(name), path.as_str())
+        }
+        _ => String::from_str(alloc, "another operation"),
     }
 }
 
@@ -102,7 +166,7 @@ fn op_text(alloc: Global, op: &Op) -> Result<String, AllocError> {
         Op::ReadState => String::from_str(alloc, "readState"),
         Op::ReadTime => String::from_str(alloc, "readTime"),
         Op::LeftOut { feature } => format!(in alloc; "left out {}", feature.word()),
-        _ => String::from_str(alloc, "another operation"),
+        _ => buffer_text(alloc, op),
     }
 }
 
