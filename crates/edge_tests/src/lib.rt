@@ -5,6 +5,14 @@
 #[cfg(test)]
 mod adapters;
 #[cfg(test)]
+mod fake_system;
+#[cfg(test)]
+mod fetch_folder;
+#[cfg(test)]
+mod fetch_memory;
+#[cfg(test)]
+mod fetched;
+#[cfg(test)]
 mod memory;
 #[cfg(test)]
 mod short_writes;

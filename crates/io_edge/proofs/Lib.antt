@@ -1,2 +1,3 @@
 mod FileMaps
 pub mod Pieces
+mod Reading

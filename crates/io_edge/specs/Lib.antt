@@ -1,6 +1,8 @@
 pub mod Counted
 pub mod Faults
+pub mod Fetch
 pub mod FileMap
+pub mod Folder
 pub mod MemStore
 pub mod MemStream
 pub mod Paths

@@ -3,6 +3,7 @@
 
 mod errors;
 mod files;
+mod folder;
 mod mem_files;
 mod memory;
 mod real;
@@ -12,7 +13,7 @@ mod sure;
 mod whole;
 
 pub use errors::{EdgeErr, Failed, ReadErr};
-pub use files::Files;
+pub use files::{Fetched, Files};
 pub use mem_files::MemFiles;
 pub use memory::{MemSink, MemSource};
 pub use real::{DirFiles, ReadSource, WriteSink};

@@ -1,12 +1,16 @@
-ghost use Rattle.std.specs.Prelude.{◌≡◌, ◌≤◌, ◌<◌, None, false, length, take, is_err, IsErr, IsErrOf, IfErr, IfOk, IfSome};
+ghost use Rattle.std.specs.Prelude.{◌≡◌, ◌≤◌, ◌<◌, None, Ok, false, length, take, is_err, IsErr, IsErrOf, IsTrue, IfErr, IfOk, IfSome};
 ghost use Rattle.std.specs.Io.KnownBytes.{Appends, ReadConsumes};
-ghost use Rattle.io_edge.specs.Faults.{Rose};
+ghost use Rattle.io_edge.specs.Faults.{Rose, is_fault};
+ghost use Rattle.io_edge.specs.Fetch.{IsWithin};
+ghost use Rattle.io_edge.specs.Folder.{leads_out};
 ghost use Rattle.io_edge.specs.Plan.{count_faults};
 
 use crate::errors::{EdgeErr, Failed};
-use crate::files::Files;
+use crate::files::{Fetched, Files};
+use crate::folder::{fetch_file, leads_out};
 use crate::sink::Sink;
 use crate::source::Source;
+use std::alloc::Global;
 use std::fs::{File, OpenOptions};
 use std::io::{Read, Write};
 use std::marker::Model;
@@ -110,29 +114,32 @@ impl<W: Write> Sink for WriteSink<W> {
 }
 
 /// The files of a folder of the system. It tells nothing of what the files hold. Contracts see it as the
-/// number of faults at writes so far, as those of a `WriteSink` are.
+/// numbers of faults so far, at reads and at writes. Each error of the system is a fault, but for that of
+/// a `fetch` where the system finds no file. A write that takes no byte where there are some is a fault too.
 #[derive(Drop)]
 pub struct DirFiles<R> {
     system: R,
+    read_faults: u64,
     write_faults: u64,
 }
 
 impl<R> Model for DirFiles<R> {
-    ghost use Rattle.std.specs.Prelude.{ℕ};
+    ghost use Rattle.io_edge.specs.Folder.{FolderFaults};
 
-    ghost Value = { ℕ };
+    ghost Value = { FolderFaults };
 
-    ghost view = { λ s. s.write_faults };
+    ghost view = { λ s. record { reads = s.read_faults; writes = s.write_faults } };
 }
 
 impl<R: rt::Files> DirFiles<R> {
     /// The files that `system` has. A path that is not absolute begins in the folder that the program
     /// runs in.
     pub fn new(system: R) -> DirFiles<R>
-        ensures { result ≡ 0 }
+        ensures { result ≡ record { reads = 0; writes = 0 } }
     {
         DirFiles {
             system,
+            read_faults: 0,
             write_faults: 0,
         }
     }
@@ -143,13 +150,40 @@ impl<R: rt::Files> Files for DirFiles<R> {
 
     ghost paths = { λ _ _. None };
 
-    ghost write_faults = { λ faults. faults };
+    ghost read_faults = { λ faults. faults.reads };
+
+    ghost write_faults = { λ faults. faults.writes };
+
+    /// Reads from the folder that the program runs in, and from nowhere beside it: a path that is absolute,
+    /// or has a part `..`, is missing. A link in the folder is followed. The length is looked at before the
+    /// first read, and at most one byte past the limit is read. A folder at `path` is a fault.
+    fn fetch(&mut self, alloc: Global, path: &str, limit: u64) -> Result<Fetched, EdgeErr>
+        ensures within { IfOk result (λ fetched. IsWithin limit fetched) }
+        ensures outside { IsTrue (leads_out path.now) → result ≡ Ok Fetched.Missing }
+        ensures later { self.old.reads ≤ self.new.reads }
+        ensures cause { IsErrOf result EdgeErr.Failed → Rose self.old.reads self.new.reads }
+        ensures counted { self.new.reads ≡ count_faults self.old.reads (is_fault result) }
+        ensures writes { self.new.writes ≡ self.old.writes }
+    {
+        if leads_out(path) {
+            return Ok(Fetched::Missing);
+        }
+        match fetch_file(alloc, &self.system, path, limit) {
+            Ok(fetched) => Ok(fetched),
+            Err(EdgeErr::Failed) => {
+                self.read_faults = self.read_faults.saturating_add(1);
+                Err(EdgeErr::Failed)
+            }
+            Err(EdgeErr::NoMemory) => Err(EdgeErr::NoMemory),
+        }
+    }
 
     fn create(&mut self, path: &str) -> Result<(), EdgeErr>
-        ensures later { self.old ≤ self.new }
-        ensures cause { IsErrOf result EdgeErr.Failed → Rose self.old self.new }
+        ensures later { self.old.writes ≤ self.new.writes }
+        ensures cause { IsErrOf result EdgeErr.Failed → Rose self.old.writes self.new.writes }
         ensures failed { IfErr result (λ e. e ≡ EdgeErr.Failed) }
-        ensures counted { self.new ≡ count_faults self.old (is_err result) }
+        ensures counted { self.new.writes ≡ count_faults self.old.writes (is_err result) }
+        ensures reads { self.new.reads ≡ self.old.reads }
     {
         if File::create(&self.system, path).is_ok() {
             return Ok(());
@@ -161,10 +195,11 @@ impl<R: rt::Files> Files for DirFiles<R> {
     fn append(&mut self, path: &str, piece: &[u8]) -> Result<usize, EdgeErr>
         ensures within { IfOk result (λ n. n ≤ length piece.now) }
         ensures some { IfOk result (λ n. 0 < length piece.now → 0 < n) }
-        ensures later { self.old ≤ self.new }
-        ensures cause { IsErrOf result EdgeErr.Failed → Rose self.old self.new }
+        ensures later { self.old.writes ≤ self.new.writes }
+        ensures cause { IsErrOf result EdgeErr.Failed → Rose self.old.writes self.new.writes }
         ensures failed { IfErr result (λ e. e ≡ EdgeErr.Failed) }
-        ensures counted { self.new ≡ count_faults self.old (is_err result) }
+        ensures counted { self.new.writes ≡ count_faults self.old.writes (is_err result) }
+        ensures reads { self.new.reads ≡ self.old.reads }
     {
         if let Some(count) = append_through(&self.system, path, piece) {
             return Ok(count);

@@ -1,11 +1,12 @@
 ghost use Rattle.std.specs.Prelude.{◌≡◌, ◌≤◌, ◌<◌, ◌++◌, ℕ, List, Some, [], true, length, min, take, drop, IsOk, IfOk, IfErr, OnOk, OnErr, IsTrue, false, is_some, option_map};
 ghost use Rattle.std.specs.Io.KnownBytes.{ReadConsumes, WriteAppends};
 ghost use Rattle.std.specs.FinMap as finite;
+ghost use Rattle.io_edge.specs.Fetch.{IsWithin, IsFetchedOf, fetched_of};
 ghost use Rattle.io_edge.specs.FileMap.{paths_of};
 ghost use Rattle.io_edge.specs.Paths.{Sets, bytes_at};
 
 use crate::errors::{EdgeErr, Failed};
-use crate::files::Files;
+use crate::files::{Fetched, Files};
 use crate::sink::Sink;
 use crate::source::Source;
 use std::alloc::{AllocError, Global};
@@ -194,7 +195,26 @@ impl Files for SureFiles {
 
     ghost paths = { paths_of };
 
+    ghost read_faults = { λ _. 0 };
+
     ghost write_faults = { λ _. 0 };
+
+    fn fetch(&mut self, alloc: Global, path: &str, limit: u64) -> Result<Fetched, EdgeErr>
+        ensures same { self.new ≡ self.old }
+        ensures within { IfOk result (λ fetched. IsWithin limit fetched) }
+        ensures found { IfOk result (λ fetched. IsFetchedOf (paths_of self.old path.now) fetched) }
+        ensures whole { IfOk result (λ fetched. fetched ≡ fetched_of limit (paths_of self.old path.now)) }
+        ensures sure { IfErr result (λ e. e ≡ EdgeErr.NoMemory) }
+    {
+        let Some(contents) = self.get(path) else {
+            return Ok(Fetched::Missing);
+        };
+        let count = contents.len() as u64;
+        if count > limit {
+            return Ok(Fetched::TooLong(count));
+        }
+        Ok(Fetched::Bytes(Bytes::from(contents.to_vec(alloc)?)))
+    }
 
     fn create(&mut self, path: &str) -> Result<(), EdgeErr>
         ensures made { OnOk result (Sets (paths_of self.old) (paths_of self.new) path.now []) }

@@ -63,6 +63,7 @@ pub fn append_all<F: Files>(files: &mut F, path: &str, bytes: &[u8]) -> Result<(
     ensures tells { F.tells files.new ≡ F.tells files.old }
     ensures all { OnOk result (IsTrue (F.tells files.old) → AppendsWhole (F.paths files.old) (F.paths files.new) path.now bytes.now) }
     ensures part { OnErr result (IsTrue (F.tells files.old) → AppendsPart (F.paths files.old) (F.paths files.new) path.now bytes.now) }
+    ensures reads { F.read_faults files.new ≡ F.read_faults files.old }
     ensures later { F.write_faults files.old ≤ F.write_faults files.new }
     ensures cause { IsErrOf result EdgeErr.Failed → Rose (F.write_faults files.old) (F.write_faults files.new) }
 {

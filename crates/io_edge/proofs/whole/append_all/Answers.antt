@@ -7,6 +7,7 @@ use Rattle.io_edge.proofs.whole.append_all.Goals as goal
 
 pub loop-at-init : goal.loop-at-init
 loop-at-init g c = record {
+  reads = search rules;
   later = omega arith;
   tells = search rules;
   within = omega arith;
@@ -18,6 +19,7 @@ loop-at-preserved g c =
     let rest = take_rest c.args.bytes.now c.loop-at.at in
     let within = rw rest at c.in_ok-at.ensures.within in
     record {
+      reads = c.append.ensures.reads ∙ c.loop-at.invariant.reads;
       later = omega (arith, c.append.ensures.later);
       tells = c.append.ensures.tells ∙ c.loop-at.invariant.tells;
       within = omega (arith, within, length-drop {A = ℕ} c.loop-at.at c.args.bytes.now);

@@ -4,6 +4,7 @@ use Rattle.io_edge.proofs.whole.append_all.Given as goal
 
 abbrev pub invariant-loop-at : goal.invariant-loop-at
 invariant-loop-at g l = record {
+  reads : g.F.Files.read_faults l.files ≡ g.F.Files.read_faults l.initial.files;
   later : g.F.Files.write_faults l.initial.files ≤ g.F.Files.write_faults l.files;
   tells : g.F.Files.tells l.files ≡ g.F.Files.tells l.initial.files;
   within : l.at ≤ length l.bytes;
