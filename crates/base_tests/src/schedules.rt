@@ -1,5 +1,5 @@
-use sched_source::Sched;
-use wa_base::Exc;
+use sched_source::{Loop, Sched};
+use wa_base::{Exc, Feature, Fix};
 
 // The frame of the call of `start` and the one that it gives; the same of `stop`, where it is called; the
 // frame of the end; in which of the first three quanta the source sounds.
@@ -34,9 +34,9 @@ fn sounds_as(row: &Row) -> bool {
     is_started
         && is_stopped
         && sched.end_frame() == end
-        && sched.plays_in(0) == quanta[0]
-        && sched.plays_in(128) == quanta[1]
-        && sched.plays_in(256) == quanta[2]
+        && sched.plays_in(0, 128) == quanta[0]
+        && sched.plays_in(128, 128) == quanta[1]
+        && sched.plays_in(256, 128) == quanta[2]
 }
 
 #[test]
@@ -97,4 +97,122 @@ fn counts_stops_until_the_end() -> bool {
 #[test]
 fn a_stop_counts_until_the_source_has_ended(rt: HostRuntime) {
     assert!(rt; counts_stops_until_the_end());
+}
+
+const NO_LOOP: Loop = Loop {
+    on: false,
+    first: 0,
+    end: 0,
+};
+
+// The loop between two frames, or none.
+fn around(points: Option<(i64, i64)>) -> Loop {
+    match points {
+        Some((first, end)) => Loop {
+            on: true,
+            first,
+            end,
+        },
+        None => NO_LOOP,
+    }
+}
+
+// A playback rate, a loop between two frames, the offset and the duration of `start`; the frame of the
+// end, and what is played in the first eight frames of a buffer with the samples 2, 4, 6, 8 and 10.
+type Playback = (
+    u32,
+    Option<(i64, i64)>,
+    i64,
+    Option<i64>,
+    Option<u64>,
+    [Fix; 8],
+);
+
+const BUFFER: [Fix; 5] = [2, 4, 6, 8, 10];
+
+const PLAYBACKS: [Playback; 8] = [
+    (1, None, 0, None, Some(5), [2, 4, 6, 8, 10, 0, 0, 0]),
+    (2, None, 0, None, Some(3), [2, 6, 10, 0, 0, 0, 0, 0]),
+    (1, None, 9, None, Some(0), [0; 8]),
+    (1, Some((7, 9)), 0, None, None, [2, 4, 6, 8, 10, 2, 4, 6]),
+    (1, Some((1, 3)), 0, None, None, [2, 4, 6, 4, 6, 4, 6, 4]),
+    (1, Some((1, 2)), 9, None, None, [4; 8]),
+    (2, Some((1, 4)), 0, None, None, [2, 6, 4, 8, 6, 4, 8, 6]),
+    (
+        5,
+        Some((1, 3)),
+        0,
+        Some(21),
+        Some(5),
+        [2, 4, 6, 4, 6, 0, 0, 0],
+    ),
+];
+
+fn plays_as(row: &Playback) -> bool {
+    let (rate, points, offset, duration, end, samples) = *row;
+    if rate == 0 {
+        return false;
+    }
+    let mut sched = Sched::buffer(rate, around(points));
+    if sched.start(0, 0, offset, duration, 5).is_err() {
+        return false;
+    }
+    let mut out = [-1; 8];
+    sched.play(&mut out, &BUFFER, 0);
+    sched.end_frame() == end && out == samples
+}
+
+#[test]
+fn a_buffer_source_plays_its_buffer(rt: HostRuntime) {
+    for row in &PLAYBACKS {
+        assert!(rt; plays_as(row), "{row:?}");
+    }
+}
+
+// Blocks of one frame have what a block of 24 frames has.
+fn plays_in_pieces(rate: u32, points: Loop) -> bool {
+    if rate == 0 {
+        return false;
+    }
+    let mut sched = Sched::buffer(rate, points);
+    if sched.start(0, 4, 1, Some(15), 5).is_err() {
+        return false;
+    }
+    let mut whole = [-1; 24];
+    sched.play(&mut whole, &BUFFER, 0);
+    for (first, sample) in whole.iter().enumerate() {
+        let mut one = [-1; 1];
+        sched.play(&mut one, &BUFFER, first as u64);
+        if one[0] != *sample {
+            return false;
+        }
+    }
+    sched.plays_in(4, 1) && !sched.plays_in(0, 4)
+}
+
+#[test]
+fn blocks_of_any_length_are_played(rt: HostRuntime) {
+    assert!(rt; plays_in_pieces(1, NO_LOOP));
+    assert!(rt; plays_in_pieces(1, around(Some((1, 4)))));
+    assert!(rt; plays_in_pieces(3, around(Some((0, 5)))));
+}
+
+fn keeps_its_loop() -> bool {
+    let mut sched = Sched::buffer(1, NO_LOOP);
+    let is_changed = sched.set_loop(around(Some((1, 2)))) == Ok(())
+        && sched.points() == around(Some((1, 2)));
+    let is_refused = sched.start_refusal(0, -1, None) == Some(Exc::Range)
+        && sched.start(0, 0, 0, Some(-1), 5) == Err(Exc::Range);
+    let is_started = sched.start(0, 0, 0, None, 5) == Ok(());
+    let late = sched.set_loop(NO_LOOP);
+    is_changed
+        && is_refused
+        && is_started
+        && late == Err(Exc::NotSupported(Some(Feature::LoopChange)))
+        && sched.points() == around(Some((1, 2)))
+}
+
+#[test]
+fn a_loop_is_changed_before_the_start(rt: HostRuntime) {
+    assert!(rt; keeps_its_loop());
 }

@@ -1,14 +1,11 @@
 -- Worked schedules of constant sources, as the definitions compute them.
 use Rattle.std.proofs.Common.{ℕ, pos, negsuc, ◌≡◌, Bool, true, false, List, [], ◌∷◌, Some, None, refl, map}
 use Rattle.wa_base.specs.declared.exceptions.Exc.TheVariants.{InvalidState, Range}
-use Rattle.sched_source.specs.Schedule.{Schedule, end_frame, plays_at, plays_in, start_refusal, stop_refusal, started, stopped}
-
-abbrev not_started : Schedule
-not_started = record { start = None; stop = None; ended = false }
+use Rattle.sched_source.specs.Schedule.{Schedule, constant, end_frame, plays_at, plays_in, start_refusal, stop_refusal, started, stopped}
 
 -- one that is started at a time, from the frame `when` on
 abbrev begun : ℕ → ℕ → Schedule
-begun now when = started not_started now (pos when) (pos 0) None 0
+begun now when = started constant now (pos when) (pos 0) None 0
 
 abbrev sounding : Schedule → List ℕ → List Bool
 sounding schedule frames = map (plays_at schedule) frames
@@ -49,7 +46,7 @@ stopped_in_the_past : end_frame (stopped (begun 0 0) 256 (pos 10)) ≡ Some 256
 stopped_in_the_past = refl
 
 -- and so is a start; the last stop counts
-started_in_the_past : stopped (stopped (begun 256 10) 256 (pos 700)) 256 (pos 500) ≡ record { start = Some 256; stop = Some 500; ended = false }
+started_in_the_past : stopped (stopped (begun 256 10) 256 (pos 700)) 256 (pos 500) ≡ record { start = Some 256; stop = Some 500; ended = false; content = None }
 started_in_the_past = refl
 
 -- after the source has ended a stop is accepted and changes nothing
@@ -60,6 +57,6 @@ has_ended_stays : (stop_refusal has_ended (pos 700) ≡ None) × (stopped has_en
 has_ended_stays = (refl, refl)
 
 -- a source that was started, or was not, is refused so before its time is looked at
-refusals : (start_refusal not_started (negsuc 0) (pos 0) None ≡ Some Range) × (start_refusal until_129 (negsuc 0) (pos 0) None ≡ Some InvalidState)
-    × (stop_refusal not_started (negsuc 0) ≡ Some InvalidState) × (stop_refusal until_129 (negsuc 0) ≡ Some Range)
+refusals : (start_refusal constant (negsuc 0) (pos 0) None ≡ Some Range) × (start_refusal until_129 (negsuc 0) (pos 0) None ≡ Some InvalidState)
+    × (stop_refusal constant (negsuc 0) ≡ Some InvalidState) × (stop_refusal until_129 (negsuc 0) ≡ Some Range)
 refusals = (refl, refl, refl, refl)

@@ -1,1 +1,3 @@
+pub mod Drawing
+pub mod Playback
 pub mod Schedule
