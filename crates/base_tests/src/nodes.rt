@@ -100,6 +100,7 @@ fn has(kind: &Kind, inputs: u32, offset: Option<Fix>, gain: Option<Fix>) -> bool
 fn kinds_have_their_ports_and_parameters(rt: HostRuntime) {
     assert!(rt; has(&Kind::Destination, 1, None, None));
     assert!(rt; has(&Kind::Constant { offset: 5 }, 0, Some(5), None));
+    assert!(rt; has(&Kind::Buffer { rate: 2 }, 0, None, None));
     assert!(rt; has(&Kind::Gain { gain: -9 }, 1, None, Some(-9)));
 }
 

@@ -12,6 +12,7 @@ use Rattle.law_base.specs.Heights.{at_height, before, at_moment, state}
 use Rattle.law_base.specs.Reaching.{reaches}
 use Rattle.channel_mix.specs.Mixing.{form, mix}
 use Rattle.param_events.specs.Values.{value_at as intrinsic_at}
+use Rattle.sched_source.specs.Schedule.{constant as unstarted}
 use Rattle.node_table.specs.Nodes.{destination_of, node_of, with_interp}
 use Rattle.node_table.specs.declared.kinds.Kind.TheVariants.{Constant, Gain, Splitter, Merger}
 use Rattle.node_table.specs.declared.nodes.Node.{Node}
@@ -29,7 +30,7 @@ use Rattle.meaning.specs.Values.{input_value, computed_value, equation, value_at
 use Rattle.meaning.specs.Rendered.{rows}
 
 context : ℕ → ContextSpec
-context channels = record { channels = channels; length = 2; rate = 48000 }
+context channels = record { channels = channels; length = 1; rate = 48000 }
 
 -- a destination of so many channels with an interpretation, and then the nodes; the first so many nodes are sources that start at once
 world : ℕ → Interp → List Node → List Edge → List Param → List Play → World
@@ -62,7 +63,7 @@ line : ℕ → ParamName → ℤ → Param
 line n name base = record { id = param_id n name; line = record { base = base; slot = base; events = [] }; rate = A }
 
 started : ℕ → Play
-started n = record (not_started n) { sched = record (not_started n).sched { start = Some 0 } }
+started n = not_started n (record unstarted { start = Some 0 })
 
 -- ---- constants of 2 and 4, merged, and then crossed by a splitter and a second merger
 crossed : World
@@ -70,7 +71,7 @@ crossed = world 2 Speakers (constant (pos 2) ∷ constant (pos 4) ∷ merger 2 �
     (join 1 0 3 0 ∷ join 2 0 3 1 ∷ join 3 0 4 0 ∷ join 4 0 5 1 ∷ join 4 1 5 0 ∷ join 5 0 0 0 ∷ [])
     (line 1 param.Offset (pos 2) ∷ line 2 param.Offset (pos 4) ∷ []) (started 1 ∷ started 2 ∷ [])
 
-crossed-rows : rows 2 (crossed ∷ []) (context 2) ≡ (pos 4 ∷ pos 2 ∷ []) ∷ (pos 4 ∷ pos 2 ∷ []) ∷ []
+crossed-rows : rows 2 (crossed ∷ []) (context 2) ≡ (pos 4 ∷ pos 2 ∷ []) ∷ []
 unfolding context world join constant splitter merger line started at_height before at_moment state reaches form mix intrinsic_at ends in_cycle arrow height muted count_rule count_at count input_value computed_value equation value_at value rows crossed
 crossed-rows = refl
 
@@ -85,12 +86,12 @@ merged channels interp = world channels interp (constant (pos 2) ∷ constant (p
     (line 1 param.Offset (pos 2) ∷ line 2 param.Offset (pos 4) ∷ []) (started 1 ∷ started 2 ∷ [])
 
 merged-stereo : map (λ interp. rows 2 (merged 2 interp ∷ []) (context 2)) (Speakers ∷ Discrete ∷ [])
-    ≡ ((pos 2 ∷ pos 4 ∷ []) ∷ (pos 2 ∷ pos 4 ∷ []) ∷ []) ∷ ((pos 2 ∷ pos 4 ∷ []) ∷ (pos 2 ∷ pos 4 ∷ []) ∷ []) ∷ []
+    ≡ ((pos 2 ∷ pos 4 ∷ []) ∷ []) ∷ ((pos 2 ∷ pos 4 ∷ []) ∷ []) ∷ []
 unfolding context world join constant splitter merger line started at_height before at_moment state reaches form mix intrinsic_at ends in_cycle arrow height muted count_rule count_at count input_value computed_value equation value_at value rows merged
 merged-stereo = refl
 
 merged-mono : map (λ interp. rows 2 (merged 1 interp ∷ []) (context 1)) (Speakers ∷ Discrete ∷ [])
-    ≡ ((pos 3 ∷ []) ∷ (pos 3 ∷ []) ∷ []) ∷ ((pos 2 ∷ []) ∷ (pos 2 ∷ []) ∷ []) ∷ []
+    ≡ ((pos 3 ∷ []) ∷ []) ∷ ((pos 2 ∷ []) ∷ []) ∷ []
 unfolding context world join constant splitter merger line started at_height before at_moment state reaches form mix intrinsic_at ends in_cycle arrow height muted count_rule count_at count input_value computed_value equation value_at value rows merged
 merged-mono = refl
 
@@ -105,7 +106,7 @@ unfolding context world join constant splitter merger through line started at_he
 clamped-counts = refl
 
 clamped-rows : rows 2 (clamped ∷ []) (context 6)
-    ≡ (pos 7 ∷ pos 0 ∷ pos 7 ∷ pos 0 ∷ pos 0 ∷ pos 0 ∷ []) ∷ (pos 7 ∷ pos 0 ∷ pos 7 ∷ pos 0 ∷ pos 0 ∷ pos 0 ∷ []) ∷ []
+    ≡ (pos 7 ∷ pos 0 ∷ pos 7 ∷ pos 0 ∷ pos 0 ∷ pos 0 ∷ []) ∷ []
 unfolding context world join constant splitter merger through line started at_height before at_moment state reaches form mix intrinsic_at ends in_cycle arrow height muted count_rule count_at count input_value computed_value equation value_at value rows clamped
 clamped-rows = refl
 
@@ -119,7 +120,7 @@ past_the_input-values : map (λ o. value 2 (past_the_input ∷ []) 0 (reader_of 
 unfolding context world join constant splitter merger line started at_height before at_moment state reaches form mix intrinsic_at ends in_cycle arrow height muted count_rule count_at count input_value computed_value equation value_at value past_the_input
 past_the_input-values = refl
 
-past_the_input-rows : rows 2 (past_the_input ∷ []) (context 2) ≡ (pos 9 ∷ pos 9 ∷ []) ∷ (pos 9 ∷ pos 9 ∷ []) ∷ []
+past_the_input-rows : rows 2 (past_the_input ∷ []) (context 2) ≡ (pos 9 ∷ pos 9 ∷ []) ∷ []
 unfolding context world join constant splitter merger line started at_height before at_moment state reaches form mix intrinsic_at ends in_cycle arrow height muted count_rule count_at count input_value computed_value equation value_at value rows past_the_input
 past_the_input-rows = refl
 
@@ -129,7 +130,7 @@ through_mode mode = world 2 Speakers (constant (pos 2) ∷ constant (pos 4) ∷ 
     (join 1 0 3 0 ∷ join 2 0 3 1 ∷ join 3 0 4 0 ∷ join 4 0 0 0 ∷ [])
     (line 1 param.Offset (pos 2) ∷ line 2 param.Offset (pos 4) ∷ line 4 param.Gain (pos 16777216) ∷ []) (started 1 ∷ started 2 ∷ [])
 
-changed_mode : rows 2 (through_mode Max ∷ through_mode ClampedMax ∷ []) (record { channels = 2; length = 4; rate = 48000 })
-    ≡ (pos 2 ∷ pos 4 ∷ []) ∷ (pos 2 ∷ pos 4 ∷ []) ∷ (pos 3 ∷ pos 3 ∷ []) ∷ (pos 3 ∷ pos 3 ∷ []) ∷ []
+changed_mode : rows 2 (through_mode Max ∷ through_mode ClampedMax ∷ []) (record { channels = 2; length = 3; rate = 48000 })
+    ≡ (pos 2 ∷ pos 4 ∷ []) ∷ (pos 2 ∷ pos 4 ∷ []) ∷ (pos 3 ∷ pos 3 ∷ []) ∷ []
 unfolding context world join constant splitter merger through line started at_height before at_moment state reaches form mix intrinsic_at ends in_cycle arrow height muted count_rule count_at count input_value computed_value equation value_at value rows through_mode
 changed_mode = refl

@@ -11,6 +11,7 @@ use Rattle.channel_mix.specs.Mixing.{form, mix}
 use Rattle.param_events.specs.Timeline.{IsTimeline}
 use Rattle.param_events.specs.Values.{value_at as intrinsic_at}
 use Rattle.param_events.specs.declared.events.Event.TheVariants.{Set, Ramp, Curve}
+use Rattle.sched_source.specs.Schedule.{constant as unstarted}
 use Rattle.node_table.specs.Nodes.{destination_of, node_of}
 use Rattle.node_table.specs.declared.kinds.Kind.TheVariants.{Constant, Gain}
 use Rattle.node_table.specs.declared.nodes.Node.{Node}
@@ -71,7 +72,7 @@ line : ℕ → ParamName → ℤ → Param
 line n name base = record { id = param_id n name; line = record { base = base; slot = base; events = [] }; rate = A }
 
 started : ℕ → Play
-started n = record (not_started n) { sched = record (not_started n).sched { start = Some 0 } }
+started n = not_started n (record unstarted { start = Some 0 })
 
 -- ---- a gain whose parameter is fed with what it has already keeps to the range of a value: half of it is heard
 

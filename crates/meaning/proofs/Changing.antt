@@ -1,6 +1,6 @@
 -- What a change leaves of a world.
-use Rattle.std.proofs.Common.{ℕ, zero, suc, ◌≡◌, ◌<◌, ◌+◌, ◌++◌, length, length-append, List, slice_index_or, slice_get, slice_set, map, [], ◌∷◌, Bool, true, false, Some, None, ◌==◌, inl, inr, refl, sym, ◌∙◌, ap, subst, arith, Option, Result, Ok, Err}
-use Rattle.std.specs.Prelude.{if◌then◌else◌, option_and_then, OnOk, OnErr}
+use Rattle.std.proofs.Common.{ℕ, zero, suc, ◌≡◌, ◌<◌, ◌≤◌, ◌+◌, ◌++◌, length, length-append, List, slice_index_or, slice_get, slice_set, map, [], ◌∷◌, Bool, true, false, Some, None, ◌==◌, inl, inr, refl, sym, ◌∙◌, ap, arith, Option, Result, Ok, Err}
+use Rattle.std.specs.Prelude.{if◌then◌else◌, OnOk, OnErr}
 use Rattle.std.specs.List.{position}
 use Rattle.std.specs.Result.{result_err}
 use Rattle.std.proofs.lemmas.Bool.Decides.{nat_tests}
@@ -11,12 +11,13 @@ use Rattle.wa_base.specs.declared.memory.NoMemory.{NoMemory}
 use Rattle.wa_base.specs.declared.exceptions.Exc.TheVariants.{NotSupported}
 use Rattle.wa_base.specs.declared.features.Feature.TheVariants.{DestinationOutput}
 use Rattle.law_base.specs.Members.{IsIn, AreDistinct}
-use Rattle.node_table.specs.Kinds.{is_destination, IsInEntry}
-use Rattle.node_table.specs.Nodes.{creation_refusal, node_of, with_count, with_mode, with_interp, count_refusal, mode_refusal, interp_refusal, changed_at, refusal_at}
+use Rattle.node_table.specs.Kinds.{is_destination, range_refusal, IsInEntry}
+use Rattle.node_table.specs.Nodes.{creation_refusal, node_of, changed_at, refusal_at}
+use Rattle.node_table.proofs.NodeLists.{second_none}
 use Rattle.node_table.proofs.Setting.{length-changed}
 use Rattle.node_table.specs.declared.kinds.Kind.{Kind}
+use Rattle.node_table.specs.declared.kinds.Kind.TheVariants.{Buffer}
 use Rattle.node_table.specs.declared.nodes.Node.{Node}
-use Rattle.sched_source.specs.Schedule.{Schedule, started, stopped}
 use Rattle.conn_graph.specs.declared.edges.Edge.{Edge}
 use Rattle.conn_graph.specs.Graph.{connect_refusal}
 use Rattle.meaning.specs.declared.change.Change.{Change}
@@ -26,16 +27,21 @@ use Rattle.meaning.specs.declared.world.World.{World}
 use Rattle.meaning.specs.declared.scheds.Play.{Play}
 use Rattle.meaning.specs.World.{plain, no_node, find_play}
 use Rattle.meaning.specs.Validity.{IsValid, play_nodes}
-use Rattle.meaning.specs.Changes.{created, edited, rescheduled, with_nodes, changed_play, output_refusal, play_refusal, refusal, changed, IsNamed, Accepts, Grows, ChangeLaw}
-use Rattle.meaning.proofs.Valid.{plain_valid, connected_valid, disconnected_valid, with_play_valid}
-use Rattle.meaning.proofs.Creating.{created_valid, node_kept, node_new}
-use Rattle.meaning.proofs.Setting.{KeepsNode, set_valid, changed_same, node_keeps_count, node_keeps_mode, node_keeps_interp}
+use Rattle.meaning.specs.Plays.{new_source}
+use Rattle.meaning.specs.Sources.{changed_play, resampling_refusal}
+use Rattle.meaning.specs.Changes.{created, edited, new_play, with_nodes, output_refusal, refusal, changed, attribute_set, attribute_refusal, IsNamed, Accepts, Grows, ChangeLaw}
+use Rattle.meaning.proofs.Valid.{plain_valid, connected_valid, disconnected_valid}
+use Rattle.meaning.proofs.Creating.{created_valid, node_kept, node_new, IsNewPlay}
+use Rattle.meaning.proofs.Setting.{KeepsNode, set_valid, changed_same, node_keeps_attribute}
+use Rattle.meaning.proofs.Sourcing.{new_play_is, new_source_is, source_edited_valid, acquired_keeps}
+use Rattle.meaning.proofs.Buffering.{buffers_edited_valid, buffers_stay}
 
 -- the nodes stay, and so does what was there before a new one
-pub grows_still : (now : ℕ) (old new : World) → (IsValid old → IsValid new) → new.spec ≡ old.spec → new.nodes ≡ old.nodes → Grows now old new
-grows_still now old new valid spec nodes = record {
+pub grows_still : (now : ℕ) (old new : World) → (IsValid old → IsValid new) → new.spec ≡ old.spec → length old.store ≤ length new.store → new.nodes ≡ old.nodes → Grows now old new
+grows_still now old new valid spec buffers nodes = record {
   valid = valid;
   spec = spec;
+  buffers = buffers;
   stays = λ i l. record {
     there = rw nodes l;
     kind = ap (λ (ns : List Node). (slice_index_or ns i no_node).kind) nodes;
@@ -45,13 +51,15 @@ grows_still now old new valid spec nodes = record {
 }
 
 pub grows_same : (now : ℕ) (w : World) → Grows now w w
-grows_same now w = grows_still now w w (λ v. v) refl refl
+grows_same now w = grows_still now w w (λ v. v) refl (omega arith) refl
 
 -- one node more
-pub grows_created : (w : World) (kind : Kind) (now : ℕ) → is_destination kind ≡ false → IsInEntry kind → creation_refusal w.nodes kind ≡ None → Grows now w (created w kind now)
-grows_created w kind now other entry accepted = record {
-  valid = λ valid. created_valid w kind now valid other entry accepted;
+pub grows_created : (w : World) (kind : Kind) (play : Option Play) → IsNewPlay w kind play → (now : ℕ) → is_destination kind ≡ false → IsInEntry kind → creation_refusal w.nodes kind ≡ None
+    → Grows now w (created w kind play now)
+grows_created w kind play new now other entry accepted = record {
+  valid = λ valid. created_valid w kind play new now valid other entry accepted;
   spec = refl;
+  buffers = omega arith;
   stays = λ i l.
       let kept = node_kept w.nodes (node_of kind now) i l in
       record { there = omega (arith, long); kind = ap (λ (n : Node). n.kind) kept; birth = ap (λ (n : Node). n.attrs.birth) kept };
@@ -68,6 +76,7 @@ grows_set : (w : World) (node now : ℕ) (refusal : Node → Option Exc) (change
 grows_set w node now refusal change keeps fine = record {
   valid = λ valid. set_valid w node refusal change keeps fine valid;
   spec = refl;
+  buffers = omega arith;
   stays = λ i l. record {
     there = omega (arith, same);
     kind = changed_same (λ (n : Node). n.kind) change keeps.kind node w.nodes i;
@@ -88,17 +97,16 @@ unrefused from w e accepted = by_test (from == 0) accepted
     by_test false is = is
 
 pub edited_grows : (w : World) (now : ℕ) (e : Edit) → IsNamed w e → refusal w e ≡ None → IsValid w → Grows now w (edited w now e)
-edited_grows w now (edit.Create kind) named accepted valid = grows_created w kind now named.0 named.1 accepted
+edited_grows w now (edit.Create kind) named accepted valid = grows_created w kind (new_play (length w.nodes) kind) (new_play_is w kind) now named.0 named.1 accepted
+edited_grows w now (edit.CreateBufferSource rate buffer points) named accepted valid =
+    grows_created w (Buffer rate) (Some (new_source (length w.nodes) rate buffer points)) (new_source_is w rate buffer points named) now refl tt
+    (second_none (resampling_refusal w buffer) _ (second_none (range_refusal (Buffer rate)) _ accepted))
 edited_grows w now (edit.Connect edge) named accepted valid =
-    grows_still now w _ (λ v. connected_valid w edge v named.0 named.1 (unrefused edge.from.0 w edge accepted)) refl refl
-edited_grows w now (edit.Disconnect from form) named accepted valid = grows_still now w _ (λ v. disconnected_valid w from.0 form v) refl refl
-edited_grows w now (edit.Start node when offset duration) named accepted valid =
-    grows_still now w _ (λ v. with_play_valid w node.0 (λ play. rescheduled play (started play.sched now when offset duration 0)) (λ p. refl) v) refl refl
-edited_grows w now (edit.Stop node when) named accepted valid =
-    grows_still now w _ (λ v. with_play_valid w node.0 (λ play. rescheduled play (stopped play.sched now when)) (λ p. refl) v) refl refl
-edited_grows w now (edit.SetCount node count) named accepted valid = grows_set w node.0 now (count_refusal count) (with_count count) (node_keeps_count count) accepted
-edited_grows w now (edit.SetMode node mode) named accepted valid = grows_set w node.0 now (mode_refusal mode) (with_mode mode) (node_keeps_mode mode) accepted
-edited_grows w now (edit.SetInterp node interp) named accepted valid = grows_set w node.0 now (interp_refusal interp) (with_interp interp) (node_keeps_interp interp) accepted
+    grows_still now w _ (λ v. connected_valid w edge v named.0 named.1 (unrefused edge.from.0 w edge accepted)) refl (omega arith) refl
+edited_grows w now (edit.Disconnect from form) named accepted valid = grows_still now w _ (λ v. disconnected_valid w from.0 form v) refl (omega arith) refl
+edited_grows w now (edit.Source node e) named accepted valid = grows_still now w _ (λ v. source_edited_valid w now node.0 e named accepted v) refl (acquired_keeps w.store e (find_play w.scheds.items node.0)).long refl
+edited_grows w now (edit.Attribute node e) named accepted valid = grows_set w node.0 now (attribute_refusal e) (attribute_set e) (node_keeps_attribute e) accepted
+edited_grows w now (edit.Buffers e) named accepted valid = grows_still now w _ (λ v. buffers_edited_valid w e named accepted v) refl (buffers_stay w.store e) refl
 
 pub changed_grows : ChangeLaw
 changed_grows w change valid accepts = edited_grows w change.time change.edit accepts.named accepts.accepted valid
@@ -153,19 +161,6 @@ rescheduled_is w node place play new change once found there is =
 pub not_refused : {X : Type 0} (r : Result (Unit {0}) Exc) → result_err r ≡ None → OnOk r X → X
 not_refused (Ok v) none done = done
 not_refused (Err exc) none done = absurd cc
-
--- the refusals of the schedule that is found
-pub found_refusal : (plays : List Play) (node place : ℕ) (play : Play) (others : Schedule → Option Exc) → position (λ (p : Play). p.id.0 == node) plays ≡ Some place → slice_get plays place ≡ Some play
-    → play_refusal (find_play plays node) others ≡ None → others play.sched ≡ None
-found_refusal plays node place play others found there accepted =
-    let at_place = subst (λ o. play_refusal (option_and_then (slice_get plays) o) others ≡ None) found accepted in
-    subst (λ o. play_refusal o others ≡ None) there at_place
-
--- a source that no schedule is found for is refused
-pub none_found : (plays : List Play) (node : ℕ) (others : Schedule → Option Exc) → position (λ (p : Play). p.id.0 == node) plays ≡ None → play_refusal (find_play plays node) others ≡ None → ⊥
-none_found plays node others none accepted =
-    let refused = subst (λ o. play_refusal (option_and_then (slice_get plays) o) others ≡ None) none accepted in
-    absurd cc
 
 -- a world after a change that was made, or was not for want of memory
 pub follows : (w new : World) (change : Change) (r : Result (Unit {0}) NoMemory) → IsValid w → Accepts (plain w) change → OnOk r (plain new ≡ changed (plain w) change) → OnErr r (plain new ≡ plain w)

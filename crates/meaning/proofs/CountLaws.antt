@@ -12,7 +12,7 @@ use Rattle.law_base.proofs.HeightLaws.{settled}
 use Rattle.law_base.proofs.SchemeLaws.{before_is, before_none, moment-zero, moment-suc}
 use Rattle.node_table.specs.Kinds.{is_delay_kind}
 use Rattle.node_table.specs.declared.kinds.Kind.{Kind}
-use Rattle.node_table.specs.declared.kinds.Kind.TheVariants.{Destination, Constant, Gain, Splitter, Merger}
+use Rattle.node_table.specs.declared.kinds.Kind.TheVariants.{Destination, Constant, Buffer, Gain, Splitter, Merger}
 use Rattle.conn_graph.specs.Ends.{ends, arrow, height, muted}
 use Rattle.meaning.specs.declared.world.World.{World}
 use Rattle.meaning.specs.World.{kind_of}
@@ -25,6 +25,7 @@ module _ (q : ℕ) (w : World) (joined : IsJoined w) (j : ℕ) (past : ℕ → C
       → count_by_kind q w j past s k e ≡ count_by_kind q w j past t k e
   by_kind e s t h agree Destination is = same_channels w joined s t e (plain_end w joined e h (ap is_delay_kind is)) agree 0
   by_kind e s t h agree (Constant offset) is = refl
+  by_kind e s t h agree (Buffer rate) is = refl
   by_kind e s t h agree (Gain gain) is = same_channels w joined s t e (plain_end w joined e h (ap is_delay_kind is)) agree 0
   by_kind e s t h agree (Splitter ports) is = refl
   by_kind e s t h agree (Merger ports) is = refl
@@ -60,6 +61,7 @@ count_rule_alike q w j past past' = fun_ext (λ now. fun_ext (λ e. ap (λ n. if
     by_kind : (now : Counts) (e : End) (k : Kind) → count_by_kind q w j past now k e ≡ count_by_kind q w j past' now k e
     by_kind now e Destination = refl
     by_kind now e (Constant offset) = refl
+    by_kind now e (Buffer rate) = refl
     by_kind now e (Gain gain) = refl
     by_kind now e (Splitter ports) = refl
     by_kind now e (Merger ports) = refl

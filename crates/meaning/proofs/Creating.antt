@@ -1,6 +1,6 @@
 -- A world stays valid when a node is created.
-use Rattle.std.proofs.Common.{ℕ, ◌≡◌, ◌+◌, ◌<◌, length, List, [], ◌∷◌, ◌++◌, map, slice_index_or, ℤ, Bool, true, false, Option, Some, None, inl, inr, refl, sym, ◌∙◌, ap, arith, subst, length-append}
-use Rattle.std.specs.Prelude.{◌↔◌, IsSome}
+use Rattle.std.proofs.Common.{ℕ, ◌≡◌, ◌+◌, ◌<◌, length, List, [], ◌∷◌, ◌++◌, map, slice_index_or, ℤ, true, false, Option, Some, None, inl, inr, refl, sym, ◌∙◌, ap, arith, subst, length-append}
+use Rattle.std.specs.Prelude.{◌↔◌, IsSome, is_some}
 use Rattle.std.proofs.lemmas.Bool.{cases_lt}
 use Rattle.std.proofs.lemmas.List.{append-nil, get_or_append_left, length-map, map-append}
 use Rattle.std.proofs.Math.Seq.{get_or-append_seam}
@@ -13,7 +13,7 @@ use Rattle.param_events.specs.Timeline.{IsTimeline}
 use Rattle.node_table.specs.Kinds.{is_destination, param_base, IsInEntry}
 use Rattle.node_table.specs.Nodes.{creation_refusal, node_of}
 use Rattle.node_table.specs.declared.kinds.Kind.{Kind}
-use Rattle.node_table.specs.declared.kinds.Kind.TheVariants.{Destination, Constant, Gain, Splitter, Merger}
+use Rattle.node_table.specs.declared.kinds.Kind.TheVariants.{Destination, Constant, Buffer, Gain, Splitter, Merger}
 use Rattle.node_table.specs.declared.nodes.Node.{Node}
 use Rattle.node_table.proofs.NodeLists.{room_left, ports_of_accepted, created_node}
 use Rattle.conn_graph.proofs.Graphs.{IsGraph-with_node}
@@ -21,8 +21,8 @@ use Rattle.meaning.specs.declared.world.World.{World}
 use Rattle.meaning.specs.declared.params.Param.{Param}
 use Rattle.meaning.specs.declared.scheds.Play.{Play}
 use Rattle.meaning.specs.World.{no_node, is_source, param_id}
-use Rattle.meaning.specs.Validity.{IsValid, HasNodes, HasParams, HasScheds, ports_of, param_ids, play_nodes}
-use Rattle.meaning.specs.Changes.{param_of, new_params, new_plays, created}
+use Rattle.meaning.specs.Validity.{IsValid, IsPlayOf, HasNodes, HasParams, HasScheds, ports_of, param_ids, play_nodes}
+use Rattle.meaning.specs.Changes.{param_of, new_params, plays_of, created}
 
 -- a node that was there, and the new one
 pub node_kept : (nodes : List Node) (n : Node) (i : ℕ) → i < length nodes → slice_index_or (nodes ++ n ∷ []) i no_node ≡ slice_index_or nodes i no_node
@@ -80,6 +80,11 @@ new_each node (Gain gain) param.Gain = ((λ h. refl), (λ h. inl refl))
 new_each node (Gain gain) param.DelayTime = ((λ h. let e = new_id_name node param.Gain param.DelayTime gain h in absurd cc), (λ h. absurd (none_there h)))
 new_each node (Gain gain) param.PlaybackRate = ((λ h. let e = new_id_name node param.Gain param.PlaybackRate gain h in absurd cc), (λ h. absurd (none_there h)))
 new_each node (Gain gain) param.Detune = ((λ h. let e = new_id_name node param.Gain param.Detune gain h in absurd cc), (λ h. absurd (none_there h)))
+new_each node (Buffer rate) param.Offset = ((λ h. absurd h), (λ h. absurd (none_there h)))
+new_each node (Buffer rate) param.Gain = ((λ h. absurd h), (λ h. absurd (none_there h)))
+new_each node (Buffer rate) param.DelayTime = ((λ h. absurd h), (λ h. absurd (none_there h)))
+new_each node (Buffer rate) param.PlaybackRate = ((λ h. absurd h), (λ h. absurd (none_there h)))
+new_each node (Buffer rate) param.Detune = ((λ h. absurd h), (λ h. absurd (none_there h)))
 new_each node (Splitter ports) param.Offset = ((λ h. absurd h), (λ h. absurd (none_there h)))
 new_each node (Splitter ports) param.Gain = ((λ h. absurd h), (λ h. absurd (none_there h)))
 new_each node (Splitter ports) param.DelayTime = ((λ h. absurd h), (λ h. absurd (none_there h)))
@@ -96,33 +101,48 @@ new_line node None x is = absurd is
 new_line node (Some p) x (inl same) = subst (λ (y : Param). IsTimeline y.line.events) (sym same) (record { begun = tt; ordered = tt })
 new_line node (Some p) x (inr none) = absurd none
 
-new_still : (node : ℕ) (p : Option (ParamName × ℤ)) (x : Param) → IsIn x (new_params node p) → x.line.events ≡ []
-new_still node None x is = absurd is
-new_still node (Some p) x (inl same) = ap (λ (y : Param). y.line.events) same
-new_still node (Some p) x (inr none) = absurd none
-
 ids_once : (node : ℕ) (ids : List ParamId) (p : Option (ParamName × ℤ)) → AreDistinct ids → ((id : ParamId) → IsIn id ids → id.node.0 < node) → AreDistinct (ids ++ new_ids node p)
 ids_once node ids None once low = rw (append-nil ids) once
 ids_once node ids (Some (name, value)) once low = distinct_more ids (param_id node name) once (λ h. let l = low (param_id node name) h in absurd (omega arith))
 
--- the nodes of its schedules
-abbrev new_numbers : ℕ → Bool → List ℕ
-new_numbers node source = map (λ (p : Play). p.id.0) (new_plays node source)
+-- the node of its schedule
+abbrev new_numbers : Option Play → List ℕ
+new_numbers play = map (λ (p : Play). p.id.0) (plays_of play)
 
-number_is : (node i : ℕ) (source : Bool) → IsIn i (new_numbers node source) → (i ≡ node) × (source ≡ true)
-number_is node i true (inl same) = (same, refl)
-number_is node i true (inr none) = absurd none
-number_is node i false none = absurd none
+-- a schedule is one of a node
+abbrev pub IsOwn : ℕ → Option Play → Type 0
+IsOwn node play = (p : Play) → play ≡ Some p → p.id.0 ≡ node
 
-number_there : (node : ℕ) (source : Bool) → source ≡ true → IsIn node (new_numbers node source)
-number_there node true is = inl refl
-number_there node false is = absurd cc
+number_is : (node i : ℕ) (play : Option Play) → IsOwn node play → IsIn i (new_numbers play) → (i ≡ node) × (is_some play ≡ true)
+number_is node i (Some p) own (inl same) = (same ∙ own p refl, refl)
+number_is node i (Some p) own (inr none) = absurd none
+number_is node i None own none = absurd none
 
-numbers_once : (node : ℕ) (numbers : List ℕ) (source : Bool) → AreDistinct numbers → ((i : ℕ) → IsIn i numbers → i < node) → AreDistinct (numbers ++ new_numbers node source)
-numbers_once node numbers false once low = rw (append-nil numbers) once
-numbers_once node numbers true once low = distinct_more numbers node once (λ h. let l = low node h in absurd (omega arith))
+number_there : (node : ℕ) (play : Option Play) → IsOwn node play → is_some play ≡ true → IsIn node (new_numbers play)
+number_there node (Some p) own is = inl (sym (own p refl))
+number_there node None own is = absurd cc
 
-module _ (w : World) (kind : Kind) (now : ℕ) (valid : IsValid w) (other : is_destination kind ≡ false) (entry : IsInEntry kind) (accepted : creation_refusal w.nodes kind ≡ None) where
+numbers_once : (node : ℕ) (numbers : List ℕ) (play : Option Play) → IsOwn node play → AreDistinct numbers → ((i : ℕ) → IsIn i numbers → i < node) → AreDistinct (numbers ++ new_numbers play)
+numbers_once node numbers None own once low = rw (append-nil numbers) once
+numbers_once node numbers (Some p) own once low = distinct_more numbers p.id.0 once (λ h. let l = low p.id.0 h in let is = own p refl in absurd (omega arith))
+
+the_play : (play : Option Play) (p : Play) → IsIn p (plays_of play) → play ≡ Some p
+the_play (Some q) p (inl same) = ap Some (sym same)
+the_play (Some q) p (inr none) = absurd none
+the_play None p none = absurd none
+
+number_in : (plays : List Play) (p : Play) → IsIn p plays → IsIn p.id.0 (map (λ (q : Play). q.id.0) plays)
+number_in [] p is = absurd is
+number_in (q ∷ qs) p (inl same) = inl (ap (λ (x : Play). x.id.0) same)
+number_in (q ∷ qs) p (inr is) = inr (number_in qs p is)
+
+-- what is asked of the schedule of a new node
+pub record IsNewPlay (w : World) (kind : Kind) (play : Option Play) : Type 0 where
+  pub own : IsOwn (length w.nodes) play
+  pub sources : is_some play ≡ is_source kind
+  pub fits : (p : Play) → play ≡ Some p → IsPlayOf w.store kind p
+
+module _ (w : World) (kind : Kind) (play : Option Play) (new : IsNewPlay w kind play) (now : ℕ) (valid : IsValid w) (other : is_destination kind ≡ false) (entry : IsInEntry kind) (accepted : creation_refusal w.nodes kind ≡ None) where
   abbrev count : ℕ
   count = length w.nodes
 
@@ -141,7 +161,7 @@ module _ (w : World) (kind : Kind) (now : ℕ) (valid : IsValid w) (other : is_d
   last : (i : ℕ) → i ≡ count → slice_index_or more i no_node ≡ node_of kind now
   last i is = ap (λ k. slice_index_or more k no_node) is ∙ node_new w.nodes (node_of kind now)
 
-  created_nodes : HasNodes (created w kind now)
+  created_nodes : HasNodes (created w kind play now)
   created_nodes = record {
     some = let l = valid.nodes.some in omega (arith, long);
     few = omega (arith, long, few);
@@ -152,7 +172,7 @@ module _ (w : World) (kind : Kind) (now : ℕ) (valid : IsValid w) (other : is_d
     ];
   }
 
-  ids : param_ids (created w kind now) ≡ param_ids w ++ new_ids count (param_of kind)
+  ids : param_ids (created w kind play now) ≡ param_ids w ++ new_ids count (param_of kind)
   ids = map-append (λ (x : Param). x.id) w.params.items (new_params count (param_of kind))
 
   created_each : (i : ℕ) (name : ParamName) → Place w.nodes i → IsIn (param_id i name) (param_ids w ++ new_ids count (param_of kind)) ↔ IsSome (param_base (slice_index_or more i no_node).kind name)
@@ -173,7 +193,7 @@ module _ (w : World) (kind : Kind) (now : ℕ) (valid : IsValid w) (other : is_d
         (λ h. IsIn-append_second _ _ _ (subst (λ j. IsIn (param_id j name) (new_ids count (param_of kind))) (sym is) ((new_each count kind name).1 h))),
       )
 
-  created_params : HasParams (created w kind now)
+  created_params : HasParams (created w kind play now)
   created_params = record {
     each = λ i name below. rw ids (created_each i name (place_of w.nodes (node_of kind now) i below));
     there = λ id is. elim (IsIn-append (param_ids w) _ _ (subst (λ xs. IsIn id xs) ids is)) [
@@ -182,31 +202,37 @@ module _ (w : World) (kind : Kind) (now : ℕ) (valid : IsValid w) (other : is_d
     ];
     once = rw ids (ids_once count (param_ids w) (param_of kind) valid.params.once valid.params.there);
     lines = λ p is. elim (IsIn-append w.params.items _ p is) [ inl k ↦ valid.params.lines p k | inr k ↦ new_line count (param_of kind) p k ];
-    still = λ p is. elim (IsIn-append w.params.items _ p is) [ inl k ↦ valid.params.still p k | inr k ↦ new_still count (param_of kind) p k ];
     targets = λ e id is leads. rw ids (IsIn-append_first _ _ _ (valid.params.targets e id is leads));
   }
 
-  numbers : play_nodes (created w kind now) ≡ play_nodes w ++ new_numbers count (is_source kind)
-  numbers = map-append (λ (x : Play). x.id.0) w.scheds.items (new_plays count (is_source kind))
+  numbers : play_nodes (created w kind play now) ≡ play_nodes w ++ new_numbers play
+  numbers = map-append (λ (x : Play). x.id.0) w.scheds.items (plays_of play)
 
-  from_numbers : (i : ℕ) → IsIn i (play_nodes w ++ new_numbers count (is_source kind)) → (i < length more) × (is_source (slice_index_or more i no_node).kind ≡ true)
+  from_numbers : (i : ℕ) → IsIn i (play_nodes w ++ new_numbers play) → (i < length more) × (is_source (slice_index_or more i no_node).kind ≡ true)
   from_numbers i h = elim (IsIn-append (play_nodes w) _ _ h) [
     | inl k ↦ let there = (valid.scheds.each i).0 k in (let l = there.0 in omega (arith, long), rw (kept i there.0) there.1)
-    | inr k ↦ let is = number_is count i (is_source kind) k in (let e = is.0 in omega (arith, long), rw (last i is.0) is.1)
+    | inr k ↦ let is = number_is count i play new.own k in (let e = is.0 in omega (arith, long), rw (last i is.0) (sym new.sources ∙ is.1))
   ]
 
-  to_numbers : (i : ℕ) → Place w.nodes i → is_source (slice_index_or more i no_node).kind ≡ true → IsIn i (play_nodes w ++ new_numbers count (is_source kind))
+  to_numbers : (i : ℕ) → Place w.nodes i → is_source (slice_index_or more i no_node).kind ≡ true → IsIn i (play_nodes w ++ new_numbers play)
   to_numbers i (there l) source = IsIn-append_first _ _ _ ((valid.scheds.each i).1 (l, rw (kept i l) at source))
   to_numbers i (newest is) source =
-      IsIn-append_second _ _ _ (subst (λ j. IsIn j (new_numbers count (is_source kind))) (sym is) (number_there count (is_source kind) (rw (last i is) at source)))
+      IsIn-append_second _ _ _ (subst (λ j. IsIn j (new_numbers play)) (sym is) (number_there count play new.own (new.sources ∙ (rw (last i is) at source))))
 
-  created_scheds : HasScheds (created w kind now)
+  created_kinds : (p : Play) → IsIn p (w.scheds.items ++ plays_of play) → IsPlayOf w.store (slice_index_or more p.id.0 no_node).kind p
+  created_kinds p is = elim (IsIn-append w.scheds.items _ p is) [
+    | inl k ↦ subst (λ (n : Node). IsPlayOf w.store n.kind p) (sym (kept p.id.0 ((valid.scheds.each p.id.0).0 (number_in w.scheds.items p k)).0)) (valid.scheds.kinds p k)
+    | inr k ↦ subst (λ (n : Node). IsPlayOf w.store n.kind p) (sym (last p.id.0 (new.own p (the_play play p k)))) (new.fits p (the_play play p k))
+  ]
+
+  created_scheds : HasScheds (created w kind play now)
   created_scheds = record {
     each = λ i. rw numbers ((λ h. from_numbers i h), (λ h. to_numbers i (place_of w.nodes (node_of kind now) i h.0) h.1));
-    once = rw numbers (numbers_once count (play_nodes w) (is_source kind) valid.scheds.once (λ i h. ((valid.scheds.each i).0 h).0));
+    once = rw numbers (numbers_once count (play_nodes w) play new.own valid.scheds.once (λ i h. ((valid.scheds.each i).0 h).0));
+    kinds = created_kinds;
   }
 
-  pub created_valid : IsValid (created w kind now)
+  pub created_valid : IsValid (created w kind play now)
   created_valid = record {
     spec = valid.spec;
     nodes = created_nodes;
@@ -214,4 +240,5 @@ module _ (w : World) (kind : Kind) (now : ℕ) (valid : IsValid w) (other : is_d
     ports = ap (λ ps. ps ++ ports_of (node_of kind now) ∷ []) valid.ports ∙ sym (map-append ports_of w.nodes (node_of kind now ∷ []));
     params = created_params;
     scheds = created_scheds;
+    store = valid.store;
   }

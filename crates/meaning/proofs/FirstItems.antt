@@ -1,6 +1,6 @@
 -- Where items have keys of their own, one that has a key is the first that has it.
 use Rattle.std.proofs.Common.{ℕ, zero, suc, ◌≡◌, ◌+◌, ◌<◌, length, List, [], ◌∷◌, map, slice_index_or, Bool, true, false, cond, not, None, Some, inl, inr, refl, sym, ◌∙◌, ap, ap₂, arith, subst}
-use Rattle.std.specs.Prelude.{◌==◌, nat_lt}
+use Rattle.std.specs.Prelude.{◌==◌, nat_lt, slice_get, unwrap_or}
 use Rattle.std.specs.List.{position, position_or_len}
 use Rattle.std.proofs.lemmas.Bool.Decides.{nat_tests}
 use Rattle.wa_base.specs.declared.graph_names.ParamId.{ParamId}
@@ -51,3 +51,9 @@ param_position w valid id i d l t = position_is (λ (p : Param). p.id) (λ p. sa
 pub play_position : (w : World) → IsValid w → (node i : ℕ) (d : Play) → i < length w.scheds.items → ((slice_index_or w.scheds.items i d).id.0 == node) ≡ true
     → position (λ (p : Play). p.id.0 == node) w.scheds.items ≡ Some i
 play_position w valid node i d l t = position_is (λ (p : Play). p.id.0) (λ p. p.id.0 == node) node (λ p h. let same : p.id.0 ≡ node = grind (arith, nat_tests) in same) w.scheds.items i d valid.scheds.once l t
+
+-- an item at a place is in the list
+pub found_is_in : {X : Type 0} (xs : List X) (i : ℕ) (x : X) → slice_get xs i ≡ Some x → IsIn x xs
+found_is_in [] i x is = absurd cc
+found_is_in (y ∷ xs) zero x is = inl (let found : Some y ≡ Some x = is in sym (ap (λ o. unwrap_or o x) found))
+found_is_in (y ∷ xs) (suc i) x is = inr (found_is_in xs i x is)

@@ -12,5 +12,10 @@ pub mod Ranges
 pub mod Valid
 pub mod Creating
 pub mod Setting
+pub mod FirstItems
+pub mod Sourcing
+pub mod Buffering
+pub mod Loops
 pub mod Changing
 pub mod Rows
+pub mod BufferRows

@@ -12,7 +12,7 @@ use Rattle.law_base.specs.Heights.{at_height, at_moment, before}
 use Rattle.law_base.proofs.SchemeLaws.{moment-zero}
 use Rattle.node_table.specs.Kinds.{is_delay_kind, remembers}
 use Rattle.node_table.specs.declared.kinds.Kind.{Kind}
-use Rattle.node_table.specs.declared.kinds.Kind.TheVariants.{Destination, Constant, Gain, Splitter, Merger}
+use Rattle.node_table.specs.declared.kinds.Kind.TheVariants.{Destination, Constant, Buffer, Gain, Splitter, Merger}
 use Rattle.conn_graph.specs.Graph.{Connections}
 use Rattle.conn_graph.specs.Ends.{writer_of, reader_of, input_end, ends, is_delay, height, muted}
 use Rattle.conn_graph.proofs.EndLaws.{has_end}
@@ -32,6 +32,7 @@ use Rattle.meaning.proofs.TapeLaws.{world_after, count_before, quantum_below, fr
 writer_carries : (q : ℕ) (kind : Kind) → is_delay_kind kind ≡ true → (tape : List World) (i f : ℕ) → value q tape f (writer_of i) 0 ≡ heard q tape i f
 writer_carries q Destination is tape i f = absurd cc
 writer_carries q (Constant offset) is tape i f = absurd cc
+writer_carries q (Buffer rate) is tape i f = absurd cc
 writer_carries q (Gain gain) is tape i f = absurd cc
 writer_carries q (Splitter ports) is tape i f = absurd cc
 writer_carries q (Merger ports) is tape i f = absurd cc

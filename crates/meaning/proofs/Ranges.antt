@@ -1,18 +1,29 @@
 -- Every value is a Fix.
-use Rattle.std.proofs.Common.{ℕ, zero, suc, ℤ, pos, negsuc, List, Bool, true, false, subst, sym, arith}
+use Rattle.std.proofs.Common.{ℕ, zero, suc, ◌-◌, ◌*◌, ◌/◌, ℤ, pos, negsuc, List, [], ◌∷◌, take, drop, All, Bool, true, false, Option, None, Some, slice_index_or, subst, sym, arith}
 use Rattle.std.proofs.lemmas.Int.{ints}
-use Rattle.std.specs.Prelude.{if◌then◌else◌, nat_lt}
+use Rattle.std.proofs.lemmas.List.Elements.{All-head, All-tail, All-nil}
+use Rattle.std.specs.Prelude.{if◌then◌else◌, nat_lt, slice_get}
+use Rattle.std.specs.Option.{option_map_or}
 use Rattle.wa_base.specs.Numbers.{IsFix, sat}
+use Rattle.wa_base.specs.declared.graph_names.BufId.{BufId}
 use Rattle.wa_base.specs.declared.graph_names.End.{End}
 use Rattle.wa_base.specs.declared.graph_names.ParamId.{ParamId}
 use Rattle.wa_base.specs.declared.graph_names.ParamName.TheVariants as param
 use Rattle.law_base.proofs.SchemeLaws.{moment-zero}
+use Rattle.buffer_store.specs.declared.buffers.Buffer.{Buffer}
+use Rattle.buffer_store.specs.Buffers.{channel_of}
+use Rattle.sched_source.specs.declared.content.Content.{Content}
+use Rattle.sched_source.specs.Playback.{position}
+use Rattle.sched_source.specs.Schedule.{plays_at, sample_at}
 use Rattle.node_table.specs.declared.kinds.Kind.{Kind}
+use Rattle.node_table.specs.declared.kinds.Kind.TheVariants as kinds
 use Rattle.node_table.specs.declared.kinds.Kind.TheVariants.{Destination, Constant, Gain, Splitter, Merger}
 use Rattle.conn_graph.specs.Ends.{height, muted}
 use Rattle.meaning.specs.declared.world.World.{World}
-use Rattle.meaning.specs.World.{kind_of, param_id, nominal, sounds_at}
-use Rattle.meaning.specs.Counts.{input_channels}
+use Rattle.meaning.specs.declared.scheds.Play.{Play}
+use Rattle.meaning.specs.World.{kind_of, param_id, nominal, sounds_at, find_play, samples_in, played_at}
+use Rattle.meaning.specs.Counts.{world_in, input_channels}
+use Rattle.meaning.specs.Laws.{HasFixes}
 use Rattle.meaning.specs.Values.{Frame, Values, input_value, computed_value, value_by_kind, has_channel, equation, value_scheme, world_at, known_at, value_at, value, frames_before, frame_at}
 use Rattle.meaning.proofs.ValueLaws.{value_suc}
 
@@ -34,6 +45,7 @@ input_fix x n i c = either_fix (nat_lt c (input_channels x.world x.counts n i)) 
 nominal_fix : (kind : Kind) (x : ℤ) → IsFix (nominal kind x)
 nominal_fix Destination x = sat_fix x
 nominal_fix (Constant offset) x = sat_fix x
+nominal_fix (kinds.Buffer rate) x = sat_fix x
 nominal_fix (Gain gain) x = sat_fix x
 nominal_fix (Splitter ports) x = sat_fix x
 nominal_fix (Merger ports) x = sat_fix x
@@ -42,24 +54,78 @@ computed_fix : (q f : ℕ) (past : ℕ → Frame) (here : Frame) (id : ParamId) 
 unfolding computed_value
 computed_fix q f past here id = nominal_fix (kind_of here.world id.node.0) _
 
-kind_fix : (q f : ℕ) (past : ℕ → Frame) (here : Frame) (kind : Kind) (e : End) (o c : ℕ) → IsFix (value_by_kind q f past here kind e o c)
-kind_fix q f past here Destination e o c = input_fix here e.node.0 0 c
-kind_fix q f past here (Constant offset) e o c = either_fix (sounds_at here.world e.node.0 f) _ (pos 0) (computed_fix q f past here (param_id e.node.0 param.Offset)) zero_fix
-kind_fix q f past here (Gain gain) e o c = sat_fix _
-kind_fix q f past here (Splitter ports) e o c = input_fix here e.node.0 0 o
-kind_fix q f past here (Merger ports) e o c = input_fix here e.node.0 c 0
+-- ---- the samples of buffers
 
-equation_fix : (q f : ℕ) (past : ℕ → Frame) (here : Frame) (e : End) (o c : ℕ) → IsFix (equation q f past here e o c)
+abbrev AreFixesAt : List ℤ → Type 0
+AreFixesAt xs = (i : ℕ) → IsFix (slice_index_or xs i (pos 0))
+
+all_at : (xs : List ℤ) → All IsFix xs → AreFixesAt xs
+all_at [] all i = zero_fix
+all_at (x ∷ xs) all zero = All-head IsFix x xs all
+all_at (x ∷ xs) all (suc i) = all_at xs (All-tail IsFix x xs all) i
+
+take_at : (n : ℕ) (xs : List ℤ) → AreFixesAt xs → AreFixesAt (take n xs)
+take_at zero xs at i = zero_fix
+take_at (suc n) [] at i = zero_fix
+take_at (suc n) (x ∷ xs) at zero = at zero
+take_at (suc n) (x ∷ xs) at (suc i) = take_at n xs (λ j. at (suc j)) i
+
+drop_at : (n : ℕ) (xs : List ℤ) → AreFixesAt xs → AreFixesAt (drop n xs)
+drop_at zero xs at i = at i
+drop_at (suc n) [] at i = zero_fix
+drop_at (suc n) (x ∷ xs) at i = drop_at n xs (λ j. at (suc j)) i
+
+abbrev IsSampled : Buffer → Type 0
+IsSampled b = All IsFix b.samples
+
+channel_fix : (store : List Buffer) (i channel : ℕ) → All IsSampled store → AreFixesAt (option_map_or (λ (b : Buffer). channel_of b channel) (slice_get store i) [])
+channel_fix [] i channel all = λ k. zero_fix
+channel_fix (b ∷ bs) zero channel all = take_at b.shape.frames (drop (channel * b.shape.frames) b.samples) (drop_at (channel * b.shape.frames) b.samples (all_at b.samples (All-head IsSampled b bs all)))
+channel_fix (b ∷ bs) (suc i) channel all = channel_fix bs i channel (All-tail IsSampled b bs all)
+
+samples_fix : (store : List Buffer) (buffer : Option BufId) (channel : ℕ) → All IsSampled store → AreFixesAt (samples_in store buffer channel)
+samples_fix store None channel all = λ i. zero_fix
+samples_fix store (Some buffer) channel all = channel_fix store buffer.0 channel all
+
+sample_fix : (content : Option Content) (start : Option ℕ) (channel : List ℤ) (f : ℕ) → AreFixesAt channel → IsFix (sample_at content start channel f)
+sample_fix (Some content) (Some start) channel f at = at (position content (f - start))
+sample_fix (Some content) None channel f at = zero_fix
+sample_fix None start channel f at = zero_fix
+
+found_fix : (play : Play → ℤ) (found : Option Play) → ((p : Play) → IsFix (play p)) → IsFix (option_map_or play found (pos 0))
+found_fix play None each = zero_fix
+found_fix play (Some p) each = each p
+
+played_fix : (w : World) (node c f : ℕ) → HasFixes w → IsFix (played_at w node c f)
+played_fix w node c f fixes = found_fix _ (find_play w.scheds.items node) (λ p.
+    either_fix (plays_at p.sched f) _ (pos 0) (sample_fix p.sched.content p.sched.start (samples_in w.store p.buffer c) f (samples_fix w.store p.buffer c fixes)) zero_fix)
+
+kind_fix : (q f : ℕ) (past : ℕ → Frame) (here : Frame) → HasFixes here.world → (kind : Kind) (e : End) (o c : ℕ) → IsFix (value_by_kind q f past here kind e o c)
+kind_fix q f past here fixes Destination e o c = input_fix here e.node.0 0 c
+kind_fix q f past here fixes (Constant offset) e o c = either_fix (sounds_at here.world e.node.0 f) _ (pos 0) (computed_fix q f past here (param_id e.node.0 param.Offset)) zero_fix
+kind_fix q f past here fixes (kinds.Buffer rate) e o c = played_fix here.world e.node.0 c f fixes
+kind_fix q f past here fixes (Gain gain) e o c = sat_fix _
+kind_fix q f past here fixes (Splitter ports) e o c = input_fix here e.node.0 0 o
+kind_fix q f past here fixes (Merger ports) e o c = input_fix here e.node.0 c 0
+
+equation_fix : (q f : ℕ) (past : ℕ → Frame) (here : Frame) → HasFixes here.world → (e : End) (o c : ℕ) → IsFix (equation q f past here e o c)
 unfolding equation
-equation_fix q f past here e o c =
+equation_fix q f past here fixes e o c =
     either_fix (muted here.world.graph.value e) (pos 0) _ zero_fix
-    (either_fix (has_channel here.world here.counts e o c) _ (pos 0) (kind_fix q f past here (kind_of here.world e.node.0) e o c) zero_fix)
+    (either_fix (has_channel here.world here.counts e o c) _ (pos 0) (kind_fix q f past here fixes (kind_of here.world e.node.0) e o c) zero_fix)
 
-height_fix : (q : ℕ) (tape : List World) (f h : ℕ) (e : End) (o c : ℕ) → IsFix (value_at q tape f h e o c)
+-- so are those of every world of a tape, and of the one past its end
+fixes_in : (tape : List World) (j : ℕ) → All HasFixes tape → HasFixes (world_in tape j)
+fixes_in [] j all = All-nil IsSampled
+fixes_in (w ∷ ws) zero all = All-head HasFixes w ws all
+fixes_in (w ∷ ws) (suc j) all = fixes_in ws j (All-tail HasFixes w ws all)
+
+height_fix : (q : ℕ) (tape : List World) → All HasFixes tape → (f h : ℕ) (e : End) (o c : ℕ) → IsFix (value_at q tape f h e o c)
 unfolding value_at
-height_fix q tape f zero e o c = subst (λ (v : Values). IsFix (v e o c)) (sym (moment-zero (value_scheme q) (known_at q tape) f)) zero_fix
-height_fix q tape f (suc h) e o c = subst (λ (v : Values). IsFix (v e o c)) (sym (value_suc q tape f h)) (equation_fix q f (frames_before q tape f) (frame_at q tape f h) e o c)
+height_fix q tape all f zero e o c = subst (λ (v : Values). IsFix (v e o c)) (sym (moment-zero (value_scheme q) (known_at q tape) f)) zero_fix
+height_fix q tape all f (suc h) e o c =
+    subst (λ (v : Values). IsFix (v e o c)) (sym (value_suc q tape f h)) (equation_fix q f (frames_before q tape f) (frame_at q tape f h) (fixes_in tape (f / q) all) e o c)
 
-pub value_fix : (q : ℕ) (tape : List World) (f : ℕ) (e : End) (o c : ℕ) → IsFix (value q tape f e o c)
+pub value_fix : (q : ℕ) (tape : List World) → All HasFixes tape → (f : ℕ) (e : End) (o c : ℕ) → IsFix (value q tape f e o c)
 unfolding value
-value_fix q tape f e o c = height_fix q tape f (height (world_at q tape f).graph.value) e o c
+value_fix q tape all f e o c = height_fix q tape all f (height (world_at q tape f).graph.value) e o c

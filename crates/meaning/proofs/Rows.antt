@@ -12,6 +12,7 @@ use Rattle.law_base.specs.Heights.{at_height, before, at_moment, state}
 use Rattle.law_base.specs.Reaching.{reaches}
 use Rattle.channel_mix.specs.Mixing.{form, mix}
 use Rattle.param_events.specs.Values.{value_at as intrinsic_at}
+use Rattle.sched_source.specs.Schedule.{constant as unstarted}
 use Rattle.param_events.specs.declared.events.Event.TheVariants.{Set, Ramp}
 use Rattle.node_table.specs.declared.kinds.Kind.TheVariants.{Constant, Gain}
 use Rattle.node_table.specs.declared.nodes.Node.{Node}
@@ -55,7 +56,7 @@ line n name base = record { id = param_id n name; line = record { base = base; s
 
 -- a source with a start and a stop
 abbrev begun : ℕ → Option ℕ → Option ℕ → Play
-begun n start stop = record (not_started n) { sched = record (not_started n).sched { start = start; stop = stop } }
+begun n start stop = not_started n (record unstarted { start = start; stop = stop })
 
 -- a source that starts, and one that stops too
 started : ℕ → ℕ → Play

@@ -16,7 +16,7 @@ use Rattle.channel_mix.specs.Counts.{input_count}
 use Rattle.channel_mix.specs.Mixing.{mix, fan_in}
 use Rattle.node_table.specs.Kinds.{is_delay_kind, outputs}
 use Rattle.node_table.specs.declared.kinds.Kind.{Kind}
-use Rattle.node_table.specs.declared.kinds.Kind.TheVariants.{Destination, Constant, Gain, Splitter, Merger}
+use Rattle.node_table.specs.declared.kinds.Kind.TheVariants.{Destination, Constant, Buffer, Gain, Splitter, Merger}
 use Rattle.conn_graph.specs.declared.edges.Edge.{Edge}
 use Rattle.conn_graph.specs.Graph.{edges_to_input, edges_to_param}
 use Rattle.conn_graph.specs.Ends.{writer_of, reader_of, ends, is_delay, input_end, arrow, muted}
@@ -138,6 +138,7 @@ module _ (q : ℕ) (some : 0 < q) (w : World) (joined : IsJoined w) (f : ℕ) (p
   by_kind : (o c : ℕ) (k : Kind) → kind_of w e.node.0 ≡ k → value_by_kind q f past (here w m s) k e o c ≡ value_by_kind q f past' (here w n t) k e o c
   by_kind o c Destination is = input_like w joined m n s t e (plain_end w joined e h (ap is_delay_kind is)) agree_counts agree 0 c
   by_kind o c (Constant offset) is = ap (λ x. if sounds_at w e.node.0 f then x else pos 0) (computed_like (plain_reader w joined e h (ap is_delay_kind is)) param.Offset)
+  by_kind o c (Buffer rate) is = refl
   by_kind o c (Gain gain) is =
       ap (λ x. scale x (computed_value q f past (here w m s) (param_id e.node.0 param.Gain))) (input_like w joined m n s t e (plain_end w joined e h (ap is_delay_kind is)) agree_counts agree 0 c)
       ∙ ap (scale (input_value (here w n t) e.node.0 0 c)) (computed_like (plain_reader w joined e h (ap is_delay_kind is)) param.Gain)

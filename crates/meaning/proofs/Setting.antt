@@ -14,8 +14,10 @@ use Rattle.conn_graph.specs.declared.edges.Ports.{Ports}
 use Rattle.wa_base.specs.declared.contexts.ContextSpec.{ContextSpec}
 use Rattle.meaning.specs.declared.world.World.{World}
 use Rattle.meaning.specs.World.{no_node, is_source, param_id}
-use Rattle.meaning.specs.Validity.{IsValid, IsDestination, ports_of, param_ids, play_nodes}
-use Rattle.meaning.specs.Changes.{with_nodes}
+use Rattle.meaning.specs.Validity.{IsValid, IsDestination, IsPlayOf, ports_of, param_ids, play_nodes}
+use Rattle.meaning.specs.declared.change.AttributeEdit.{AttributeEdit}
+use Rattle.meaning.specs.declared.change.AttributeEdit.TheVariants as attribute
+use Rattle.meaning.specs.Changes.{with_nodes, attribute_set, attribute_refusal}
 
 -- what a change that is not refused leaves of a node
 pub record KeepsNode (refusal : Node → Option Exc) (change : Node → Node) : Type 0 where
@@ -71,13 +73,14 @@ set_valid w node refusal change keeps fine valid = record {
     there = λ id is. rw same (valid.params.there id is);
     once = valid.params.once;
     lines = valid.params.lines;
-    still = valid.params.still;
     targets = valid.params.targets;
   };
   scheds = record {
     each = λ i. subst (λ (k : Kind). IsIn i (play_nodes w) ↔ (i < length (changed_at node change w.nodes)) × (is_source k ≡ true)) (sym (kinds i)) (rw same (valid.scheds.each i));
     once = valid.scheds.once;
+    kinds = λ p is. subst (λ (k : Kind). IsPlayOf w.store k p) (sym (kinds p.id.0)) (valid.scheds.kinds p is);
   };
+  store = valid.store;
 }
   where
     same : length (changed_at node change w.nodes) ≡ length w.nodes
@@ -88,7 +91,7 @@ set_valid w node refusal change keeps fine valid = record {
 
 -- ---- each attribute
 
-pub node_keeps_count : (count : ℕ) → KeepsNode (count_refusal count) (with_count count)
+node_keeps_count : (count : ℕ) → KeepsNode (count_refusal count) (with_count count)
 node_keeps_count count = record {
   kind = λ n. refl;
   birth = λ n. refl;
@@ -98,7 +101,7 @@ node_keeps_count count = record {
   created = (keeps_count count).created;
 }
 
-pub node_keeps_mode : (mode : Mode) → KeepsNode (mode_refusal mode) (with_mode mode)
+node_keeps_mode : (mode : Mode) → KeepsNode (mode_refusal mode) (with_mode mode)
 node_keeps_mode mode = record {
   kind = λ n. refl;
   birth = λ n. refl;
@@ -106,10 +109,16 @@ node_keeps_mode mode = record {
   created = (keeps_mode mode).created;
 }
 
-pub node_keeps_interp : (interp : Interp) → KeepsNode (interp_refusal interp) (with_interp interp)
+node_keeps_interp : (interp : Interp) → KeepsNode (interp_refusal interp) (with_interp interp)
 node_keeps_interp interp = record {
   kind = λ n. refl;
   birth = λ n. refl;
   destination = λ spec n fine is. record { kind = is.kind; count = is.count; mode = is.mode };
   created = (keeps_interp interp).created;
 }
+
+-- and of any of them
+pub node_keeps_attribute : (e : AttributeEdit) → KeepsNode (attribute_refusal e) (attribute_set e)
+node_keeps_attribute (attribute.Count count) = node_keeps_count count
+node_keeps_attribute (attribute.Mode mode) = node_keeps_mode mode
+node_keeps_attribute (attribute.Interp interp) = node_keeps_interp interp

@@ -8,7 +8,7 @@ use Rattle.std.proofs.lemmas.Bool.Decides.{nat_tests}
 use Rattle.law_base.proofs.Tests.{and_both}
 use Rattle.node_table.specs.Kinds.{is_delay_kind, remembers, lasting}
 use Rattle.node_table.specs.declared.kinds.Kind.{Kind}
-use Rattle.node_table.specs.declared.kinds.Kind.TheVariants.{Destination, Constant, Gain, Splitter, Merger}
+use Rattle.node_table.specs.declared.kinds.Kind.TheVariants.{Destination, Constant, Buffer, Gain, Splitter, Merger}
 use Rattle.node_table.specs.declared.nodes.Node.{Node}
 use Rattle.conn_graph.specs.Ends.{writer_of}
 use Rattle.meaning.specs.declared.world.World.{World}
@@ -32,6 +32,7 @@ delay_lasts k k' same = ap is_delay_kind same
 pub delay_remembers : (k : Kind) → is_delay_kind k ≡ true → remembers k ≡ true
 delay_remembers Destination is = absurd cc
 delay_remembers (Constant offset) is = absurd cc
+delay_remembers (Buffer rate) is = absurd cc
 delay_remembers (Gain gain) is = absurd cc
 delay_remembers (Splitter ports) is = absurd cc
 delay_remembers (Merger ports) is = absurd cc

@@ -1,11 +1,13 @@
 -- Worlds stay valid, whatever schedules and connections they get.
-use Rattle.std.proofs.Common.{ℕ, ◌≡◌, ◌<◌, ◌==◌, length, List, [], ◌∷◌, map, filter, Bool, true, false, not, None, inl, inr, ◌⊎◌, refl, sym, ◌∙◌, ap}
+use Rattle.std.proofs.Common.{ℕ, ◌≡◌, ◌<◌, ◌==◌, length, List, [], ◌∷◌, map, filter, Bool, true, false, not, None, inl, inr, ◌⊎◌, refl, sym, ◌∙◌, ap, subst, arith}
 use Rattle.std.specs.Prelude.{if◌then◌else◌, nat_le}
+use Rattle.std.proofs.lemmas.Bool.Decides.{nat_tests}
 use Rattle.std.proofs.lemmas.List.{length-map}
 use Rattle.wa_base.specs.declared.graph_names.NodeId.{NodeId}
 use Rattle.wa_base.specs.declared.graph_names.ParamId.{ParamId}
 use Rattle.law_base.specs.Members.{IsIn}
 use Rattle.law_base.proofs.Members.{IsIn-filter, IsIn-append}
+use Rattle.buffer_store.specs.Buffers.{AreBuffers}
 use Rattle.conn_graph.specs.declared.edges.Edge.{Edge}
 use Rattle.conn_graph.specs.declared.edges.Form.{Form}
 use Rattle.conn_graph.specs.declared.edges.Target.{Target}
@@ -15,14 +17,15 @@ use Rattle.conn_graph.specs.Graph.{Connections, IsGraph, has_edge, with_edge, co
 use Rattle.conn_graph.proofs.Graphs.{IsGraph-with_edge, IsGraph-filter, allowed}
 use Rattle.meaning.specs.declared.world.World.{World}
 use Rattle.meaning.specs.declared.scheds.Play.{Play}
-use Rattle.meaning.specs.World.{plain}
-use Rattle.meaning.specs.Validity.{IsValid, ports_of, param_ids, play_nodes}
-use Rattle.meaning.specs.Changes.{with_graph, with_plays, with_play, changed_play, IsTarget}
+use Rattle.meaning.specs.World.{plain, kind_of}
+use Rattle.meaning.specs.Validity.{IsValid, IsPlayOf, ports_of, param_ids, play_nodes}
+use Rattle.meaning.specs.Changes.{with_graph, IsTarget}
+use Rattle.meaning.specs.Sources.{with_plays, with_play, changed_play}
 
--- validity rests on what a world has, and of its schedules on whose they are
+-- validity rests on what a world has, on whose its schedules are, and on what they play
 pub valid_of : (w w' : World) → w'.spec ≡ w.spec → w'.nodes ≡ w.nodes → w'.graph.value ≡ w.graph.value → w'.params.items ≡ w.params.items → play_nodes w' ≡ play_nodes w
-    → IsValid w → IsValid w'
-valid_of w w' spec nodes graph params plays valid = record {
+    → ((p : Play) → IsIn p w'.scheds.items → IsPlayOf w'.store (kind_of w' p.id.0) p) → AreBuffers w'.store → IsValid w → IsValid w'
+valid_of w w' spec nodes graph params plays kinds store valid = record {
   spec = rw spec valid.spec;
   nodes = record {
     some = rw nodes valid.nodes.some;
@@ -37,22 +40,23 @@ valid_of w w' spec nodes graph params plays valid = record {
     there = λ id is. rw nodes (valid.params.there id (rw params at is));
     once = rw params valid.params.once;
     lines = λ p is. valid.params.lines p (rw params at is);
-    still = λ p is. valid.params.still p (rw params at is);
     targets = λ e id is to. rw params (valid.params.targets e id (rw graph at is) to);
   };
-  scheds = record { each = λ i. rw (plays, nodes) (valid.scheds.each i); once = rw plays valid.scheds.once };
+  scheds = record { each = λ i. rw (plays, nodes) (valid.scheds.each i); once = rw plays valid.scheds.once; kinds = kinds };
+  store = store;
 }
 
 pub plain_valid : (w : World) → IsValid w → IsValid (plain w)
-plain_valid w valid = valid_of w (plain w) refl refl refl refl refl valid
+plain_valid w valid = valid_of w (plain w) refl refl refl refl refl valid.scheds.kinds valid.store valid
 
 pub valid_plain : (w : World) → IsValid (plain w) → IsValid w
-valid_plain w valid = valid_of (plain w) w refl refl refl refl refl valid
+valid_plain w valid = valid_of (plain w) w refl refl refl refl refl valid.scheds.kinds valid.store valid
 
 -- ---- schedules
 
-pub with_plays_valid : (w : World) (plays : List Play) → map (λ (p : Play). p.id.0) plays ≡ play_nodes w → IsValid w → IsValid (with_plays w plays)
-with_plays_valid w plays same valid = valid_of w (with_plays w plays) refl refl refl refl same valid
+pub with_plays_valid : (w : World) (plays : List Play) → map (λ (p : Play). p.id.0) plays ≡ play_nodes w → ((p : Play) → IsIn p plays → IsPlayOf w.store (kind_of w p.id.0) p)
+    → IsValid w → IsValid (with_plays w plays)
+with_plays_valid w plays same kinds valid = valid_of w (with_plays w plays) refl refl refl refl same kinds valid.store valid
 
 -- a changed schedule is that of the same source
 pub changed_nodes : (node : ℕ) (change : Play → Play) → ((p : Play) → (change p).id ≡ p.id) → (plays : List Play)
@@ -64,8 +68,24 @@ changed_nodes node change same (p ∷ ps) = let here = by_test (p.id.0 == node) 
     by_test true = ap (λ (id : NodeId). id.0) (same p)
     by_test false = refl
 
-pub with_play_valid : (w : World) (node : ℕ) (change : Play → Play) → ((p : Play) → (change p).id ≡ p.id) → IsValid w → IsValid (with_play w node change)
-with_play_valid w node change same valid = with_plays_valid w (map (changed_play node change) w.scheds.items) (changed_nodes node change same w.scheds.items) valid
+-- a property of every schedule holds after one is changed, where the change keeps it
+pub each_changed : (P : Play → Type 0) (node : ℕ) (change : Play → Play) (plays : List Play) → ((p : Play) → IsIn p plays → P p)
+    → ((p : Play) → IsIn p plays → p.id.0 ≡ node → P p → P (change p)) → (p : Play) → IsIn p (map (changed_play node change) plays) → P p
+each_changed P node change [] all keeps p is = absurd is
+each_changed P node change (q ∷ qs) all keeps p (inl same) = subst P (sym same) (by_test (q.id.0 == node) refl)
+  where
+    by_test : (b : Bool) → (q.id.0 == node) ≡ b → P (if b then change q else q)
+    by_test true is = keeps q (inl refl) (grind (arith, nat_tests)) (all q (inl refl))
+    by_test false is = all q (inl refl)
+each_changed P node change (q ∷ qs) all keeps p (inr is) = each_changed P node change qs (λ x h. all x (inr h)) (λ x h. keeps x (inr h)) p is
+
+pub with_play_valid : (w : World) (node : ℕ) (change : Play → Play) → ((p : Play) → (change p).id ≡ p.id)
+    → ((p : Play) → IsIn p w.scheds.items → p.id.0 ≡ node → IsPlayOf w.store (kind_of w p.id.0) p → IsPlayOf w.store (kind_of w p.id.0) (change p)) → IsValid w → IsValid (with_play w node change)
+with_play_valid w node change same keeps valid =
+    with_plays_valid w (map (changed_play node change) w.scheds.items) (changed_nodes node change same w.scheds.items)
+    (each_changed (λ p. IsPlayOf w.store (kind_of w p.id.0) p) node change w.scheds.items valid.scheds.kinds
+    (λ p is at kept. subst (λ (id : NodeId). IsPlayOf w.store (kind_of w id.0) (change p)) (sym (same p)) (keeps p is at kept)))
+    valid
 
 -- ---- connections
 
@@ -76,8 +96,9 @@ with_graph_valid w g valid graph nodes targets = record {
   nodes = record { some = valid.nodes.some; few = valid.nodes.few; first = valid.nodes.first; others = valid.nodes.others };
   graph = graph;
   ports = nodes ∙ valid.ports;
-  params = record { each = valid.params.each; there = valid.params.there; once = valid.params.once; lines = valid.params.lines; still = valid.params.still; targets = targets };
-  scheds = record { each = valid.scheds.each; once = valid.scheds.once };
+  params = record { each = valid.params.each; there = valid.params.there; once = valid.params.once; lines = valid.params.lines; targets = targets };
+  scheds = record { each = valid.scheds.each; once = valid.scheds.once; kinds = valid.scheds.kinds };
+  store = valid.store;
 }
 
 -- a graph has a node for each node of its world

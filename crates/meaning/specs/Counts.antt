@@ -1,14 +1,14 @@
 -- How many channels each end has in each quantum.
-use Rattle.std.specs.Prelude.{ℕ, List, map, slice_index_or, nat_lt, if◌then◌else◌}
+use Rattle.std.specs.Prelude.{ℕ, ◌*◌, List, map, slice_index_or, nat_lt, if◌then◌else◌}
 use Rattle.wa_base.specs.declared.graph_names.End.{End}
 use Rattle.law_base.specs.Heights.{Scheme, at_moment}
 use Rattle.channel_mix.specs.Counts.{input_count}
 use Rattle.node_table.specs.declared.kinds.Kind.{Kind}
-use Rattle.node_table.specs.declared.kinds.Kind.TheVariants.{Destination, Constant, Gain, Splitter, Merger}
+use Rattle.node_table.specs.declared.kinds.Kind.TheVariants.{Destination, Constant, Buffer, Gain, Splitter, Merger}
 use Rattle.conn_graph.specs.Graph.{edges_to_input}
 use Rattle.conn_graph.specs.Ends.{reader_of, height, muted}
 use Rattle.meaning.specs.declared.world.World.{World}
-use Rattle.meaning.specs.World.{plain, no_world, node_at, kind_of}
+use Rattle.meaning.specs.World.{plain, no_world, node_at, kind_of, played_channels}
 
 -- the world in force in a quantum
 abbrev pub world_in : List World → ℕ → World
@@ -25,6 +25,7 @@ input_channels w counts n i = input_count (node_at w n).attrs.mode (node_at w n)
 abbrev pub count_by_kind : ℕ → World → ℕ → (ℕ → Counts) → Counts → Kind → End → ℕ
 count_by_kind q w j past now Destination e = input_channels w now e.node.0 0
 count_by_kind q w j past now (Constant offset) e = 1
+count_by_kind q w j past now (Buffer rate) e = played_channels w e.node.0 q (q * j)
 count_by_kind q w j past now (Gain gain) e = input_channels w now e.node.0 0
 count_by_kind q w j past now (Splitter outputs) e = 1
 count_by_kind q w j past now (Merger inputs) e = inputs

@@ -4,6 +4,7 @@ use Rattle.wa_base.specs.Numbers.{IsFix}
 use Rattle.wa_base.specs.declared.graph_names.End.{End}
 use Rattle.wa_base.specs.declared.graph_names.ParamId.{ParamId}
 use Rattle.law_base.specs.Members.{IsIn}
+use Rattle.buffer_store.specs.declared.buffers.Buffer.{Buffer}
 use Rattle.conn_graph.specs.Ends.{ends, height}
 use Rattle.conn_graph.specs.Orders.{IsLegalOrder}
 use Rattle.meaning.specs.declared.world.World.{World}
@@ -39,9 +40,13 @@ FixpointLaw = (q : ℕ) → 0 < q → q ≤ 1024 → (tape : List World) → All
     (equation q f (frames_before q tape f) (frame q tape f) e ≡ value q tape f e)
     × (count_rule q (world_at q tape f) (f / q) (counts_before q tape (f / q)) (count q tape (f / q)) e ≡ count q tape (f / q) e)
 
--- Every value is a Fix.
+-- the samples of its buffers are Fixes
+abbrev pub HasFixes : World → Type 0
+HasFixes w = All (λ (b : Buffer). All IsFix b.samples) w.store
+
+-- Every value is a Fix, where the samples of the buffers are.
 abbrev pub RangeLaw : Type 0
-RangeLaw = (q : ℕ) (tape : List World) (f : ℕ) (e : End) (o c : ℕ) → IsFix (value q tape f e o c)
+RangeLaw = (q : ℕ) (tape : List World) → All HasFixes tape → (f : ℕ) (e : End) (o c : ℕ) → IsFix (value q tape f e o c)
 
 -- Going once along any legal order gives the values.
 abbrev pub OrderLaw : Type 0

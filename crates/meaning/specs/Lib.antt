@@ -8,5 +8,7 @@ pub mod Rendered
 pub mod Orders
 pub mod Blocks
 pub mod Pasts
+pub mod Plays
+pub mod Sources
 pub mod Changes
 pub mod Laws

@@ -1,5 +1,5 @@
 -- What holds of every world of a session.
-use Rattle.std.specs.Prelude.{ℕ, ◌≡◌, ◌↔◌, ◌<◌, ◌≤◌, List, [], length, map, IsSome, true}
+use Rattle.std.specs.Prelude.{ℕ, ◌≡◌, ◌↔◌, ◌<◌, ◌≤◌, List, length, map, None, Some, IsSome, IfSome, true}
 use Rattle.wa_base.specs.Contexts.{IsSupported}
 use Rattle.wa_base.specs.declared.contexts.ContextSpec.{ContextSpec}
 use Rattle.wa_base.specs.declared.graph_names.ParamId.{ParamId}
@@ -7,9 +7,13 @@ use Rattle.wa_base.specs.declared.graph_names.ParamName.{ParamName}
 use Rattle.wa_base.specs.declared.graph_names.Mode.TheVariants.{Explicit}
 use Rattle.law_base.specs.Members.{IsIn, AreDistinct}
 use Rattle.param_events.specs.Timeline.{IsTimeline}
+use Rattle.sched_source.specs.declared.content.Content.{Content}
+use Rattle.buffer_store.specs.declared.buffers.Buffer.{Buffer as AudioBuffer}
+use Rattle.buffer_store.specs.Buffers.{AreBuffers}
 use Rattle.node_table.specs.Kinds.{inputs, outputs, is_delay_kind, param_base}
 use Rattle.node_table.specs.Nodes.{IsCreated}
-use Rattle.node_table.specs.declared.kinds.Kind.TheVariants.{Destination}
+use Rattle.node_table.specs.declared.kinds.Kind.{Kind}
+use Rattle.node_table.specs.declared.kinds.Kind.TheVariants.{Destination, Constant, Buffer, Gain, Splitter, Merger}
 use Rattle.node_table.specs.declared.nodes.Node.{Node}
 use Rattle.conn_graph.specs.declared.edges.Edge.{Edge}
 use Rattle.conn_graph.specs.declared.edges.Ports.{Ports}
@@ -19,7 +23,7 @@ use Rattle.conn_graph.specs.Ends.{is_delay}
 use Rattle.meaning.specs.declared.world.World.{World}
 use Rattle.meaning.specs.declared.params.Param.{Param}
 use Rattle.meaning.specs.declared.scheds.Play.{Play}
-use Rattle.meaning.specs.World.{node_at, kind_of, is_source, param_id}
+use Rattle.meaning.specs.World.{node_at, kind_of, is_source, param_id, frames_in}
 
 -- node 0 is the destination, whose channelCount and mode are fixed
 pub record IsDestination (spec : ContextSpec) (node : Node) : Type 0 where
@@ -46,17 +50,38 @@ pub record HasParams (w : World) : Type 0 where
   pub there : (id : ParamId) → IsIn id (param_ids w) → id.node.0 < length w.nodes
   pub once : AreDistinct (param_ids w)
   pub lines : (p : Param) → IsIn p w.params.items → IsTimeline p.line.events
-  -- no operation that is built schedules an event
-  pub still : (p : Param) → IsIn p w.params.items → p.line.events ≡ []
   pub targets : (e : Edge) (id : ParamId) → IsIn e w.graph.value.edges → e.to ≡ to_param id → IsIn id (param_ids w)
 
 abbrev pub play_nodes : World → List ℕ
 play_nodes w = map (λ (p : Play). p.id.0) w.scheds.items
 
--- each source has a schedule, once, and no other node has one
+-- a constant source has no buffer
+pub record IsConstantPlay (play : Play) : Type 0 where
+  pub content : play.sched.content ≡ None
+  pub buffer : play.buffer ≡ None
+
+-- a buffer source has a buffer of the store or none, and once it is started it plays so many frames
+pub record IsBufferPlay (store : List AudioBuffer) (rate : ℕ) (play : Play) : Type 0 where
+  pub content : Content
+  pub plays : play.sched.content ≡ Some content
+  pub rate_of : content.rate ≡ rate
+  pub there : IfSome play.buffer (λ b. b.0 < length store)
+  pub length_of : IsSome play.sched.start → content.length ≡ frames_in store play.buffer
+
+-- a schedule is one of a node's kind
+abbrev pub IsPlayOf : List AudioBuffer → Kind → Play → Type 0
+IsPlayOf store Destination play = ⊥
+IsPlayOf store (Constant offset) play = IsConstantPlay play
+IsPlayOf store (Buffer rate) play = IsBufferPlay store rate play
+IsPlayOf store (Gain gain) play = ⊥
+IsPlayOf store (Splitter ports) play = ⊥
+IsPlayOf store (Merger ports) play = ⊥
+
+-- each source has a schedule of its kind, once, and no other node has one
 pub record HasScheds (w : World) : Type 0 where
   pub each : (i : ℕ) → IsIn i (play_nodes w) ↔ (i < length w.nodes) × (is_source (kind_of w i) ≡ true)
   pub once : AreDistinct (play_nodes w)
+  pub kinds : (p : Play) → IsIn p w.scheds.items → IsPlayOf w.store (kind_of w p.id.0) p
 
 pub record IsValid (w : World) : Type 0 where
   pub spec : IsSupported w.spec
@@ -65,6 +90,7 @@ pub record IsValid (w : World) : Type 0 where
   pub ports : w.graph.value.nodes ≡ map ports_of w.nodes
   pub params : HasParams w
   pub scheds : HasScheds w
+  pub store : AreBuffers w.store
 
 -- What the laws use of it: each connection has its place, and the delays are those of the graph.
 pub record IsJoined (w : World) : Type 0 where

@@ -10,12 +10,12 @@ use Rattle.law_base.specs.Heights.{Scheme, at_moment}
 use Rattle.channel_mix.specs.Mixing.{mix, fan_in}
 use Rattle.node_table.specs.Kinds.{outputs}
 use Rattle.node_table.specs.declared.kinds.Kind.{Kind}
-use Rattle.node_table.specs.declared.kinds.Kind.TheVariants.{Destination, Constant, Gain, Splitter, Merger}
+use Rattle.node_table.specs.declared.kinds.Kind.TheVariants.{Destination, Constant, Buffer, Gain, Splitter, Merger}
 use Rattle.conn_graph.specs.declared.edges.Edge.{Edge}
 use Rattle.conn_graph.specs.Graph.{edges_to_input, edges_to_param}
 use Rattle.conn_graph.specs.Ends.{reader_of, height, muted}
 use Rattle.meaning.specs.declared.world.World.{World}
-use Rattle.meaning.specs.World.{no_world, node_at, kind_of, param_id, intrinsic_value, is_k_rate, nominal, sounds_at}
+use Rattle.meaning.specs.World.{no_world, node_at, kind_of, param_id, intrinsic_value, is_k_rate, nominal, sounds_at, played_at}
 use Rattle.meaning.specs.Counts.{Counts, world_in, input_channels, count}
 
 -- all values of one frame: for each end, output and channel
@@ -69,6 +69,7 @@ abbrev pub value_by_kind : ℕ → ℕ → (ℕ → Frame) → Frame → Kind �
 value_by_kind q f past here Destination e o c = input_value here e.node.0 0 c
 value_by_kind q f past here (Constant offset) e o c =
     if sounds_at here.world e.node.0 f then computed_value q f past here (param_id e.node.0 param.Offset) else pos 0
+value_by_kind q f past here (Buffer rate) e o c = played_at here.world e.node.0 c f
 value_by_kind q f past here (Gain gain) e o c =
     scale (input_value here e.node.0 0 c) (computed_value q f past here (param_id e.node.0 param.Gain))
 -- an output of a splitter is a channel of its input, and a channel of a merger is one of its inputs, mixed to one channel

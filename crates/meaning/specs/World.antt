@@ -1,8 +1,9 @@
 -- What is in force in one render quantum.
-use Rattle.std.specs.Prelude.{ℕ, ℤ, pos, List, [], slice_index_or, Bool, true, false, ◌==◌, slice_get, option_and_then, Option, None}
+use Rattle.std.specs.Prelude.{ℕ, ℤ, pos, List, [], slice_index_or, Bool, true, false, ◌==◌, if◌then◌else◌, slice_get, option_and_then, Option, None, Some, is_some}
 use Rattle.std.specs.List.{position}
 use Rattle.std.specs.Option.{option_map_or}
 use Rattle.wa_base.specs.Numbers.{sat}
+use Rattle.wa_base.specs.declared.graph_names.BufId.{BufId}
 use Rattle.wa_base.specs.declared.graph_names.ParamId.{ParamId}
 use Rattle.wa_base.specs.declared.graph_names.ParamName.{ParamName}
 use Rattle.wa_base.specs.declared.graph_names.Mode.TheVariants.{Explicit}
@@ -10,9 +11,12 @@ use Rattle.wa_base.specs.declared.graph_names.Interp.TheVariants.{Speakers}
 use Rattle.wa_base.specs.declared.graph_names.Rate.{Rate}
 use Rattle.wa_base.specs.declared.graph_names.Rate.TheVariants.{A, K}
 use Rattle.param_events.specs.Values.{value_at}
-use Rattle.sched_source.specs.Schedule.{plays_at}
+use Rattle.sched_source.specs.declared.content.Loop.{Loop}
+use Rattle.sched_source.specs.Schedule.{Schedule, plays_at, plays_in, played, constant, buffer}
+use Rattle.buffer_store.specs.declared.buffers.Buffer.{Buffer as AudioBuffer}
+use Rattle.buffer_store.specs.Buffers.{channel_of}
 use Rattle.node_table.specs.declared.kinds.Kind.{Kind}
-use Rattle.node_table.specs.declared.kinds.Kind.TheVariants.{Destination, Constant, Gain, Splitter, Merger}
+use Rattle.node_table.specs.declared.kinds.Kind.TheVariants.{Destination, Constant, Buffer, Gain, Splitter, Merger}
 use Rattle.node_table.specs.declared.nodes.Node.{Node}
 use Rattle.conn_graph.specs.Edges.{same_param}
 use Rattle.conn_graph.specs.Graph.{Connections, no_connections}
@@ -36,6 +40,7 @@ plain w = record {
   graph = bare w.graph.value;
   params = listed w.params.items;
   scheds = listed w.scheds.items;
+  store = w.store;
 }
 
 -- The world without nodes. It stands for the quanta past the end of a tape, and what is said of other worlds begins with it.
@@ -46,6 +51,7 @@ no_world = record {
   graph = bare no_connections;
   params = listed [];
   scheds = listed [];
+  store = [];
 }
 
 -- ---- its nodes
@@ -83,26 +89,65 @@ is_k_rate w id = option_map_or (λ p. is_k p.rate) (find_param w.params.items id
 abbrev pub nominal : Kind → ℤ → ℤ
 nominal Destination x = sat x
 nominal (Constant offset) x = sat x
+nominal (Buffer rate) x = sat x
 nominal (Gain gain) x = sat x
 nominal (Splitter ports) x = sat x
 nominal (Merger ports) x = sat x
 
 -- ---- its schedules
 
-abbrev pub is_source : Kind → Bool
-is_source Destination = false
-is_source (Constant offset) = true
-is_source (Gain gain) = false
-is_source (Splitter ports) = false
-is_source (Merger ports) = false
+abbrev pub no_loop : Loop
+no_loop = record { on = false; first = pos 0; end = pos 0 }
 
--- a source that was not started
-abbrev pub not_started : ℕ → Play
-not_started node = record { id = record { 0 = node }; sched = record { start = None; stop = None; ended = false } }
+-- the schedule with which a source is created
+abbrev pub first_sched : Kind → Option Schedule
+first_sched Destination = None
+first_sched (Constant offset) = Some constant
+first_sched (Buffer rate) = Some (buffer rate no_loop)
+first_sched (Gain gain) = None
+first_sched (Splitter ports) = None
+first_sched (Merger ports) = None
+
+-- what has a schedule is a source
+abbrev pub is_source : Kind → Bool
+is_source kind = is_some (first_sched kind)
+
+-- a source that was not started, and has no buffer
+abbrev pub not_started : ℕ → Schedule → Play
+not_started node sched = record { id = record { 0 = node }; sched = sched; buffer = None; was_set = false }
 
 abbrev pub find_play : List Play → ℕ → Option Play
 find_play plays node = option_and_then (slice_get plays) (position (λ p. p.id.0 == node) plays)
 
+-- ---- its buffers
+
+-- what of a buffer is asked for, if there is a buffer and it is in the store
+abbrev pub of_buffer : {A : Type 0} → (AudioBuffer → A) → A → List AudioBuffer → Option BufId → A
+of_buffer part other store buffer = option_map_or part (option_and_then (λ b. slice_get store b.0) buffer) other
+
+-- its number of frames
+abbrev pub frames_in : List AudioBuffer → Option BufId → ℕ
+frames_in = of_buffer (λ b. b.shape.frames) 0
+
+-- its number of channels
+abbrev pub channels_in : List AudioBuffer → Option BufId → ℕ
+channels_in = of_buffer (λ b. b.shape.channels) 1
+
+-- the samples of a channel of it
+abbrev pub samples_in : List AudioBuffer → Option BufId → ℕ → List ℤ
+samples_in store buffer channel = of_buffer (λ b. channel_of b channel) [] store buffer
+
+-- ---- what its sources do
+
 -- whether a source sounds at a frame
 abbrev pub sounds_at : World → ℕ → ℕ → Bool
 sounds_at w node frame = option_map_or (λ p. plays_at p.sched frame) (find_play w.scheds.items node) false
+
+-- what a source plays of channel c of its buffer at a frame
+abbrev pub played_at : World → ℕ → ℕ → ℕ → ℤ
+played_at w node c frame = option_map_or (λ p. played p.sched (samples_in w.store p.buffer c) frame) (find_play w.scheds.items node) (pos 0)
+
+-- how many channels it plays in so many frames from the first on: those of its buffer where it sounds in one of them
+abbrev pub played_channels : World → ℕ → ℕ → ℕ → ℕ
+played_channels w node count first =
+    option_map_or (λ p. if plays_in count p.sched first then channels_in w.store p.buffer else 1) (find_play w.scheds.items node) 1

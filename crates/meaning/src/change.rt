@@ -1,24 +1,33 @@
-ghost use Rattle.std.specs.Prelude.{◌≡◌, ◌<◌, ◌≤◌, ◌^◌, length, None, IfSome, IsOk, OnOk, OnErr, option_map};
-ghost use Rattle.law_base.specs.Members.{AreDistinct};
-ghost use Rattle.sched_source.specs.Schedule.{start_refusal, started, stop_refusal, stopped};
+ghost use Rattle.std.specs.Prelude.{◌≡◌, ◌<◌, ◌≤◌, ◌^◌, length, None, IfSome, IsOk, OnOk, OnErr};
+ghost use Rattle.std.specs.Result.{result_err};
+ghost use Rattle.node_table.specs.Nodes.{changed_at, refusal_at};
 ghost use Rattle.conn_graph.specs.Edges.{form_node};
 ghost use Rattle.conn_graph.specs.Graph.{connect_refusal, connected, disconnect_refusal, disconnected};
 ghost use Rattle.meaning.specs.Changes as changes;
-ghost use Rattle.meaning.specs.Validity.{IsValid, play_nodes};
-ghost use Rattle.meaning.specs.World.{plain, find_play};
+ghost use Rattle.meaning.specs.Validity.{IsValid};
+ghost use Rattle.meaning.specs.World.{plain};
 
+use crate::buffers::BufferEdit;
+use crate::sources::SourceEdit;
 use crate::world::World;
 use conn_graph::{Edge, Form};
 use node_table::Kind;
-use sched_source::Sched;
-use wa_base::{Exc, Feature, Interp, Mode, NoMemory, NodeId};
+use sched_source::Loop;
+use wa_base::{BufId, Exc, Feature, Interp, Mode, NoMemory, NodeId};
 
 /// What a control call edits in a world. It names nodes by their numbers.
-#[derive(Debug, Drop, PartialEq)]
+#[derive(Debug, Drop)]
 pub enum Edit {
     /// A node is created (the factory methods of BaseAudioContext).
     Create {
         kind: Kind,
+    },
+    /// A buffer source is created, which moves on by `rate` frames of its buffer in each frame
+    /// (BaseAudioContext.createBufferSource).
+    CreateBufferSource {
+        rate: u32,
+        buffer: Option<BufId>,
+        points: Loop,
     },
     /// A connection is made (AudioNode.connect).
     Connect {
@@ -29,37 +38,35 @@ pub enum Edit {
         from: NodeId,
         form: Form,
     },
-    /// A source is started (AudioScheduledSourceNode.start). Times are in frames.
-    Start {
+    /// A source is edited.
+    Source {
         node: NodeId,
-        when: i64,
-        offset: i64,
-        duration: Option<i64>,
+        edit: SourceEdit,
     },
-    /// A source is stopped (AudioScheduledSourceNode.stop).
-    Stop {
+    /// An attribute of a node is set.
+    Attribute {
         node: NodeId,
-        when: i64,
+        edit: AttributeEdit,
     },
-    /// channelCount is set (the attributes of AudioNode).
-    SetCount {
-        node: NodeId,
-        count: u32,
-    },
-    /// channelCountMode is set (the attributes of AudioNode).
-    SetMode {
-        node: NodeId,
-        mode: Mode,
-    },
-    /// channelInterpretation is set (the attributes of AudioNode).
-    SetInterp {
-        node: NodeId,
-        interp: Interp,
+    /// The buffers are edited.
+    Buffers {
+        edit: BufferEdit,
     },
 }
 
+/// How the inputs of a node are to be mixed (the attributes of AudioNode).
+#[derive(Clone, Copy, Debug)]
+pub enum AttributeEdit {
+    /// channelCount
+    Count(u32),
+    /// channelCountMode
+    Mode(Mode),
+    /// channelInterpretation
+    Interp(Interp),
+}
+
 /// An edit, and the time of the context at which its call came, in frames.
-#[derive(Debug, Drop, PartialEq)]
+#[derive(Debug, Drop)]
 pub struct Change {
     pub time: u64,
     pub edit: Edit,
@@ -74,70 +81,55 @@ impl World {
     {
         match edit {
             Edit::Create { kind } => self.nodes.creation_refusal(kind),
+            Edit::CreateBufferSource { rate, buffer, .. } => {
+                self.source_creation_refusal(*rate, *buffer)
+            }
             Edit::Connect { edge } => self.connect_refusal(*edge),
             Edit::Disconnect { from, form } => self.disconnect_refusal(*from, *form),
-            Edit::Start {
-                node,
-                when,
-                offset,
-                duration,
-            } => match self.schedule(*node) {
-                Some(sched) => sched.start_refusal(*when, *offset, *duration),
-                None => Some(Exc::WrongType),
-            },
-            Edit::Stop { node, when } => match self.schedule(*node) {
-                Some(sched) => sched.stop_refusal(*when),
-                None => Some(Exc::WrongType),
-            },
-            Edit::SetCount { node, count } => self.nodes.count_refusal(*node, *count),
-            Edit::SetMode { node, mode } => self.nodes.mode_refusal(*node, *mode),
-            Edit::SetInterp { node, interp } => self.nodes.interp_refusal(*node, *interp),
+            Edit::Source { node, edit } => self.source_refusal(*node, *edit),
+            Edit::Attribute { node, edit } => self.attribute_refusal(*node, *edit),
+            Edit::Buffers { edit } => self.buffers_refusal(edit),
         }
     }
 
     /// Makes a change that the world accepts. After `NoMemory` the world is as before.
-    pub fn apply(&mut self, change: &Change) -> Result<(), NoMemory>
+    pub fn apply(&mut self, change: Change) -> Result<(), NoMemory>
         requires valid { IsValid self.old }
-        requires accepted { changes.Accepts (plain self.old) change.now }
-        ensures ok { OnOk result (plain self.new ≡ changes.changed (plain self.old) change.now) }
+        requires accepted { changes.Accepts (plain self.old) change }
+        ensures ok { OnOk result (plain self.new ≡ changes.changed (plain self.old) change) }
         ensures err { OnErr result (plain self.new ≡ plain self.old) }
-        ensures grows { changes.Grows change.now.time (plain self.old) (plain self.new) }
+        ensures grows { changes.Grows change.time (plain self.old) (plain self.new) }
     {
-        self.edit(change.time, &change.edit)
+        self.edit(change.time, change.edit)
     }
 
     // Makes an edit that the world accepts.
-    fn edit(&mut self, now: u64, edit: &Edit) -> Result<(), NoMemory>
+    fn edit(&mut self, now: u64, edit: Edit) -> Result<(), NoMemory>
         requires valid { IsValid self.old }
         requires time { now ≤ 2 ^ 62 }
-        requires named { changes.IsNamed (plain self.old) edit.now }
-        requires accepted { changes.refusal (plain self.old) edit.now ≡ None }
-        ensures ok { OnOk result (plain self.new ≡ changes.edited (plain self.old) now edit.now) }
+        requires named { changes.IsNamed (plain self.old) edit }
+        requires accepted { changes.refusal (plain self.old) edit ≡ None }
+        ensures ok { OnOk result (plain self.new ≡ changes.edited (plain self.old) now edit) }
         ensures err { OnErr result (plain self.new ≡ plain self.old) }
     {
         match edit {
-            Edit::Create { kind } => self.create(kind.copy()?, now),
-            Edit::Connect { edge } => self.connect(*edge),
+            Edit::Create { kind } => self.create(kind, now),
+            Edit::CreateBufferSource {
+                rate,
+                buffer,
+                points,
+            } => self.create_source(rate, buffer, points, now),
+            Edit::Connect { edge } => self.connect(edge),
             Edit::Disconnect { from, form } => {
-                self.disconnect(*from, *form);
+                self.disconnect(from, form);
                 Ok(())
             }
-            Edit::Start {
-                node,
-                when,
-                offset,
-                duration,
-            } => {
-                self.start(now, *node, *when, *offset, *duration);
+            Edit::Source { node, edit } => {
+                self.edit_source(now, node, edit);
                 Ok(())
             }
-            Edit::Stop { node, when } => {
-                self.stop(now, *node, *when);
-                Ok(())
-            }
-            Edit::SetCount { node, count } => done(self.nodes.set_count(*node, *count)),
-            Edit::SetMode { node, mode } => done(self.nodes.set_mode(*node, *mode)),
-            Edit::SetInterp { node, interp } => done(self.nodes.set_interp(*node, *interp)),
+            Edit::Attribute { node, edit } => done(self.set_attribute(node, edit)),
+            Edit::Buffers { edit } => self.edit_buffers(edit),
         }
     }
 }
@@ -168,12 +160,15 @@ impl World {
         self.graph.disconnect_refusal(from, form)
     }
 
-    // The schedule of a source. Another node has none.
-    fn schedule(&self, node: NodeId) -> Option<Sched>
-        ensures { result ≡ option_map (λ play. play.sched) (find_play self.now.scheds.items node.0) }
+    fn attribute_refusal(&self, node: NodeId, edit: AttributeEdit) -> Option<Exc>
+        requires { node.0 < length self.now.nodes }
+        ensures { result ≡ refusal_at self.now.nodes node.0 (changes.attribute_refusal edit) }
     {
-        let place = self.scheds.find(node)?;
-        Some(self.scheds.at(place).sched)
+        match edit {
+            AttributeEdit::Count(count) => self.nodes.count_refusal(node, count),
+            AttributeEdit::Mode(mode) => self.nodes.mode_refusal(node, mode),
+            AttributeEdit::Interp(interp) => self.nodes.interp_refusal(node, interp),
+        }
     }
 }
 
@@ -204,32 +199,16 @@ impl World {
         let _accepted = self.graph.disconnect(from, form);
     }
 
-    fn start(&mut self, now: u64, node: NodeId, when: i64, offset: i64, duration: Option<i64>)
-        requires time { now ≤ 2 ^ 62 }
-        requires once { AreDistinct (play_nodes self.old) }
-        requires accepted { changes.play_refusal (find_play self.old.scheds.items node.0) (λ sched. start_refusal sched when offset duration) ≡ None }
-        ensures { plain self.new ≡ changes.with_play (plain self.old) node.0 (λ play. changes.rescheduled play (started play.sched now when offset duration 0)) }
+    fn set_attribute(&mut self, node: NodeId, edit: AttributeEdit) -> Result<(), Exc>
+        requires { node.0 < length self.old.nodes }
+        ensures refusal { result_err result ≡ refusal_at self.old.nodes node.0 (changes.attribute_refusal edit) }
+        ensures ok { OnOk result (plain self.new ≡ changes.with_nodes (plain self.old) (changed_at node.0 (changes.attribute_set edit) self.old.nodes)) }
     {
-        let Some(place) = self.scheds.find(node) else {
-            return;
-        };
-        let mut sched = self.scheds.at(place).sched;
-        let _accepted = sched.start(now, when, offset, duration, 0);
-        self.scheds.at_mut(place).sched = sched;
-    }
-
-    fn stop(&mut self, now: u64, node: NodeId, when: i64)
-        requires time { now ≤ 2 ^ 62 }
-        requires once { AreDistinct (play_nodes self.old) }
-        requires accepted { changes.play_refusal (find_play self.old.scheds.items node.0) (λ sched. stop_refusal sched when) ≡ None }
-        ensures { plain self.new ≡ changes.with_play (plain self.old) node.0 (λ play. changes.rescheduled play (stopped play.sched now when)) }
-    {
-        let Some(place) = self.scheds.find(node) else {
-            return;
-        };
-        let mut sched = self.scheds.at(place).sched;
-        let _accepted = sched.stop(now, when);
-        self.scheds.at_mut(place).sched = sched;
+        match edit {
+            AttributeEdit::Count(count) => self.nodes.set_count(node, count),
+            AttributeEdit::Mode(mode) => self.nodes.set_mode(node, mode),
+            AttributeEdit::Interp(interp) => self.nodes.set_interp(node, interp),
+        }
     }
 }
 

@@ -5,18 +5,22 @@
 ghost use Rattle.meaning.specs.Laws.{RecursionLaw, HeightLaw, FixpointLaw, RangeLaw, OrderLaw, BlockLaw, PastLaw};
 ghost use Rattle.meaning.specs.Changes.{ChangeLaw};
 
+mod buffers;
 mod change;
 mod growth;
 mod listed;
 mod params;
 mod scheds;
+mod sources;
 mod world;
 
-pub use change::{Change, Edit};
+pub use buffers::BufferEdit;
+pub use change::{AttributeEdit, Change, Edit};
 pub use conn_graph::muting_law;
 pub use listed::Listed;
 pub use params::{Param, Params};
-pub use scheds::{Play, Scheds};
+pub use scheds::{LoopPart, Play, Scheds};
+pub use sources::SourceEdit;
 pub use world::World;
 
 /// The recursions over frame and height, of values and of counts, as one reads them.
@@ -35,7 +39,7 @@ pub fn fixpoint_law()
     ensures { FixpointLaw }
 {}
 
-/// Every value is a Fix, from -2^31 to 2^31 - 1.
+/// Every value is a Fix, from -2^31 to 2^31 - 1, where the samples of the buffers are.
 pub fn range_law()
     ensures { RangeLaw }
 {}

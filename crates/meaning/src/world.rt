@@ -6,13 +6,14 @@ ghost use Rattle.meaning.specs.Worlds.{first_world};
 
 use crate::params::Params;
 use crate::scheds::Scheds;
+use buffer_store::Store;
 use conn_graph::Graph;
 use node_table::Nodes;
 use std::alloc::Global;
 use wa_base::{ContextSpec, NoMemory};
 
 /// What is in force in one render quantum: the context, its nodes with their connections, the
-/// parameters with their timelines, and the schedules of the sources.
+/// parameters with their timelines, the schedules of the sources, and the buffers.
 #[derive(Drop)]
 pub struct World {
     pub spec: ContextSpec,
@@ -20,6 +21,7 @@ pub struct World {
     pub graph: Graph,
     pub params: Params,
     pub scheds: Scheds,
+    pub store: Store,
 }
 
 impl World {
@@ -37,6 +39,7 @@ impl World {
             graph,
             params: Params::new(alloc),
             scheds: Scheds::new(alloc),
+            store: Store::new(alloc),
         })
     }
 
@@ -50,6 +53,7 @@ impl World {
             graph: self.graph.copy()?,
             params: self.params.copy()?,
             scheds: self.scheds.copy()?,
+            store: self.store.copy()?,
         })
     }
 }

@@ -7,34 +7,36 @@ use Rattle.std.proofs.lemmas.List.{length-append}
 use Rattle.std.proofs.lemmas.List.Elements.{All-append, All-cons, All-nil}
 use Rattle.wa_base.specs.declared.exceptions.Exc.{Exc}
 use Rattle.wa_base.specs.declared.exceptions.Exc.TheVariants.{NotSupported, IndexSize}
-use Rattle.wa_base.specs.declared.features.Feature.TheVariants.{NodeLimit}
+use Rattle.wa_base.specs.declared.features.Feature.TheVariants.{NodeLimit, PlaybackRate}
 use Rattle.node_table.specs.declared.kinds.Kind.{Kind}
-use Rattle.node_table.specs.declared.kinds.Kind.TheVariants.{Destination, Constant, Gain, Splitter, Merger}
+use Rattle.node_table.specs.declared.kinds.Kind.TheVariants.{Destination, Constant, Buffer, Gain, Splitter, Merger}
 use Rattle.node_table.specs.declared.nodes.Node.{Node}
-use Rattle.node_table.specs.Kinds.{is_destination, port_refusal, ports_refusal, IsInEntry, HasPorts}
+use Rattle.node_table.specs.Kinds.{is_destination, port_refusal, rate_refusal, range_refusal, IsInEntry, IsInLimits}
 use Rattle.node_table.specs.Nodes.{creation_refusal, AreNodes, IsCreated, KeepsFixed, first_attrs, node_of}
 
 -- a node has at its creation what is fixed
 keeps_fixed : (kind : Kind) (birth : ℕ) → KeepsFixed (first_attrs kind birth) (node_of kind birth)
 keeps_fixed kind birth = record { count = λ fixed. refl; mode = λ fixed. refl; interp = λ fixed. refl }
 
-count_low : (kind : Kind) (birth : ℕ) → HasPorts kind → 1 ≤ (first_attrs kind birth).count
+count_low : (kind : Kind) (birth : ℕ) → IsInLimits kind → 1 ≤ (first_attrs kind birth).count
 count_low Destination birth has = omega arith
 count_low (Constant offset) birth has = omega arith
+count_low (Buffer rate) birth has = omega arith
 count_low (Gain gain) birth has = omega arith
 count_low (Splitter ports) birth has = has.0
 count_low (Merger ports) birth has = omega arith
 
-count_high : (kind : Kind) (birth : ℕ) → HasPorts kind → (first_attrs kind birth).count ≤ 32
+count_high : (kind : Kind) (birth : ℕ) → IsInLimits kind → (first_attrs kind birth).count ≤ 32
 count_high Destination birth has = omega arith
 count_high (Constant offset) birth has = omega arith
+count_high (Buffer rate) birth has = omega arith
 count_high (Gain gain) birth has = omega arith
 count_high (Splitter ports) birth has = has.1
 count_high (Merger ports) birth has = omega arith
 
-pub created_node : (kind : Kind) (birth : ℕ) → is_destination kind ≡ false → IsInEntry kind → HasPorts kind → IsCreated (node_of kind birth)
+pub created_node : (kind : Kind) (birth : ℕ) → is_destination kind ≡ false → IsInEntry kind → IsInLimits kind → IsCreated (node_of kind birth)
 created_node kind birth other entry has =
-    record { kind = other; entry = entry; ports = has; count_low = count_low kind birth has; count_high = count_high kind birth has; fixed = keeps_fixed kind birth }
+    record { kind = other; entry = entry; limits = has; count_low = count_low kind birth has; count_high = count_high kind birth has; fixed = keeps_fixed kind birth }
 
 ports_allowed : (ports : ℕ) → port_refusal ports ≡ None → (1 ≤ ports) × (ports ≤ 32)
 ports_allowed ports fine = by_range (nat_le 1 ports && nat_le ports 32) refl fine
@@ -43,25 +45,33 @@ ports_allowed ports fine = by_range (nat_le 1 ports && nat_le ports 32) refl fin
     by_range true is h = (grind (arith, nat_tests), grind (arith, nat_tests))
     by_range false is h = absurd cc
 
-has_ports : (kind : Kind) → ports_refusal kind ≡ None → HasPorts kind
-has_ports Destination fine = tt
-has_ports (Constant offset) fine = tt
-has_ports (Gain gain) fine = tt
-has_ports (Splitter ports) fine = ports_allowed ports fine
-has_ports (Merger ports) fine = ports_allowed ports fine
+rate_allowed : (rate : ℕ) → rate_refusal rate ≡ None → 1 ≤ rate
+rate_allowed rate fine = by_low (nat_le 1 rate) refl fine
+  where
+    by_low : (b : Bool) → nat_le 1 rate ≡ b → (if b then None else Some (NotSupported (Some PlaybackRate))) ≡ None → 1 ≤ rate
+    by_low true is h = grind (arith, nat_tests)
+    by_low false is h = absurd cc
+
+in_limits : (kind : Kind) → range_refusal kind ≡ None → IsInLimits kind
+in_limits Destination fine = tt
+in_limits (Constant offset) fine = tt
+in_limits (Buffer rate) fine = rate_allowed rate fine
+in_limits (Gain gain) fine = tt
+in_limits (Splitter ports) fine = ports_allowed ports fine
+in_limits (Merger ports) fine = ports_allowed ports fine
 
 -- neither of two causes
 first_none : (a b : Option Exc) → option_or a b ≡ None → a ≡ None
 first_none None b fine = refl
 first_none (Some exc) b fine = absurd cc
 
-second_none : (a b : Option Exc) → option_or a b ≡ None → b ≡ None
+pub second_none : (a b : Option Exc) → option_or a b ≡ None → b ≡ None
 second_none None b fine = fine
 second_none (Some exc) b fine = absurd cc
 
 -- a node that is not refused has its ports, and finds room
-pub ports_of_accepted : (nodes : List Node) (kind : Kind) → creation_refusal nodes kind ≡ None → HasPorts kind
-ports_of_accepted nodes kind accepted = has_ports kind (first_none _ _ accepted)
+pub ports_of_accepted : (nodes : List Node) (kind : Kind) → creation_refusal nodes kind ≡ None → IsInLimits kind
+ports_of_accepted nodes kind accepted = in_limits kind (first_none _ _ accepted)
 
 pub room_left : (nodes : List Node) (kind : Kind) → creation_refusal nodes kind ≡ None → length nodes < 1024
 room_left nodes kind accepted = by_room (nat_lt (length nodes) 1024) refl (second_none _ _ accepted)

@@ -2,29 +2,30 @@
 use Rattle.std.proofs.Common.{pos, ◌≡◌, List, [], ◌∷◌, None, Some, map, true, false, refl}
 use Rattle.wa_base.specs.declared.contexts.ContextSpec.{ContextSpec}
 use Rattle.wa_base.specs.declared.exceptions.Exc.TheVariants.{NotSupported, InvalidState, IndexSize}
+use Rattle.wa_base.specs.declared.features.Feature.TheVariants.{PlaybackRate}
 use Rattle.wa_base.specs.declared.graph_names.Interp.TheVariants.{Speakers, Discrete}
 use Rattle.wa_base.specs.declared.graph_names.Mode.TheVariants.{Max, Explicit}
 use Rattle.wa_base.specs.declared.graph_names.ParamName.{ParamName}
 use Rattle.wa_base.specs.declared.graph_names.ParamName.TheVariants as param
 use Rattle.node_table.specs.declared.kinds.Kind.{Kind}
-use Rattle.node_table.specs.declared.kinds.Kind.TheVariants.{Destination, Constant, Gain, Splitter, Merger}
+use Rattle.node_table.specs.declared.kinds.Kind.TheVariants.{Destination, Constant, Buffer, Gain, Splitter, Merger}
 use Rattle.node_table.specs.Kinds.{is_destination, fixed_count, fixed_mode, fixed_interp, inputs, outputs, is_delay_kind, param_base}
 use Rattle.node_table.specs.Nodes.{destination_of, node_of, creation_refusal, count_refusal, kind_at, attrs_at}
 
 abbrev kinds : List Kind
-kinds = Destination ∷ Constant (pos 5) ∷ Gain (pos 7) ∷ Splitter 3 ∷ Merger 4 ∷ []
+kinds = Destination ∷ Constant (pos 5) ∷ Buffer 2 ∷ Gain (pos 7) ∷ Splitter 3 ∷ Merger 4 ∷ []
 
 -- the ports of each kind
-inputs-kinds : map inputs kinds ≡ 1 ∷ 0 ∷ 1 ∷ 1 ∷ 4 ∷ []
+inputs-kinds : map inputs kinds ≡ 1 ∷ 0 ∷ 0 ∷ 1 ∷ 1 ∷ 4 ∷ []
 inputs-kinds = refl
 
-outputs-kinds : map outputs kinds ≡ 1 ∷ 1 ∷ 1 ∷ 3 ∷ 1 ∷ []
+outputs-kinds : map outputs kinds ≡ 1 ∷ 1 ∷ 1 ∷ 1 ∷ 3 ∷ 1 ∷ []
 outputs-kinds = refl
 
-is_destination-kinds : map is_destination kinds ≡ true ∷ false ∷ false ∷ false ∷ false ∷ []
+is_destination-kinds : map is_destination kinds ≡ true ∷ false ∷ false ∷ false ∷ false ∷ false ∷ []
 is_destination-kinds = refl
 
-is_delay_kind-kinds : map is_delay_kind kinds ≡ false ∷ false ∷ false ∷ false ∷ false ∷ []
+is_delay_kind-kinds : map is_delay_kind kinds ≡ false ∷ false ∷ false ∷ false ∷ false ∷ false ∷ []
 is_delay_kind-kinds = refl
 
 -- the parameters of each kind, with the values that they are created with
@@ -55,13 +56,13 @@ attrs-created : map (attrs_at (destination_of context ∷ node_of (Gain (pos 7))
 attrs-created = refl
 
 -- a source and a gain may get another count and another mode; of the destination, a splitter and a merger both are fixed, and of a splitter the interpretation too
-fixed : map fixed_count kinds ≡ true ∷ false ∷ false ∷ true ∷ true ∷ []
+fixed : map fixed_count kinds ≡ true ∷ false ∷ false ∷ false ∷ true ∷ true ∷ []
 fixed = refl
 
-fixed_modes : map fixed_mode kinds ≡ true ∷ false ∷ false ∷ true ∷ true ∷ []
+fixed_modes : map fixed_mode kinds ≡ true ∷ false ∷ false ∷ false ∷ true ∷ true ∷ []
 fixed_modes = refl
 
-fixed_interps : map fixed_interp kinds ≡ false ∷ false ∷ false ∷ true ∷ false ∷ []
+fixed_interps : map fixed_interp kinds ≡ false ∷ false ∷ false ∷ false ∷ true ∷ false ∷ []
 fixed_interps = refl
 
 kind-created : map (kind_at (destination_of context ∷ node_of (Gain (pos 7)) 1280 ∷ [])) (1 ∷ 2 ∷ []) ≡ Some (Gain (pos 7)) ∷ None ∷ []
@@ -76,6 +77,14 @@ attrs-ports = refl
 refused-ports : map (creation_refusal (destination_of context ∷ [])) (Splitter 0 ∷ Splitter 33 ∷ Merger 0 ∷ Merger 33 ∷ Splitter 1 ∷ Merger 32 ∷ [])
     ≡ Some IndexSize ∷ Some IndexSize ∷ Some IndexSize ∷ Some IndexSize ∷ None ∷ None ∷ []
 refused-ports = refl
+
+-- a rate of 0 is refused; no other is
+refused-rates : map (creation_refusal (destination_of context ∷ [])) (Buffer 0 ∷ Buffer 1 ∷ Buffer 127 ∷ []) ≡ Some (NotSupported (Some PlaybackRate)) ∷ None ∷ None ∷ []
+refused-rates = refl
+
+-- a buffer source has no parameter that can be automated
+param_base-buffer : map (param_base (Buffer 2)) names ≡ None ∷ None ∷ None ∷ None ∷ None ∷ []
+param_base-buffer = refl
 
 -- of a splitter with three outputs the count 3 may be set, and no other; 0 and 33 are no counts at all
 refused-counts : map (λ count. count_refusal count (node_of (Splitter 3) 0)) (3 ∷ 2 ∷ 0 ∷ 33 ∷ []) ≡ None ∷ Some InvalidState ∷ Some (NotSupported None) ∷ Some (NotSupported None) ∷ []

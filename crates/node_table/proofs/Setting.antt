@@ -97,7 +97,7 @@ keeps_count count = record {
       record {
         kind = is.kind;
         entry = is.entry;
-        ports = is.ports;
+        limits = is.limits;
         count_low = free.low;
         count_high = free.high;
         fixed = record { count = λ fixed. free.kept fixed ∙ is.fixed.count fixed; mode = is.fixed.mode; interp = is.fixed.interp };
@@ -115,7 +115,7 @@ keeps_mode mode = record {
   created = λ n fine is. record {
     kind = is.kind;
     entry = is.entry;
-    ports = is.ports;
+    limits = is.limits;
     count_low = is.count_low;
     count_high = is.count_high;
     fixed = record {
@@ -132,7 +132,7 @@ keeps_interp interp = record {
   created = λ n fine is. record {
     kind = is.kind;
     entry = is.entry;
-    ports = is.ports;
+    limits = is.limits;
     count_low = is.count_low;
     count_high = is.count_high;
     fixed = record {

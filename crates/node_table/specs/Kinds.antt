@@ -2,7 +2,8 @@
 use Rattle.std.specs.Prelude.{ℕ, ℤ, ◌≤◌, ◌&&◌, nat_le, Bool, true, false, if◌then◌else◌, Option, Some, None}
 use Rattle.wa_base.specs.Numbers.{IsFix}
 use Rattle.wa_base.specs.declared.exceptions.Exc.{Exc}
-use Rattle.wa_base.specs.declared.exceptions.Exc.TheVariants.{IndexSize}
+use Rattle.wa_base.specs.declared.exceptions.Exc.TheVariants.{IndexSize, NotSupported}
+use Rattle.wa_base.specs.declared.features.Feature.TheVariants.{PlaybackRate}
 use Rattle.wa_base.specs.declared.graph_names.Interp.{Interp}
 use Rattle.wa_base.specs.declared.graph_names.Interp.TheVariants.{Speakers, Discrete}
 use Rattle.wa_base.specs.declared.graph_names.Mode.{Mode}
@@ -10,11 +11,12 @@ use Rattle.wa_base.specs.declared.graph_names.Mode.TheVariants.{Max, ClampedMax,
 use Rattle.wa_base.specs.declared.graph_names.ParamName.{ParamName}
 use Rattle.wa_base.specs.declared.graph_names.ParamName.TheVariants as param
 use Rattle.node_table.specs.declared.kinds.Kind.{Kind}
-use Rattle.node_table.specs.declared.kinds.Kind.TheVariants.{Destination, Constant, Gain, Splitter, Merger}
+use Rattle.node_table.specs.declared.kinds.Kind.TheVariants.{Destination, Constant, Buffer, Gain, Splitter, Merger}
 
 abbrev pub is_destination : Kind → Bool
 is_destination Destination = true
 is_destination (Constant offset) = false
+is_destination (Buffer rate) = false
 is_destination (Gain gain) = false
 is_destination (Splitter ports) = false
 is_destination (Merger ports) = false
@@ -23,6 +25,7 @@ is_destination (Merger ports) = false
 abbrev pub inputs : Kind → ℕ
 inputs Destination = 1
 inputs (Constant offset) = 0
+inputs (Buffer rate) = 0
 inputs (Gain gain) = 1
 inputs (Splitter ports) = 1
 inputs (Merger ports) = ports
@@ -31,6 +34,7 @@ inputs (Merger ports) = ports
 abbrev pub outputs : Kind → ℕ
 outputs Destination = 1
 outputs (Constant offset) = 1
+outputs (Buffer rate) = 1
 outputs (Gain gain) = 1
 outputs (Splitter ports) = ports
 outputs (Merger ports) = 1
@@ -39,6 +43,7 @@ outputs (Merger ports) = 1
 abbrev pub is_mono : Kind → Bool
 is_mono Destination = false
 is_mono (Constant offset) = true
+is_mono (Buffer rate) = false
 is_mono (Gain gain) = false
 is_mono (Splitter ports) = true
 is_mono (Merger ports) = false
@@ -49,6 +54,7 @@ is_mono (Merger ports) = false
 abbrev pub first_count : Kind → ℕ
 first_count Destination = 2
 first_count (Constant offset) = 2
+first_count (Buffer rate) = 2
 first_count (Gain gain) = 2
 first_count (Splitter ports) = ports
 first_count (Merger ports) = 1
@@ -57,6 +63,7 @@ first_count (Merger ports) = 1
 abbrev pub first_mode : Kind → Mode
 first_mode Destination = Explicit
 first_mode (Constant offset) = Max
+first_mode (Buffer rate) = Max
 first_mode (Gain gain) = Max
 first_mode (Splitter ports) = Explicit
 first_mode (Merger ports) = Explicit
@@ -65,6 +72,7 @@ first_mode (Merger ports) = Explicit
 abbrev pub first_interp : Kind → Interp
 first_interp Destination = Speakers
 first_interp (Constant offset) = Speakers
+first_interp (Buffer rate) = Speakers
 first_interp (Gain gain) = Speakers
 first_interp (Splitter ports) = Discrete
 first_interp (Merger ports) = Speakers
@@ -84,6 +92,7 @@ same_interp _ _ = false
 abbrev pub fixed_count : Kind → Bool
 fixed_count Destination = true
 fixed_count (Constant offset) = false
+fixed_count (Buffer rate) = false
 fixed_count (Gain gain) = false
 fixed_count (Splitter ports) = true
 fixed_count (Merger ports) = true
@@ -92,6 +101,7 @@ fixed_count (Merger ports) = true
 abbrev pub fixed_mode : Kind → Bool
 fixed_mode Destination = true
 fixed_mode (Constant offset) = false
+fixed_mode (Buffer rate) = false
 fixed_mode (Gain gain) = false
 fixed_mode (Splitter ports) = true
 fixed_mode (Merger ports) = true
@@ -100,6 +110,7 @@ fixed_mode (Merger ports) = true
 abbrev pub fixed_interp : Kind → Bool
 fixed_interp Destination = false
 fixed_interp (Constant offset) = false
+fixed_interp (Buffer rate) = false
 fixed_interp (Gain gain) = false
 fixed_interp (Splitter ports) = true
 fixed_interp (Merger ports) = false
@@ -109,6 +120,7 @@ fixed_interp (Merger ports) = false
 abbrev pub is_delay_kind : Kind → Bool
 is_delay_kind Destination = false
 is_delay_kind (Constant offset) = false
+is_delay_kind (Buffer rate) = false
 is_delay_kind (Gain gain) = false
 is_delay_kind (Splitter ports) = false
 is_delay_kind (Merger ports) = false
@@ -121,6 +133,7 @@ lasting kind = kind
 abbrev pub remembers : Kind → Bool
 remembers Destination = false
 remembers (Constant offset) = false
+remembers (Buffer rate) = false
 remembers (Gain gain) = false
 remembers (Splitter ports) = false
 remembers (Merger ports) = false
@@ -135,28 +148,35 @@ param_base kind name = None
 abbrev pub IsInEntry : Kind → Type 0
 IsInEntry Destination = Unit {0}
 IsInEntry (Constant offset) = IsFix offset
+IsInEntry (Buffer rate) = Unit {0}
 IsInEntry (Gain gain) = IsFix gain
 IsInEntry (Splitter ports) = Unit {0}
 IsInEntry (Merger ports) = Unit {0}
 
--- ---- how many ports it may have
+-- ---- in which limits it is created
 
 -- a node cannot have so many outputs, or so many inputs
 abbrev pub port_refusal : ℕ → Option Exc
 port_refusal ports = if nat_le 1 ports && nat_le ports 32 then None else Some IndexSize
 
--- why a node of a kind is refused because of the number of its ports
-abbrev pub ports_refusal : Kind → Option Exc
-ports_refusal Destination = None
-ports_refusal (Constant offset) = None
-ports_refusal (Gain gain) = None
-ports_refusal (Splitter ports) = port_refusal ports
-ports_refusal (Merger ports) = port_refusal ports
+-- a source moves on by whole frames of its buffer, forward, and by one or more of them
+abbrev pub rate_refusal : ℕ → Option Exc
+rate_refusal rate = if nat_le 1 rate then None else Some (NotSupported (Some PlaybackRate))
 
--- so many ports a node has
-abbrev pub HasPorts : Kind → Type 0
-HasPorts Destination = Unit {0}
-HasPorts (Constant offset) = Unit {0}
-HasPorts (Gain gain) = Unit {0}
-HasPorts (Splitter ports) = (1 ≤ ports) × (ports ≤ 32)
-HasPorts (Merger ports) = (1 ≤ ports) × (ports ≤ 32)
+-- why a node of a kind is refused because of what it would be created with
+abbrev pub range_refusal : Kind → Option Exc
+range_refusal Destination = None
+range_refusal (Constant offset) = None
+range_refusal (Buffer rate) = rate_refusal rate
+range_refusal (Gain gain) = None
+range_refusal (Splitter ports) = port_refusal ports
+range_refusal (Merger ports) = port_refusal ports
+
+-- what a node was created with is not refused
+abbrev pub IsInLimits : Kind → Type 0
+IsInLimits Destination = Unit {0}
+IsInLimits (Constant offset) = Unit {0}
+IsInLimits (Buffer rate) = 1 ≤ rate
+IsInLimits (Gain gain) = Unit {0}
+IsInLimits (Splitter ports) = (1 ≤ ports) × (ports ≤ 32)
+IsInLimits (Merger ports) = (1 ≤ ports) × (ports ≤ 32)

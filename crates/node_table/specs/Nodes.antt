@@ -13,7 +13,7 @@ use Rattle.node_table.specs.declared.kinds.Kind.{Kind}
 use Rattle.node_table.specs.declared.kinds.Kind.TheVariants.{Destination}
 use Rattle.node_table.specs.declared.nodes.Attrs.{Attrs}
 use Rattle.node_table.specs.declared.nodes.Node.{Node}
-use Rattle.node_table.specs.Kinds.{is_destination, first_count, first_mode, first_interp, fixed_count, fixed_mode, fixed_interp, same_mode, same_interp, IsInEntry, ports_refusal, HasPorts}
+use Rattle.node_table.specs.Kinds.{is_destination, first_count, first_mode, first_interp, fixed_count, fixed_mode, fixed_interp, same_mode, same_interp, IsInEntry, range_refusal, IsInLimits}
 
 -- the destination of a context
 abbrev pub destination_of : ContextSpec → Node
@@ -33,7 +33,7 @@ has_room nodes = nat_lt (length nodes) 1024
 
 -- the exception with which the creation of a node is refused, if it is: the number of its ports comes first
 abbrev pub creation_refusal : List Node → Kind → Option Exc
-creation_refusal nodes kind = option_or (ports_refusal kind) (if has_room nodes then None else Some (NotSupported (Some NodeLimit)))
+creation_refusal nodes kind = option_or (range_refusal kind) (if has_room nodes then None else Some (NotSupported (Some NodeLimit)))
 
 -- what a node is, if it is there
 abbrev pub kind_at : List Node → ℕ → Option Kind
@@ -100,7 +100,7 @@ pub record IsFirst (node : Node) : Type 0 where
 pub record IsCreated (node : Node) : Type 0 where
   pub kind : is_destination node.kind ≡ false
   pub entry : IsInEntry node.kind
-  pub ports : HasPorts node.kind
+  pub limits : IsInLimits node.kind
   pub count_low : 1 ≤ node.attrs.count
   pub count_high : node.attrs.count ≤ 32
   pub fixed : KeepsFixed (first_attrs node.kind node.attrs.birth) node

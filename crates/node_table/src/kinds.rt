@@ -1,7 +1,7 @@
 ghost use Rattle.std.specs.Prelude.{◌≡◌, IfOk};
 ghost use Rattle.node_table.specs.Kinds as spec;
 
-use wa_base::{Exc, Fix, NoMemory, ParamName};
+use wa_base::{Exc, Feature, Fix, NoMemory, ParamName};
 
 /// What a node is, with what it was created with.
 #[derive(Debug, Drop, PartialEq)]
@@ -12,6 +12,12 @@ pub enum Kind {
     Constant {
         /// The value that the parameter `offset` was created with.
         offset: Fix,
+    },
+    /// A source that plays a buffer (AudioBufferSourceNode).
+    Buffer {
+        /// How many frames of its buffer it moves on by in each frame: its playbackRate, which is
+        /// whole.
+        rate: u32,
     },
     /// A node that multiplies its input by a gain (GainNode).
     Gain {
@@ -39,7 +45,7 @@ impl Kind {
     {
         match self {
             Kind::Destination | Kind::Gain { .. } | Kind::Splitter { .. } => 1,
-            Kind::Constant { .. } => 0,
+            Kind::Constant { .. } | Kind::Buffer { .. } => 0,
             Kind::Merger { inputs } => *inputs,
         }
     }
@@ -62,6 +68,7 @@ impl Kind {
         match self {
             Kind::Destination
             | Kind::Constant { .. }
+            | Kind::Buffer { .. }
             | Kind::Gain { .. }
             | Kind::Splitter { .. }
             | Kind::Merger { .. } => false,
@@ -74,7 +81,7 @@ impl Kind {
     {
         match self {
             Kind::Destination | Kind::Splitter { .. } | Kind::Merger { .. } => true,
-            Kind::Constant { .. } | Kind::Gain { .. } => false,
+            Kind::Constant { .. } | Kind::Buffer { .. } | Kind::Gain { .. } => false,
         }
     }
 
@@ -84,7 +91,7 @@ impl Kind {
     {
         match self {
             Kind::Destination | Kind::Splitter { .. } | Kind::Merger { .. } => true,
-            Kind::Constant { .. } | Kind::Gain { .. } => false,
+            Kind::Constant { .. } | Kind::Buffer { .. } | Kind::Gain { .. } => false,
         }
     }
 
@@ -94,17 +101,22 @@ impl Kind {
     {
         match self {
             Kind::Splitter { .. } => true,
-            Kind::Destination | Kind::Constant { .. } | Kind::Gain { .. } | Kind::Merger { .. } =>
-                false,
+            Kind::Destination
+            | Kind::Constant { .. }
+            | Kind::Buffer { .. }
+            | Kind::Gain { .. }
+            | Kind::Merger { .. } => false,
         }
     }
 
-    // The exception with which a node of the kind is refused because of the number of its ports.
-    pub(crate) fn ports_refusal(&self) -> Option<Exc>
-        ensures { result ≡ spec.ports_refusal self.now }
+    /// The exception with which a node of the kind is refused because of what it would be created
+    /// with: the number of its ports, or its rate.
+    pub fn range_refusal(&self) -> Option<Exc>
+        ensures { result ≡ spec.range_refusal self.now }
     {
         match self {
             Kind::Destination | Kind::Constant { .. } | Kind::Gain { .. } => None,
+            Kind::Buffer { rate } => rate_refusal(*rate),
             Kind::Splitter { outputs: ports } | Kind::Merger { inputs: ports } => {
                 port_refusal(*ports)
             }
@@ -128,7 +140,8 @@ impl Kind {
         ensures { spec.IsInEntry self.now }
     {
         match self {
-            Kind::Destination | Kind::Splitter { .. } | Kind::Merger { .. } => {}
+            Kind::Destination | Kind::Buffer { .. } | Kind::Splitter { .. } | Kind::Merger { .. } =>
+                {}
             Kind::Constant { offset: entry } | Kind::Gain { gain: entry } => {
                 let _value = *entry;
             }
@@ -142,10 +155,22 @@ impl Kind {
         Ok(match self {
             Kind::Destination => Kind::Destination,
             Kind::Constant { offset } => Kind::Constant { offset: *offset },
+            Kind::Buffer { rate } => Kind::Buffer { rate: *rate },
             Kind::Gain { gain } => Kind::Gain { gain: *gain },
             Kind::Splitter { outputs } => Kind::Splitter { outputs: *outputs },
             Kind::Merger { inputs } => Kind::Merger { inputs: *inputs },
         })
+    }
+}
+
+// Why a source cannot move on by so many frames of its buffer in each frame.
+fn rate_refusal(rate: u32) -> Option<Exc>
+    ensures { result ≡ spec.rate_refusal rate }
+{
+    if rate == 0 {
+        Some(Exc::NotSupported(Some(Feature::PlaybackRate)))
+    } else {
+        None
     }
 }
 

@@ -30,7 +30,9 @@ impl Attrs {
     {
         let (count, mode, interp) = match kind {
             Kind::Destination => (2, Mode::Explicit, Interp::Speakers),
-            Kind::Constant { .. } | Kind::Gain { .. } => (2, Mode::Max, Interp::Speakers),
+            Kind::Constant { .. } | Kind::Buffer { .. } | Kind::Gain { .. } => {
+                (2, Mode::Max, Interp::Speakers)
+            }
             Kind::Splitter { outputs } => (*outputs, Mode::Explicit, Interp::Discrete),
             Kind::Merger { .. } => (1, Mode::Explicit, Interp::Speakers),
         };
@@ -121,7 +123,8 @@ impl Nodes {
     /// count of the nodes that were there before, and its attributes are the kind's defaults.
     ///
     /// It is refused with IndexSizeError where a splitter would have no output or more than 32, or a
-    /// merger so many inputs, and then with NotSupportedError and the feature `node-limit` where 1,024
+    /// merger so many inputs, with NotSupportedError and the feature `playback-rate` where a buffer
+    /// source would have the rate 0, and then with NotSupportedError and the feature `node-limit` where 1,024
     /// nodes are there, the destination among them. After a refusal, and after `NoMemory`, the nodes are as before, and
     /// the kind is dropped.
     #[tactic(auto, using(crate::proofs::NodeLists::are_nodes_with_another))]
@@ -148,7 +151,7 @@ impl Nodes {
     pub fn creation_refusal(&self, kind: &Kind) -> Option<Exc>
         ensures { result ≡ table.creation_refusal self.now kind.now }
     {
-        if let Some(exc) = kind.ports_refusal() {
+        if let Some(exc) = kind.range_refusal() {
             return Some(exc);
         }
         if self.nodes.len() >= MAX_NODES {

@@ -1,8 +1,8 @@
 -- One lane of a block is written, and the others stay.
-use Rattle.std.proofs.Common.{ℕ, ℤ, pos, ◌≡◌, ◌+◌, ◌-◌, ◌*◌, ◌<◌, ◌≤◌, length, List, ◌++◌, rules, take, slice_index_or, slice_set, Bool, true, false, refl, inl, inr, suc, sym, ◌∙◌, ap, arith, subst}
+use Rattle.std.proofs.Common.{ℕ, ℤ, pos, ◌≡◌, ◌+◌, ◌-◌, ◌*◌, ◌<◌, ◌≤◌, length, List, ◌++◌, rules, take, drop, slice_index_or, slice_set, Bool, true, false, refl, inl, inr, suc, sym, ◌∙◌, ap, arith, subst}
 use borrow.Rule.Slice.PartMut.{put_mid}
 use Rattle.std.proofs.lemmas.Bool.{cases_lt}
-use Rattle.std.proofs.lemmas.List.{places, get_or-take, get_or-set_same, get_or-set_other, get_or_append_left, append_assoc}
+use Rattle.std.proofs.lemmas.List.{places, length-drop, length-take-le, get_or-take, get_or-set_same, get_or-set_other, get_or_append_left, append_assoc}
 use Rattle.channel_mix.specs.Blocks.{sample}
 use Rattle.channel_mix.proofs.Sums.{written_before, written_here, written_after}
 use Rattle.quantum_render.specs.Blocks.{all_values}
@@ -19,8 +19,14 @@ module _ (n : ℕ) (items : List ℤ) (lane : ℕ) (low : lane < n) (room : n * 
       ∙ get_or-set_other items lane l v (pos 0) other
       ∙ sym (steady_at n items l m there now)
 
-written_length : (i m : ℕ) (xs ys : List ℤ) → length ys ≡ m → i + m ≤ length xs → length (put_mid i m xs ys) ≡ length xs
+pub written_length : (i m : ℕ) (xs ys : List ℤ) → length ys ≡ m → i + m ≤ length xs → length (put_mid i m xs ys) ≡ length xs
 written_length i m xs ys same there = search (rules, places)
+
+-- a lane of a list that has them all is 128 values long
+pub lane_length : (lanes lane : ℕ) (xs : List ℤ) → length xs ≡ lanes * 128 → lane < lanes → length (take (lane * 128 + 128 - lane * 128) (drop (lane * 128) xs)) ≡ 128
+lane_length lanes lane xs room low =
+    let wide : lane * 128 + 128 - lane * 128 ≡ 128 = omega arith in
+    ap (λ n. length (take n (drop (lane * 128) xs))) wide ∙ length-take-le 128 (drop (lane * 128) xs) (let rest = length-drop (lane * 128) xs in omega arith)
 
 -- where each has one for each frame, in the front of a longer list
 module _ (n len : ℕ) (items : List ℤ) (lane : ℕ) (low : lane < n) (room : n * 128 ≤ length items) (all : n * 128 ≤ len) (ys rest : List ℤ) (m : ℕ) (now : m < 128) (long : length ys ≡ 128) where

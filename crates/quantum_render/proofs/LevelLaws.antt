@@ -10,7 +10,7 @@ use Rattle.wa_base.specs.declared.graph_names.Interp.TheVariants.{Speakers}
 use Rattle.wa_base.specs.declared.graph_names.ParamId.{ParamId}
 use Rattle.channel_mix.specs.Mixing.{total}
 use Rattle.node_table.specs.declared.kinds.Kind.{Kind}
-use Rattle.node_table.specs.declared.kinds.Kind.TheVariants.{Destination, Constant, Gain, Splitter, Merger}
+use Rattle.node_table.specs.declared.kinds.Kind.TheVariants.{Destination, Constant, Buffer, Gain, Splitter, Merger}
 use Rattle.conn_graph.specs.declared.edges.Edge.{Edge}
 use Rattle.conn_graph.specs.declared.edges.Target.{Target}
 use Rattle.conn_graph.specs.declared.edges.Target.TheVariants.{Param}
@@ -39,6 +39,7 @@ level_of w blocks counts id first m =
 nominal_is : (kind : Kind) (x : ℤ) → sat x ≡ nominal kind x
 nominal_is Destination x = refl
 nominal_is (Constant offset) x = refl
+nominal_is (Buffer rate) x = refl
 nominal_is (Gain gain) x = refl
 nominal_is (Splitter ports) x = refl
 nominal_is (Merger ports) x = refl

@@ -14,5 +14,5 @@ pub mod Passing
 pub mod Parts
 pub mod OutLaws
 pub mod Rendering
-pub mod ParamPlaces
 pub mod Holding
+pub mod Heard

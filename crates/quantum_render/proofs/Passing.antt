@@ -100,7 +100,7 @@ module _ (w : World) (joined : IsJoined (plain w)) (order : List End) (i : ℕ) 
             one_more_right w joined tape blocks blocks' counts counted c.done (c.right tape begins counted) x next.0 next.1 next.3 (fit'.lanes x next.0) writes
             (subst (λ f. (o k m : ℕ) → o < outputs (kind_of w x.node.0) → k < counts_in counts x → m < 128 → at (block_of blocks' x) (o * counts_in counts x + k) m
             ≡ value_by_kind 128 (f + m) (with_drafts (frame 128 (tape ++ w ∷ [])) f (plain w) (counts_in counts) (drafts_of blocks counts)) (frame_of (plain w) blocks counts m) (kind_of w x.node.0) x o k) begins
-            (renders (length tape) (λ k e. 1) (has_count w joined counts tape counted x next.0 next.1) (frame 128 (tape ++ w ∷ []))));
+            (renders (length tape) (λ k e. 1) begins (has_count w joined counts tape counted x next.0 next.1) (frame 128 (tape ++ w ∷ []))));
       }
 
 pub passing_ends : (w : World) (order : List End) (i : ℕ) (counts : List ℕ) (first : ℕ) (blocks : List BlockView) → Passing w order i counts first blocks → length order ≤ i

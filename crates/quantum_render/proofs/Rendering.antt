@@ -60,6 +60,11 @@ module _ (s : SiteView) (site : IsSite s.world s.end s.into s.counts s.first) (o
     pub own_room : (d : BlockView) → counts_in s.counts s.end * 128 ≤ room_of (slice_index_or old k d)
     own_room d = all_room _ channels_own d
 
+    pub lanes_own : (d : BlockView) → (slice_index_or old k d).lanes ≡ counts_in s.counts s.end
+    lanes_own d =
+        let same : slice_index_or old k d ≡ block_of old s.end = get_or_default old k d no_block own_within ∙ ap (λ j. slice_index_or old j no_block) here in
+        ap (λ (x : BlockView). x.lanes) same ∙ own_lanes _ channels_own
+
     pub writes_own : (b : BlockView) → b.lanes ≡ counts_in s.counts s.end → Writes old (slice_set old k b) s.end
     writes_own b lanes = writes_all _ channels_own b lanes
 

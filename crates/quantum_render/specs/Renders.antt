@@ -20,7 +20,7 @@ here_of s blocks m = frame_of (plain s.world) blocks s.counts m
 abbrev pub HasCount : SiteView → ℕ → (ℕ → Counts) → Kind → Type 0
 HasCount s j earlier kind = counts_in s.counts s.end ≡ count_by_kind 128 (plain s.world) j earlier (counts_in s.counts) kind s.end
 
--- The new block of a site's end has the values of its kind, whatever the frames before the quantum were.
+-- The new block of a site's end has in quantum j the values of its kind, whatever the frames before the quantum were.
 abbrev pub Renders : SiteView → List BlockView → List BlockView → Kind → Type 0
-Renders s old new kind = (j : ℕ) (earlier : ℕ → Counts) → HasCount s j earlier kind → (before : ℕ → Frame) (o c m : ℕ) → o < outputs kind → c < counts_in s.counts s.end → m < 128 →
+Renders s old new kind = (j : ℕ) (earlier : ℕ → Counts) → s.first ≡ 128 * j → HasCount s j earlier kind → (before : ℕ → Frame) (o c m : ℕ) → o < outputs kind → c < counts_in s.counts s.end → m < 128 →
     at (block_of new s.end) (o * counts_in s.counts s.end + c) m ≡ value_by_kind 128 (s.first + m) (past_of s old before) (here_of s old m) kind s.end o c

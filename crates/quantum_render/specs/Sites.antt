@@ -4,6 +4,7 @@ use Rattle.wa_base.specs.declared.graph_names.End.{End}
 use Rattle.law_base.specs.Members.{IsIn}
 use Rattle.conn_graph.specs.declared.edges.Edge.{Edge}
 use Rattle.conn_graph.specs.Ends.{reader_of, ends}
+use Rattle.meaning.specs.declared.params.Param.{Param}
 use Rattle.meaning.specs.declared.world.World.{World}
 use Rattle.meaning.specs.Validity.{IsValid}
 use Rattle.quantum_render.specs.declared.sums.Inlet.{Inlet}
@@ -27,9 +28,14 @@ pub record IsBegun (begin : ℕ) : Type 0 where
   pub whole : 128 * (begin / 128) ≡ begin
   pub time : begin ≤ 2 ^ 62
 
+-- no parameter has an event in its timeline
+abbrev pub AreStill : World → Type 0
+AreStill w = (p : Param) → IsIn p w.params.items → p.line.events ≡ []
+
 -- what holds of every site
 pub record IsSite (w : World) (e : End) (edges : List Edge) (counts : List ℕ) (begin : ℕ) : Type 0 where
   pub valid : IsValid w
+  pub still : AreStill w
   pub there : IsIn e (ends w.graph.value)
   pub into : edges ≡ leads_into w.graph.value e.node.0
   pub range : AreInRange w counts

@@ -1,7 +1,8 @@
 ghost use Rattle.std.specs.Prelude.{◌≡◌, ◌≤◌, ◌<◌, ◌*◌, ◌+◌, ◌^◌, ◌+ℤ◌, ℕ, pos, Some, length, slice_index_or, OnOk, IfOk, FitsSigned, if◌then◌else◌};
 ghost use Rattle.std.specs.Int.{w32};
 ghost use Rattle.wa_base.specs.Numbers.{sat as saturated, scale as scaled};
-ghost use Rattle.sched_source.specs.Schedule.{is_between};
+ghost use Rattle.sched_source.specs.Schedule.{is_between, played};
+ghost use Rattle.meaning.specs.World.{channels_in, samples_in};
 ghost use Rattle.channel_mix.specs.Blocks.{sample};
 ghost use Rattle.quantum_render.specs.Blocks.{at, shown, carried, room_of, lanes_of};
 ghost use Rattle.quantum_render.specs.Sums.{sum_at};
@@ -12,6 +13,7 @@ use crate::kernels::{
     copy_values, fill, is_silent, is_throughout, level_of, move_on, saturate, scale_all,
     scale_channels, scale_steady, silence, sound, spread, unfold_if,
 };
+use crate::playing::Source;
 use crate::sums::Sums;
 use std::alloc::Global;
 use std::marker::Model;
@@ -211,6 +213,17 @@ impl Block {
         move_on(&mut self.values[0..QUANTUM], self.steady);
         self.steady = false;
         sound(&mut self.values[0..QUANTUM], start, end, first);
+    }
+
+    // Becomes what a source plays in the quantum that begins at `first`.
+    pub(crate) fn play(&mut self, source: &Source, first: u64)
+        requires time { first ≤ 2 ^ 62 }
+        ensures lanes { self.new.lanes ≡ self.old.lanes }
+        ensures values { (lane m : ℕ) → lane < self.old.lanes → lane < channels_in source.now.store (Some source.now.buffer) → m < 128 →
+            at self.new lane m ≡ played source.now.sched (samples_in source.now.store (Some source.now.buffer) lane) (first + m) }
+    {
+        self.steady = false;
+        source.play(&mut self.values[0..self.lanes * QUANTUM], self.lanes, first);
     }
 
     // Becomes what the sums are, saturated.

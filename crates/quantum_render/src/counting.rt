@@ -1,11 +1,12 @@
-ghost use Rattle.std.specs.Prelude.{◌≡◌, ◌≤◌, ◌<◌, ◌*◌, ℕ, List, length, map, filter, slice_index_or, max, if◌then◌else◌, All, true};
+ghost use Rattle.std.specs.Prelude.{◌≡◌, ◌≤◌, ◌<◌, ◌*◌, ◌^◌, ℕ, List, length, map, filter, slice_index_or, max, if◌then◌else◌, All, true};
 ghost use Rattle.channel_mix.specs.Counts.{greatest as greatest_of};
 ghost use Rattle.law_base.specs.Members.{IsIn};
 ghost use Rattle.node_table.specs.Kinds.{outputs, is_mono};
+ghost use Rattle.wa_base.specs.declared.graph_names.End.{End as an_end};
 ghost use Rattle.conn_graph.specs.declared.edges.Edge.{Edge as an_edge};
 ghost use Rattle.conn_graph.specs.Ends.{ends, reader_of};
 ghost use Rattle.meaning.specs.declared.world.World.{World as a_world};
-ghost use Rattle.meaning.specs.World.{plain, kind_of};
+ghost use Rattle.meaning.specs.World.{plain, kind_of, played_channels};
 ghost use Rattle.meaning.specs.Validity.{IsValid};
 ghost use Rattle.meaning.specs.Counts.{Counts as some_counts, input_channels, count_by_kind};
 ghost use Rattle.quantum_render.specs.Blocks.{slot as slot_of, counts_in};
@@ -13,6 +14,8 @@ ghost use Rattle.quantum_render.specs.Connections.{into as leads_into, leads_to}
 ghost use Rattle.quantum_render.specs.Fits.{AreInRange};
 ghost use Rattle.quantum_render.specs.Plans.{IsPlan, AreCounted};
 
+use crate::places::{Near, near_of};
+use crate::playing::sounding;
 use crate::site::{reader, slot};
 use channel_mix::count;
 use conn_graph::{Edge, Target};
@@ -20,43 +23,60 @@ use meaning::World;
 use node_table::Kind;
 use wa_base::{End, Items, NodeId};
 
-// Counts the channels of each end, along an order in which each stands behind the ends that it
-// hears. A muted end has one channel.
+// Counts the channels of each end in the quantum that begins at `first`, along an order in which
+// each stands behind the ends that it hears. A muted end has one channel.
 pub(crate) fn count_channels(
     counts: &mut [u32],
     world: &World,
     order: &[End],
-    muted: &[End],
     into: &[Items<Edge>],
+    near: &[Near],
+    first: u64,
 )
     requires valid { IsValid world.now }
-    requires plan { IsPlan world.now order.now muted.now into.now }
+    requires plan { (muted : List an_end) × IsPlan world.now order.now muted into.now }
+    requires time { first ≤ 2 ^ 62 }
     requires places { length counts.old ≡ 2 * length world.now.nodes }
     ensures range { AreInRange world.now counts.new }
-    ensures counted { (tape : List a_world) → AreCounted 128 world.now counts.new tape }
+    ensures counted { (tape : List a_world) → first ≡ 128 * length tape → AreCounted 128 world.now counts.new tape }
 {
     counts.fill(1);
     for end in order {
         let into = into[end.node.0 as usize].as_slice();
-        counts[slot(*end)] = count_of(counts, world, *end, into);
+        counts[slot(*end)] = count_of(counts, world, *end, into, near_of(near, end.node), first);
     }
 }
 
 // The number of channels of an end, by the kind of its node.
-fn count_of(counts: &[u32], world: &World, end: End, into: &[Edge]) -> u32
+fn count_of(counts: &[u32], world: &World, end: End, into: &[Edge], near: Near, first: u64) -> u32
     requires valid { IsValid world.now }
     requires range { AreInRange world.now counts.now }
     requires there { IsIn end (ends world.now.graph.value) }
     requires into { into.now ≡ leads_into world.now.graph.value end.node.0 }
-    ensures value { (j : ℕ) (earlier : ℕ → some_counts) → result ≡ count_by_kind 128 (plain world.now) j earlier (counts_in counts.now) (kind_of world.now end.node.0) end }
+    requires time { first ≤ 2 ^ 62 }
+    ensures value { (j : ℕ) (earlier : ℕ → some_counts) → first ≡ 128 * j → result ≡ count_by_kind 128 (plain world.now) j earlier (counts_in counts.now) (kind_of world.now end.node.0) end }
     ensures range { (1 ≤ result) × (result ≤ 32) }
     ensures lanes { outputs (kind_of world.now end.node.0) * result ≤ 32 }
     ensures mono { is_mono (kind_of world.now end.node.0) ≡ true → result ≡ 1 }
 {
     match world.nodes.kind(end.node) {
         Kind::Constant { .. } | Kind::Splitter { .. } => 1,
+        Kind::Buffer { .. } => played_count(world, end.node, near, first),
         Kind::Merger { inputs } => *inputs,
         Kind::Destination | Kind::Gain { .. } => input_count(counts, world, end.node, into),
+    }
+}
+
+// The channels of a buffer source: those of its buffer where it sounds in the quantum.
+fn played_count(world: &World, node: NodeId, near: Near, first: u64) -> u32
+    requires valid { IsValid world.now }
+    requires time { first ≤ 2 ^ 62 }
+    ensures value { result ≡ played_channels world.now node.0 128 first }
+    ensures range { (1 ≤ result) × (result ≤ 32) }
+{
+    match sounding(world, node, near, first) {
+        Some(source) => source.channels(),
+        None => 1,
     }
 }
 

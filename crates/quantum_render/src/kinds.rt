@@ -1,6 +1,6 @@
 ghost use Rattle.std.specs.Prelude.{◌≡◌, ◌<◌, ◌-◌, ◌^◌, ℕ, ℤ, Some};
 ghost use Rattle.sched_source.specs.Schedule.{is_between};
-ghost use Rattle.node_table.specs.declared.kinds.Kind.TheVariants.{Destination, Constant, Gain, Splitter, Merger};
+ghost use Rattle.node_table.specs.declared.kinds.Kind.TheVariants.{Destination, Constant, Buffer, Gain, Splitter, Merger};
 ghost use Rattle.meaning.specs.Validity.{IsValid};
 ghost use Rattle.meaning.specs.World.{kind_of, sounds_at};
 ghost use Rattle.quantum_render.specs.Blocks.{Writes};
@@ -10,6 +10,7 @@ ghost use Rattle.quantum_render.specs.Renders.{Renders};
 use crate::bench::Bench;
 use crate::block::Block;
 use crate::places::play_place;
+use crate::playing::sounding;
 use crate::site::{Site, slot};
 use node_table::Kind;
 use wa_base::ParamName;
@@ -26,6 +27,7 @@ impl Bench {
         match site.world.nodes.kind(site.end.node) {
             Kind::Destination => self.render_destination(blocks, site),
             Kind::Constant { .. } => self.render_constant(blocks, site),
+            Kind::Buffer { .. } => render_buffer(blocks, site),
             Kind::Gain { .. } => self.render_gain(blocks, site),
             Kind::Splitter { .. } => self.render_splitter(blocks, site),
             Kind::Merger { .. } => self.render_merger(blocks, site),
@@ -85,6 +87,20 @@ impl Bench {
     {
         self.take_inputs(blocks, site, site.channels());
         blocks[slot(site.end)].copy(&self.merged);
+    }
+}
+
+// What a buffer source plays. Where it does not sound in the quantum, it has one silent channel.
+fn render_buffer(blocks: &mut [Block], site: &Site)
+    requires fit { AreFit site.now.world site.now.counts blocks.old }
+    requires kind { (rate : ℕ) × (kind_of site.now.world site.now.end.node.0 ≡ Buffer rate) }
+    ensures writes { Writes blocks.old blocks.new site.now.end }
+    ensures renders { (rate : ℕ) → Renders site.now blocks.old blocks.new (Buffer rate) }
+{
+    let block = &mut blocks[slot(site.end)];
+    match sounding(site.world, site.end.node, site.near, site.first) {
+        Some(source) => block.play(&source, site.first),
+        None => block.silence(),
     }
 }
 

@@ -5,6 +5,7 @@ ghost use Rattle.param_events.specs.Values.{value_at};
 ghost use Rattle.meaning.specs.Validity.{IsValid};
 ghost use Rattle.meaning.specs.World.{intrinsic_value, is_k, is_k_rate};
 ghost use Rattle.quantum_render.specs.Connections.{leads_to};
+ghost use Rattle.quantum_render.specs.Sites.{AreStill};
 
 use crate::places::{Near, param_place};
 use conn_graph::{Edge, Target};
@@ -21,7 +22,8 @@ pub(crate) fn is_reached(into: &[Edge], target: Target) -> bool
 
 // The intrinsic value of a parameter, and its rate.
 pub(crate) fn automation(world: &World, id: ParamId, near: Near) -> (Fix, Rate)
-    requires { IsValid world.now }
+    requires valid { IsValid world.now }
+    requires still { AreStill world.now }
     ensures value { (frame : ℕ) → intrinsic_value world.now id frame ≡ result.0 }
     ensures rate { is_k_rate world.now id ≡ is_k result.1 }
 {

@@ -12,6 +12,7 @@ mod levels;
 mod pass;
 mod places;
 mod plan;
+mod playing;
 mod renderer;
 mod site;
 mod sums;

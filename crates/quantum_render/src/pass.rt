@@ -7,7 +7,7 @@ ghost use Rattle.meaning.specs.Validity.{IsValid};
 ghost use Rattle.meaning.specs.Values.{value};
 ghost use Rattle.quantum_render.specs.Blocks.{drafts_of};
 ghost use Rattle.quantum_render.specs.Fits.{AreInRange, AreFit};
-ghost use Rattle.quantum_render.specs.Sites.{IsBegun};
+ghost use Rattle.quantum_render.specs.Sites.{IsBegun, AreStill};
 ghost use Rattle.quantum_render.specs.Plans.{IsPlan, AreCounted};
 
 use crate::bench::Bench;
@@ -27,6 +27,7 @@ pub(crate) fn render_quantum(
     first: u64,
 )
     requires valid { IsValid world.now }
+    requires still { AreStill world.now }
     requires plan { IsPlan world.now plan.now.order plan.now.muted plan.now.into }
     requires range { AreInRange world.now counts.now }
     requires fit { AreFit world.now counts.now blocks.old }

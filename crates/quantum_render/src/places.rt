@@ -19,6 +19,11 @@ impl Near {
     pub(crate) const START: Near = Near { param: 0, play: 0 };
 }
 
+// The places for a node. A new node has none of its own.
+pub(crate) fn near_of(near: &[Near], node: NodeId) -> Near {
+    near.get(node.0 as usize).copied().unwrap_or(Near::START)
+}
+
 // The places for each node.
 pub(crate) fn places(alloc: Global, world: &World) -> Result<Vec<Near>, NoMemory> {
     let nodes = world.nodes.len() as usize;

@@ -7,11 +7,11 @@ ghost use Rattle.cycle_order.specs.Choices.{chosen_order};
 ghost use Rattle.conn_graph.specs.Ends.{ends};
 ghost use Rattle.quantum_render.specs.Connections.{into as leads_into};
 ghost use Rattle.quantum_render.specs.Fits.{AreInRange};
-ghost use Rattle.quantum_render.specs.Sites.{IsBegun};
+ghost use Rattle.quantum_render.specs.Sites.{IsBegun, AreStill};
 ghost use Rattle.meaning.specs.Validity.{IsValid};
 ghost use Rattle.quantum_render.specs.Plans.{IsPlan, IsPlanOf};
 
-use crate::places::{Near, places};
+use crate::places::{Near, near_of, places};
 use crate::site::Site;
 use conn_graph::{Edge, Graph};
 use cycle_order::{Ends, order, survey};
@@ -133,6 +133,7 @@ impl Plan {
         first: u64,
     ) -> Site<'a>
         requires valid { IsValid world.now }
+        requires still { AreStill world.now }
         requires plan { IsPlan world.now self.now.order self.now.muted self.now.into }
         requires range { AreInRange world.now counts.now }
         requires there { IsIn end (ends world.now.graph.value) }
@@ -149,8 +150,13 @@ impl Plan {
             into: self.into[node].as_slice(),
             counts,
             first,
-            near: self.near.get(node).copied().unwrap_or(Near::START),
+            near: near_of(self.near.as_slice(), end.node),
         }
+    }
+
+    // Where the parameter and the schedule of each node are likely to stand.
+    pub(crate) fn near(&self) -> &[Near] {
+        self.near.as_slice()
     }
 
     pub(crate) fn sources(&self) -> &[Items<Edge>]

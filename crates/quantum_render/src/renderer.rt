@@ -5,6 +5,7 @@ ghost use Rattle.meaning.specs.Rendered.{sample};
 ghost use Rattle.meaning.specs.Validity.{IsValid};
 ghost use Rattle.meaning.specs.Worlds.{IsRegular};
 ghost use Rattle.cycle_order.specs.Choices.{chosen_order};
+ghost use Rattle.quantum_render.specs.Sites.{AreStill};
 ghost use Rattle.quantum_render.specs.Stands.{StandsFor, Shows, IsPrepared, IsCounted, IsGrown};
 
 use crate::bench::Bench;
@@ -116,8 +117,9 @@ impl Renderer {
             self.counts.as_mut_slice(),
             world,
             self.plan.order(),
-            self.plan.muted(),
             self.plan.sources(),
+            self.plan.near(),
+            first,
         );
     }
 
@@ -135,9 +137,11 @@ impl Renderer {
         fit_blocks(self.alloc, &mut self.blocks, world, self.counts.as_slice())
     }
 
-    /// Renders the next quantum, which begins at frame `first`. It takes no memory.
+    /// Renders the next quantum, which begins at frame `first`. It takes no memory. The world's
+    /// parameters have no events in their timelines: those are not built.
     pub fn pass<L: Ledger>(&mut self, world: &World, first: u64, steps: &mut Steps<L>)
         requires valid { IsValid world.now }
+        requires still { AreStill world.now }
         requires spec { world.now.spec ≡ self.old.spec }
         requires grown { IsGrown self.old world.now }
         requires first { first ≡ quantum_of self.old.spec * self.old.quanta }

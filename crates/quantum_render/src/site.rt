@@ -1,5 +1,5 @@
 ghost use Rattle.std.specs.Prelude.{◌≡◌, ◌≤◌};
-ghost use Rattle.node_table.specs.Kinds.{outputs as outputs_of, HasPorts};
+ghost use Rattle.node_table.specs.Kinds.{outputs as outputs_of, IsInLimits};
 ghost use Rattle.conn_graph.specs.Ends.{reader_of};
 ghost use Rattle.meaning.specs.World.{kind_of};
 ghost use Rattle.quantum_render.specs.Blocks.{slot as slot_of, counts_in};
@@ -63,7 +63,7 @@ impl Site<'_> {
     // The number of outputs of the end's node.
     pub(crate) fn outputs(&self) -> u32
         ensures count { result ≡ outputs_of (kind_of self.now.world self.now.end.node.0) }
-        ensures ports { HasPorts (kind_of self.now.world self.now.end.node.0) }
+        ensures ports { IsInLimits (kind_of self.now.world self.now.end.node.0) }
     {
         self.world.nodes.kind(self.end.node).outputs()
     }

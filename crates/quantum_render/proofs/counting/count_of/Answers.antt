@@ -1,7 +1,7 @@
-use Rattle.std.proofs.Common.{ℕ, false, ◌≡◌, ◌*◌, ◌≤◌, inl, inr, sym, ◌∙◌, ap, subst, arith}
-use Rattle.node_table.specs.Kinds.{outputs, is_mono, HasPorts}
+use Rattle.std.proofs.Common.{ℕ, false, ◌≡◌, inl, inr, sym, ◌∙◌, ap, subst, arith}
+use Rattle.node_table.specs.Kinds.{outputs, is_mono, IsInLimits}
 use Rattle.node_table.specs.declared.kinds.Kind.{Kind}
-use Rattle.meaning.specs.World.{plain, kind_of}
+use Rattle.meaning.specs.World.{plain, kind_of, played_channels}
 use Rattle.meaning.specs.Counts.{count_by_kind}
 use Rattle.quantum_render.specs.Blocks.{counts_in}
 use Rattle.quantum_render.proofs.InputLaws.{kind_is}
@@ -16,7 +16,7 @@ pub input_count-requires-clause-node : goal.input_count-requires-clause-node
 input_count-requires-clause-node c = end_low c.args.world.now c.requires.valid c.args.end c.requires.there
 
 pub returns-in-Constant-clause-value : goal.returns-in-Constant-clause-value
-returns-in-Constant-clause-value c j earlier =
+returns-in-Constant-clause-value c j earlier time =
     let table = kind_is c.args.world.now c.args.end.node.0 c.kind.result.now (end_low c.args.world.now c.requires.valid c.args.end c.requires.there) c.kind.ensures.value in
     let counted : Kind → ℕ = λ k. count_by_kind 128 (plain c.args.world.now) j earlier (counts_in c.args.counts.now) k c.args.end in
     elim c.in-Constant.is [
@@ -24,12 +24,31 @@ returns-in-Constant-clause-value c j earlier =
       | inr is ↦ ap counted (sym (table ∙ is.1))
     ]
 
+-- of a buffer source those of its buffer where it is heard
+pub returns-in-Buffer-clause-value : goal.returns-in-Buffer-clause-value
+returns-in-Buffer-clause-value c j earlier time =
+    let table = kind_is c.args.world.now c.args.end.node.0 c.kind.result.now (end_low c.args.world.now c.requires.valid c.args.end c.requires.there) c.kind.ensures.value in
+    let counted : Kind → ℕ = λ k. count_by_kind 128 (plain c.args.world.now) j earlier (counts_in c.args.counts.now) k c.args.end in
+    c.played_count.ensures.value ∙ ap (played_channels c.args.world.now c.args.end.node.0 128) time ∙ ap counted (sym (table ∙ c.in-Buffer.is))
+
+pub returns-in-Buffer-clause-lanes : goal.returns-in-Buffer-clause-lanes
+returns-in-Buffer-clause-lanes c =
+    let table = kind_is c.args.world.now c.args.end.node.0 c.kind.result.now (end_low c.args.world.now c.requires.valid c.args.end c.requires.there) c.kind.ensures.value in
+    let one : outputs (kind_of c.args.world.now c.args.end.node.0) ≡ 1 = ap outputs (table ∙ c.in-Buffer.is) in
+    rw one (let high = c.played_count.ensures.range.1 in omega (arith, high))
+
+pub returns-in-Buffer-clause-mono : goal.returns-in-Buffer-clause-mono
+returns-in-Buffer-clause-mono c mono =
+    let table = kind_is c.args.world.now c.args.end.node.0 c.kind.result.now (end_low c.args.world.now c.requires.valid c.args.end c.requires.there) c.kind.ensures.value in
+    let none : is_mono (kind_of c.args.world.now c.args.end.node.0) ≡ false = ap is_mono (table ∙ c.in-Buffer.is) in
+    absurd cc
+
 -- of a splitter each output has one channel
 pub returns-in-Constant-clause-lanes : goal.returns-in-Constant-clause-lanes
 returns-in-Constant-clause-lanes c = let few = outputs_few c.args.world.now c.requires.valid c.args.end.node.0 in omega (arith, few)
 
 pub returns-in-Merger-clause-value : goal.returns-in-Merger-clause-value
-returns-in-Merger-clause-value c j earlier =
+returns-in-Merger-clause-value c j earlier time =
     let table = kind_is c.args.world.now c.args.end.node.0 c.kind.result.now (end_low c.args.world.now c.requires.valid c.args.end c.requires.there) c.kind.ensures.value in
     let counted : Kind → ℕ = λ k. count_by_kind 128 (plain c.args.world.now) j earlier (counts_in c.args.counts.now) k c.args.end in
     ap counted (sym (table ∙ c.in-Merger.is))
@@ -38,13 +57,13 @@ returns-in-Merger-clause-value c j earlier =
 pub returns-in-Merger-clause-range : goal.returns-in-Merger-clause-range
 returns-in-Merger-clause-range c =
     let table = kind_is c.args.world.now c.args.end.node.0 c.kind.result.now (end_low c.args.world.now c.requires.valid c.args.end c.requires.there) c.kind.ensures.value in
-    subst HasPorts (table ∙ c.in-Merger.is) (ports_there c.args.world.now c.requires.valid c.args.end.node.0)
+    subst IsInLimits (table ∙ c.in-Merger.is) (ports_there c.args.world.now c.requires.valid c.args.end.node.0)
 
 pub returns-in-Merger-clause-lanes : goal.returns-in-Merger-clause-lanes
 returns-in-Merger-clause-lanes c =
     let table = kind_is c.args.world.now c.args.end.node.0 c.kind.result.now (end_low c.args.world.now c.requires.valid c.args.end c.requires.there) c.kind.ensures.value in
     let one : outputs (kind_of c.args.world.now c.args.end.node.0) ≡ 1 = ap outputs (table ∙ c.in-Merger.is) in
-    let range = subst HasPorts (table ∙ c.in-Merger.is) (ports_there c.args.world.now c.requires.valid c.args.end.node.0) in
+    let range = subst IsInLimits (table ∙ c.in-Merger.is) (ports_there c.args.world.now c.requires.valid c.args.end.node.0) in
     rw one (let high = range.1 in omega (arith, high))
 
 pub returns-in-Merger-clause-mono : goal.returns-in-Merger-clause-mono
@@ -54,7 +73,7 @@ returns-in-Merger-clause-mono c mono =
     absurd cc
 
 pub returns-in-Destination-clause-value : goal.returns-in-Destination-clause-value
-returns-in-Destination-clause-value c j earlier =
+returns-in-Destination-clause-value c j earlier time =
     let table = kind_is c.args.world.now c.args.end.node.0 c.kind.result.now (end_low c.args.world.now c.requires.valid c.args.end c.requires.there) c.kind.ensures.value in
     let counted : Kind → ℕ = λ k. count_by_kind 128 (plain c.args.world.now) j earlier (counts_in c.args.counts.now) k c.args.end in
     c.input_count.ensures.value ∙ elim c.in-Destination.is [

@@ -1,4 +1,4 @@
-use Rattle.std.proofs.Common.{ℤ, List, rules, pos, ◌≡◌, ◌+◌, ◌-◌, ◌*◌, ◌<◌, length, take, drop, suc, slice_index_or, ◌∙◌, refl, arith, FitsSigned}
+use Rattle.std.proofs.Common.{ℤ, List, rules, pos, ◌≡◌, ◌+◌, ◌-◌, ◌*◌, length, take, drop, slice_index_or, ◌∙◌, refl, arith, FitsSigned}
 use borrow.Rule.Slice.PartMut.{put_mid}
 use Rattle.std.specs.Int.{w32}
 use Rattle.std.proofs.lemmas.Int.{to_z-of_z}

@@ -2,7 +2,7 @@ use Rattle.std.proofs.Common.{ℕ, ◌<◌, length, slice_index_or, sym, ◌∙�
 use Rattle.std.specs.Prelude.{slice_get, option_and_then}
 use Rattle.conn_graph.specs.Edges.{same_param}
 use Rattle.meaning.specs.declared.params.Param.{Param}
-use Rattle.quantum_render.proofs.ParamPlaces.{param_position}
+use Rattle.meaning.proofs.FirstItems.{param_position}
 use Rattle.quantum_render.proofs.places.param_place.Goals as goal
 
 pub returns-then-is_param-clause-item : goal.returns-then-is_param-clause-item

@@ -28,6 +28,13 @@ render_constant-requires-clause-kind c = (
       (subst (λ (x : SiteView). kind_at x.world.nodes x.end.node.0 ≡ Some c.kind.result.now) c.site.view_is c.kind.ensures.value) ∙ c.in-Constant.is,
 )
 
+pub render_buffer-requires-clause-kind : goal.render_buffer-requires-clause-kind
+render_buffer-requires-clause-kind c = (
+  c.in-Buffer.rate,
+  kind_of_site c.args.site.now (site_is c.args.site.now _ _ _ _ _ c.site.invariant c.site.view_is) c.kind.result.now
+      (subst (λ (x : SiteView). kind_at x.world.nodes x.end.node.0 ≡ Some c.kind.result.now) c.site.view_is c.kind.ensures.value) ∙ c.in-Buffer.is,
+)
+
 pub render_gain-requires-clause-kind : goal.render_gain-requires-clause-kind
 render_gain-requires-clause-kind c = (
   c.in-Gain.gain,
@@ -62,6 +69,13 @@ returns-in-Constant-clause-renders c =
     (sym (kind_of_site c.args.site.now (site_is c.args.site.now _ _ _ _ _ c.site.invariant c.site.view_is) c.kind.result.now
     (subst (λ (x : SiteView). kind_at x.world.nodes x.end.node.0 ≡ Some c.kind.result.now) c.site.view_is c.kind.ensures.value) ∙ c.in-Constant.is))
     (c.render_constant.ensures.renders c.in-Constant.offset)
+
+pub returns-in-Buffer-clause-renders : goal.returns-in-Buffer-clause-renders
+returns-in-Buffer-clause-renders c =
+    subst (Renders c.args.site.now c.args.blocks.now c.render_buffer.new.blocks)
+    (sym (kind_of_site c.args.site.now (site_is c.args.site.now _ _ _ _ _ c.site.invariant c.site.view_is) c.kind.result.now
+    (subst (λ (x : SiteView). kind_at x.world.nodes x.end.node.0 ≡ Some c.kind.result.now) c.site.view_is c.kind.ensures.value) ∙ c.in-Buffer.is))
+    (c.render_buffer.ensures.renders c.in-Buffer.rate)
 
 pub returns-in-Gain-clause-renders : goal.returns-in-Gain-clause-renders
 returns-in-Gain-clause-renders c =

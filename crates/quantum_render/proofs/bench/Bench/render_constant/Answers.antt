@@ -28,7 +28,7 @@ returns-clause-writes c =
     (c.copy.ensures.lanes ∙ c.sound.ensures.lanes ∙ sym (mono_own c.args.site.now site c.args.blocks.now c.requires.fit c.slot.result here (ap is_mono c.requires.kind.1)))
 
 pub returns-clause-renders : goal.returns-clause-renders
-returns-clause-renders c offset j earlier counted before =
+returns-clause-renders c offset j earlier begins counted before =
     let s : SiteView = c.args.site.now in
     let site = site_is s _ _ _ _ _ c.site.invariant c.site.view_is in
     let levels : c.self.inside.levels ≡ c.take_levels.new.self.levels = ap (λ (b : BenchView). b.levels) c.self.view_is in

@@ -27,7 +27,7 @@ returns-clause-writes c =
     c.scale.new.self (c.scale.ensures.lanes ∙ ap (λ (b : BlockView). b.lanes) heard ∙ c.take_input.ensures.lanes ∙ c.channels.ensures.count)
 
 pub returns-clause-renders : goal.returns-clause-renders
-returns-clause-renders c gain j earlier counted before =
+returns-clause-renders c gain j earlier begins counted before =
     let s : SiteView = c.args.site.now in
     let site = site_is s _ _ _ _ _ c.site.invariant c.site.view_is in
     let heard : c.self.inside.heard ≡ c.take_input.new.self.heard = ap (λ (b : BenchView). b.heard) c.self.view_is ∙ c.take_levels.ensures.heard in

@@ -1,4 +1,4 @@
-use Rattle.std.proofs.Common.{ℕ, ◌≡◌, ◌<◌, ◌≤◌, ◌*◌, slice_index_or, sym, ◌∙◌, ap, arith, subst}
+use Rattle.std.proofs.Common.{◌≡◌, ◌<◌, ◌≤◌, ◌*◌, slice_index_or, sym, ◌∙◌, ap, subst}
 use Rattle.node_table.specs.Kinds.{outputs}
 use Rattle.quantum_render.specs.Blocks.{BlockView, at, slot, counts_in, room_of}
 use Rattle.quantum_render.specs.Benches.{BenchView}
@@ -29,7 +29,7 @@ returns-clause-writes c =
 
 -- channel c is what input c carries
 pub returns-clause-renders : goal.returns-clause-renders
-returns-clause-renders c ports kind j earlier counted before =
+returns-clause-renders c ports kind j earlier begins counted before =
     let s : SiteView = c.args.site.now in
     let site = site_is s _ _ _ _ _ c.site.invariant c.site.view_is in
     let merged : c.self.inside.merged ≡ c.take_inputs.new.self.merged = ap (λ (b : BenchView). b.merged) c.self.view_is in

@@ -1,24 +1,23 @@
-use Rattle.std.proofs.Common.{ℕ, ◌≡◌, ◌+◌, ◌<◌, ◌≤◌, ◌*◌, slice_index_or, slice_set, refl, sym, ◌∙◌, ap, ap₂, arith, subst}
-use Rattle.node_table.specs.Kinds.{outputs, is_mono, HasPorts}
-use Rattle.node_table.specs.declared.kinds.Kind.TheVariants.{Splitter}
+use Rattle.std.proofs.Common.{◌≡◌, ◌+◌, ◌<◌, ◌≤◌, ◌*◌, slice_index_or, slice_set, sym, ◌∙◌, ap, ap₂, arith, subst}
+use Rattle.node_table.specs.Kinds.{outputs, is_mono, IsInLimits}
 use Rattle.meaning.specs.World.{kind_of}
 use Rattle.quantum_render.specs.Blocks.{BlockView, at, slot, block_of, counts_in, room_of}
 use Rattle.quantum_render.specs.Benches.{BenchView}
-use Rattle.quantum_render.specs.Sites.{SiteView, IsSite}
-use Rattle.quantum_render.proofs.Ports.{ports_there, splitter_channels}
+use Rattle.quantum_render.specs.Sites.{SiteView}
+use Rattle.quantum_render.proofs.Ports.{splitter_channels}
 use Rattle.quantum_render.proofs.Sources.{end_low}
 use Rattle.quantum_render.proofs.Rendering.{site_is, own_within, mono_own, all_room, writes_all, lane_own}
 use Rattle.quantum_render.proofs.bench.Bench.render_splitter.Goals as goal
 
 pub take_input-requires-clause-low : goal.take_input-requires-clause-low
 take_input-requires-clause-low c =
-    let ports = subst HasPorts c.requires.kind.1 c.outputs.ensures.ports in
+    let ports = subst IsInLimits c.requires.kind.1 c.outputs.ensures.ports in
     let are : c.outputs.result ≡ c.requires.kind.0 = c.outputs.ensures.count ∙ ap outputs c.requires.kind.1 in
     rw are ports.0
 
 pub take_input-requires-clause-high : goal.take_input-requires-clause-high
 take_input-requires-clause-high c =
-    let ports = subst HasPorts c.requires.kind.1 c.outputs.ensures.ports in
+    let ports = subst IsInLimits c.requires.kind.1 c.outputs.ensures.ports in
     let are : c.outputs.result ≡ c.requires.kind.0 = c.outputs.ensures.count ∙ ap outputs c.requires.kind.1 in
     rw are ports.1
 
@@ -51,7 +50,7 @@ returns-clause-writes c =
 
 -- lane o of what the input carries is its channel o
 pub returns-clause-renders : goal.returns-clause-renders
-returns-clause-renders c ports kind j earlier counted before output channel m low below now =
+returns-clause-renders c ports kind j earlier begins counted before output channel m low below now =
     let s : SiteView = c.args.site.now in
     let site = site_is s _ _ _ _ _ c.site.invariant c.site.view_is in
     let here = c.slot.ensures ∙ ap (λ (x : SiteView). slot x.end) c.site.view_is in

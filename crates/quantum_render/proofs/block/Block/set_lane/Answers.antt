@@ -1,4 +1,4 @@
-use Rattle.std.proofs.Common.{ℕ, rules, pos, ◌≡◌, ◌+◌, ◌*◌, length, slice_index_or, sym, ◌∙◌, ap, arith, FitsSigned}
+use Rattle.std.proofs.Common.{rules, pos, ◌≡◌, ◌+◌, ◌*◌, slice_index_or, sym, ◌∙◌, ap, arith, FitsSigned}
 use Rattle.std.specs.Int.{w32}
 use Rattle.std.proofs.lemmas.Int.{to_z-of_z}
 use Rattle.quantum_render.proofs.block.Block.set_lane.Goals as goal

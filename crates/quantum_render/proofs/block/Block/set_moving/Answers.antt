@@ -1,9 +1,8 @@
-use Rattle.std.proofs.Common.{ℕ, ℤ, List, rules, pos, ◌≡◌, ◌+◌, ◌-◌, ◌*◌, ◌<◌, ◌≤◌, ◌++◌, length, take, drop, Bool, true, false, slice_index_or, refl, sym, ◌∙◌, ap, arith, subst}
-use borrow.Rule.Slice.PartMut.{put_mid}
+use Rattle.std.proofs.Common.{ℕ, ℤ, List, rules, ◌≡◌, ◌+◌, ◌-◌, ◌*◌, ◌<◌, length, take, drop, sym, ◌∙◌, ap, arith, subst}
 use Rattle.std.specs.Vec.{vec_len}
-use Rattle.std.proofs.lemmas.List.{places, get_or-take, length-take-le}
+use Rattle.std.proofs.lemmas.List.{places, length-take-le}
 use Rattle.channel_mix.specs.Blocks.{sample}
-use Rattle.quantum_render.specs.Blocks.{BlockView, at, all_values}
+use Rattle.quantum_render.specs.Blocks.{BlockView, at}
 use Rattle.quantum_render.proofs.Lanes.{moving_others, unfolded_or_not, front_of}
 use Rattle.quantum_render.proofs.block.Block.set_moving.Goals as goal
 

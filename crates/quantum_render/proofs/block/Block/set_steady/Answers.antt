@@ -1,4 +1,4 @@
-use Rattle.std.proofs.Common.{ℕ, ℤ, List, rules, pos, ◌+◌, ◌-◌, ◌*◌, ◌<◌, ◌≤◌, length, ◌≡◌, ◌++◌, slice_set, take, drop, sym, ◌∙◌, ap, arith, subst, FitsSigned, to_z, of_z}
+use Rattle.std.proofs.Common.{ℤ, List, rules, pos, ◌+◌, ◌-◌, ◌*◌, ◌<◌, length, ◌≡◌, ◌++◌, slice_set, take, drop, sym, ◌∙◌, ap, arith, subst, FitsSigned, to_z, of_z}
 use Rattle.std.specs.Vec.{vec_len}
 use borrow.Rule.Slice.PartMut.{put_mid}
 use Rattle.std.specs.Int.{w32}

@@ -22,4 +22,5 @@ invariant_of-result c =
       into = c.as_slice.ensures ∙ c.index.ensures ∙ get_or_default c.self.inside.into.items c.args.end.node.0 c.index.result.now [] node ∙ plan.each c.args.end.node.0 node;
       range = c.requires.range;
       begun = c.requires.begun;
+      still = c.requires.still;
     }

@@ -1,7 +1,5 @@
-use Rattle.std.proofs.Common.{◌≡◌, Some, sym, ◌∙◌, ap, subst}
-use Rattle.node_table.specs.Kinds.{inputs, outputs, HasPorts}
-use Rattle.node_table.specs.declared.kinds.Kind.{Kind}
-use Rattle.node_table.specs.Nodes.{kind_at}
+use Rattle.std.proofs.Common.{sym, ◌∙◌, ap, subst}
+use Rattle.node_table.specs.Kinds.{outputs, IsInLimits}
 use Rattle.meaning.specs.World.{kind_of}
 use Rattle.quantum_render.specs.Sites.{SiteView}
 use Rattle.quantum_render.proofs.InputLaws.{kind_is}
@@ -19,4 +17,4 @@ returns-clause-count c =
 
 pub returns-clause-ports : goal.returns-clause-ports
 returns-clause-ports c =
-    subst (λ (x : SiteView). HasPorts (kind_of x.world x.end.node.0)) c.self.view_is (ports_there c.self.inside.world.now c.self.invariant.valid c.self.inside.end.node.0)
+    subst (λ (x : SiteView). IsInLimits (kind_of x.world x.end.node.0)) c.self.view_is (ports_there c.self.inside.world.now c.self.invariant.valid c.self.inside.end.node.0)

@@ -1,0 +1,90 @@
+ghost use Rattle.std.specs.Prelude.{◌≡◌, None, IsOk, IsErr, OnOk, OnErr};
+ghost use Rattle.meaning.specs.Sources as spec;
+ghost use Rattle.meaning.specs.World.{plain};
+
+use crate::world::World;
+use wa_base::{BufId, Exc, NoMemory, Refusal, Samples};
+use wav_io::Wav;
+
+/// What a control call edits in the buffers.
+#[derive(Debug, Drop)]
+pub enum BufferEdit {
+    /// A silent buffer is created (BaseAudioContext.createBuffer).
+    Create {
+        channels: u32,
+        frames: u64,
+        rate: u32,
+    },
+    /// A recording that was decoded becomes a buffer (BaseAudioContext.decodeAudioData).
+    Adopt {
+        wav: Wav,
+    },
+    /// A channel is written from a frame on (AudioBuffer.copyToChannel).
+    Write {
+        buffer: BufId,
+        channel: u32,
+        samples: Samples,
+        first: u64,
+    },
+}
+
+impl World {
+    // Why an edit of the buffers is refused.
+    pub(crate) fn buffers_refusal(&self, edit: &BufferEdit) -> Option<Exc>
+        requires { spec.IsEditOf self.now.store edit.now }
+        ensures { result ≡ spec.buffers_refusal self.now.store edit.now }
+    {
+        match edit {
+            BufferEdit::Create {
+                channels,
+                frames,
+                rate,
+            } => self.store.creation_refusal(*channels, *frames, *rate),
+            BufferEdit::Adopt { wav } => self.store.adoption_refusal(wav),
+            BufferEdit::Write {
+                buffer,
+                channel,
+                ..
+            } => self.store.write_refusal(*buffer, *channel),
+        }
+    }
+
+    // Makes an edit of the buffers that is accepted.
+    pub(crate) fn edit_buffers(&mut self, edit: BufferEdit) -> Result<(), NoMemory>
+        requires named { spec.IsEditOf self.old.store edit }
+        requires accepted { spec.buffers_refusal self.old.store edit ≡ None }
+        ensures ok { OnOk result (plain self.new ≡ spec.with_store (plain self.old) (spec.buffers_edited self.old.store edit)) }
+        ensures err { OnErr result (plain self.new ≡ plain self.old) }
+    {
+        match edit {
+            BufferEdit::Create {
+                channels,
+                frames,
+                rate,
+            } => made(self.store.create(channels, frames, rate)),
+            BufferEdit::Adopt { wav } => made(self.store.adopt(wav)),
+            BufferEdit::Write {
+                buffer,
+                channel,
+                samples,
+                first,
+            } => {
+                let _accepted = self
+                    .store
+                    .write_channel(buffer, channel, samples.as_slice(), first);
+                Ok(())
+            }
+        }
+    }
+}
+
+// A buffer that is accepted is refused only for want of memory.
+fn made(buffer: Result<BufId, Refusal>) -> Result<(), NoMemory>
+    ensures ok { OnOk result (IsOk buffer) }
+    ensures err { OnErr result (IsErr buffer) }
+{
+    match buffer {
+        Ok(_) => Ok(()),
+        Err(_) => Err(NoMemory),
+    }
+}

@@ -1,0 +1,12 @@
+use Rattle.std.proofs.Common.{ℕ, ◌≡◌, ◌+◌, ◌<◌, ◌*◌, length, Some}
+use Rattle.channel_mix.specs.Blocks.{sample}
+use Rattle.sched_source.specs.Schedule.{played}
+use Rattle.meaning.specs.World.{channels_in, samples_in}
+use Rattle.quantum_render.proofs.playing.Source.play.Given as goal
+
+-- the lanes so far
+abbrev pub invariant-loop-lane : goal.invariant-loop-lane
+invariant-loop-lane l = record {
+  length : length l.out ≡ l.lanes * 128;
+  so_far : (k m : ℕ) → k < l.lane → k < channels_in l.self.store (Some l.self.buffer) → m < 128 → sample 128 l.out k m ≡ played l.self.sched (samples_in l.self.store (Some l.self.buffer) k) (l.first + m);
+}
