@@ -102,9 +102,6 @@ fn buffer_text(alloc: Global, op: &Op) -> Result<String, AllocError> {
             let values = values_text(alloc, samples.as_slice())?;
             format!(in alloc; "copyToChannel {} {channel} [{values}] {at}", text(buffer))
         }
-        Op::DecodeAudioData { name, path } => {
-            format!(in alloc; "decodeAudioData {} {}", text(name), path.as_str())
-        }
         _ => String::from_str(alloc, "another operation"),
     }
 }
