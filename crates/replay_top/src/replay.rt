@@ -45,6 +45,7 @@ pub fn run<S: Source, F: Files, T: Sink>(
     ensures tells { F.tells files.new ≡ F.tells files.old }
     ensures source_later { S.faults script.old ≤ S.faults script.new }
     ensures sink_later { T.faults transcript.old ≤ T.faults transcript.new }
+    ensures read_later { F.read_faults files.old ≤ F.read_faults files.new }
     ensures store_later { F.write_faults files.old ≤ F.write_faults files.new }
 {
     let Some(reading) = reading_of(words) else {
@@ -71,6 +72,7 @@ fn replay_bytes<F: Files, T: Sink>(
         Answers result (answers.answer_to_script reading.now (script_of bytes.now)) before after }
     ensures tells { F.tells files.new ≡ F.tells files.old }
     ensures sink_later { T.faults transcript.old ≤ T.faults transcript.new }
+    ensures read_later { F.read_faults files.old ≤ F.read_faults files.new }
     ensures store_later { F.write_faults files.old ≤ F.write_faults files.new }
 {
     match read(alloc, bytes) {
@@ -94,6 +96,7 @@ fn replay_script<F: Files, T: Sink>(
         Answers result (answers.answer_to_session reading.now script.now.context (session_of script.now)) before after }
     ensures tells { F.tells files.new ≡ F.tells files.old }
     ensures sink_later { T.faults transcript.old ≤ T.faults transcript.new }
+    ensures read_later { F.read_faults files.old ≤ F.read_faults files.new }
     ensures store_later { F.write_faults files.old ≤ F.write_faults files.new }
 {
     let options = Options {
@@ -120,6 +123,7 @@ fn answer_outcome<F: Files, T: Sink>(
         Answers result (answer_to_rendering reading.now outcome.now.end (text_of outcome.now.lines.items outcome.now.end) outcome.now.rendered) before after }
     ensures tells { F.tells files.new ≡ F.tells files.old }
     ensures sink_later { T.faults transcript.old ≤ T.faults transcript.new }
+    ensures read_later { F.read_faults files.old ≤ F.read_faults files.new }
     ensures store_later { F.write_faults files.old ≤ F.write_faults files.new }
 {
     let Ok(text) = text(alloc, &outcome.lines, &outcome.end) else {
@@ -155,6 +159,7 @@ fn answer_rendered<F: Files, T: Sink>(
         Answers result (with_wav reading.now text.now rendered.now) before after }
     ensures tells { F.tells files.new ≡ F.tells files.old }
     ensures sink_later { T.faults transcript.old ≤ T.faults transcript.new }
+    ensures read_later { F.read_faults files.old ≤ F.read_faults files.new }
     ensures store_later { F.write_faults files.old ≤ F.write_faults files.new }
 {
     match write_all(transcript, text) {

@@ -31,6 +31,7 @@ pub fn write_wav<F: Files>(
         → Sets (F.paths files.old) (F.paths files.new) reading.now.out (wav_of reading.now.bits rendered.now.spec (interleaved rendered.now.spec rendered.now.samples))) }
     ensures part { OnErr result (IsTrue (F.tells files.old) → SamePaths (F.paths files.old) (F.paths files.new)
         ⊎ ((n : ℕ) × Sets (F.paths files.old) (F.paths files.new) reading.now.out (take n (wav_of reading.now.bits rendered.now.spec (interleaved rendered.now.spec rendered.now.samples))))) }
+    ensures reads { F.read_faults files.new ≡ F.read_faults files.old }
     ensures later { F.write_faults files.old ≤ F.write_faults files.new }
     ensures cause { IsErrOf result EdgeErr.Failed → Rose (F.write_faults files.old) (F.write_faults files.new) }
 {
@@ -50,6 +51,7 @@ fn append_wav<F: Files>(
         → AppendsWhole (F.paths files.old) (F.paths files.new) reading.now.out (wav_of reading.now.bits rendered.now.spec (interleaved rendered.now.spec rendered.now.samples))) }
     ensures part { OnErr result (IsTrue (F.tells files.old)
         → AppendsPart (F.paths files.old) (F.paths files.new) reading.now.out (wav_of reading.now.bits rendered.now.spec (interleaved rendered.now.spec rendered.now.samples))) }
+    ensures reads { F.read_faults files.new ≡ F.read_faults files.old }
     ensures later { F.write_faults files.old ≤ F.write_faults files.new }
     ensures cause { IsErrOf result EdgeErr.Failed → Rose (F.write_faults files.old) (F.write_faults files.new) }
 {
@@ -83,6 +85,7 @@ fn append_frames<F: Files>(
         → AppendsWhole (F.paths files.old) (F.paths files.new) reading.now.out (text.samples_bytes reading.now.bits (interleaved rendered.now.spec rendered.now.samples))) }
     ensures part { OnErr result (IsTrue (F.tells files.old)
         → AppendsPart (F.paths files.old) (F.paths files.new) reading.now.out (text.samples_bytes reading.now.bits (interleaved rendered.now.spec rendered.now.samples))) }
+    ensures reads { F.read_faults files.new ≡ F.read_faults files.old }
     ensures later { F.write_faults files.old ≤ F.write_faults files.new }
     ensures cause { IsErrOf result EdgeErr.Failed → Rose (F.write_faults files.old) (F.write_faults files.new) }
 {
@@ -137,6 +140,7 @@ fn append_piece<F: Files>(
         (text.samples_bytes reading.now.bits (take (length samples.old) (drop (first * rendered.now.spec.channels) (interleaved rendered.now.spec rendered.now.samples))))) }
     ensures part { OnErr result (IsTrue (F.tells files.old) → AppendsPart (F.paths files.old) (F.paths files.new) reading.now.out
         (text.samples_bytes reading.now.bits (take (length samples.old) (drop (first * rendered.now.spec.channels) (interleaved rendered.now.spec rendered.now.samples))))) }
+    ensures reads { F.read_faults files.new ≡ F.read_faults files.old }
     ensures later { F.write_faults files.old ≤ F.write_faults files.new }
     ensures cause { IsErrOf result EdgeErr.Failed → Rose (F.write_faults files.old) (F.write_faults files.new) }
 {

@@ -1,7 +1,8 @@
 -- What an operation comes to, and what that leaves of a machine.
 use Rattle.std.proofs.Common.{ℕ, ◌≡◌, ◌<◌, length, List, true, false, Option, Some, None, Result, Ok, Err, IsSome, refl, sym, ◌∙◌, ap, subst, arith}
-use Rattle.std.specs.Prelude.{is_some, IfSome, IfOk, OnOk, OnErr}
+use Rattle.std.specs.Prelude.{is_some, unwrap_or, IfSome, IfOk, OnOk, OnErr}
 use Rattle.wa_base.specs.declared.exceptions.Exc.{Exc}
+use Rattle.wa_base.specs.declared.graph_names.BufId.{BufId}
 use Rattle.wa_base.specs.declared.graph_names.NodeId.{NodeId}
 use Rattle.wa_base.specs.declared.memory.NoMemory.{NoMemory}
 use Rattle.transcript.specs.declared.lines.Answer.{Answer}
@@ -14,31 +15,40 @@ use Rattle.name_book.specs.declared.book.Object.{Object}
 use Rattle.name_book.specs.declared.book.Object.TheVariants as object
 use Rattle.node_table.specs.declared.kinds.Kind.TheVariants.{Constant, Gain, Splitter, Merger}
 use Rattle.conn_graph.specs.Edges.{form_node}
+use Rattle.meaning.specs.declared.buffers.BufferEdit.TheVariants as buffer_edit
+use Rattle.meaning.specs.declared.change.AttributeEdit.TheVariants as attribute
 use Rattle.meaning.specs.declared.change.Edit.{Edit}
 use Rattle.meaning.specs.declared.change.Edit.TheVariants as edit
+use Rattle.meaning.specs.declared.scheds.LoopPart.TheVariants as part
+use Rattle.meaning.specs.declared.sources.SourceEdit.TheVariants as source
 use Rattle.meaning.specs.declared.world.World.{World}
+use Rattle.meaning.specs.Sources.{IsBufferOf}
 use Rattle.meaning.specs.Changes.{creates, edited, refusal, IsNamed, Grows}
 use Rattle.meaning.proofs.Changing.{grows_same, changed_grows}
 use Rattle.session.specs.declared.control.Decided.{Decided}
 use Rattle.session.specs.declared.control.Decided.TheVariants as comes_to
 use Rattle.session.specs.Machine.{Machine}
 use Rattle.session.specs.Steady.{IsSteady}
-use Rattle.session.specs.Step.{node_bound, node_named, new_name, unless, edits, edits_node, edits_nodes, edge_of, form_to, form_from, starts, decided, with_edit, settled, step, is_start, KeepsTime, IsFor, Steps}
-use Rattle.session.proofs.Named.{node_there}
+use Rattle.session.specs.Step.{node_bound, node_named, buffer_bound, buffer_named, new_name, unless, edits, edits_node, edits_nodes, edits_buffer, edits_with_buffer, sets_buffer, rate_of, edge_of, form_to, form_from, starts, decided, with_edit, settled, step, is_start, KeepsTime, IsFor, Steps}
+use Rattle.session.proofs.Named.{named_there}
 
--- ---- names that stand for nodes that are there
+-- ---- names that stand for what is there
 
 bound_node : (o : Option Object) (node : NodeId) → node_bound o ≡ Some node → o ≡ Some (object.Node node)
 bound_node None node is = absurd cc
-bound_node (Some (object.Node other)) node is = ap (λ (x : Option NodeId). object_at x) is
-  where
-    object_at : Option NodeId → Option Object
-    object_at None = None
-    object_at (Some n) = Some (object.Node n)
+bound_node (Some (object.Node other)) node is = ap (λ (x : Option NodeId). Some (object.Node (unwrap_or x node))) is
 bound_node (Some (object.Buffer buffer)) node is = absurd cc
 
-named_there : (m : Machine) → IsSteady m → (name : List ℕ) (node : NodeId) → node_named m name ≡ Some node → node.0 < length m.world.nodes
-named_there m steady name node is = node_there m.bindings name (length m.world.nodes) node.0 steady.valid.nodes.some steady.bound (bound_node (object_of m.bindings name) node is)
+node_there : (m : Machine) → IsSteady m → (name : List ℕ) (node : NodeId) → node_named m name ≡ Some node → node.0 < length m.world.nodes
+node_there m steady name node is = named_there m.bindings name m.world (object.Node node) steady.valid.nodes.some steady.bound (bound_node (object_of m.bindings name) node is)
+
+bound_buffer : (o : Option Object) (buffer : BufId) → buffer_bound o ≡ Some buffer → o ≡ Some (object.Buffer buffer)
+bound_buffer None buffer is = absurd cc
+bound_buffer (Some (object.Node node)) buffer is = absurd cc
+bound_buffer (Some (object.Buffer other)) buffer is = ap (λ (x : Option BufId). Some (object.Buffer (unwrap_or x buffer))) is
+
+buffer_there : (m : Machine) → IsSteady m → (name : List ℕ) (buffer : BufId) → buffer_named m name ≡ Some buffer → buffer.0 < length m.world.store
+buffer_there m steady name buffer is = named_there m.bindings name m.world (object.Buffer buffer) steady.valid.nodes.some steady.bound (bound_buffer (object_of m.bindings name) buffer is)
 
 -- ---- edits
 
@@ -59,6 +69,18 @@ module _ (m : Machine) (steady : IsSteady m) (o : Op) where
   nodes_for None to e there = tt
   nodes_for (Some a) to e there = node_for to (e a) (λ b is. there a b refl is)
 
+  buffer_for : (buffer : Option BufId) (e : BufId → Edit) → ((b : BufId) → buffer ≡ Some b → IsNamed m.world (e b) × (creates (e b) ≡ is_some (new_name o))) → IsFor m o (edits_buffer m buffer e)
+  buffer_for None e there = tt
+  buffer_for (Some b) e there = let named = there b refl in edits_for (e b) named.0 named.1
+
+  with_buffer_for : (name : Option (List ℕ)) (e : Option BufId → Edit) → ((b : Option BufId) → IsBufferOf m.world.store b → IsNamed m.world (e b) × (creates (e b) ≡ is_some (new_name o))) → IsFor m o (edits_with_buffer m name e)
+  with_buffer_for None e there = let named = there None tt in edits_for (e None) named.0 named.1
+  with_buffer_for (Some name) e there = buffer_for (buffer_named m name) (λ b. e (Some b)) (λ b is. there (Some b) (buffer_there m steady name b is))
+
+  sets_buffer_for : new_name o ≡ None → (node : Option NodeId) (name : Option (List ℕ)) → IsFor m o (sets_buffer m node name)
+  sets_buffer_for none None name = tt
+  sets_buffer_for none (Some n) name = with_buffer_for name (λ b. edit.Source n (source.SetBuffer b)) (λ b there. (there, sym (ap is_some none)))
+
 form_from_names : (count : ℕ) (output : Option ℕ) → IfSome (form_node (form_from output)) (λ node. node < count)
 form_from_names count None = tt
 form_from_names count (Some output) = tt
@@ -78,25 +100,40 @@ decided_for m steady (op.CreateConstantSource name offset) in_range = edits_for 
 decided_for m steady (op.CreateGain name gain) in_range = edits_for m steady (op.CreateGain name gain) (edit.Create (Gain gain)) (refl, in_range.1) refl
 decided_for m steady (op.CreateChannelSplitter name outputs) in_range = edits_for m steady (op.CreateChannelSplitter name outputs) (edit.Create (Splitter outputs)) (refl, tt) refl
 decided_for m steady (op.CreateChannelMerger name inputs) in_range = edits_for m steady (op.CreateChannelMerger name inputs) (edit.Create (Merger inputs)) (refl, tt) refl
+decided_for m steady (op.CreateBufferSource name buffer looping loop_start loop_end rate) in_range =
+    with_buffer_for m steady (op.CreateBufferSource name buffer looping loop_start loop_end rate) buffer (λ b. edit.CreateBufferSource (rate_of rate) b (record { on = looping; first = loop_start; end = loop_end }))
+    (λ b there. (there, refl))
+decided_for m steady (op.CreateBuffer name channels frames rate) in_range =
+    edits_for m steady (op.CreateBuffer name channels frames rate) (edit.Buffers (buffer_edit.Create channels frames rate)) tt refl
 decided_for m steady (op.LeftOut left_out) in_range = tt
 decided_for m steady (op.Connect from output to input) in_range =
     nodes_for m steady (op.Connect from output to input) (node_named m from) (node_named m to) (λ node target. edit.Connect (edge_of output input node target))
-    (λ a b from_is to_is. ((named_there m steady from a from_is, named_there m steady to b to_is), refl))
+    (λ a b from_is to_is. ((node_there m steady from a from_is, node_there m steady to b to_is), refl))
 decided_for m steady (op.Disconnect from output None input) in_range =
     node_for m steady (op.Disconnect from output None input) (node_named m from) (λ node. edit.Disconnect node (form_from output))
-    (λ a from_is. ((named_there m steady from a from_is, form_from_names (length m.world.nodes) output), refl))
+    (λ a from_is. ((node_there m steady from a from_is, form_from_names (length m.world.nodes) output), refl))
 decided_for m steady (op.Disconnect from output (Some to) input) in_range =
     nodes_for m steady (op.Disconnect from output (Some to) input) (node_named m from) (node_named m to) (λ node target. edit.Disconnect node (form_to output input target))
-    (λ a b from_is to_is. ((named_there m steady from a from_is, form_to_names (length m.world.nodes) output input b (named_there m steady to b to_is)), refl))
+    (λ a b from_is to_is. ((node_there m steady from a from_is, form_to_names (length m.world.nodes) output input b (node_there m steady to b to_is)), refl))
 decided_for m steady (op.Start node when offset duration) in_range =
-    node_for m steady (op.Start node when offset duration) (node_named m node) (λ source. edit.Start source when offset duration) (λ a is. (tt, refl))
-decided_for m steady (op.Stop node when) in_range = node_for m steady (op.Stop node when) (node_named m node) (λ source. edit.Stop source when) (λ a is. (tt, refl))
+    node_for m steady (op.Start node when offset duration) (node_named m node) (λ n. edit.Source n (source.Start when offset duration)) (λ a is. (tt, refl))
+decided_for m steady (op.Stop node when) in_range = node_for m steady (op.Stop node when) (node_named m node) (λ n. edit.Source n (source.Stop when)) (λ a is. (tt, refl))
 decided_for m steady (op.SetChannelCount node value) in_range =
-    node_for m steady (op.SetChannelCount node value) (node_named m node) (λ changed. edit.SetCount changed value) (λ a is. (named_there m steady node a is, refl))
+    node_for m steady (op.SetChannelCount node value) (node_named m node) (λ n. edit.Attribute n (attribute.Count value)) (λ a is. (node_there m steady node a is, refl))
 decided_for m steady (op.SetChannelCountMode node value) in_range =
-    node_for m steady (op.SetChannelCountMode node value) (node_named m node) (λ changed. edit.SetMode changed value) (λ a is. (named_there m steady node a is, refl))
+    node_for m steady (op.SetChannelCountMode node value) (node_named m node) (λ n. edit.Attribute n (attribute.Mode value)) (λ a is. (node_there m steady node a is, refl))
 decided_for m steady (op.SetChannelInterpretation node value) in_range =
-    node_for m steady (op.SetChannelInterpretation node value) (node_named m node) (λ changed. edit.SetInterp changed value) (λ a is. (named_there m steady node a is, refl))
+    node_for m steady (op.SetChannelInterpretation node value) (node_named m node) (λ n. edit.Attribute n (attribute.Interp value)) (λ a is. (node_there m steady node a is, refl))
+decided_for m steady (op.SetBuffer node buffer) in_range = sets_buffer_for m steady (op.SetBuffer node buffer) refl (node_named m node) buffer
+decided_for m steady (op.SetLoop node value) in_range =
+    node_for m steady (op.SetLoop node value) (node_named m node) (λ n. edit.Source n (source.SetLoop (part.On value))) (λ a is. (tt, refl))
+decided_for m steady (op.SetLoopStart node value) in_range =
+    node_for m steady (op.SetLoopStart node value) (node_named m node) (λ n. edit.Source n (source.SetLoop (part.First value))) (λ a is. (tt, refl))
+decided_for m steady (op.SetLoopEnd node value) in_range =
+    node_for m steady (op.SetLoopEnd node value) (node_named m node) (λ n. edit.Source n (source.SetLoop (part.End value))) (λ a is. (tt, refl))
+decided_for m steady (op.CopyToChannel buffer channel samples first) in_range =
+    buffer_for m steady (op.CopyToChannel buffer channel samples first) (buffer_named m buffer) (λ b. edit.Buffers (buffer_edit.Write b channel samples first))
+    (λ b is. (buffer_there m steady buffer b is, refl))
 decided_for m steady op.StartRendering in_range = start_for m m.context.started refl
 decided_for m steady op.Resume in_range = tt
 decided_for m steady op.ReadState in_range = tt
@@ -109,6 +146,8 @@ is_new (op.CreateConstantSource new offset) name in_range is = subst (λ (x : Op
 is_new (op.CreateGain new gain) name in_range is = subst (λ (x : Option (List ℕ)). IfSome x IsNewName) is in_range.0
 is_new (op.CreateChannelSplitter new outputs) name in_range is = subst (λ (x : Option (List ℕ)). IfSome x IsNewName) is in_range.0
 is_new (op.CreateChannelMerger new inputs) name in_range is = subst (λ (x : Option (List ℕ)). IfSome x IsNewName) is in_range.0
+is_new (op.CreateBufferSource new buffer looping loop_start loop_end rate) name in_range is = subst (λ (x : Option (List ℕ)). IfSome x IsNewName) is in_range.0
+is_new (op.CreateBuffer new channels frames rate) name in_range is = subst (λ (x : Option (List ℕ)). IfSome x IsNewName) is in_range.0
 is_new other name in_range is = absurd cc
 
 -- ---- what a call leaves

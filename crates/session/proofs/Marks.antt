@@ -1,12 +1,21 @@
 -- Sources that are marked one after another, and current values that stay.
-use Rattle.std.proofs.Common.{◌≡◌, ◌<◌, ◌+◌, ◌++◌, ◌∷◌, [], ℕ, ℤ, List, length, map, take, drop, All, Bool, true, false, Some, refl, sym, ◌∙◌, ap, subst, arith}
+use Rattle.std.proofs.Common.{◌≡◌, ◌<◌, ◌+◌, ◌++◌, ◌∷◌, [], ℕ, ℤ, List, length, map, take, drop, All, Bool, true, false, Some, inl, inr, refl, sym, ◌∙◌, ap, subst, arith}
 use Rattle.std.specs.Prelude.{slice_get, slice_set, slice_index_or, if◌then◌else◌}
 use Rattle.std.proofs.lemmas.List.{get_or_default, set-get_or, get_or-map, length-map}
 use Rattle.std.proofs.lemmas.List.Edits.{map_over_more}
 use Rattle.std.proofs.lemmas.List.Elements.{All-head, All-tail}
 use Rattle.std.proofs.lemmas.Option.{get_or_from_slice_get}
+use Rattle.law_base.specs.Members.{IsIn}
 use Rattle.param_events.specs.Values.{value_at}
+use Rattle.wa_base.specs.declared.graph_names.NodeId.{NodeId}
+use Rattle.buffer_store.specs.declared.buffers.Buffer.{Buffer}
+use Rattle.node_table.specs.declared.kinds.Kind.{Kind}
+use Rattle.node_table.specs.declared.kinds.Kind.TheVariants as kinds
+use Rattle.node_table.specs.declared.kinds.Kind.TheVariants.{Destination, Constant, Gain, Splitter, Merger}
 use Rattle.meaning.specs.declared.params.Param.{Param}
+use Rattle.meaning.specs.declared.world.World.{World}
+use Rattle.meaning.specs.World.{kind_of}
+use Rattle.meaning.specs.Validity.{IsPlayOf}
 use Rattle.meaning.specs.declared.scheds.Play.{Play}
 use Rattle.session.specs.Quantum.{ends_by, marked, slot_set}
 use Rattle.session.specs.Steady.{IsUntouched}
@@ -53,6 +62,11 @@ slots_stay first (p ∷ ps) untouched =
     let rest = slots_stay first ps (All-tail IsUntouched p ps untouched) in
     cc
 
+pub untouched_still : (ps : List Param) → All IsUntouched ps → (p : Param) → IsIn p ps → p.line.events ≡ []
+untouched_still [] untouched p is = absurd is
+untouched_still (q ∷ ps) untouched p (inl same) = rw same ((All-head IsUntouched q ps untouched).events)
+untouched_still (q ∷ ps) untouched p (inr is) = untouched_still ps (All-tail IsUntouched q ps untouched) p is
+
 -- what holds of each source's node holds at each place
 pub All-nodes : (P : ℕ → Type 0) (plays : List Play) → All P (map (λ (p : Play). p.id.0) plays) → All (λ (p : Play). P p.id.0) plays
 All-nodes P plays each = λ k d l. subst P (get_or-map (λ (p : Play). p.id.0) plays k d d.id.0 l) (each k d.id.0 (let long = length-map plays (λ (p : Play). p.id.0) in omega arith))
@@ -68,3 +82,26 @@ marked_nodes now (p ∷ ps) = let here = same_node now p (ends_by now p.sched) r
         by_mark : (b : Bool) → (if b then record p { sched = record p.sched { ended = true } } else p).id.0 ≡ p.id.0
         by_mark true = refl
         by_mark false = refl
+
+-- and what they play
+mark_plays : (store : List Buffer) (kind : Kind) (p : Play) (b : Bool) → IsPlayOf store kind p → IsPlayOf store kind (if b then record p { sched = record p.sched { ended = true } } else p)
+mark_plays store kind p false is = is
+mark_plays store Destination p true is = is
+mark_plays store (Constant offset) p true is = record { content = is.content; buffer = is.buffer }
+mark_plays store (kinds.Buffer rate) p true is = record { content = is.content; plays = is.plays; rate_of = is.rate_of; there = is.there; length_of = is.length_of }
+mark_plays store (Gain gain) p true is = is
+mark_plays store (Splitter ports) p true is = is
+mark_plays store (Merger ports) p true is = is
+
+mark_id : (p : Play) (b : Bool) → (if b then record p { sched = record p.sched { ended = true } } else p).id ≡ p.id
+mark_id p true = refl
+mark_id p false = refl
+
+pub marked_kinds : (w : World) (now : ℕ) (plays : List Play) → ((p : Play) → IsIn p plays → IsPlayOf w.store (kind_of w p.id.0) p)
+    → (p : Play) → IsIn p (map (marked now) plays) → IsPlayOf w.store (kind_of w p.id.0) p
+marked_kinds w now [] each p is = absurd is
+marked_kinds w now (q ∷ qs) each p (inl same) =
+    let b : Bool = ends_by now q.sched in
+    subst (λ (x : Play). IsPlayOf w.store (kind_of w x.id.0) x) (sym same)
+    (subst (λ (id : NodeId). IsPlayOf w.store (kind_of w id.0) (if b then record q { sched = record q.sched { ended = true } } else q)) (sym (mark_id q b)) (mark_plays w.store (kind_of w q.id.0) q b (each q (inl refl))))
+marked_kinds w now (q ∷ qs) each p (inr is) = marked_kinds w now qs (λ x h. each x (inr h)) p is

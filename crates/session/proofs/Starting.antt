@@ -3,18 +3,23 @@ use Rattle.std.proofs.Common.{ℕ, ◌≡◌, List, [], ◌∷◌, Bool, true, f
 use Rattle.std.specs.Prelude.{is_some}
 use Rattle.std.specs.List.{list_any}
 use Rattle.wa_base.specs.declared.exceptions.Exc.{Exc}
+use Rattle.wa_base.specs.declared.graph_names.BufId.{BufId}
 use Rattle.wa_base.specs.declared.graph_names.NodeId.{NodeId}
 use Rattle.script_ast.specs.declared.call_list.Call.{Call}
 use Rattle.script_ast.specs.declared.operations.Op.{Op}
 use Rattle.script_ast.specs.declared.operations.Op.TheVariants as op
 use Rattle.node_table.specs.declared.kinds.Kind.TheVariants.{Constant, Gain, Splitter, Merger}
+use Rattle.meaning.specs.declared.buffers.BufferEdit.TheVariants as buffer_edit
+use Rattle.meaning.specs.declared.change.AttributeEdit.TheVariants as attribute
 use Rattle.meaning.specs.declared.change.Edit.{Edit}
 use Rattle.meaning.specs.declared.change.Edit.TheVariants as edit
+use Rattle.meaning.specs.declared.scheds.LoopPart.TheVariants as part
+use Rattle.meaning.specs.declared.sources.SourceEdit.TheVariants as source
 use Rattle.meaning.specs.Changes.{refusal}
 use Rattle.session.specs.declared.control.Decided.{Decided}
 use Rattle.session.specs.Machine.{Machine}
 use Rattle.session.specs.Session.{Told, after_calls, after_call}
-use Rattle.session.specs.Step.{is_start, unless, edits, edits_node, edits_nodes, disconnects, starts, decided, settled, with_edit, new_name, node_named, edge_of, form_from, form_to}
+use Rattle.session.specs.Step.{is_start, unless, edits, edits_node, edits_nodes, edits_buffer, edits_with_buffer, sets_buffer, rate_of, buffer_named, disconnects, starts, decided, settled, with_edit, new_name, node_named, edge_of, form_from, form_to}
 
 module _ (machine : Machine) (call : Call) where
   -- what an operation comes to leaves alone whether rendering was started
@@ -40,6 +45,18 @@ module _ (machine : Machine) (call : Call) where
   nodes_leaves None to e = refl
   nodes_leaves (Some from) to e = node_leaves to (e from)
 
+  buffer_leaves : (buffer : Option BufId) (e : BufId → Edit) → Leaves (edits_buffer machine buffer e)
+  buffer_leaves None e = refl
+  buffer_leaves (Some b) e = edits_leaves (e b)
+
+  with_buffer_leaves : (name : Option (List ℕ)) (e : Option BufId → Edit) → Leaves (edits_with_buffer machine name e)
+  with_buffer_leaves None e = edits_leaves (e None)
+  with_buffer_leaves (Some name) e = buffer_leaves (buffer_named machine name) (λ b. e (Some b))
+
+  sets_buffer_leaves : (node : Option NodeId) (name : Option (List ℕ)) → Leaves (sets_buffer machine node name)
+  sets_buffer_leaves None name = refl
+  sets_buffer_leaves (Some n) name = with_buffer_leaves name (λ b. edit.Source n (source.SetBuffer b))
+
   disconnects_leaves : (from : Option NodeId) (output : Option ℕ) (to : Option (List ℕ)) (input : Option ℕ) → Leaves (disconnects machine from output to input)
   disconnects_leaves from output None input = node_leaves from (λ node. edit.Disconnect node (form_from output))
   disconnects_leaves from output (Some to) input = nodes_leaves from (node_named machine to) (λ node target. edit.Disconnect node (form_to output input target))
@@ -55,14 +72,23 @@ module _ (machine : Machine) (call : Call) where
   op_starts (op.CreateGain name gain) = ap (λ s. is_some s) (edits_leaves (edit.Create (Gain gain)))
   op_starts (op.CreateChannelSplitter name outputs) = ap (λ s. is_some s) (edits_leaves (edit.Create (Splitter outputs)))
   op_starts (op.CreateChannelMerger name inputs) = ap (λ s. is_some s) (edits_leaves (edit.Create (Merger inputs)))
+  op_starts (op.CreateBufferSource name buffer looping loop_start loop_end rate) =
+      ap (λ s. is_some s) (with_buffer_leaves buffer (λ b. edit.CreateBufferSource (rate_of rate) b (record { on = looping; first = loop_start; end = loop_end })))
+  op_starts (op.CreateBuffer name channels frames rate) = ap (λ s. is_some s) (edits_leaves (edit.Buffers (buffer_edit.Create channels frames rate)))
   op_starts (op.LeftOut left_out) = refl
   op_starts (op.Connect from output to input) = ap (λ s. is_some s) (nodes_leaves (node_named machine from) (node_named machine to) (λ node target. edit.Connect (edge_of output input node target)))
   op_starts (op.Disconnect from output to input) = ap (λ s. is_some s) (disconnects_leaves (node_named machine from) output to input)
-  op_starts (op.Start node when offset duration) = ap (λ s. is_some s) (node_leaves (node_named machine node) (λ source. edit.Start source when offset duration))
-  op_starts (op.Stop node when) = ap (λ s. is_some s) (node_leaves (node_named machine node) (λ source. edit.Stop source when))
-  op_starts (op.SetChannelCount node value) = ap (λ s. is_some s) (node_leaves (node_named machine node) (λ changed. edit.SetCount changed value))
-  op_starts (op.SetChannelCountMode node value) = ap (λ s. is_some s) (node_leaves (node_named machine node) (λ changed. edit.SetMode changed value))
-  op_starts (op.SetChannelInterpretation node value) = ap (λ s. is_some s) (node_leaves (node_named machine node) (λ changed. edit.SetInterp changed value))
+  op_starts (op.Start node when offset duration) = ap (λ s. is_some s) (node_leaves (node_named machine node) (λ n. edit.Source n (source.Start when offset duration)))
+  op_starts (op.Stop node when) = ap (λ s. is_some s) (node_leaves (node_named machine node) (λ n. edit.Source n (source.Stop when)))
+  op_starts (op.SetChannelCount node value) = ap (λ s. is_some s) (node_leaves (node_named machine node) (λ n. edit.Attribute n (attribute.Count value)))
+  op_starts (op.SetChannelCountMode node value) = ap (λ s. is_some s) (node_leaves (node_named machine node) (λ n. edit.Attribute n (attribute.Mode value)))
+  op_starts (op.SetChannelInterpretation node value) = ap (λ s. is_some s) (node_leaves (node_named machine node) (λ n. edit.Attribute n (attribute.Interp value)))
+  op_starts (op.SetBuffer node buffer) = ap (λ s. is_some s) (sets_buffer_leaves (node_named machine node) buffer)
+  op_starts (op.SetLoop node value) = ap (λ s. is_some s) (node_leaves (node_named machine node) (λ n. edit.Source n (source.SetLoop (part.On value))))
+  op_starts (op.SetLoopStart node value) = ap (λ s. is_some s) (node_leaves (node_named machine node) (λ n. edit.Source n (source.SetLoop (part.First value))))
+  op_starts (op.SetLoopEnd node value) = ap (λ s. is_some s) (node_leaves (node_named machine node) (λ n. edit.Source n (source.SetLoop (part.End value))))
+  op_starts (op.CopyToChannel buffer channel samples first) =
+      ap (λ s. is_some s) (buffer_leaves (buffer_named machine buffer) (λ b. edit.Buffers (buffer_edit.Write b channel samples first)))
   op_starts op.StartRendering = start_starts machine.context.started refl
   op_starts op.Resume = refl
   op_starts op.ReadState = refl

@@ -7,7 +7,7 @@ use Rattle.meaning.specs.declared.world.World.{World}
 use Rattle.meaning.specs.declared.params.Param.{Param}
 use Rattle.meaning.specs.declared.scheds.Play.{Play}
 use Rattle.meaning.specs.Lists.{listed}
-use Rattle.meaning.specs.Changes.{rescheduled}
+use Rattle.meaning.specs.Plays.{rescheduled}
 
 -- a source ends in a quantum where its end frame is no later than the next quantum's first frame
 abbrev pub ends_by : ℕ → Schedule → Bool

@@ -1,9 +1,10 @@
 -- One control call: first it is decided what it comes to, and then that is done.
-use Rattle.std.specs.Prelude.{ℕ, ◌≡◌, List, length, Bool, true, false, is_some, Option, Some, None}
+use Rattle.std.specs.Prelude.{ℕ, ◌≡◌, ◌/◌, ◌%◌, ◌==◌, ℤ, pos, negsuc, List, length, Bool, true, false, if◌then◌else◌, is_some, Option, Some, None}
 use Rattle.wa_base.specs.declared.contexts.State.{State}
 use Rattle.wa_base.specs.declared.contexts.State.TheVariants as state
 use Rattle.wa_base.specs.declared.exceptions.Exc.{Exc}
 use Rattle.wa_base.specs.declared.exceptions.Exc.TheVariants.{NotSupported, InvalidState, WrongType}
+use Rattle.wa_base.specs.declared.graph_names.BufId.{BufId}
 use Rattle.wa_base.specs.declared.graph_names.NodeId.{NodeId}
 use Rattle.script_ast.specs.declared.call_list.Call.{Call}
 use Rattle.script_ast.specs.declared.operations.Op.{Op}
@@ -18,8 +19,12 @@ use Rattle.conn_graph.specs.declared.edges.Edge.{Edge}
 use Rattle.conn_graph.specs.declared.edges.Form.{Form}
 use Rattle.conn_graph.specs.declared.edges.Form.TheVariants as form
 use Rattle.conn_graph.specs.declared.edges.Target.TheVariants.{Input}
+use Rattle.meaning.specs.declared.buffers.BufferEdit.TheVariants as buffer_edit
+use Rattle.meaning.specs.declared.change.AttributeEdit.TheVariants as attribute
 use Rattle.meaning.specs.declared.change.Edit.{Edit}
 use Rattle.meaning.specs.declared.change.Edit.TheVariants as edit
+use Rattle.meaning.specs.declared.scheds.LoopPart.TheVariants as part
+use Rattle.meaning.specs.declared.sources.SourceEdit.TheVariants as source
 use Rattle.meaning.specs.declared.world.World.{World}
 use Rattle.meaning.specs.Changes.{edited, refusal, creates}
 use Rattle.session.specs.declared.control.Decided.{Decided}
@@ -37,12 +42,23 @@ node_bound (Some (object.Buffer buffer)) = None
 abbrev pub node_named : Machine → List ℕ → Option NodeId
 node_named machine name = node_bound (object_of machine.bindings name)
 
+abbrev pub buffer_bound : Option Object → Option BufId
+buffer_bound None = None
+buffer_bound (Some (object.Node node)) = None
+buffer_bound (Some (object.Buffer buffer)) = Some buffer
+
+-- the buffer that a name is bound to
+abbrev pub buffer_named : Machine → List ℕ → Option BufId
+buffer_named machine name = buffer_bound (object_of machine.bindings name)
+
 -- the name that an operation gives to what it creates
 abbrev pub new_name : Op → Option (List ℕ)
 new_name (op.CreateConstantSource name offset) = Some name
 new_name (op.CreateGain name gain) = Some name
 new_name (op.CreateChannelSplitter name number_of_outputs) = Some name
 new_name (op.CreateChannelMerger name number_of_inputs) = Some name
+new_name (op.CreateBufferSource name buffer looping loop_start loop_end playback_rate) = Some name
+new_name (op.CreateBuffer name channels frames rate) = Some name
 new_name other = None
 
 -- ---- what an operation comes to
@@ -68,6 +84,26 @@ edits_node machine (Some node) change = edits machine (change node)
 abbrev pub edits_nodes : Machine → Option NodeId → Option NodeId → (NodeId → NodeId → Edit) → Decided
 edits_nodes machine None to change = refused WrongType
 edits_nodes machine (Some from) to change = edits_node machine to (change from)
+
+-- it edits what a name stands for, which is to be a buffer
+abbrev pub edits_buffer : Machine → Option BufId → (BufId → Edit) → Decided
+edits_buffer machine None change = refused WrongType
+edits_buffer machine (Some buffer) change = edits machine (change buffer)
+
+-- and where a name is given, that is to be one
+abbrev pub edits_with_buffer : Machine → Option (List ℕ) → (Option BufId → Edit) → Decided
+edits_with_buffer machine None change = edits machine (change None)
+edits_with_buffer machine (Some name) change = edits_buffer machine (buffer_named machine name) (λ buffer. change (Some buffer))
+
+-- the buffer of a source is set
+abbrev pub sets_buffer : Machine → Option NodeId → Option (List ℕ) → Decided
+sets_buffer machine None name = refused WrongType
+sets_buffer machine (Some node) name = edits_with_buffer machine name (λ buffer. edit.Source node (source.SetBuffer buffer))
+
+-- the whole frames of a playbackRate, which has 24 bits behind the point: 0 stands for what is none
+abbrev pub rate_of : ℤ → ℕ
+rate_of (pos n) = if n % 16777216 == 0 then n / 16777216 else 0
+rate_of (negsuc n) = 0
 
 abbrev pub edge_of : ℕ → ℕ → NodeId → NodeId → Edge
 edge_of output input from to = record { from = from; output = output; to = Input to input }
@@ -103,14 +139,23 @@ decided machine (op.CreateConstantSource name offset) = edits machine (edit.Crea
 decided machine (op.CreateGain name gain) = edits machine (edit.Create (Gain gain))
 decided machine (op.CreateChannelSplitter name number_of_outputs) = edits machine (edit.Create (Splitter number_of_outputs))
 decided machine (op.CreateChannelMerger name number_of_inputs) = edits machine (edit.Create (Merger number_of_inputs))
+decided machine (op.CreateBufferSource name buffer looping loop_start loop_end playback_rate) =
+    edits_with_buffer machine buffer (λ source. edit.CreateBufferSource (rate_of playback_rate) source (record { on = looping; first = loop_start; end = loop_end }))
+decided machine (op.CreateBuffer name channels frames rate) = edits machine (edit.Buffers (buffer_edit.Create channels frames rate))
 decided machine (op.LeftOut left_out) = refused (NotSupported (Some left_out))
 decided machine (op.Connect from output to input) = edits_nodes machine (node_named machine from) (node_named machine to) (λ node target. edit.Connect (edge_of output input node target))
 decided machine (op.Disconnect from output to input) = disconnects machine (node_named machine from) output to input
-decided machine (op.Start node when offset duration) = edits_node machine (node_named machine node) (λ source. edit.Start source when offset duration)
-decided machine (op.Stop node when) = edits_node machine (node_named machine node) (λ source. edit.Stop source when)
-decided machine (op.SetChannelCount node value) = edits_node machine (node_named machine node) (λ changed. edit.SetCount changed value)
-decided machine (op.SetChannelCountMode node value) = edits_node machine (node_named machine node) (λ changed. edit.SetMode changed value)
-decided machine (op.SetChannelInterpretation node value) = edits_node machine (node_named machine node) (λ changed. edit.SetInterp changed value)
+decided machine (op.Start node when offset duration) = edits_node machine (node_named machine node) (λ n. edit.Source n (source.Start when offset duration))
+decided machine (op.Stop node when) = edits_node machine (node_named machine node) (λ n. edit.Source n (source.Stop when))
+decided machine (op.SetChannelCount node value) = edits_node machine (node_named machine node) (λ n. edit.Attribute n (attribute.Count value))
+decided machine (op.SetChannelCountMode node value) = edits_node machine (node_named machine node) (λ n. edit.Attribute n (attribute.Mode value))
+decided machine (op.SetChannelInterpretation node value) = edits_node machine (node_named machine node) (λ n. edit.Attribute n (attribute.Interp value))
+decided machine (op.SetBuffer node buffer) = sets_buffer machine (node_named machine node) buffer
+decided machine (op.SetLoop node value) = edits_node machine (node_named machine node) (λ n. edit.Source n (source.SetLoop (part.On value)))
+decided machine (op.SetLoopStart node value) = edits_node machine (node_named machine node) (λ n. edit.Source n (source.SetLoop (part.First value)))
+decided machine (op.SetLoopEnd node value) = edits_node machine (node_named machine node) (λ n. edit.Source n (source.SetLoop (part.End value)))
+decided machine (op.CopyToChannel buffer channel samples first) =
+    edits_buffer machine (buffer_named machine buffer) (λ written. edit.Buffers (buffer_edit.Write written channel samples first))
 decided machine op.StartRendering = starts machine.context.started
 decided machine op.Resume = comes_to.Answer (resumes machine.context.state)
 decided machine op.ReadState = comes_to.Answer (answer.State machine.context.state)
@@ -127,17 +172,18 @@ pub record Stepped : Type 0 where
 abbrev pub with_world : Machine → World → Machine
 with_world machine world = record machine { world = world }
 
--- a new node has the number after the last one
-abbrev pub next_node : Machine → Object
-next_node machine = object.Node (record { 0 = length machine.world.nodes })
+-- what an edit creates has the number after the last one of its kind
+abbrev pub created_by : Machine → Edit → Object
+created_by machine (edit.Buffers e) = object.Buffer (record { 0 = length machine.world.store })
+created_by machine other = object.Node (record { 0 = length machine.world.nodes })
 
--- the world is edited, and where a name is given it is bound to the new node
+-- the world is edited, and where a name is given it is bound to what is new
 abbrev pub with_edit : Machine → Edit → Option (List ℕ) → Machine
 with_edit machine change None = with_world machine (edited machine.world machine.context.now change)
 with_edit machine change (Some name) = record machine {
   world = edited machine.world machine.context.now change;
-  bindings = bound machine.bindings name (next_node machine);
-  first_names = first_named machine.first_names (next_node machine) name;
+  bindings = bound machine.bindings name (created_by machine change);
+  first_names = first_named machine.first_names (created_by machine change) name;
 }
 
 abbrev pub with_start : Machine → ℕ → Machine

@@ -3,7 +3,9 @@ ghost use Rattle.wa_base.specs.Contexts.{IsSupported, quantum_of};
 ghost use Rattle.script_ast.specs.Ranges.{IsInRange, IsNewName};
 ghost use Rattle.meaning.specs.World.{plain};
 ghost use Rattle.meaning.specs.Validity.{IsValid};
+ghost use Rattle.quantum_render.specs.Sites.{AreStill};
 ghost use Rattle.meaning.specs.Changes.{IsNamed, Grows, creates};
+ghost use Rattle.meaning.specs.Sources.{IsNamedBy};
 ghost use Rattle.session.specs.Machine.{Machine, IsInState, IsAccepted};
 ghost use Rattle.session.specs.Session.{first_machine, lines_after, machine_after, closed_machine};
 ghost use Rattle.session.specs.Steady.{IsSteady};
@@ -13,14 +15,15 @@ ghost use Rattle.session.specs.Step.{Steps, KeepsTime};
 use crate::ends::{ended_lines, mark_ended};
 use crate::quantum::QUANTUM;
 use conn_graph::{Edge, Form, Target};
-use meaning::{Change, Edit, World};
+use meaning::{AttributeEdit, BufferEdit, Change, Edit, LoopPart, SourceEdit, World};
 use name_book::{Book, Object};
 use node_table::Kind;
+use sched_source::Loop;
 use script_ast::{Call, Op};
 use std::alloc::Global;
 use std::marker::Model;
 use transcript::{Answer, Line};
-use wa_base::{ContextSpec, Exc, Interp, Mode, Name, NoMemory, NodeId, State};
+use wa_base::{BufId, ContextSpec, Exc, Fix, Name, NoMemory, NodeId, ONE, Samples, State};
 
 /// What an operation comes to, before anything is changed.
 #[derive(Debug, Drop)]
@@ -86,72 +89,110 @@ impl Control {
         ensures started { spec.is_start call.now.op ≡ true → OnOk result (IsSome self.new.context.started) }
         ensures err { OnErr result (self.new ≡ self.old) }
     {
-        let decided = self.decide(&call.op);
+        let decided = self.decide(&call.op)?;
         self.settle(call, decided)
     }
 
     // What an operation comes to. Nothing is changed.
     #[tactic(auto, unfolding(crate::specs::Step::decided))]
-    fn decide(&self, op: &Op) -> Decided
+    fn decide(&self, op: &Op) -> Result<Decided, NoMemory>
         requires { IsInRange op.now }
-        ensures decided { result ≡ spec.decided self.now op.now }
+        ensures decided { IfOk result (λ decided. decided ≡ spec.decided self.now op.now) }
         ensures steady { IsSteady self.now }
     {
         let is_started = self.started.is_some();
         match op {
-            Op::CreateConstantSource { offset, .. } => self.edits(Edit::Create {
+            Op::CreateConstantSource { offset, .. } => Ok(self.edits(Edit::Create {
                 kind: Kind::Constant { offset: *offset },
-            }),
-            Op::CreateGain { gain, .. } => self.edits(Edit::Create {
+            })),
+            Op::CreateGain { gain, .. } => Ok(self.edits(Edit::Create {
                 kind: Kind::Gain { gain: *gain },
-            }),
+            })),
             Op::CreateChannelSplitter {
                 number_of_outputs,
                 ..
-            } => self.edits(Edit::Create {
+            } => Ok(self.edits(Edit::Create {
                 kind: Kind::Splitter {
                     outputs: *number_of_outputs,
                 },
-            }),
+            })),
             Op::CreateChannelMerger {
                 number_of_inputs,
                 ..
-            } => self.edits(Edit::Create {
+            } => Ok(self.edits(Edit::Create {
                 kind: Kind::Merger {
                     inputs: *number_of_inputs,
                 },
-            }),
-            Op::LeftOut { feature } => refused(Exc::NotSupported(Some(*feature))),
+            })),
+            Op::CreateBufferSource {
+                buffer,
+                looping,
+                loop_start,
+                loop_end,
+                playback_rate,
+                ..
+            } => Ok(self.create_source(
+                buffer,
+                *playback_rate,
+                Loop {
+                    on: *looping,
+                    first: *loop_start,
+                    end: *loop_end,
+                },
+            )),
+            Op::CreateBuffer {
+                channels,
+                length,
+                rate,
+                ..
+            } => Ok(self.create_buffer(*channels, *length, *rate)),
+            Op::LeftOut { feature } => Ok(refused(Exc::NotSupported(Some(*feature)))),
             Op::Connect {
                 from,
                 output,
                 to,
                 input,
-            } => self.connect(from, *output, to, *input),
+            } => Ok(self.connect(from, *output, to, *input)),
             Op::Disconnect {
                 from,
                 output,
                 to,
                 input,
-            } => self.disconnect(from, *output, to, *input),
+            } => Ok(self.disconnect(from, *output, to, *input)),
             Op::Start {
                 node,
                 when,
                 offset,
                 duration,
-            } => self.start_source(node, *when, *offset, *duration),
-            Op::Stop { node, when } => self.stop_source(node, *when),
-            Op::SetChannelCount { node, value } => self.set_count(node, *value),
-            Op::SetChannelCountMode { node, value } => self.set_mode(node, *value),
-            Op::SetChannelInterpretation { node, value } => self.set_interp(node, *value),
-            Op::StartRendering if is_started => {
-                Decided::Answer(Answer::Rejected(Exc::InvalidState))
+            } => Ok(self.start_source(node, *when, *offset, *duration)),
+            Op::Stop { node, when } => Ok(self.stop_source(node, *when)),
+            Op::SetChannelCount { node, value } => {
+                Ok(self.set_attribute(node, AttributeEdit::Count(*value)))
             }
-            Op::StartRendering => Decided::Start,
-            Op::Resume => Decided::Answer(self.resume()),
-            Op::ReadState => Decided::Answer(Answer::State(self.state)),
-            Op::ReadTime => Decided::Answer(Answer::Time(self.time)),
-            _ => refused(Exc::NotSupported(None)),
+            Op::SetChannelCountMode { node, value } => {
+                Ok(self.set_attribute(node, AttributeEdit::Mode(*value)))
+            }
+            Op::SetChannelInterpretation { node, value } => {
+                Ok(self.set_attribute(node, AttributeEdit::Interp(*value)))
+            }
+            Op::SetBuffer { node, buffer } => Ok(self.set_buffer(node, buffer)),
+            Op::SetLoop { node, value } => Ok(self.set_loop(node, LoopPart::On(*value))),
+            Op::SetLoopStart { node, value } => Ok(self.set_loop(node, LoopPart::First(*value))),
+            Op::SetLoopEnd { node, value } => Ok(self.set_loop(node, LoopPart::End(*value))),
+            Op::CopyToChannel {
+                buffer,
+                channel,
+                samples,
+                at,
+            } => self.write(buffer, *channel, samples, *at),
+            Op::StartRendering if is_started => Ok(Decided::Answer(Answer::Rejected(
+                Exc::InvalidState,
+            ))),
+            Op::StartRendering => Ok(Decided::Start),
+            Op::Resume => Ok(Decided::Answer(self.resume())),
+            Op::ReadState => Ok(Decided::Answer(Answer::State(self.state))),
+            Op::ReadTime => Ok(Decided::Answer(Answer::Time(self.time))),
+            _ => Ok(refused(Exc::NotSupported(None))),
         }
     }
 }
@@ -214,54 +255,128 @@ impl Control {
         self.edits(Edit::Disconnect { from, form })
     }
 
-    fn start_source(&self, node: &Name, when: i64, offset: i64, duration: Option<i64>) -> Decided
-        ensures { result ≡ spec.edits_node self.now (spec.node_named self.now node.now) (λ source. Edit.Start source when offset duration) }
+    fn edit_source(&self, node: &Name, edit: SourceEdit) -> Decided
+        requires { IsNamedBy self.now.world.store edit }
+        ensures { result ≡ spec.edits_node self.now (spec.node_named self.now node.now) (λ n. Edit.Source n edit) }
     {
         match self.node_named(node) {
-            Some(node) => self.edits(Edit::Start {
-                node,
+            Some(node) => self.edits(Edit::Source { node, edit }),
+            None => refused(Exc::WrongType),
+        }
+    }
+
+    fn start_source(&self, node: &Name, when: i64, offset: i64, duration: Option<i64>) -> Decided
+        ensures { result ≡ spec.edits_node self.now (spec.node_named self.now node.now) (λ n. Edit.Source n (SourceEdit.Start when offset duration)) }
+    {
+        self.edit_source(
+            node,
+            SourceEdit::Start {
                 when,
                 offset,
                 duration,
-            }),
-            None => refused(Exc::WrongType),
-        }
+            },
+        )
     }
 
     fn stop_source(&self, node: &Name, when: i64) -> Decided
-        ensures { result ≡ spec.edits_node self.now (spec.node_named self.now node.now) (λ source. Edit.Stop source when) }
+        ensures { result ≡ spec.edits_node self.now (spec.node_named self.now node.now) (λ n. Edit.Source n (SourceEdit.Stop when)) }
+    {
+        self.edit_source(node, SourceEdit::Stop { when })
+    }
+
+    fn set_loop(&self, node: &Name, part: LoopPart) -> Decided
+        ensures { result ≡ spec.edits_node self.now (spec.node_named self.now node.now) (λ n. Edit.Source n (SourceEdit.SetLoop part)) }
+    {
+        self.edit_source(node, SourceEdit::SetLoop { part })
+    }
+
+    fn set_attribute(&self, node: &Name, edit: AttributeEdit) -> Decided
+        ensures { result ≡ spec.edits_node self.now (spec.node_named self.now node.now) (λ n. Edit.Attribute n edit) }
     {
         match self.node_named(node) {
-            Some(node) => self.edits(Edit::Stop { node, when }),
+            Some(node) => self.edits(Edit::Attribute { node, edit }),
             None => refused(Exc::WrongType),
         }
     }
 
-    fn set_count(&self, node: &Name, count: u32) -> Decided
-        ensures { result ≡ spec.edits_node self.now (spec.node_named self.now node.now) (λ changed. Edit.SetCount changed count) }
+    // The buffer that a name is bound to.
+    fn buffer_named(&self, name: &Name) -> Option<BufId>
+        ensures buffer { result ≡ spec.buffer_named self.now name.now }
+        ensures there { IfSome result (λ buffer. buffer.0 < length self.now.world.store) }
     {
-        match self.node_named(node) {
-            Some(node) => self.edits(Edit::SetCount { node, count }),
-            None => refused(Exc::WrongType),
+        match self.book.find(name) {
+            Some(Object::Buffer(buffer)) => Some(buffer),
+            _ => None,
         }
     }
 
-    fn set_mode(&self, node: &Name, mode: Mode) -> Decided
-        ensures { result ≡ spec.edits_node self.now (spec.node_named self.now node.now) (λ changed. Edit.SetMode changed mode) }
+    fn create_source(&self, buffer: &Option<Name>, rate: Fix, points: Loop) -> Decided
+        ensures { result ≡ spec.edits_with_buffer self.now buffer.now (λ source. Edit.CreateBufferSource (spec.rate_of rate) source points) }
     {
-        match self.node_named(node) {
-            Some(node) => self.edits(Edit::SetMode { node, mode }),
-            None => refused(Exc::WrongType),
-        }
+        let rate = rate_of(rate);
+        let buffer = match buffer {
+            None => None,
+            Some(name) => match self.buffer_named(name) {
+                Some(buffer) => Some(buffer),
+                None => return refused(Exc::WrongType),
+            },
+        };
+        self.edits(Edit::CreateBufferSource {
+            rate,
+            buffer,
+            points,
+        })
     }
 
-    fn set_interp(&self, node: &Name, interp: Interp) -> Decided
-        ensures { result ≡ spec.edits_node self.now (spec.node_named self.now node.now) (λ changed. Edit.SetInterp changed interp) }
+    fn set_buffer(&self, node: &Name, buffer: &Option<Name>) -> Decided
+        ensures { result ≡ spec.sets_buffer self.now (spec.node_named self.now node.now) buffer.now }
     {
-        match self.node_named(node) {
-            Some(node) => self.edits(Edit::SetInterp { node, interp }),
-            None => refused(Exc::WrongType),
-        }
+        let Some(node) = self.node_named(node) else {
+            return refused(Exc::WrongType);
+        };
+        let buffer = match buffer {
+            None => None,
+            Some(name) => match self.buffer_named(name) {
+                Some(buffer) => Some(buffer),
+                None => return refused(Exc::WrongType),
+            },
+        };
+        let edit = SourceEdit::SetBuffer { buffer };
+        self.edits(Edit::Source { node, edit })
+    }
+
+    fn create_buffer(&self, channels: u32, frames: u32, rate: u32) -> Decided
+        ensures { result ≡ spec.edits self.now (Edit.Buffers (BufferEdit.Create channels frames rate)) }
+    {
+        self.edits(Edit::Buffers {
+            edit: BufferEdit::Create {
+                channels,
+                frames: u64::from(frames),
+                rate,
+            },
+        })
+    }
+
+    fn write(
+        &self,
+        buffer: &Name,
+        channel: u32,
+        samples: &Samples,
+        first: u32,
+    ) -> Result<Decided, NoMemory>
+        ensures { IfOk result (λ decided. decided ≡ spec.edits_buffer self.now (spec.buffer_named self.now buffer.now) (λ written. Edit.Buffers (BufferEdit.Write written channel samples.now first))) }
+    {
+        let Some(buffer) = self.buffer_named(buffer) else {
+            return Ok(refused(Exc::WrongType));
+        };
+        Ok(self.edits(Edit::Buffers {
+            edit: BufferEdit::Write {
+                buffer,
+                channel,
+                samples: samples.copy()?,
+                first: u64::from(first),
+            },
+        }))
     }
 
     fn resume(&self) -> Answer
@@ -306,7 +421,7 @@ impl Control {
         ensures ok { OnOk result (self.new ≡ spec.with_edit self.old edit None) }
         ensures err { OnErr result (self.new ≡ self.old) }
     {
-        self.world.apply(&Change {
+        self.world.apply(Change {
             time: self.time,
             edit,
         })
@@ -320,14 +435,24 @@ impl Control {
         ensures ok { OnOk result (self.new ≡ spec.with_edit self.old edit (Some name.now)) }
         ensures err { OnErr result (self.new ≡ self.old) }
     {
+        let object = self.created_by(&edit);
         self.book.reserve(name)?;
-        let node = NodeId(self.world.nodes.len());
-        self.world.apply(&Change {
+        self.world.apply(Change {
             time: self.time,
             edit,
         })?;
-        self.book.bind(name, Object::Node(node))?;
+        self.book.bind(name, object)?;
         Ok(())
+    }
+
+    // What an edit creates has the number after the last one of its kind.
+    fn created_by(&self, edit: &Edit) -> Object
+        ensures { result ≡ spec.created_by self.now edit.now }
+    {
+        match edit {
+            Edit::Buffers { .. } => Object::Buffer(BufId(self.world.store.len())),
+            _ => Object::Node(NodeId(self.world.nodes.len())),
+        }
     }
 
     // Starts the rendering.
@@ -361,6 +486,7 @@ impl Control {
     pub fn world(&self) -> &World
         ensures world { plain result.now ≡ self.now.world }
         ensures valid { IsValid result.now }
+        ensures still { AreStill result.now }
     {
         &self.world
     }
@@ -414,6 +540,17 @@ impl Control {
     }
 }
 
+// The whole frames of a playbackRate, 0 where it is none.
+fn rate_of(rate: Fix) -> u32
+    ensures { result ≡ spec.rate_of rate }
+{
+    if rate > 0 && rate % ONE == 0 {
+        (rate / ONE) as u32
+    } else {
+        0
+    }
+}
+
 // The name that an operation gives to what it creates.
 fn new_name(op: &Op) -> Option<&Name>
     ensures { option_map (λ name. name.now) result ≡ spec.new_name op.now }
@@ -422,7 +559,9 @@ fn new_name(op: &Op) -> Option<&Name>
         Op::CreateConstantSource { name, .. }
         | Op::CreateGain { name, .. }
         | Op::CreateChannelSplitter { name, .. }
-        | Op::CreateChannelMerger { name, .. } => Some(name),
+        | Op::CreateChannelMerger { name, .. }
+        | Op::CreateBufferSource { name, .. }
+        | Op::CreateBuffer { name, .. } => Some(name),
         _ => None,
     }
 }

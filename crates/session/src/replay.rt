@@ -44,6 +44,7 @@ pub fn run<F: Files>(
     ensures supported { IfOk result (λ outcome. IfSome outcome.rendered (λ rendered. IsSupported rendered.spec)) }
     ensures tells { F.tells files.new ≡ F.tells files.old }
     ensures paths { F.paths files.new ≡ F.paths files.old }
+    ensures read_faults { F.read_faults files.new ≡ F.read_faults files.old }
     ensures write_faults { F.write_faults files.new ≡ F.write_faults files.old }
     ensures cause { IsErrOf result Stop.AssetFault → ⊥ }
 {
@@ -69,6 +70,7 @@ fn replayed<F: Files>(mut session: Session, calls: &[Call], files: &mut F) -> Re
     ensures supported { IfOk result (λ outcome. IfSome outcome.rendered (λ rendered. IsSupported rendered.spec)) }
     ensures tells { F.tells files.new ≡ F.tells files.old }
     ensures paths { F.paths files.new ≡ F.paths files.old }
+    ensures read_faults { F.read_faults files.new ≡ F.read_faults files.old }
     ensures write_faults { F.write_faults files.new ≡ F.write_faults files.old }
     ensures cause { IsErrOf result Stop.AssetFault → ⊥ }
 {
@@ -92,6 +94,7 @@ fn go_on<F: Files>(mut session: Session, calls: &[Call], files: &mut F) -> Resul
     ensures supported { IfOk result (λ outcome. IfSome outcome.rendered (λ rendered. IsSupported rendered.spec)) }
     ensures tells { F.tells files.new ≡ F.tells files.old }
     ensures paths { F.paths files.new ≡ F.paths files.old }
+    ensures read_faults { F.read_faults files.new ≡ F.read_faults files.old }
     ensures write_faults { F.write_faults files.new ≡ F.write_faults files.old }
     ensures cause { IsErrOf result Stop.AssetFault → ⊥ }
 {
@@ -121,6 +124,7 @@ fn call_list<F: Files>(
     ensures stands { (tape : List World) → Stands session.old tape → Stands session.new tape }
     ensures tells { F.tells files.new ≡ F.tells files.old }
     ensures paths { F.paths files.new ≡ F.paths files.old }
+    ensures read_faults { F.read_faults files.new ≡ F.read_faults files.old }
     ensures write_faults { F.write_faults files.new ≡ F.write_faults files.old }
     ensures cause { IsErrOf result Stop.AssetFault → ⊥ }
 {

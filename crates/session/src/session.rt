@@ -120,6 +120,7 @@ impl Session {
         ensures err { OnErr result (self.new ≡ self.old) }
         ensures tells { F.tells _files.new ≡ F.tells _files.old }
         ensures paths { F.paths _files.new ≡ F.paths _files.old }
+        ensures read_faults { F.read_faults _files.new ≡ F.read_faults _files.old }
         ensures write_faults { F.write_faults _files.new ≡ F.write_faults _files.old }
         ensures cause { IsErrOf result Stop.AssetFault → ⊥ }
     {

@@ -12,6 +12,7 @@ pub loop-at-init : goal.loop-at-init
 loop-at-init g c =
     let none : 0 * c.args.rendered.now.spec.channels ≡ 0 = omega arith in
     record {
+      reads = refl;
       later = omega arith;
       tells = refl;
       within = omega arith;
@@ -64,6 +65,7 @@ loop-at-preserved g c =
     piece_count next c.frames_in_a_piece-most.result channels c.loop-at.samples (omega (arith, c.min-next.ensures)) c.frames_in_a_piece-most.ensures.room long in
     let piece = samples_bytes-next bits at next channels (length (take (next * channels) c.loop-at.samples)) all count in
     record {
+      reads = c.append_piece.ensures.reads ∙ c.loop-at.invariant.reads;
       later = omega (arith, c.append_piece.ensures.later);
       tells = c.append_piece.ensures.tells ∙ c.loop-at.invariant.tells;
       within = omega (arith, c.min-next.ensures);

@@ -6,6 +6,7 @@ use Rattle.replay_top.proofs.wav_file.append_frames.Given as goal
 
 abbrev pub invariant-loop-at : goal.invariant-loop-at
 invariant-loop-at g l = record {
+  reads : g.F.Files.read_faults l.files ≡ g.F.Files.read_faults l.initial.files;
   later : g.F.Files.write_faults l.initial.files ≤ g.F.Files.write_faults l.files;
   tells : g.F.Files.tells l.files ≡ g.F.Files.tells l.initial.files;
   within : l.at ≤ l.frames;

@@ -15,7 +15,7 @@ loop-place-preserved c =
           let read = c.at.ensures in
           let same : w.at_mut.result.now ≡ c.at.result.now = cc (found, read) in
           let ends : ends_by c.args.now w.at_mut.result.now.sched ≡ true = ap (λ (p : Play). ends_by c.args.now p.sched) same ∙ sym w.if-ends_by.ensures in
-          let new = ap (λ sched. let p : Play = record { id = w.at_mut.result.now.id; sched = sched } in slice_set c.loop-place.scheds.items c.loop-place.place p) w.fire.ensures
+          let new = ap (λ sched. let p : Play = record w.at_mut.result.now { sched = sched } in slice_set c.loop-place.scheds.items c.loop-place.place p) w.fire.ensures
           ∙ ap (λ p. slice_set c.loop-place.scheds.items c.loop-place.place p) (sym (marked_now c.args.now w.at_mut.result.now ends)) in
           let items = new ∙ one_marked c.args.now c.args.scheds.now.items c.loop-place.scheds.items c.loop-place.place w.at_mut.result.now (omega arith) inv.same inv.so_far found in
           rw w.scheds-is (record { same = length-set c.loop-place.scheds.items c.loop-place.place _ ∙ inv.same; so_far = items })

@@ -13,6 +13,7 @@ invariant-loop-call g l = (after_calls l.session.told (held_by l.holder (drop l.
     × KeepsTime l.fn.session.told.machine l.session.told.machine
     × (g.F.Files.tells l.files ≡ g.F.Files.tells l.fn.files)
     × (g.F.Files.paths l.files ≡ g.F.Files.paths l.fn.files)
+    × (g.F.Files.read_faults l.files ≡ g.F.Files.read_faults l.fn.files)
     × (g.F.Files.write_faults l.files ≡ g.F.Files.write_faults l.fn.files)
     × (IsSome l.fn.session.told.machine.context.started → IsSome l.session.told.machine.context.started)
     × ((tape : List World) → Stands l.fn.session tape → Stands l.session tape)

@@ -24,6 +24,7 @@ loop-session-preserved g c =
       inv.4,
       inv.5,
       inv.6,
+      inv.7,
     )
 
 -- ---- the last turn

@@ -12,6 +12,7 @@ invariant-loop-session g l = (l.session.told.machine.context.state ≡ state.Run
     × (l.session.audio ≡ l.fn.session.audio)
     × (g.F.Files.tells l.files ≡ g.F.Files.tells l.fn.files)
     × (g.F.Files.paths l.files ≡ g.F.Files.paths l.fn.files)
+    × (g.F.Files.read_faults l.files ≡ g.F.Files.read_faults l.fn.files)
     × (g.F.Files.write_faults l.files ≡ g.F.Files.write_faults l.fn.files)
 
 abbrev pub decreases-loop-session : goal.decreases-loop-session

@@ -6,13 +6,13 @@ use Rattle.session.proofs.control.Control.step.Goals as goal
 
 pub settle-requires-clause-decided : goal.settle-requires-clause-decided
 settle-requires-clause-decided c =
-    subst (IsFor c.args.self.now c.args.call.now.op) (sym c.decide-decided.ensures.decided) (decided_for c.args.self.now c.decide-decided.ensures.steady c.args.call.now.op c.requires)
+    subst (IsFor c.args.self.now c.args.call.now.op) (sym c.in_ok-decided.ensures.decided) (decided_for c.args.self.now c.decide.ensures.steady c.args.call.now.op c.requires)
 
 stepped : (c : goal.After-settle) → IfOk c.settle.result (Steps c.settle.new.self (step c.args.self.now c.args.call.now))
-stepped c = subst (λ d. IfOk c.settle.result (Steps c.settle.new.self (settled c.args.self.now c.args.call.now d))) c.decide-decided.ensures.decided c.settle.ensures.ok
+stepped c = subst (λ d. IfOk c.settle.result (Steps c.settle.new.self (settled c.args.self.now c.args.call.now d))) c.in_ok-decided.ensures.decided c.settle.ensures.ok
 
 leaves : (c : goal.After-settle) → Leaves c.args.self.now c.settle.new.self c.args.call.now.op
-leaves c = stepped_leaves c.args.self.now c.settle.new.self c.args.call.now c.settle.result (stepped c) c.settle.ensures.err c.decide-decided.ensures.steady c.requires
+leaves c = stepped_leaves c.args.self.now c.settle.new.self c.args.call.now c.settle.result (stepped c) c.settle.ensures.err c.decide.ensures.steady c.requires
 
 pub returns-clause-kept : goal.returns-clause-kept
 returns-clause-kept c = (leaves c).kept
