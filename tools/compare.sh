@@ -3,7 +3,7 @@
 # transcript in the file beside the script. Status 0 where all agree. Run it from anywhere:
 #
 #     tools/compare.sh             each examples/NAME.json; the tests must have the same texts, and
-#                                  mixing the rows that were worked out by hand
+#                                  the second calculation must give what was worked out by hand
 #     tools/compare.sh FILE..      these scripts; the transcript of NAME.json is NAME.txt, if any
 #
 # It runs ./waplay, or the program that the variable WAPLAY names.

@@ -1,9 +1,12 @@
 #!/usr/bin/env python3
 """Makes random scripts, and compares what waplay gives for them with what tools/expected.py works out.
 
-Of each script it compares the exit status, the transcript and every byte of the WAV file. A script
-hangs on the seed and its number, and on which operations the program reads: what it does not read is
-in no script, and gets a line. So each script can be made again by itself. It needs Python 3, and for
+Of each script it compares the exit status, the transcript and every byte of the WAV file. Where
+decodeAudioData is read, by tools/expected.py and by the program, scripts that decode assets have these
+files beside them: WAV files of every kind, files that are none, files of another rate, links, folders,
+and paths that lead nowhere or out of the folder. Else there are no assets. A script and its assets hang
+on the seed and its number, and on which operations are read: what the program does not read is in no
+script, and gets a line. So each script can be made again by itself. It needs Python 3, and for
 --measure GNU time.
 
     python3 tools/random_scripts.py                       compares 1,000 scripts with the program that
@@ -14,8 +17,13 @@ in no script, and gets a line. So each script can be made again by itself. It ne
     python3 tools/random_scripts.py --seed 7 --print 12   the script with the number 12; without a program
                                                           that of one that reads all operations
     python3 tools/random_scripts.py --seed 7 --shrink 12  the same with as few calls as still differ
+    python3 tools/random_scripts.py --seed 7 --print 12 --folder FOLDER
+                                                          the script into FOLDER/script.json, and its
+                                                          assets beside it; --shrink does so too
     python3 tools/random_scripts.py --loads FOLDER        writes the scripts that speed is measured
-                                                          with: FOLDER/a.json and so on (see LOADS)
+                                                          with: FOLDER/a.json and so on (see LOADS),
+                                                          and the asset of one that decodes it; what
+                                                          tools/expected.py does not read is left out
     python3 tools/random_scripts.py --measure FOLDER      runs the scripts of a folder, and prints the
                                                           least user time of three runs and the peak
                                                           memory of each
@@ -26,7 +34,8 @@ that can come up did not, and last how many scripts differ. The status is 0 wher
 A new operation gets a function in "The operations" and a row in OPERATIONS, or in KINDS where it
 makes a node: from then on other calls name nodes of the kind. One that sets an attribute needs its
 row in expected.ATTRIBUTES alone. Its refusals get a row in REFUSALS, and an answer that only it gives
-one in ANSWERS.
+one in ANSWERS. A row names the operations that its calls are: where the program does not read them, no
+such call is made.
 """
 
 import argparse
@@ -37,17 +46,20 @@ import os
 import random
 import re
 import shutil
+import struct
 import subprocess
 import sys
 import tempfile
 
 sys.dont_write_bytecode = True
 import expected
+import wav_check
 
 TOP = os.path.dirname(os.path.dirname(os.path.abspath(__file__)))
 FIX = (-(2**31), 2**31 - 1)
 TIME = 2**40
 ONE = 2**24
+BUFFERS = {"createBuffer", "copyToChannel", "createBufferSource", "setBuffer", *expected.LOOPS}
 
 
 class Maker:
@@ -56,12 +68,18 @@ class Maker:
 
     def __init__(self, rng, read):
         self.rng = rng
+        self.read_ops = set(read)
+        self.has_buffers = BUFFERS <= self.read_ops
+        self.has_assets = self.has_buffers and "decodeAudioData" in read
         self.attributes = [op for op in expected.ATTRIBUTES if op in read]  # the operations that set one
-        self.kinds = {op: kind for op, kind in KINDS.items() if op in read}
+        self.kinds = {op: kind for op, kind in KINDS.items()
+                      if op in read and (self.has_buffers or op not in BUFFERS)}
         self.names = {}  # of a name, its kind, with the inputs and outputs that it was given
+        self.assets = {}  # of a path, what stands there (see write_assets)
         self.made = 0
         self.depth = 0  # of the lists of calls
         self.length = self.channels = 1
+        self.rate = 48000
 
     # Chances and values.
 
@@ -74,8 +92,9 @@ class Maker:
         self.made += 1
         return "n%d" % self.made + self.rng.choice(["", "", "", "", "-", "_", "x" * (63 - len(str(self.made)))])
 
-    def name(self, fits=lambda kind: True):
-        """A name of an object whose kind fits, mostly; else any, also of nothing."""
+    def name(self, fits=lambda kind: not isinstance(kind, Sound)):
+        """A name of an object whose kind fits, mostly; else any, also of nothing. A node fits, where
+        nothing else is said."""
         fitting = [name for name, kind in self.names.items() if fits(kind)]
         if fitting and self.may(0.93):
             return self.rng.choice(fitting)
@@ -83,6 +102,12 @@ class Maker:
 
     def source(self):
         return self.name(lambda kind: kind.plays)
+
+    def player(self):
+        return self.name(lambda kind: kind is KINDS["createBufferSource"])
+
+    def buffer(self):
+        return self.name(lambda kind: isinstance(kind, Sound))
 
     def target(self):
         return "destination" if self.may(0.25) else self.name(lambda kind: kind.inputs)
@@ -118,6 +143,20 @@ class Maker:
         if some < 12:
             return self.rng.choice([1, 2, 2, 3, 4, 6])
         return self.rng.randint(1, 32) if some < 19 else self.rng.choice([0, 32, 33, 2**32 - 1])
+
+    def loop_point(self, length):
+        """Mostly one that is in a buffer of this length or near its end."""
+        some = self.rng.randint(0, 9)
+        if some < 7:
+            return self.rng.randint(0, length)
+        return self.rng.choice([0, -1, 1, length - 1, length + 1, length + 9, TIME, -TIME])
+
+    def frames(self):
+        """The length of a buffer, mostly a small one."""
+        some = self.rng.randint(0, 19)
+        if some < 12:
+            return self.rng.randint(1, 12)
+        return self.rng.randint(1, 400) if some < 19 else self.rng.choice([127, 128, 129, 256, 257])
 
     def call(self, op, needed=(), **optional):
         """A call with its needed fields, and some of those that may be absent."""
@@ -156,6 +195,22 @@ class Maker:
     def create_gain(self):
         return self.create("createGain", gain=self.fix())
 
+    def create_buffer_source(self):
+        sounds = [name for name, kind in self.names.items() if isinstance(kind, Sound)]
+        name = self.rng.choice(sounds) if sounds and self.may(0.9) else None if self.may(0.8) else self.buffer()
+        length = getattr(self.names.get(name), "length", 3)
+        call = self.create("createBufferSource", buffer=name, loop=self.may(0.6), loopStart=self.loop_point(length),
+                           loopEnd=self.loop_point(length))
+        if self.may(0.1):  # a loop past the buffer's end
+            call["loopStart"] = length + self.rng.randint(0, 2)
+            call["loopEnd"] = call["loopStart"] + self.rng.randint(1, 9)
+        some = self.rng.randint(0, 19)
+        if some < 8:
+            call["playbackRate"] = ONE * (self.rng.randint(1, 4) if some < 7 else self.rng.randint(1, 127))
+        elif some < 10:
+            call["playbackRate"] = self.rng.choice([0, -ONE, ONE // 2, ONE + 1, 3 * ONE - 1, *FIX, self.rng.randint(*FIX)])
+        return call
+
     def create_splitter(self):
         return self.create_with("createChannelSplitter", "numberOfOutputs", "outputs")
 
@@ -190,7 +245,7 @@ class Maker:
 
     def set_attribute(self):
         some = self.rng.randint(0, 9)
-        name = "destination" if some == 0 else self.name(lambda kind: kind.inputs or some < 3)
+        name = "destination" if some == 0 else self.name(lambda kind: kind.inputs or some < 3 and kind.outputs)
         return self.attribute(self.rng.choice(self.attributes), name)
 
     def attribute(self, op, name):
@@ -210,9 +265,119 @@ class Maker:
             value = self.rng.randint(1, 32) if some < 9 else self.rng.choice([0, 1, 32, 33, 2**32 - 1])
         return self.call(op, [("node", name), ("value", value)])
 
-    def start(self):
-        return self.call("start", [("node", self.source())], when=self.time(),
-                         offset=self.time(), duration=self.rng.choice([None, self.time()]))
+    # Buffers and assets.
+
+    def create_buffer(self):
+        """A buffer. Some are of another rate, and some are such that there cannot be."""
+        channels, length, rate = self.rng.choice([1, 1, 2, 2, 4, 6, self.rng.randint(1, 32)]), self.frames(), self.rate
+        if self.may(0.1):
+            rate = self.rng.choice([8000, 44100, 96000])
+        if self.may(0.04):
+            channels, length, rate = self.rng.choice([
+                (0, length, rate), (33, length, rate), (2**32 - 1, length, rate), (channels, 0, rate), (channels, length, 0),
+                (channels, length, 7999), (channels, length, 96001), (channels, length, 2**32 - 1),
+                (32, 2**22 + 1, rate), (channels, 2**32 - 1, rate), (1, 2**27 + 1, rate)])
+        name = self.new_name()
+        self.names[name] = Sound(0, 0, False, min(channels, 33), min(length, 1000))
+        return self.call("createBuffer", [("as", name), ("channels", channels), ("length", length), ("rate", rate)])
+
+    def copy_to_channel(self, name=None, channel=None):
+        name = name or self.buffer()
+        sound = self.names.get(name)
+        channels, length = (sound.channels, sound.length) if isinstance(sound, Sound) else (1, 3)
+        if channel is None:
+            channel = self.rng.randrange(max(1, channels))
+            if self.may(0.05):
+                channel = self.rng.choice([0, channels, channels + 1, 2**32 - 1])
+        samples = [self.fix() for _ in range(self.rng.choice([0, 1, 3, length, length, length, length + 2]))]
+        at = self.rng.randint(0, length + 1) if self.may(0.9) else self.rng.choice([0, length, 2**32 - 1])
+        call = self.call("copyToChannel", [("buffer", name), ("channel", channel), ("samples", samples)])
+        if self.may(0.3):
+            call["at"] = at
+        return call
+
+    def set_buffer(self):
+        return self.call("setBuffer", [("node", self.player()), ("buffer", None if self.may(0.3) else self.buffer())])
+
+    def set_loop(self):
+        op = self.rng.choice(list(expected.LOOPS))
+        value = self.may(0.7) if op == "setLoop" else self.loop_point(self.frames())
+        return self.call(op, [("node", self.player()), ("value", value)])
+
+    def decode(self, is_good=False):
+        """A call that decodes an asset; with this, one of the context's rate that is likely read."""
+        path, name = self.asset(is_good), self.new_name()
+        if isinstance(self.assets.get(path), bytes) or self.may(0.1):
+            self.names[name] = Sound(0, 0, False, 2, 20)
+        return self.call("decodeAudioData", [("as", name), ("path", path)])
+
+    def new_path(self):
+        return "%s%d%s" % (self.rng.choice(["a", "a", "sub/a", "sub/sub/a", "\u00e9 ", "..a", "x" * 200]), len(self.assets),
+                           self.rng.choice([".wav", ".wav", "", "..", "."]))
+
+    def asset(self, is_good=False):
+        """A path. Mostly a WAV file stands there, which is made with it or was before."""
+        rng, path = self.rng, self.new_path()
+        files = [it for it, data in self.assets.items() if isinstance(data, bytes)] or ["a0.wav"]
+        some = 0 if is_good else rng.randint(0, 199)
+        if some < 90:
+            self.assets[path] = self.wav()
+        elif some < 120:  # one that is there, mostly
+            path = rng.choice(files)
+            return rng.choice([path, path, "./" + path, path.replace("/", "//"), "././" + path])
+        elif some < 140:
+            self.assets[path] = wav_check.mutated(rng, self.wav())
+        elif some < 148:  # of two rates
+            self.assets[path] = wav_check.made_by_hand(rng)
+        elif some < 154:
+            self.assets[path] = rng.choice([b"", b"RIFF", rng.randbytes(60), self.wav() * 2])
+        elif some < 160:  # a link is followed wherever it leads
+            target = rng.choice(files) if self.may(0.7) else rng.choice(["nowhere", "../beside.wav"])
+            self.assets[path] = Link("../" * path.count("/") + target)
+        elif some < 195:  # a path that names no file, or could name one outside
+            outside = rng.choice(files)
+            return rng.choice(["nowhere.wav", "sub/nowhere.wav", "/dev/zero", "/", "..", "../beside.wav", "./../beside.wav",
+                               "a0.wav/..", "\0", "x" * 255, "sub" * 60, "...", "A0.WAV", "/" + outside, outside + "\0",
+                               "sub/../" + outside, "../" + outside, outside + "/", outside + "/" + outside])
+        elif some < 197:
+            self.assets[path] = rng.choice([2**26 + 1, 2**26 + 1, 2**26, 2**28])
+        else:  # what cannot be read: a folder, and a link to itself
+            if self.may(0.2):
+                return rng.choice([".", "./"])
+            self.assets[path] = None if self.may(0.7) else Link(os.path.basename(path))
+        return path
+
+    def wav(self):
+        """A WAV file of the context's rate. Some have other chunks, or data that is cut."""
+        rng = self.rng
+        if self.may(0.3):
+            return wav_check.made_by_hand(rng, self.rate)
+        bits, channels = rng.choice([8, 16, 24, 32]), rng.choice([1, 1, 2, 2, 4, 6, rng.randint(1, 32)])
+        block, low = channels * bits // 8, 2 ** (bits - 1)
+        fields = struct.pack("<HHIIHH", 1, channels, self.rate, self.rate * block, block, bits)
+        most = low if self.may(0.3) else low // 16  # mostly quiet, so that sums stay within the range
+        values = [rng.randint(-most, most - 1) for _ in range(channels * self.frames())]
+        samples = [(value + low if bits == 8 else value % 2**bits).to_bytes(bits // 8, "little") for value in values]
+        return wav_check.riff(wav_check.chunk(b"fmt ", fields), wav_check.chunk(b"data", b"".join(samples)))
+
+    def some_buffers(self):
+        """Buffers that sources can play, made and written, or decoded."""
+        calls = []
+        for _ in range(self.rng.randint(1, 4)):
+            if self.has_assets and self.may(0.4):
+                calls.append(self.decode(self.may(0.8)))
+                continue
+            calls.append(self.create_buffer())
+            name = calls[-1]["as"]
+            calls += [self.copy_to_channel(name, channel) for channel in range(min(32, self.names[name].channels))
+                      if self.may(0.9)]
+        return calls
+
+    def start(self, name=None):
+        """Sources of buffers mostly begin near the start of what they play."""
+        offset = self.time() if self.may(0.3) else self.rng.choice([0, 0, 1, 2, self.frames()])
+        duration = self.rng.choice([None, None, self.time(), self.frames()])
+        return self.call("start", [("node", name or self.source())], when=self.time(), offset=offset, duration=duration)
 
     def stop(self):
         return self.call("stop", [("node", self.source())], when=self.time())
@@ -230,8 +395,8 @@ class Maker:
         return {"op": self.rng.choice(list(expected.LEFT_OUT)), "as": self.new_name()}
 
     def any_call(self):
-        rows = [row for row in OPERATIONS if self.attributes or row[1] is not Maker.set_attribute]
-        return self.rng.choices([make for _, make in rows], [often for often, _ in rows])[0](self)
+        rows = [row for row in OPERATIONS if self.read_ops.issuperset(row[2:])]
+        return self.rng.choices([row[1] for row in rows], [row[0] for row in rows])[0](self)
 
     def held(self):
         """The calls of a list that a call holds."""
@@ -247,7 +412,8 @@ class Maker:
         calls = [self.create_source() for _ in range(self.rng.randint(0, 3))]
         calls += [self.start() for _ in calls]
         calls += [self.any_call() for _ in range(self.rng.randint(0, self.rng.choice([10, 30, 80])))]
-        calls += [{"op": "connect", "from": name, "to": "destination"} for name in self.names if self.may(0.3)]
+        calls += [{"op": "connect", "from": name, "to": "destination"}
+                  for name, kind in self.names.items() if not isinstance(kind, Sound) and self.may(0.3)]
         for _ in range(self.rng.choice([0, 1, 1, 1, 1, 1, 1, 2])):
             calls.insert(self.rng.randint(len(calls) // 2, len(calls)), self.start_rendering())
         return calls
@@ -320,7 +486,7 @@ class Maker:
         The sources are mostly quiet, so that sums stay within the range."""
         calls = [self.create_source() for _ in range(self.rng.randint(2, 7))]
         for call in calls:
-            if self.may(0.95):
+            if call["op"] == "createConstantSource" and self.may(0.95):
                 call["offset"] = self.rng.randint(-10**5, 10**5)
         calls += [{"op": "start", "node": call["as"]} for call in calls]
         layer = [call["as"] for call in calls[:len(calls) // 2]]
@@ -364,6 +530,44 @@ class Maker:
         cuts = [self.disconnect() for _ in range(self.rng.choice([0, 0, 1, 5]))]
         again = [self.joined(self.rng.choice(layer), "destination") for _ in range(self.rng.choice([0, 1, 3]))]
         return calls + sets + cuts + again + [self.start_rendering()]
+
+    def played(self):
+        """Buffers, and sources that play them, with loops, offsets, durations, rates and stops, by a few
+        nodes or none. What is too late for a buffer or a loop comes too."""
+        calls = [self.create_buffer_source() for _ in range(self.rng.randint(1, 6))]
+        sources = [call["as"] for call in calls]
+        if self.may(0.3):
+            calls += [self.create_constant() for _ in range(self.rng.randint(1, 2))]
+        calls += [self.create_place() for _ in range(self.rng.choice([0, 0, 1, 3]))]
+        places = [call["as"] for call in calls]
+        changes = [Maker.set_loop, Maker.set_loop, Maker.set_buffer, Maker.set_buffer, Maker.copy_to_channel]
+        calls += [self.rng.choice(changes)(self) for _ in range(self.rng.choice([0, 0, 2, 6]))]
+        calls += [self.attribute(op, name) for name in places + ["destination"] for op in self.attributes
+                  if self.may(0.1)]
+        for at, name in enumerate(places):
+            after = [place for place in places[at + 1:] if self.names[place].inputs] + ["destination"]
+            calls += [self.joined(name, self.rng.choice(after)) for _ in range(self.rng.choice([1, 1, 2]))]
+        late = [self.start(name) for name in places if self.names[name].plays and self.may(0.95)]
+        for call in late:
+            if self.may(0.5):
+                call["when"] = self.rng.choice([0, 0, 1, self.rng.randint(0, 40)])
+        late += [self.rng.choice(changes)(self) for _ in range(self.rng.choice([0, 0, 0, 2]))]
+        self.rng.shuffle(late)
+        late += [self.call("stop", [("node", self.rng.choice(sources))], when=self.time())
+                 for _ in range(self.rng.choice([0, 0, 1, 3]))]
+        late += [self.rng.choice([*changes, Maker.any_call])(self) for _ in range(self.rng.choice([0, 0, 3]))]
+        return calls + late + [self.start_rendering()]
+
+    def store(self):
+        """As many samples in buffers as there may be or nearly so, then more buffers, of assets too."""
+        calls = [{"op": "createBuffer", "as": "most", "channels": 32, "length": 2**22 - self.rng.choice([0, 0, 1, 2]),
+                  "rate": self.rate}]
+        self.names["most"] = Sound(0, 0, False, 32, 1000)
+        calls += [{"op": "createBuffer", "as": "rest", "channels": 32, "length": self.rng.randint(1, 2), "rate": self.rate}
+                  for _ in range(self.rng.randint(0, 3))]
+        makes = [self.create_buffer, self.decode] if self.has_assets else [self.create_buffer]
+        calls += [self.rng.choice(makes)() for _ in range(30)]
+        return calls + self.played()
 
     def cables(self):
         """A splitter of 32 outputs into eight mergers of 32 inputs, as many connections as there may be
@@ -429,14 +633,17 @@ class Maker:
     def script(self):
         rng = self.rng
         shape = rng.choices([shape for _, shape in SHAPES], [often for often, _ in SHAPES])[0]
-        if shape is Maker.wide and not self.attributes or shape in (Maker.woven, Maker.cables) and (
-                not {"createChannelSplitter", "createChannelMerger"} <= set(self.kinds)):
+        needed = {Maker.wide: expected.ATTRIBUTES, Maker.played: BUFFERS, Maker.store: BUFFERS,
+                  **dict.fromkeys((Maker.woven, Maker.cables), ("createChannelSplitter", "createChannelMerger"))}
+        if not self.read_ops.issuperset(needed.get(shape, ())):
             shape = Maker.graph
         self.length = rng.choice([1, 2, 127, 128, 129, 255, 256, 257]) if self.may(0.2) else rng.randint(1, 600)
         channels = rng.choice([1, 1, 2, 2, 4, 6, rng.randint(1, 32), 32])
         rate = rng.choice([8000, 44100, 48000, 96000, rng.randint(8000, 96000)])
-        self.channels = channels
-        calls = shape(self)
+        self.channels, self.rate = channels, rate
+        often = {Maker.played: 1, Maker.crowd: 0, Maker.tangle: 0, Maker.cables: 0, Maker.store: 0}.get(shape, 0.5)
+        calls = self.some_buffers() if self.has_buffers and self.may(often) else []
+        calls += shape(self)
         if shape is Maker.unrendered:
             channels = rng.choice([0, 1, 2, 3, 32, 33, 2**32 - 1])
             self.length = rng.choice([0, 1, 2**21, 2**21 + 1, 2**25, 2**25 + 1, 2**32 - 1])
@@ -449,17 +656,22 @@ class Maker:
         return script
 
 
-# How often each operation is called, and what makes a call of it.
+# How often each operation is called, what makes a call of it, and what the program has to read for it.
 OPERATIONS = [
     (24, Maker.create_node),
     (30, Maker.connect),
     (10, Maker.disconnect),
-    (14, Maker.set_attribute),
+    (14, Maker.set_attribute, *expected.ATTRIBUTES),
     (16, Maker.start),
     (8, Maker.stop),
     (2, Maker.start_rendering),
     (6, Maker.read),
     (2, Maker.left_out),
+    (6, Maker.create_buffer, *BUFFERS),
+    (6, Maker.decode, "decodeAudioData", *BUFFERS),
+    (8, Maker.copy_to_channel, *BUFFERS),
+    (6, Maker.set_buffer, *BUFFERS),
+    (6, Maker.set_loop, *BUFFERS),
 ]
 
 # The kinds of nodes, by the operation that makes them: how often one is made, and by what; how many
@@ -467,26 +679,36 @@ OPERATIONS = [
 Kind = collections.namedtuple("Kind", "often make inputs outputs plays")
 KINDS = {
     "createConstantSource": Kind(10, Maker.create_constant, 0, 1, True),
+    "createBufferSource": Kind(10, Maker.create_buffer_source, 0, 1, True),
     "createGain": Kind(14, Maker.create_gain, 1, 1, False),
     "createChannelSplitter": Kind(5, Maker.create_splitter, 1, 6, False),
     "createChannelMerger": Kind(5, Maker.create_merger, 6, 1, False),
 }
 
+# What is kept of a buffer: what a node has, so that a call can take it for one, and its size.
+Sound = collections.namedtuple("Sound", "inputs outputs plays channels length")
+
+# An asset that is a link to this path. Else an asset is what expected.write_asset takes.
+Link = collections.namedtuple("Link", "target")
+
 # What a member is spoiled with: much of it is of a wrong kind or out of range for most fields.
 SPOILED = [None, True, 0, 1, -1, 1.0, 1e2, 2**31, 2**32, 2**40 + 1, 2**63, 2**64, -(2**63) - 1, "", "n1", "x" * 65,
-           "a b", "destination", "\ud800", "max", "Explicit", "discrete", "connect", "createFoo", [], {}, [7], [{}]]
+           "a b", "destination", "\ud800", "max", "Explicit", "discrete", "connect", "createFoo", [], {}, [7], [{}],
+           False, [2**31], [0.5, 2**31], "x" * 256, "\u00e9" * 128, 2**24]
 
-# How often a script has each shape. The last three take long to work out.
+# How often a script has each shape. The last four take long to work out, or much memory to run.
 SHAPES = [
     (1200, Maker.mixed),
     (1000, Maker.graph),
     (600, Maker.wide),
     (600, Maker.woven),
+    (1200, Maker.played),
     (300, Maker.faulty),
     (100, Maker.unrendered),
     (2, Maker.cables),
     (4, Maker.crowd),
     (2, Maker.tangle),
+    (3, Maker.store),
 ]
 
 # The answers that are to come up, as they stand behind an ordinal or at the end, without numbers.
@@ -508,6 +730,10 @@ script: WrongKind
 script: UnknownOp
 script: OutOfRange""".split("\n")
 
+# Those that come up where assets are read. The last is no answer, but stands for a run that has none.
+UNREAD = "no transcript, since an asset cannot be read"
+ASSET_ANSWERS = ["decodeAudioData resolved", UNREAD]
+
 # The refusals that are to come up, of each operation.
 PROFILE = "NotSupportedError profile:"
 REFUSALS = {
@@ -522,15 +748,33 @@ REFUSALS = {
     "setChannelInterpretation": ["TypeError", "InvalidStateError"],
     "start": ["TypeError", "InvalidStateError", "RangeError"],
     "stop": ["TypeError", "InvalidStateError", "RangeError"],
+    "createBufferSource": ["TypeError", PROFILE + "playback-rate", PROFILE + "resampling", PROFILE + "node-limit"],
+    "createBuffer": ["NotSupportedError", PROFILE + "buffer-limit"],
+    "setBuffer": ["TypeError", "InvalidStateError", PROFILE + "late-buffer", PROFILE + "resampling"],
+    **dict.fromkeys(expected.LOOPS, ["TypeError", PROFILE + "loop-change"]),
+    "copyToChannel": ["TypeError", "IndexSizeError", PROFILE + "buffer-acquired"],
+    "decodeAudioData": ["NotFoundError", PROFILE + "asset-size", "EncodingError", PROFILE + "resampling",
+                        PROFILE + "buffer-limit"],
     "startRendering": ["InvalidStateError"],
     "resume": ["InvalidStateError"],
     **{op: [PROFILE + feature] for op, feature in expected.LEFT_OUT.items()},
 }
-PROMISES = ("startRendering", "resume")
 
 
 def script_of(seed, number, read):
-    return Maker(random.Random("%d %d" % (seed, number)), read).script()
+    """A script, and its assets."""
+    maker = Maker(random.Random("%d %d" % (seed, number)), read)
+    return maker.script(), maker.assets
+
+
+def write_assets(folder, assets):
+    for path, it in assets.items():
+        path = os.path.join(os.fsencode(folder), path.encode())
+        os.makedirs(os.path.dirname(path), exist_ok=True)
+        if isinstance(it, Link):
+            os.symlink(it.target.encode(), path)
+        else:
+            expected.write_asset(path, it)
 
 
 def read_by(program):
@@ -555,12 +799,15 @@ def operations_of(numbered):
 def answers_of(script, text):
     """The answers of a transcript as ANSWERS has them, and refusals with their operations before them."""
     operations = {} if text.startswith("script: ") else operations_of(expected.numbered(script["calls"], 1)[0])
+    if text == "":
+        yield UNREAD
     for line in text.splitlines():
         if line.startswith("script: "):
             yield re.sub(r"^script: \d+ \S+ ", "script: ", line)
         elif re.match(r"(ended|complete|\d+ time) ", line):
             yield re.sub(r"^(?:\d+ )?(\w+) .*", r"\1", line)
-        elif re.match(r"\d+ (throw|rejected) ", line):
+        elif re.match(r"\d+ (throw|rejected) ", line) or (
+                line.endswith(" resolved") and operations[int(line.split()[0])] == "decodeAudioData"):
             yield operations[int(line.split()[0])] + " " + line.split(" ", 1)[1]
         else:
             yield re.sub(r"^\d+ ", "", line)
@@ -635,6 +882,31 @@ def stereo_mergers_into_six_channels():
     return script_with(6, 480000, calls)
 
 
+def stereo_loops():
+    calls = [{"op": "createBuffer", "as": "b", "channels": 2, "length": 4800, "rate": 48000}]
+    for channel, step in enumerate((700, -900)):
+        samples = [step * (i % 960 - 480) for i in range(4800)]
+        calls.append({"op": "copyToChannel", "buffer": "b", "channel": channel, "samples": samples})
+    for i in range(32):
+        calls.append({"op": "createBufferSource", "as": "s%d" % i, "buffer": "b", "loop": True,
+                      "loopStart": 10 * i, "loopEnd": 4800 - 7 * i})
+        calls += [{"op": "start", "node": "s%d" % i, "offset": 100 * i}, joined("s%d" % i, "destination")]
+    return script_with(2, 480000, calls)
+
+
+def largest_asset():
+    calls = [{"op": "decodeAudioData", "as": "b", "path": "largest.wav"}, joined("s", "destination")]
+    calls[1:1] = [{"op": "createBufferSource", "as": "s", "buffer": "b"}, {"op": "start", "node": "s"}]
+    return script_with(2, 480000, calls)
+
+
+def largest_wav():
+    """A file of 64 MiB, two channels of 16 bits."""
+    size = 2**26 - 44
+    head = b"WAVEfmt " + struct.pack("<IHHIIHH", 16, 1, 2, 48000, 192000, 4, 16) + b"data" + struct.pack("<I", size)
+    return b"RIFF" + struct.pack("<I", 36 + size) + head + bytes(range(256)) * (size // 256) + bytes(size % 256)
+
+
 LOADS = {
     "a": pairs_of_constants_and_gains,      # 200 constants into 200 gains, 2 channels, 480,000 frames
     "b": chain_of_gains,                    # 400 gains one behind the other, 1 channel, 480,000 frames
@@ -642,18 +914,31 @@ LOADS = {
     "d": as_many_nodes_as_there_may_be,     # a constant into 1,022 gains, 1,023 nodes of one channel, 48,000 frames
     "e": stereo_gains_into_six_channels,    # 200 constants, by gains of two channels into 5.1, 480,000 frames
     "f": stereo_mergers_into_six_channels,  # 200 mergers of two constants each into 5.1, 480,000 frames
+    "g": stereo_loops,                      # 32 sources of a stereo buffer that loop, 480,000 frames
+    "h": largest_asset,                     # a file of 64 MiB is decoded and played, 480,000 frames
 }
+
+
+def write_loads(folder):
+    """Writes the loads whose operations are read, with their assets."""
+    os.makedirs(folder, exist_ok=True)
+    for name, load in LOADS.items():
+        script = load()
+        if all(call["op"] in expected.OPERATIONS for call in script["calls"]):
+            assets = {"largest.wav": largest_wav()} if load is largest_asset else {}
+            write_assets(folder, {name + ".json": json.dumps(script).encode(), **assets})
 
 
 def measure(program, folder):
     with tempfile.TemporaryDirectory() as work:
+        out = os.path.join(work, "out.wav")
         for name in sorted(name for name in os.listdir(folder) if name.endswith(".json")):
             runs = []
             for _ in range(3):
                 with open(os.path.join(folder, name), "rb") as script:
                     ran = subprocess.run(
-                        [shutil.which("time"), "-f", "%U %M", program, "out.wav"],
-                        stdin=script, capture_output=True, cwd=work, text=True)
+                        [shutil.which("time"), "-f", "%U %M", program, out],
+                        stdin=script, capture_output=True, cwd=folder, text=True)
                 runs.append([float(word) for word in ran.stderr.split("\n")[-2].split()])
             time, memory = (min(column) for column in zip(*runs))
             print("%s: %.2f s, %.1f MiB, status %d" % (name, time, memory / 1024, ran.returncode))
@@ -661,12 +946,27 @@ def measure(program, folder):
 
 # The comparison.
 
+def enter(work):
+    """Goes to a folder of its own, beside which is a file that no path may lead to."""
+    with open(os.path.join(work, "beside.wav"), "wb") as file:
+        file.write(expected.worked_rows.TWO_FRAMES)
+    os.mkdir(os.path.join(work, str(os.getpid())))
+    os.chdir(os.path.join(work, str(os.getpid())))
+
+
+def put_assets(assets):
+    """Leaves these assets alone in the folder."""
+    for entry in os.scandir():
+        shutil.rmtree(entry) if entry.is_dir(follow_symlinks=False) else os.remove(entry)
+    write_assets(os.curdir, assets)
+
+
 def differences(program, script):
-    """What differs at a script, and its transcript."""
+    """What differs at a script whose assets are here, and its transcript."""
     data = json.dumps(script).encode()
     status, text, session = expected.replayed(data)
     wav = expected.wav_bytes(session) if status == 0 else None
-    out = "%d.wav" % os.getpid()
+    out = "out.wav"
     if os.path.exists(out):
         os.remove(out)
     ran = subprocess.run([program, out], input=data, stdout=subprocess.PIPE, timeout=600)
@@ -687,7 +987,8 @@ def differences(program, script):
 def compared(job):
     program, seed, read, number = job
     try:
-        script = script_of(seed, number, read)
+        script, assets = script_of(seed, number, read)
+        put_assets(assets)
         wrong, text = differences(program, script)
         answers = collections.Counter(answers_of(script, text))
     except Exception as error:
@@ -713,7 +1014,7 @@ def shrunk(program, script):
 def compare(program, seed, count, jobs):
     wrong, answers, read = 0, collections.Counter(), read_by(program)
     with tempfile.TemporaryDirectory() as work:
-        with multiprocessing.Pool(jobs, os.chdir, [work]) as pool:
+        with multiprocessing.Pool(jobs, enter, [work]) as pool:
             jobs = ((program, seed, read, number) for number in range(count))
             for number, different, seen in pool.imap_unordered(compared, jobs, 20):
                 answers.update(seen)
@@ -722,8 +1023,8 @@ def compare(program, seed, count, jobs):
                     print("script %d of seed %d: %s" % (number, seed, ", ".join(different)), flush=True)
     for answer, often in answers.most_common():
         print("%9d %s" % (often, answer))
-    for answer in ANSWERS + [
-            "%s %s %s" % (op, "rejected" if op in PROMISES else "throw", refusal)
+    for answer in ANSWERS + (ASSET_ANSWERS if "decodeAudioData" in read else []) + [
+            "%s %s %s" % (op, "rejected" if op in expected.PROMISES else "throw", refusal)
             for op, refusals in REFUSALS.items() if op in read or op in expected.LEFT_OUT for refusal in refusals]:
         if answer not in answers:
             print("     none %s" % answer)
@@ -734,6 +1035,15 @@ def compare(program, seed, count, jobs):
     return 1 if wrong else 0
 
 
+def give(folder, script, assets):
+    """Writes a script with its assets, or prints it where no folder is named."""
+    if not folder:
+        print(json.dumps(script))
+        return
+    os.makedirs(folder, exist_ok=True)
+    write_assets(folder, {"script.json": json.dumps(script).encode(), **assets})
+
+
 def main():
     words = argparse.ArgumentParser(usage=__doc__)
     words.add_argument("--seed", type=int, default=1)
@@ -742,27 +1052,29 @@ def main():
     words.add_argument("--program", default=os.path.join(TOP, "crates", "waplay", "out", "waplay"))
     words.add_argument("--print", type=int, metavar="NUMBER")
     words.add_argument("--shrink", type=int, metavar="NUMBER")
+    words.add_argument("--folder", metavar="FOLDER")
     words.add_argument("--loads", metavar="FOLDER")
     words.add_argument("--measure", metavar="FOLDER")
     words = words.parse_args()
     program = os.path.abspath(words.program)
     if words.print is not None:
         read = read_by(program) if os.access(program, os.X_OK) else list(expected.OPERATIONS)
-        print(json.dumps(script_of(words.seed, words.print, read)))
+        give(words.folder, *script_of(words.seed, words.print, read))
     elif words.loads:
-        os.makedirs(words.loads, exist_ok=True)
-        for name, load in LOADS.items():
-            with open(os.path.join(words.loads, name + ".json"), "w") as file:
-                json.dump(load(), file)
+        write_loads(words.loads)
     elif not os.access(program, os.X_OK):
         print("%s is no program: run ./waplay once, which builds it" % program)
         return 2
     elif words.measure:
         measure(program, words.measure)
     elif words.shrink is not None:
+        script, assets = script_of(words.seed, words.shrink, read_by(program))
+        folder = words.folder and os.path.abspath(words.folder)
         with tempfile.TemporaryDirectory() as work:
-            os.chdir(work)
-            print(json.dumps(shrunk(program, script_of(words.seed, words.shrink, read_by(program)))))
+            enter(work)
+            put_assets(assets)
+            script = shrunk(program, script)
+        give(folder, script, assets)
     else:
         return compare(program, words.seed, words.count, words.jobs)
     return 0

@@ -1,5 +1,5 @@
 #!/usr/bin/env python3
-"""Compares what wav_io::decode gives for WAV files with a second calculation.
+"""Compares what wav_io::decode gives for WAV files with a second calculation, tools/wav_reading.py.
 
 The files are made by Python's module wave and, where it is found, by sox: 8, 16, 24 and 32 bits, 1 to
 8 channels, odd sizes, LIST and fact chunks, WAVE_FORMAT_EXTENSIBLE. Others are those with bytes
@@ -28,90 +28,29 @@ import sys
 import tempfile
 import wave
 
+sys.dont_write_bytecode = True
+from wav_reading import PCM, WavFault, recording_of
+
 TOP = os.path.dirname(os.path.dirname(os.path.abspath(__file__)))
 PROGRAM = os.path.join(TOP, "crates/wav_dump/out/wav_dump")
 ANSWERS = "samples NotRiff NoFormat UnknownTag BadBits BadShape NoData DataFirst".split()
-PCM = bytes.fromhex("0100000000001000800000aa00389b71")
 FACTOR = 6364136223846793005
 
 
-# The second calculation: the whole list of chunks, and then the first case that holds.
-
-
-def chunks_of(data):
-    """The chunks as (place, name, size), and where their list ends."""
-    found = []
-    place = 12
-    seen = set()
-    while place + 8 <= len(data):
-        name = data[place : place + 4]
-        size = int.from_bytes(data[place + 4 : place + 8], "little")
-        counts = name in (b"fmt ", b"data") and name not in seen
-        if not counts and place + 8 + size > len(data):
-            break
-        seen.add(name)
-        found.append((place, name, size))
-        place += 8 + size + size % 2
-    return found, place
-
-
-def value(bits, sample):
-    """The nearest whole number to the sample in units of 2^-24, where halves go up."""
-    if bits == 8:
-        number = sample[0] - 128
-    else:
-        number = int.from_bytes(sample, "little", signed=True)
-    numerator, denominator = number * 2**24, 2 ** (bits - 1)
-    return (2 * numerator + denominator) // (2 * denominator)
-
-
-def read(data):
-    """(None, rate, channels, frames, samples of all channels), or (name of the fault, place)."""
-    if len(data) < 12 or data[:4] != b"RIFF" or data[8:12] != b"WAVE":
-        return "NotRiff", 0
-    chunks, end = chunks_of(data)
-    formats = [chunk for chunk in chunks if chunk[1] == b"fmt "]
-    datas = [chunk for chunk in chunks if chunk[1] == b"data"]
-    if datas and (not formats or datas[0][0] < formats[0][0]):
-        return "DataFirst", datas[0][0]
-    if not formats:
-        return "NoFormat", end
-    place, _, size = formats[0]
-    body = data[place + 8 : place + 8 + size]
-    if size < 16 or len(body) < size:
-        return "NoFormat", place
-    tag, channels, rate, _, block, bits = struct.unpack("<HHIIHH", body[:16])
-    if tag != 1 and not (tag == 0xFFFE and size >= 40 and body[24:40] == PCM):
-        return "UnknownTag", place + 8
-    if bits not in (8, 16, 24, 32):
-        return "BadBits", place + 22
-    if not 1 <= channels <= 32 or block != channels * bits // 8:
-        return "BadShape", place + 10
-    if not datas:
-        return "NoData", end
-    place, _, size = datas[0]
-    body = data[place + 8 : place + 8 + size]
-    frames = len(body) // block
-    if frames == 0:
-        return "NoData", place
-    width = bits // 8
-    samples = []
-    for channel in range(channels):
-        for frame in range(frames):
-            at = frame * block + channel * width
-            samples.append(value(bits, body[at : at + width]))
-    return None, rate, channels, frames, samples
+# The answers.
 
 
 def line(data):
     """The line that the program has to write for a file."""
-    answer = read(data)
-    if answer[0]:
-        return "%s(%d)" % answer
+    try:
+        recording = recording_of(data)
+    except WavFault as fault:
+        return str(fault)
     digest = 0
-    for sample in answer[4]:
-        digest = (digest * FACTOR + sample % 2**32) % 2**64
-    return "%d %d %d %d" % (*answer[1:4], digest)
+    for channel in range(recording.channels):
+        for frame in range(recording.frames):
+            digest = (digest * FACTOR + recording.sample(channel, frame) % 2**32) % 2**64
+    return "%d %d %d %d" % (recording.rate, recording.channels, recording.frames, digest)
 
 
 # The files.
@@ -137,11 +76,13 @@ def made_by_wave(rng):
     return out.getvalue()
 
 
-def made_by_hand(rng):
-    """With other chunks around, with an extension, with sizes that are odd or promise too much."""
+def made_by_hand(rng, rate=None):
+    """With other chunks around, with an extension, with sizes that are odd or promise too much. The rate
+    is one of two, where none is given."""
     width, channels = rng.choice((1, 2, 3, 4)), rng.randint(1, 8)
     bits, block = 8 * width, width * channels
-    fields = struct.pack("<HIIHH", channels, rng.choice((44100, 48000)), rng.getrandbits(32), block, bits)
+    rate = rate or rng.choice((44100, 48000))
+    fields = struct.pack("<HIIHH", channels, rate, rng.getrandbits(32), block, bits)
     form = rng.choice(("plain", "longer", "extended"))
     if form == "extended":
         body = b"\xfe\xff" + fields + struct.pack("<HHI", 22, bits, rng.getrandbits(8)) + PCM + rng.randbytes(rng.choice((0, 0, 3)))

@@ -11,4 +11,6 @@ mod routing;
 #[cfg(test)]
 mod runs;
 #[cfg(test)]
+mod sampling;
+#[cfg(test)]
 mod spelling;
