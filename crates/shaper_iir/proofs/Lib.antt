@@ -1,0 +1,11 @@
+pub mod Bounds
+pub mod Coefficients
+pub mod Dots
+pub mod Parts
+pub mod Quiet
+pub mod Recalling
+pub mod Shares
+pub mod Shifts
+pub mod States
+pub mod Waving
+pub mod Weights

@@ -1,0 +1,7 @@
+use Rattle.std.proofs.Common.{ℕ, ◌≡◌, ◌<◌}
+use Rattle.causal_core.specs.Curves.{shaped}
+use Rattle.causal_core.specs.Frames.{item}
+use Rattle.shaper_iir.proofs.shaper.shape_each.Given as goal
+
+abbrev pub invariant-loop-k : goal.invariant-loop-k
+invariant-loop-k l = (i : ℕ) → i < l.k → item l.y i ≡ shaped l.points (item l.x i)
