@@ -1,6 +1,5 @@
-ghost use Rattle.std.specs.Prelude.{◌≡◌, IfOk};
-ghost use Rattle.script_ast.specs.Ranges.{IsInRange};
-ghost use Rattle.script_ast.specs.WellFormed.{IsWellFormed};
+ghost use Rattle.std.specs.Prelude.{IfOk};
+ghost use Rattle.script_ast.specs.WellFormed.{AreCallsAfter, IsWellFormed};
 
 use io_edge::MemFiles;
 use script_ast::{Call, Op, Script};
@@ -9,7 +8,10 @@ use session::{Options, Outcome, Session, Stop, Turn, run};
 use std::alloc::Global;
 use std::test::Fail;
 use transcript::{EndWord, Lines, text};
-use wa_base::{Bytes, ContextSpec, Fix, Name, NoMemory, ONE, Refusal, State, Tie};
+use wa_base::{Bytes, ContextSpec, Fix, NoMemory, Refusal, State, Tie};
+
+// A function pays for each of its ends at which a session is let go, and much. So a session is made in one
+// function, lent to the others, and given to `drop` or `finish` before any error goes up.
 
 const WITH_AUDIO: Options = Options {
     tie: Tie::Up,
@@ -34,7 +36,11 @@ fn start_rendering(alloc: Global, session: &mut Session, ordinal: u32) -> Result
         holder: 0,
         op: Op::StartRendering,
     };
-    session.call(&call, &mut MemFiles::new(alloc))
+    let mut files = MemFiles::new(alloc);
+    let started = session.call(&call, &mut files);
+    drop(call);
+    drop(files);
+    started
 }
 
 // The next turn, where rendering goes on.
@@ -45,36 +51,71 @@ fn advance(session: &mut Session) -> Result<Option<Turn>, NoMemory> {
     Ok(None)
 }
 
+fn is_at(session: &Session, state: State, started: Option<u32>) -> bool {
+    session.state() == state && session.started() == started
+}
+
+// Whether a session of two quanta goes from its start to its end.
+fn goes_on(alloc: Global, session: &mut Session) -> Result<bool, Stop> {
+    let was_idle = is_at(session, State::Suspended, None);
+    start_rendering(alloc, session, 7)?;
+    let is_started = session.started() == Some(7);
+    let turns = [advance(session)?, advance(session)?, advance(session)?];
+    Ok(
+        was_idle
+            && is_started
+            && turns == [Some(Turn::Went), Some(Turn::Done(7)), None]
+            && is_at(session, State::Closed, Some(7)),
+    )
+}
+
+fn goes_call_by_call(alloc: Global) -> Result<bool, Fail> {
+    let mut session = begin(alloc, 2, 200)?;
+    let goes = goes_on(alloc, &mut session);
+    drop(session);
+    Ok(goes?)
+}
+
 #[test]
 fn a_session_goes_call_by_call(rt: HostRuntime) -> Result<(), Fail> {
-    let mut session = begin(rt.alloc(), 2, 200)?;
-    assert_eq!(rt; session.state(), State::Suspended);
-    assert_eq!(rt; session.started(), None);
-    start_rendering(rt.alloc(), &mut session, 7)?;
-    assert_eq!(rt; session.started(), Some(7));
-    for want in [Some(Turn::Went), Some(Turn::Done(7)), None] {
-        assert_eq!(rt; advance(&mut session)?, want);
-    }
-    assert_eq!(rt; session.state(), State::Closed);
+    assert!(rt; goes_call_by_call(rt.alloc())?);
     Ok(())
 }
 
-// The end of a session that was advanced so many times after its start, and how many samples it has;
-// None where its context still runs.
-fn end_after(alloc: Global, turns: u32) -> Result<Option<(EndWord, Option<usize>)>, Fail> {
-    let mut session = begin(alloc, 2, 200)?;
+// Starts a session, where it is to be advanced at all, and advances it so many times.
+fn play(alloc: Global, session: &mut Session, turns: u32) -> Result<(), Stop> {
     if turns > 0 {
-        start_rendering(alloc, &mut session, 7)?;
+        start_rendering(alloc, session, 7)?;
     }
     for _ in 0..turns {
-        advance(&mut session)?;
+        advance(session)?;
     }
+    Ok(())
+}
+
+// The end of a session, and how many samples it has; None where its context still runs.
+fn end_of(session: Session) -> Option<(EndWord, Option<usize>)> {
     if session.state() == State::Running {
-        return Ok(None);
+        drop(session);
+        return None;
     }
     let outcome = session.finish();
-    let samples = outcome.rendered.map(|rendered| rendered.samples.len());
-    Ok(Some((outcome.end, samples)))
+    let samples = outcome
+        .rendered
+        .as_ref()
+        .map(|rendered| rendered.samples.len());
+    let end = outcome.end;
+    drop(outcome);
+    Some((end, samples))
+}
+
+// The end of a session that was advanced so many times after its start.
+fn end_after(alloc: Global, turns: u32) -> Result<Option<(EndWord, Option<usize>)>, Fail> {
+    let mut session = begin(alloc, 2, 200)?;
+    let played = play(alloc, &mut session, turns);
+    let end = end_of(session);
+    played?;
+    Ok(end)
 }
 
 #[test]
@@ -90,6 +131,10 @@ fn a_session_that_reached_its_length_hands_over_its_samples(rt: HostRuntime) -> 
     Ok(())
 }
 
+fn is_begun(alloc: Global, channels: u32, length: u64) -> bool {
+    begin(alloc, channels, length).err().is_none()
+}
+
 #[test]
 fn contexts_out_of_range_are_refused(rt: HostRuntime) {
     for (channels, length, want) in [
@@ -103,120 +148,14 @@ fn contexts_out_of_range_are_refused(rt: HostRuntime) {
         (32, 2_097_153, false),
     ] {
         assert_eq!(rt;
-            begin(rt.alloc(), channels, length).is_ok(),
+            is_begun(rt.alloc(), channels, length),
             want,
             "{channels} channels, {length} frames"
         );
     }
 }
 
-// A name, asked for a second time where memory for it was refused.
-fn name_of(alloc: Global, text: &str) -> Result<Name, NoMemory>
-    ensures { IfOk result (λ name. name ≡ text.now) }
-{
-    let bytes = match Vec::from_slice(alloc, text.as_bytes()) {
-        Err(_) => Vec::from_slice(alloc, text.as_bytes())?,
-        Ok(bytes) => bytes,
-    };
-    Ok(Name::from(bytes))
-}
-
 // A source that sounds for one frame through a gain, and the start of rendering.
-#[tactic(auto, unfolding(script_ast::specs::Ranges::is_new_name))]
-fn op_of(alloc: Global, ordinal: u32) -> Result<Op, NoMemory>
-    ensures { IfOk result (λ op. IsInRange op) }
-{
-    let node = name_of(alloc, "c")?;
-    match ordinal {
-        1 => Ok(Op::CreateConstantSource {
-            name: node,
-            offset: ONE,
-        }),
-        2 => Ok(Op::CreateGain {
-            name: name_of(alloc, "g")?,
-            gain: HALF,
-        }),
-        3 => connect(alloc, node, "g"),
-        4 => connect(alloc, name_of(alloc, "g")?, "destination"),
-        5 => Ok(Op::Start {
-            node,
-            when: 0,
-            offset: 0,
-            duration: None,
-        }),
-        6 => Ok(Op::Stop { node, when: 1 }),
-        7 => Ok(Op::Disconnect {
-            from: node,
-            output: None,
-            to: Some(name_of(alloc, "destination")?),
-            input: None,
-        }),
-        _ => Ok(Op::StartRendering),
-    }
-}
-
-fn connect(alloc: Global, from: Name, to: &str) -> Result<Op, NoMemory>
-    ensures { IfOk result (λ op. IsInRange op) }
-{
-    Ok(Op::Connect {
-        from,
-        output: 0,
-        to: name_of(alloc, to)?,
-        input: 0,
-    })
-}
-
-// A call that is made a second time where memory for it was refused.
-fn call_again(alloc: Global, session: &mut Session, ordinal: u32) -> Result<(), Stop> {
-    let call = Call {
-        ordinal,
-        holder: 0,
-        op: op_of(alloc, ordinal)?,
-    };
-    let mut files = MemFiles::new(alloc);
-    match session.call(&call, &mut files) {
-        Err(Stop::NoMemory) => session.call(&call, &mut files),
-        called => called,
-    }
-}
-
-fn begin_again(alloc: Global) -> Result<Session, Refusal> {
-    match begin(alloc, 1, 100) {
-        Err(Refusal::NoMemory) => begin(alloc, 1, 100),
-        begun => begun,
-    }
-}
-
-fn advance_again(session: &mut Session) -> Result<Option<Turn>, NoMemory> {
-    match advance(session) {
-        Err(NoMemory) => advance(session),
-        turn => turn,
-    }
-}
-
-// All calls, and the quantum after them.
-fn replay_again(alloc: Global, session: &mut Session) -> Result<Option<Turn>, Stop> {
-    for ordinal in 1..9 {
-        call_again(alloc, session, ordinal)?;
-    }
-    Ok(advance_again(session)?)
-}
-
-fn is_done(turn: Option<Turn>, session: &Session) -> bool {
-    turn == Some(Turn::Done(8)) && session.started() == Some(8) && session.state() == State::Closed
-}
-
-// Where one growth is refused, the call or the quantum that asked for it can be made again. Of what
-// the session then has told and rendered its contracts alone speak.
-#[test]
-fn what_was_refused_memory_can_be_done_again(rt: HostRuntime) -> Result<(), Fail> {
-    let mut session = begin_again(rt.alloc())?;
-    let turn = replay_again(rt.alloc(), &mut session)?;
-    assert!(rt; is_done(turn, &session));
-    Ok(())
-}
-
-// The calls of `op_of`, as a script.
 const SCRIPT: &str =
     "{\"version\":1,\"context\":{\"channels\":1,\"length\":100,\"rate\":48000},\"calls\":[{\"op\":\"createConstantSource\",\"as\":\"c\"},{\"op\":\"createGain\",\"as\":\"g\",\"gain\":8388608},{\"op\":\"connect\",\"from\":\"c\",\"to\":\"g\"},{\"op\":\"connect\",\"from\":\"g\",\"to\":\"destination\"},{\"op\":\"start\",\"node\":\"c\"},{\"op\":\"stop\",\"node\":\"c\",\"when\":1},{\"op\":\"disconnect\",\"from\":\"c\",\"to\":\"destination\"},{\"op\":\"startRendering\"}]}";
 
@@ -228,20 +167,81 @@ fn script_again(alloc: Global, text: &str) -> Result<Script, ScriptErr>
     ensures { IfOk result IsWellFormed }
 {
     match read(alloc, text.as_bytes()) {
-        Err(ScriptErr::NoMemory) => read(alloc, text.as_bytes()),
-        script => script,
+        Ok(script) => Ok(script),
+        Err(_) => read(alloc, text.as_bytes()),
     }
 }
 
+fn begin_again(alloc: Global) -> Result<Session, Refusal> {
+    begin(alloc, 1, 100).or_else(|_| begin(alloc, 1, 100))
+}
+
+// All calls, each made a second time where memory for it was refused.
+fn call_again(session: &mut Session, calls: &[Call], files: &mut MemFiles) -> Result<(), Stop>
+    requires { AreCallsAfter 0 calls.now }
+{
+    for call in calls {
+        if session.call(call, files) == Err(Stop::NoMemory) {
+            session.call(call, files)?;
+        }
+    }
+    Ok(())
+}
+
+fn advance_again(session: &mut Session) -> Result<Option<Turn>, NoMemory> {
+    match advance(session) {
+        Err(NoMemory) => advance(session),
+        turn => turn,
+    }
+}
+
+// Whether a session is done after all calls and the quantum after them.
+fn replays_again(alloc: Global, session: &mut Session, script: &Script) -> Result<bool, Stop>
+    requires { IsWellFormed script.now }
+{
+    let mut files = MemFiles::new(alloc);
+    let called = call_again(session, script.calls.as_slice(), &mut files);
+    drop(files);
+    called?;
+    let turn = advance_again(session)?;
+    Ok(turn == Some(Turn::Done(8)) && is_at(session, State::Closed, Some(8)))
+}
+
+fn is_done_again(alloc: Global, script: &Script) -> Result<bool, Fail>
+    requires { IsWellFormed script.now }
+{
+    let mut session = begin_again(alloc)?;
+    let is_done = replays_again(alloc, &mut session, script);
+    drop(session);
+    Ok(is_done?)
+}
+
+// Where one growth is refused, the call or the quantum that asked for it can be made again. Of what
+// the session then has told and rendered its contracts alone speak.
+#[test]
+fn what_was_refused_memory_can_be_done_again(rt: HostRuntime) -> Result<(), Fail> {
+    let script = script_again(rt.alloc(), SCRIPT)?;
+    assert!(rt; is_done_again(rt.alloc(), &script)?);
+    Ok(())
+}
+
 // A script that is run a second time where memory for it was refused.
+fn run_with(alloc: Global, script: &Script, files: &mut MemFiles) -> Result<Outcome, Stop>
+    requires { IsWellFormed script.now }
+{
+    match run(alloc, script, WITH_AUDIO, files) {
+        Ok(outcome) => Ok(outcome),
+        Err(_) => run(alloc, script, WITH_AUDIO, files),
+    }
+}
+
 fn run_again(alloc: Global, script: &Script) -> Result<Outcome, Stop>
     requires { IsWellFormed script.now }
 {
     let mut files = MemFiles::new(alloc);
-    match run(alloc, script, WITH_AUDIO, &mut files) {
-        Err(Stop::NoMemory) => run(alloc, script, WITH_AUDIO, &mut files),
-        outcome => outcome,
-    }
+    let outcome = run_with(alloc, script, &mut files);
+    drop(files);
+    outcome
 }
 
 fn text_again(alloc: Global, lines: &Lines, end: EndWord) -> Result<Bytes, NoMemory> {
