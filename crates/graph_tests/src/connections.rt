@@ -192,18 +192,24 @@ fn joined(alloc: Global, count: u32, edges: &[Edge]) -> Result<Graph, Refusal> {
     Ok(graph)
 }
 
-fn repeats(alloc: Global) -> Result<bool, Refusal> {
-    let mut graph = begin(alloc, 2)?;
+fn repeats_in(alloc: Global, graph: &mut Graph) -> Result<bool, Refusal> {
     let edge = to_input(1, 0, 0, 0);
     let form = Form::Node(NodeId(0));
     Ok(
-        connect(&mut graph, edge)?
-            && !connect(&mut graph, edge)?
-            && has(alloc, &graph, &[edge])?
-            && disconnect(&mut graph, 1, form) == Ok(())
-            && has(alloc, &graph, &[])?
-            && disconnect(&mut graph, 1, form) == Err(Exc::InvalidAccess),
+        connect(graph, edge)?
+            && !connect(graph, edge)?
+            && has(alloc, graph, &[edge])?
+            && disconnect(graph, 1, form) == Ok(())
+            && has(alloc, graph, &[])?
+            && disconnect(graph, 1, form) == Err(Exc::InvalidAccess),
     )
+}
+
+fn repeats(alloc: Global) -> Result<bool, Refusal> {
+    let mut graph = begin(alloc, 2)?;
+    let repeats = repeats_in(alloc, &mut graph);
+    drop(graph);
+    repeats
 }
 
 #[test]
@@ -212,14 +218,26 @@ fn a_repeated_connection_changes_nothing(rt: HostRuntime) -> Result<(), Fail> {
     Ok(())
 }
 
-fn takes_away(alloc: Global, edges: &[Edge], form: Form, gone: &[usize]) -> Result<bool, Refusal> {
-    let mut graph = joined(alloc, 4, edges)?;
-    let kept = without(alloc, edges, gone)?;
+fn leaves(
+    alloc: Global,
+    graph: &mut Graph,
+    edges: &[Edge],
+    form: Form,
+    kept: &[Edge],
+) -> Result<bool, NoMemory> {
     Ok(
-        has(alloc, &graph, edges)?
-            && disconnect(&mut graph, 1, form) == Ok(())
-            && has(alloc, &graph, kept.as_slice())?,
+        has(alloc, graph, edges)?
+            && disconnect(graph, 1, form) == Ok(())
+            && has(alloc, graph, kept)?,
     )
+}
+
+fn takes_away(alloc: Global, edges: &[Edge], form: Form, gone: &[usize]) -> Result<bool, Refusal> {
+    let kept = without(alloc, edges, gone)?;
+    let mut graph = joined(alloc, 4, edges)?;
+    let leaves = leaves(alloc, &mut graph, edges, form, kept.as_slice());
+    drop(graph);
+    Ok(leaves?)
 }
 
 #[test]
@@ -270,9 +288,7 @@ fn refuses(
     Ok(disconnect(graph, 2, Form::All) == Ok(()))
 }
 
-fn changes_nothing(alloc: Global) -> Result<bool, Refusal> {
-    let edge = to_input(1, 0, 2, 0);
-    let mut graph = joined(alloc, 3, &[edge])?;
+fn refuses_all(graph: &mut Graph) -> Result<bool, Refusal> {
     let forms = [
         (Form::Output(2), Err(Exc::IndexSize)),
         (Form::NodeOutput(NodeId(2), 2), Err(Exc::IndexSize)),
@@ -295,13 +311,30 @@ fn changes_nothing(alloc: Global) -> Result<bool, Refusal> {
         to_input(1, 0, 2, 2),
         to_param(1, 2, GAIN),
     ];
-    Ok(refuses(&mut graph, &forms, &edges)? && has(alloc, &graph, &[edge])?)
+    refuses(graph, &forms, &edges)
+}
+
+fn changes_nothing(alloc: Global) -> Result<bool, Refusal> {
+    let edge = to_input(1, 0, 2, 0);
+    let mut graph = joined(alloc, 3, &[edge])?;
+    let refuses = refuses_all(&mut graph);
+    let stays = has(alloc, &graph, &[edge]);
+    drop(graph);
+    Ok(refuses? && stays?)
 }
 
 #[test]
 fn a_refused_call_changes_nothing(rt: HostRuntime) -> Result<(), Fail> {
     assert!(rt; changes_nothing(rt.alloc())?);
     Ok(())
+}
+
+fn keeps_order(alloc: Global, graph: &mut Graph, edges: &mut [Edge; 8]) -> Result<bool, Refusal> {
+    let was_in_order = has(alloc, graph, edges)?;
+    let is_new = disconnect(graph, 1, Form::Node(NodeId(0))) == Ok(()) && connect(graph, edges[2])?;
+    let was_moved = !has(alloc, graph, edges)?;
+    edges[2..].rotate_left(1);
+    Ok(was_in_order && is_new && was_moved && has(alloc, graph, edges)?)
 }
 
 fn keeps_its_order(alloc: Global) -> Result<bool, Refusal> {
@@ -316,12 +349,9 @@ fn keeps_its_order(alloc: Global) -> Result<bool, Refusal> {
         to_input(3, 1, 1, 0),
     ];
     let mut graph = joined(alloc, 4, &edges)?;
-    let was_in_order = has(alloc, &graph, &edges)?;
-    let is_new = disconnect(&mut graph, 1, Form::Node(NodeId(0))) == Ok(())
-        && connect(&mut graph, edges[2])?;
-    let was_moved = !has(alloc, &graph, &edges)?;
-    edges[2..].rotate_left(1);
-    Ok(was_in_order && is_new && was_moved && has(alloc, &graph, &edges)?)
+    let keeps_order = keeps_order(alloc, &mut graph, &mut edges);
+    drop(graph);
+    keeps_order
 }
 
 #[test]
@@ -345,18 +375,29 @@ fn full(alloc: Global) -> Result<Graph, Refusal> {
     Ok(graph)
 }
 
+fn has_most(alloc: Global, graph: &Graph) -> Result<bool, NoMemory> {
+    let leaving = from(alloc, graph, 1)?.len();
+    let entering = to(alloc, graph, 9)?.len();
+    Ok(leaving == 8_192 && entering == 1_024)
+}
+
+fn is_at_limit(graph: &mut Graph) -> Result<bool, Refusal> {
+    Ok(
+        connect(graph, to_input(2, 0, 0, 0)) == Err(AT_LIMIT)
+            && connect(graph, to_param(1, 0, GAIN)) == Err(AT_LIMIT)
+            && !connect(graph, to_input(1, 31, 9, 31))?
+            && connect(graph, to_input(1, 32, 9, 31)) == Err(Refusal::Exc(Exc::IndexSize))
+            && disconnect(graph, 1, Form::Output(0)) == Ok(())
+            && connect(graph, to_input(2, 0, 0, 0))?,
+    )
+}
+
 fn refuses_one_more(alloc: Global) -> Result<bool, Refusal> {
     let mut graph = full(alloc)?;
-    Ok(
-        from(alloc, &graph, 1)?.len() == 8_192
-            && to(alloc, &graph, 9)?.len() == 1_024
-            && connect(&mut graph, to_input(2, 0, 0, 0)) == Err(AT_LIMIT)
-            && connect(&mut graph, to_param(1, 0, GAIN)) == Err(AT_LIMIT)
-            && !connect(&mut graph, to_input(1, 31, 9, 31))?
-            && connect(&mut graph, to_input(1, 32, 9, 31)) == Err(Refusal::Exc(Exc::IndexSize))
-            && disconnect(&mut graph, 1, Form::Output(0)) == Ok(())
-            && connect(&mut graph, to_input(2, 0, 0, 0))?,
-    )
+    let has_most = has_most(alloc, &graph);
+    let is_at_limit = is_at_limit(&mut graph);
+    drop(graph);
+    Ok(has_most? && is_at_limit?)
 }
 
 #[test]
@@ -365,20 +406,32 @@ fn there_are_at_most_8192_connections(rt: HostRuntime) -> Result<(), Fail> {
     Ok(())
 }
 
-fn copies_apart(alloc: Global) -> Result<bool, Refusal> {
+fn goes_apart(alloc: Global, first: &Graph, second: &mut Graph) -> Result<bool, Refusal> {
     let edge = to_input(1, 0, 2, 0);
     let other = to_input(2, 1, 0, 1);
-    let first = joined(alloc, 3, &[edge])?;
-    let mut second = first.copy()?;
     Ok(
-        has(alloc, &second, &[edge])?
-            && first.is_same(&second)
-            && connect(&mut second, other)?
-            && disconnect(&mut second, 1, Form::All) == Ok(())
-            && has(alloc, &first, &[edge])?
-            && has(alloc, &second, &[other])?
-            && !first.is_same(&second),
+        has(alloc, second, &[edge])?
+            && first.is_same(second)
+            && connect(second, other)?
+            && disconnect(second, 1, Form::All) == Ok(())
+            && has(alloc, first, &[edge])?
+            && has(alloc, second, &[other])?
+            && !first.is_same(second),
     )
+}
+
+fn copy_goes_apart(alloc: Global, first: &Graph) -> Result<bool, Refusal> {
+    let mut second = first.copy()?;
+    let goes_apart = goes_apart(alloc, first, &mut second);
+    drop(second);
+    goes_apart
+}
+
+fn copies_apart(alloc: Global) -> Result<bool, Refusal> {
+    let first = joined(alloc, 3, &[to_input(1, 0, 2, 0)])?;
+    let goes_apart = copy_goes_apart(alloc, &first);
+    drop(first);
+    goes_apart
 }
 
 #[test]
@@ -398,17 +451,23 @@ fn adds(graph: &mut Graph, is_delay: bool) -> Result<bool, NoMemory> {
     Ok(graph.is_delay(NodeId(number)) == is_delay)
 }
 
-fn adds_in_order(alloc: Global) -> Result<bool, Refusal> {
-    let mut graph = Graph::new(alloc);
+fn adds_three(graph: &mut Graph) -> Result<bool, Refusal> {
     Ok(
         graph.len() == 0
-            && adds(&mut graph, false)?
-            && adds(&mut graph, true)?
-            && adds(&mut graph, false)?
+            && adds(graph, false)?
+            && adds(graph, true)?
+            && adds(graph, false)?
             && graph.len() == 3
-            && connect(&mut graph, to_input(0, 0, 2, 1))?
-            && connect(&mut graph, to_input(0, 0, 1, 1)) == Err(Refusal::Exc(Exc::IndexSize)),
+            && connect(graph, to_input(0, 0, 2, 1))?
+            && connect(graph, to_input(0, 0, 1, 1)) == Err(Refusal::Exc(Exc::IndexSize)),
     )
+}
+
+fn adds_in_order(alloc: Global) -> Result<bool, Refusal> {
+    let mut graph = Graph::new(alloc);
+    let adds = adds_three(&mut graph);
+    drop(graph);
+    adds
 }
 
 #[test]
@@ -442,21 +501,26 @@ fn connect_again(
     Ok(true)
 }
 
-fn has_again(alloc: Global, graph: &Graph, edges: &[Edge]) -> Result<bool, NoMemory> {
-    let copy = match graph.copy() {
-        Err(NoMemory) => graph.copy()?,
-        Ok(copy) => copy,
-    };
-    match has(alloc, &copy, edges) {
-        Err(NoMemory) => has(alloc, &copy, edges),
-        seen => seen,
+fn copy_again(graph: &Graph) -> Result<Graph, NoMemory> {
+    match graph.copy() {
+        Ok(copy) => Ok(copy),
+        Err(NoMemory) => graph.copy(),
     }
 }
 
-fn goes_on_after_refusals(alloc: Global) -> Result<bool, Refusal> {
-    let mut graph = Graph::new(alloc);
+fn has_again(alloc: Global, graph: &Graph, edges: &[Edge]) -> Result<bool, NoMemory> {
+    let copy = copy_again(graph)?;
+    let seen = match has(alloc, &copy, edges) {
+        Err(NoMemory) => has(alloc, &copy, edges),
+        seen => seen,
+    };
+    drop(copy);
+    seen
+}
+
+fn goes_on(alloc: Global, graph: &mut Graph) -> Result<bool, Refusal> {
     for _ in 0..5 {
-        if !add_again(&mut graph)? {
+        if !add_again(graph)? {
             return Ok(false);
         }
     }
@@ -468,11 +532,18 @@ fn goes_on_after_refusals(alloc: Global) -> Result<bool, Refusal> {
         to_input(4, 0, 0, 0),
     ];
     for (place, edge) in edges.iter().enumerate() {
-        if !connect_again(alloc, &mut graph, *edge, &edges[..place])? {
+        if !connect_again(alloc, graph, *edge, &edges[..place])? {
             return Ok(false);
         }
     }
-    Ok(has_again(alloc, &graph, &edges)?)
+    Ok(has_again(alloc, graph, &edges)?)
+}
+
+fn goes_on_after_refusals(alloc: Global) -> Result<bool, Refusal> {
+    let mut graph = Graph::new(alloc);
+    let goes_on = goes_on(alloc, &mut graph);
+    drop(graph);
+    goes_on
 }
 
 #[test]

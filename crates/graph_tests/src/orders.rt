@@ -115,18 +115,29 @@ fn is_legal_list<L: Ledger>(
 // What a survey and both orders say of a graph: a reader is its node's number, a writer has a `w`.
 fn told(alloc: Global, graph: &Graph) -> Result<String, NoMemory> {
     let answers = ask::<Brand>(alloc, graph, Blank::new(1))?;
+    let text = text_of(alloc, &answers);
+    drop(answers);
+    text
+}
+
+fn text_of(alloc: Global, answers: &Answers) -> Result<String, NoMemory> {
     let mut text = String::from_str(alloc, "cycle")?;
-    put_ids(alloc, &mut text, &answers.marks.in_cycle)?;
+    put_answers(alloc, &mut text, answers)?;
+    Ok(text)
+}
+
+fn put_answers(alloc: Global, text: &mut String, answers: &Answers) -> Result<(), NoMemory> {
+    put_ids(alloc, text, &answers.marks.in_cycle)?;
     text.push_str("; muted")?;
-    put_ends(alloc, &mut text, answers.marks.muted.as_slice())?;
+    put_ends(alloc, text, answers.marks.muted.as_slice())?;
     text.push_str("; up")?;
-    put_ends(alloc, &mut text, answers.up.ends.as_slice())?;
+    put_ends(alloc, text, answers.up.ends.as_slice())?;
     text.push_str("; down")?;
-    put_ends(alloc, &mut text, answers.down.ends.as_slice())?;
+    put_ends(alloc, text, answers.down.ends.as_slice())?;
     if !answers.are_legal {
         text.push_str("; not legal")?;
     }
-    Ok(text)
+    Ok(())
 }
 
 fn put_ids(alloc: Global, text: &mut String, ids: &Ids) -> Result<(), NoMemory> {
@@ -250,12 +261,15 @@ fn are_in_chain(ends: &[End]) -> bool {
 }
 
 fn is_ordered_from_its_source(alloc: Global) -> Result<bool, Refusal> {
-    let answers = ask::<Brand>(alloc, &chain(alloc)?, Blank::new(1))?;
-    Ok(
-        answers.marks.muted.is_empty()
-            && are_in_chain(answers.up.ends.as_slice())
-            && are_in_chain(answers.down.ends.as_slice()),
-    )
+    let graph = chain(alloc)?;
+    let answers = ask::<Brand>(alloc, &graph, Blank::new(1));
+    drop(graph);
+    let answers = answers?;
+    let is_ordered = answers.marks.muted.is_empty()
+        && are_in_chain(answers.up.ends.as_slice())
+        && are_in_chain(answers.down.ends.as_slice());
+    drop(answers);
+    Ok(is_ordered)
 }
 
 #[test]

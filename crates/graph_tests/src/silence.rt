@@ -1,4 +1,7 @@
-ghost use Rattle.std.specs.Prelude.{◌≡◌, ◌<◌};
+ghost use Rattle.std.specs.Prelude.{◌≡◌, ◌<◌, ◌≤◌, ◌+◌, ◌*◌, ◌^◌, OnOk};
+ghost use Rattle.wa_base.specs.Contexts.{IsSupported, quantum_of};
+ghost use Rattle.meaning.specs.Validity.{IsValid};
+ghost use Rattle.quantum_render.specs.Sites.{AreStill};
 
 use meaning::World;
 use quantum_render::Renderer;
@@ -14,6 +17,64 @@ const SPEC: ContextSpec = ContextSpec {
     rate: 48_000,
 };
 
+fn render<L: Ledger>(
+    renderer: &mut Renderer,
+    world: &World,
+    first: u64,
+    steps: &mut Steps<L>,
+) -> Result<(), NoMemory>
+    requires valid { IsValid world.now }
+    requires still { AreStill world.now }
+    requires spec { world.now.spec ≡ renderer.old.spec }
+    requires first { first ≡ quantum_of renderer.old.spec * renderer.old.quanta }
+    requires time { first ≤ 2 ^ 62 }
+    ensures spec { renderer.new.spec ≡ renderer.old.spec }
+    ensures quanta { OnOk result (renderer.new.quanta ≡ renderer.old.quanta + 1) }
+{
+    renderer.prepare(world, steps)?;
+    renderer.counts(world, first, steps);
+    renderer.grow(world)?;
+    renderer.pass(world, first, steps);
+    Ok(())
+}
+
+// The greatest magnitude after two quanta.
+fn loudest_of<L: Ledger>(
+    renderer: &mut Renderer,
+    world: &World,
+    steps: &mut Steps<L>,
+) -> Result<i32, NoMemory>
+    requires valid { IsValid world.now }
+    requires still { AreStill world.now }
+    requires spec { world.now.spec ≡ renderer.old.spec }
+    requires channels { 1 < renderer.old.spec.channels }
+    requires first { renderer.old.quanta ≡ 0 }
+{
+    render(renderer, world, 0, steps)?;
+    render(renderer, world, 128, steps)?;
+    let mut loudest = 0;
+    for value in renderer.out(1) {
+        loudest = loudest.max(value.saturating_abs());
+    }
+    Ok(loudest)
+}
+
+fn loudest_in<L: Ledger>(
+    alloc: Global,
+    world: &World,
+    steps: &mut Steps<L>,
+) -> Result<i32, NoMemory>
+    requires valid { IsValid world.now }
+    requires still { AreStill world.now }
+    requires spec { IsSupported world.now.spec }
+    requires channels { 1 < world.now.spec.channels }
+{
+    let mut renderer = Renderer::new(alloc, world.spec, Tie::Up)?;
+    let loudest = loudest_of(&mut renderer, world, steps);
+    drop(renderer);
+    loudest
+}
+
 // The greatest magnitude in two quanta of a world whose destination hears nothing.
 fn loudest<L: Ledger>(alloc: Global, blank: Blank) -> Result<i32, NoMemory>
     requires name { blank.name ≡ L.name }
@@ -22,20 +83,9 @@ fn loudest<L: Ledger>(alloc: Global, blank: Blank) -> Result<i32, NoMemory>
 {
     let mut steps: Steps<L> = Steps::new(blank);
     let world = World::new(alloc, SPEC)?;
-    let mut renderer = Renderer::new(alloc, SPEC, Tie::Up)?;
-    renderer.prepare(&world, &mut steps)?;
-    renderer.counts(&world, 0, &mut steps);
-    renderer.grow(&world)?;
-    renderer.pass(&world, 0, &mut steps);
-    renderer.prepare(&world, &mut steps)?;
-    renderer.counts(&world, 128, &mut steps);
-    renderer.grow(&world)?;
-    renderer.pass(&world, 128, &mut steps);
-    let mut loudest = 0;
-    for value in renderer.out(1) {
-        loudest = loudest.max(value.saturating_abs());
-    }
-    Ok(loudest)
+    let loudest = loudest_in(alloc, &world, &mut steps);
+    drop(world);
+    loudest
 }
 
 #[test]
