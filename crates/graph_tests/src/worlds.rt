@@ -59,6 +59,8 @@ fn push_play(scheds: &mut Scheds, node: u32, start: i64) -> Result<(), NoMemory>
     scheds.push(Play {
         id: NodeId(node),
         sched,
+        buffer: None,
+        was_set: false,
     })
 }
 
