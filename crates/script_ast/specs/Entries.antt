@@ -163,6 +163,12 @@ abbrev pub start_rendering : List Row
 start_rendering =
     row field.Then kind.Calls NoCalls ∷ []
 
+-- `decodeAudioData`
+abbrev pub decode_audio_data : List Row
+decode_audio_data =
+    row field.As kind.NewName Needed ∷
+    row field.Path kind.Path Needed ∷ []
+
 -- ---- the default of a field
 
 -- the row of the field with this name

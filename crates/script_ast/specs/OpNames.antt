@@ -10,7 +10,7 @@ use Rattle.script_ast.specs.declared.entries.Row.{Row}
 use Rattle.script_ast.specs.declared.op_names.LeftOutName.{LeftOutName}
 use Rattle.script_ast.specs.declared.op_names.LeftOutName.TheVariants as left_out
 use Rattle.script_ast.specs.declared.op_names.OpName.{OpName}
-use Rattle.script_ast.specs.declared.op_names.OpName.TheVariants.{CreateConstantSource, CreateGain, CreateChannelSplitter, CreateChannelMerger, CreateBufferSource, CreateBuffer, Connect, Disconnect, SetChannelCount, SetChannelCountMode, SetChannelInterpretation, SetBuffer, SetLoop, SetLoopStart, SetLoopEnd, CopyToChannel, Start, Stop, StartRendering, Resume, ReadState, ReadTime, LeftOut}
+use Rattle.script_ast.specs.declared.op_names.OpName.TheVariants.{CreateConstantSource, CreateGain, CreateChannelSplitter, CreateChannelMerger, CreateBufferSource, CreateBuffer, Connect, Disconnect, SetChannelCount, SetChannelCountMode, SetChannelInterpretation, SetBuffer, SetLoop, SetLoopStart, SetLoopEnd, CopyToChannel, Start, Stop, StartRendering, Resume, DecodeAudioData, ReadState, ReadTime, LeftOut}
 
 -- the `op` of an operation that the profile leaves out
 abbrev pub left_out_word : LeftOutName → List ℕ
@@ -70,6 +70,7 @@ op_word Start = codes "start"
 op_word Stop = codes "stop"
 op_word StartRendering = codes "startRendering"
 op_word Resume = codes "resume"
+op_word DecodeAudioData = codes "decodeAudioData"
 op_word ReadState = codes "readState"
 op_word ReadTime = codes "readTime"
 op_word (LeftOut name) = left_out_word name
@@ -97,6 +98,7 @@ operations =
     Stop ∷
     StartRendering ∷
     Resume ∷
+    DecodeAudioData ∷
     ReadState ∷
     ReadTime ∷
     LeftOut left_out.CreateOscillator ∷
@@ -145,6 +147,7 @@ fields_of Start = entry.start
 fields_of Stop = entry.stop
 fields_of StartRendering = entry.start_rendering
 fields_of Resume = []
+fields_of DecodeAudioData = entry.decode_audio_data
 fields_of ReadState = []
 fields_of ReadTime = []
 fields_of (LeftOut name) = []

@@ -174,6 +174,8 @@ pub const STOP: [Row; 2] = [row!(Node, Name, Needed), row!(When, Time, Number(0)
 
 pub const START_RENDERING: [Row; 1] = [row!(Then, Calls, NoCalls)];
 
+pub const DECODE_AUDIO_DATA: [Row; 2] = [row!(As, NewName, Needed), row!(Path, Path, Needed)];
+
 /// The default of the field with this name in an entry; a field that the entry has not is needed.
 pub fn fallback_in(rows: &[Row], field: Field) -> Fallback
     ensures { result ≡ fallback_in rows.now field }

@@ -3,9 +3,9 @@ ghost use Rattle.script_ast.specs.OpNames.{left_out_word, left_out_feature, op_w
 
 use crate::entries::{
     CONNECT, COPY_TO_CHANNEL, CREATE_BUFFER, CREATE_BUFFER_SOURCE, CREATE_CHANNEL_MERGER,
-    CREATE_CHANNEL_SPLITTER, CREATE_CONSTANT_SOURCE, CREATE_GAIN, DISCONNECT, Kind, Row,
-    SET_BUFFER, SET_CHANNEL_COUNT, SET_CHANNEL_COUNT_MODE, SET_CHANNEL_INTERPRETATION, SET_LOOP,
-    SET_LOOP_END, SET_LOOP_START, START, START_RENDERING, STOP,
+    CREATE_CHANNEL_SPLITTER, CREATE_CONSTANT_SOURCE, CREATE_GAIN, DECODE_AUDIO_DATA, DISCONNECT,
+    Kind, Row, SET_BUFFER, SET_CHANNEL_COUNT, SET_CHANNEL_COUNT_MODE, SET_CHANNEL_INTERPRETATION,
+    SET_LOOP, SET_LOOP_END, SET_LOOP_START, START, START_RENDERING, STOP,
 };
 use wa_base::Feature;
 
@@ -102,13 +102,14 @@ pub enum OpName {
     Stop,
     StartRendering,
     Resume,
+    DecodeAudioData,
     ReadState,
     ReadTime,
     LeftOut(LeftOutName),
 }
 
 /// Every operation.
-pub const OP_NAMES: [OpName; 37] = [
+pub const OP_NAMES: [OpName; 38] = [
     OpName::CreateConstantSource,
     OpName::CreateGain,
     OpName::CreateChannelSplitter,
@@ -129,6 +130,7 @@ pub const OP_NAMES: [OpName; 37] = [
     OpName::Stop,
     OpName::StartRendering,
     OpName::Resume,
+    OpName::DecodeAudioData,
     OpName::ReadState,
     OpName::ReadTime,
     OpName::LeftOut(LeftOutName::CreateOscillator),
@@ -176,6 +178,7 @@ impl OpName {
             OpName::Stop => "stop",
             OpName::StartRendering => "startRendering",
             OpName::Resume => "resume",
+            OpName::DecodeAudioData => "decodeAudioData",
             OpName::ReadState => "readState",
             OpName::ReadTime => "readTime",
             OpName::LeftOut(name) => name.word(),
@@ -220,6 +223,7 @@ impl OpName {
             OpName::Start => &START,
             OpName::Stop => &STOP,
             OpName::StartRendering => &START_RENDERING,
+            OpName::DecodeAudioData => &DECODE_AUDIO_DATA,
             OpName::Resume | OpName::ReadState | OpName::ReadTime | OpName::LeftOut(_) => &[],
         }
     }

@@ -12,7 +12,7 @@ use Rattle.script_ast.specs.declared.clocks.Clock.{Clock}
 use Rattle.script_ast.specs.declared.clocks.Clock.TheVariants.{Frames}
 use Rattle.script_ast.specs.declared.call_list.Script.{Script}
 use Rattle.script_ast.specs.declared.op_names.OpName.{OpName}
-use Rattle.script_ast.specs.declared.op_names.OpName.TheVariants.{CreateConstantSource, CreateGain, CreateChannelSplitter, CreateChannelMerger, CreateBufferSource, CreateBuffer, Connect, Disconnect, SetChannelCount, SetChannelCountMode, SetChannelInterpretation, SetBuffer, SetLoop, SetLoopStart, SetLoopEnd, CopyToChannel, Start, Stop, StartRendering, Resume, ReadState, ReadTime, LeftOut}
+use Rattle.script_ast.specs.declared.op_names.OpName.TheVariants.{CreateConstantSource, CreateGain, CreateChannelSplitter, CreateChannelMerger, CreateBufferSource, CreateBuffer, Connect, Disconnect, SetChannelCount, SetChannelCountMode, SetChannelInterpretation, SetBuffer, SetLoop, SetLoopStart, SetLoopEnd, CopyToChannel, Start, Stop, StartRendering, Resume, DecodeAudioData, ReadState, ReadTime, LeftOut}
 use Rattle.script_ast.proofs.Nesting.{IsBlock, none_block, next_block, block_nested}
 use Rattle.script_json.proofs.CallSteps.{both_none, outcome_ok, is_call}
 use Rattle.script_json.proofs.PlacedLaws.{placed_all}
@@ -45,6 +45,7 @@ holds_calls-op_in clock Start d = refl
 holds_calls-op_in clock Stop d = refl
 holds_calls-op_in clock StartRendering d = refl
 holds_calls-op_in clock Resume d = refl
+holds_calls-op_in clock DecodeAudioData d = refl
 holds_calls-op_in clock ReadState d = refl
 holds_calls-op_in clock ReadTime d = refl
 holds_calls-op_in clock (LeftOut name) d = refl

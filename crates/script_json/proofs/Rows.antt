@@ -119,3 +119,7 @@ samples_copied : script_or_fault (read (codes "{\"version\":1,\"context\":{\"cha
     ≡ Ok (record { context = record { channels = 1; length = 1; rate = 1 }; calls = record { ordinal = 1; holder = 0; op = op.CopyToChannel (codes "b") 0 (pos 1 ∷ neg_ℤ (pos 2) ∷ []) 0 } ∷ [] })
 unfolding serde_json_on_literals context_in main_list calls_of head_faults script_faults script_in placed call_faults call_of op_named number_in fixes_of text_in
 samples_copied = refl
+
+path_is_empty : script_or_fault (read (codes "{\"version\":1,\"context\":{\"channels\":1,\"length\":1,\"rate\":1},\"calls\":[{\"op\":\"decodeAudioData\",\"as\":\"b\",\"path\":\"\"}]}")) ≡ Err (OutOfRange 1 field.Path)
+unfolding serde_json_on_literals context_in main_list calls_of head_faults script_faults placed call_faults op_named is_new_name
+path_is_empty = refl

@@ -23,7 +23,7 @@ use Rattle.script_ast.specs.declared.entries.Row.{Row}
 use Rattle.script_ast.specs.declared.fields.Field.{Field}
 use Rattle.script_ast.specs.declared.fields.Field.TheVariants as field
 use Rattle.script_ast.specs.declared.op_names.OpName.{OpName}
-use Rattle.script_ast.specs.declared.op_names.OpName.TheVariants.{CreateConstantSource, CreateGain, CreateChannelSplitter, CreateChannelMerger, CreateBufferSource, CreateBuffer, Connect, Disconnect, SetChannelCount, SetChannelCountMode, SetChannelInterpretation, SetBuffer, SetLoop, SetLoopStart, SetLoopEnd, CopyToChannel, Start, Stop, StartRendering, Resume, ReadState, ReadTime, LeftOut}
+use Rattle.script_ast.specs.declared.op_names.OpName.TheVariants.{CreateConstantSource, CreateGain, CreateChannelSplitter, CreateChannelMerger, CreateBufferSource, CreateBuffer, Connect, Disconnect, SetChannelCount, SetChannelCountMode, SetChannelInterpretation, SetBuffer, SetLoop, SetLoopStart, SetLoopEnd, CopyToChannel, Start, Stop, StartRendering, Resume, DecodeAudioData, ReadState, ReadTime, LeftOut}
 use Rattle.script_json.proofs.CallSteps.{both_none, length-calls, outcome_ok}
 use Rattle.script_json.proofs.FormLaws.{disconnect_form}
 use Rattle.script_json.proofs.PlacedLaws.{placed_all}
@@ -165,6 +165,9 @@ op_in-range clock n d Start h = (time_in-range clock _ _ d, time_in-range clock 
 op_in-range clock n d Stop h = time_in-range clock _ _ d
 op_in-range clock n d StartRendering h = tt
 op_in-range clock n d Resume h = tt
+op_in-range clock n d DecodeAudioData h =
+    let e = both_none _ _ (both_none _ _ h).0 in
+    (text_in-new_name clock n d e.0, text_in-path clock n d (both_none _ _ e.1).0)
 op_in-range clock n d ReadState h = tt
 op_in-range clock n d ReadTime h = tt
 op_in-range clock n d (LeftOut name) h = tt

@@ -39,12 +39,12 @@ abbrev pub is_fix : Option ℤ → Bool
 is_fix None = false
 is_fix (Some z) = is_within (neg_ℤ (pos 2147483648)) (pos 2147483647) z
 
--- an array whose items are whole numbers, and then are all in range, wherever the one that is not stands
+-- an array of whole numbers that are all in range; an item that is no whole number is told before one that is out of range, wherever they stand
 abbrev pub fixes_cause : Option (List (Option ℤ)) → Option Cause
 fixes_cause None = Some WrongKind
 fixes_cause (Some numbers) = if list_all is_some numbers then (if list_all is_fix numbers then None else Some OutOfRange) else Some WrongKind
 
--- a text of which a test holds
+-- a text that is in range, or is not
 abbrev pub text_cause : Option Bool → Option Cause
 text_cause None = Some WrongKind
 text_cause (Some holds) = if holds then None else Some OutOfRange

@@ -9,7 +9,7 @@ use crate::faults::ScriptErr;
 use crate::values::{
     Cause, MAX_COUNT, MAX_FIX, MAX_TIME, MIN_FIX, MIN_TIME, cause_of, frames, whole,
 };
-use script_ast::{Clock, Fallback, Field, Row, fallback_in, interp_named, mode_named};
+use script_ast::{Clock, Fallback, Field, Path, Row, fallback_in, interp_named, mode_named};
 use serde_json::Value;
 use std::alloc::Global;
 use wa_base::{Fix, Interp, Mode, Name, NoMemory, Samples};
@@ -252,6 +252,15 @@ pub fn text_or_null(alloc: Global, object: &Value, field: Field) -> Result<Optio
         }
         None => Ok(None),
     }
+}
+
+/// The path of a field.
+#[tactic(auto, unfolding(crate::specs::Fields::text_in))]
+pub fn path(alloc: Global, object: &Value, field: Field) -> Result<Path, NoMemory>
+    ensures { IfOk result (λ path. path ≡ text_in field (view object.now)) }
+{
+    let text = member(object, field).and_then(Value::as_str).unwrap_or("");
+    Path::new(alloc, text)
 }
 
 /// The ChannelCountMode of a field.

@@ -3,7 +3,8 @@ ghost use Rattle.serde_json.specs.View.{view};
 ghost use Rattle.script_json.specs.Calls.{op_in};
 
 use crate::members::{
-    count, count_or_null, fix, fixes, flag, interp, mode, text, text_or_null, time, time_or_null,
+    count, count_or_null, fix, fixes, flag, interp, mode, path, text, text_or_null, time,
+    time_or_null,
 };
 use script_ast::{Clock, Field, Op, OpName, entries};
 use serde_json::Value;
@@ -35,6 +36,7 @@ pub fn build(alloc: Global, clock: Clock, name: OpName, call: &Value) -> Result<
         OpName::Stop => stop(alloc, clock, call),
         OpName::StartRendering => Ok(Op::StartRendering),
         OpName::Resume => Ok(Op::Resume),
+        OpName::DecodeAudioData => decode_audio_data(alloc, call),
         OpName::ReadState => Ok(Op::ReadState),
         OpName::ReadTime => Ok(Op::ReadTime),
         OpName::LeftOut(name) => Ok(Op::LeftOut {
@@ -227,5 +229,14 @@ fn stop(alloc: Global, clock: Clock, call: &Value) -> Result<Op, NoMemory>
     Ok(Op::Stop {
         node: text(alloc, call, Field::Node)?,
         when: time(clock, call, &entries::STOP, Field::When),
+    })
+}
+
+fn decode_audio_data(alloc: Global, call: &Value) -> Result<Op, NoMemory>
+    ensures { IfOk result (λ op. op ≡ op_in Clock.Frames OpName.DecodeAudioData (view call.now)) }
+{
+    Ok(Op::DecodeAudioData {
+        name: text(alloc, call, Field::As)?,
+        path: path(alloc, call, Field::Path)?,
     })
 }

@@ -1,6 +1,6 @@
 /// Calls of the operations on buffers and on the sources that play them: what reading a script with
 /// them gives.
-pub static BUFFERS: [&str; 98] = [
+pub static BUFFERS: [&str; 107] = [
     r#"{"op":"createBufferSource","as":"s","buffer":"b","loop":true,"loopStart":-5,"loopEnd":1099511627776,"playbackRate":33554432} => 1 0 createBufferSource s b true -5 1099511627776 33554432"#,
     r#"{"op":"createBufferSource","as":"s"} => 1 0 createBufferSource s none false 0 0 16777216"#,
     r#"{"op":"createBufferSource","as":"s","buffer":null,"loop":false} => 1 0 createBufferSource s none false 0 0 16777216"#,
@@ -93,10 +93,19 @@ pub static BUFFERS: [&str; 98] = [
     r#"{"op":"copyToChannel","buffer":"b","channel":0,"samples":[2147483648],"at":null} => 1 samples OutOfRange"#,
     r#"{"op":"copyToChannel","buffer":"b","channel":0,"samples":[],"at":null} => 1 at WrongKind"#,
     r#"{"op":"copyToChannel","buffer":"b","channel":0,"samples":[],"at":-1} => 1 at OutOfRange"#,
-    r#"{"op":"startRendering","then":[{"op":"setBuffer","node":"s","buffer":null}]},{"op":"createBuffer"} => 3 as MissingField"#,
+    r#"{"op":"decodeAudioData","as":"b","path":"drums/kick.wav"} => 1 0 decodeAudioData b drums/kick.wav"#,
+    r#"{"op":"decodeAudioData","as":"b","path":"/../\u0061\" é","then":[1]} => 1 0 decodeAudioData b /../a" é"#,
+    r#"{"op":"decodeAudioData","path":""} => 1 as MissingField"#,
+    r#"{"op":"decodeAudioData","as":"a b","path":""} => 1 as OutOfRange"#,
+    r#"{"op":"decodeAudioData","as":"b"} => 1 path MissingField"#,
+    r#"{"op":"decodeAudioData","as":"b","path":null} => 1 path WrongKind"#,
+    r#"{"op":"decodeAudioData","as":"b","path":7} => 1 path WrongKind"#,
+    r#"{"op":"decodeAudioData","as":"b","path":["a"]} => 1 path WrongKind"#,
+    r#"{"op":"decodeAudioData","as":"b","path":""} => 1 path OutOfRange"#,
+    r#"{"op":"startRendering","then":[{"op":"setBuffer","node":"s","buffer":null}]},{"op":"decodeAudioData"} => 3 as MissingField"#,
     r#"{"op":"createbuffer","as":"b"} => 1 op UnknownOp"#,
     r#"{"op":"createBuffers","as":"b"} => 1 op UnknownOp"#,
     r#"{"op":"setLoopstart","node":"s"} => 1 op UnknownOp"#,
     r#"{"op":"copyFromChannel","buffer":"b"} => 1 op UnknownOp"#,
-    r#"{"op":"decodeAudioData","as":"b","path":"a.wav"} => 1 op UnknownOp"#,
+    r#"{"op":"decodeAudio","as":"b"} => 1 op UnknownOp"#,
 ];

@@ -47,7 +47,7 @@ fn finds_calls_by_their_ordinals(rt: HostRuntime) -> Result<(), Fail> {
     Ok(())
 }
 
-static BUILT: [&str; 17] = [
+static BUILT: [&str; 18] = [
     "createGain",
     "connect",
     "disconnect",
@@ -61,6 +61,7 @@ static BUILT: [&str; 17] = [
     "setLoopStart",
     "setLoopEnd",
     "copyToChannel",
+    "decodeAudioData",
     "readTime",
     "startRendering",
     "createConvolver",

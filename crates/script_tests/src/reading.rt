@@ -109,6 +109,30 @@ fn repeated(alloc: Global, before: &str, part: &str, count: u32) -> Result<Strin
     Ok(all)
 }
 
+// What is read of a script that decodes the file whose path is the part, repeated.
+fn decoded(alloc: Global, part: &str, count: u32) -> Result<String, AllocError> {
+    let path = repeated(alloc, "", part, count)?;
+    let script = format!(in alloc;
+        "{BEFORE}{{\"op\":\"decodeAudioData\",\"as\":\"b\",\"path\":\"{path}\"}}{AFTER}"
+    )?;
+    reading(alloc, script.as_bytes())
+}
+
+// The length is one of bytes: a letter with an accent has two.
+#[test]
+fn a_path_has_255_bytes_at_most(rt: HostRuntime) -> Result<(), Fail> {
+    for (part, count) in [("a", 255), ("é", 127)] {
+        let path = repeated(rt.alloc(), "1 0 decodeAudioData b ", part, count)?;
+        let got = decoded(rt.alloc(), part, count)?;
+        assert_eq!(rt; got.as_str(), path.as_str(), "with {count} letters");
+    }
+    for (part, count) in [("a", 256), ("é", 128)] {
+        let got = decoded(rt.alloc(), part, count)?;
+        assert_eq!(rt; got.as_str(), "1 path OutOfRange", "with {count} letters");
+    }
+    Ok(())
+}
+
 // A script that writes a million samples and this item after them.
 fn long_list(alloc: Global, last: &str) -> Result<String, AllocError> {
     let call = "{\"op\":\"copyToChannel\",\"buffer\":\"b\",\"channel\":0,\"samples\":[";

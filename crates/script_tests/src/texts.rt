@@ -61,8 +61,8 @@ fn interp_text(interp: Interp) -> &'static str {
     }
 }
 
-// Of the operations on buffers and on the sources that play them.
-fn buffer_text(alloc: Global, op: &Op) -> Result<String, AllocError> {
+// Of the operations on sources that play buffers.
+fn source_text(alloc: Global, op: &Op) -> Result<String, AllocError> {
     match op {
         Op::CreateBufferSource {
             name,
@@ -79,12 +79,6 @@ fn buffer_text(alloc: Global, op: &Op) -> Result<String, AllocError> {
                 text_or_none(buffer)
             )
         }
-        Op::CreateBuffer {
-            name,
-            channels,
-            length,
-            rate,
-        } => format!(in alloc; "createBuffer {} {channels} {length} {rate}", text(name)),
         Op::SetBuffer { node, buffer } => {
             format!(in alloc; "setBuffer {} {}", text(node), text_or_none(buffer))
         }
@@ -93,6 +87,19 @@ fn buffer_text(alloc: Global, op: &Op) -> Result<String, AllocError> {
             format!(in alloc; "setLoopStart {} {value}", text(node))
         }
         Op::SetLoopEnd { node, value } => format!(in alloc; "setLoopEnd {} {value}", text(node)),
+        _ => String::from_str(alloc, "another operation"),
+    }
+}
+
+// Of the operations on buffers.
+fn buffer_text(alloc: Global, op: &Op) -> Result<String, AllocError> {
+    match op {
+        Op::CreateBuffer {
+            name,
+            channels,
+            length,
+            rate,
+        } => format!(in alloc; "createBuffer {} {channels} {length} {rate}", text(name)),
         Op::CopyToChannel {
             buffer,
             channel,
@@ -102,7 +109,10 @@ fn buffer_text(alloc: Global, op: &Op) -> Result<String, AllocError> {
             let values = values_text(alloc, samples.as_slice())?;
             format!(in alloc; "copyToChannel {} {channel} [{values}] {at}", text(buffer))
         }
-        _ => String::from_str(alloc, "another operation"),
+        Op::DecodeAudioData { name, path } => {
+            format!(in alloc; "decodeAudioData {} {}", text(name), path.as_str())
+        }
+        _ => source_text(alloc, op),
     }
 }
 
