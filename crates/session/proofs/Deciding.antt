@@ -6,6 +6,7 @@ use Rattle.wa_base.specs.declared.graph_names.BufId.{BufId}
 use Rattle.wa_base.specs.declared.graph_names.NodeId.{NodeId}
 use Rattle.wa_base.specs.declared.memory.NoMemory.{NoMemory}
 use Rattle.transcript.specs.declared.lines.Answer.{Answer}
+use Rattle.io_edge.specs.Paths.{Paths}
 use Rattle.script_ast.specs.Ranges.{IsInRange, IsNewName}
 use Rattle.script_ast.specs.declared.call_list.Call.{Call}
 use Rattle.script_ast.specs.declared.operations.Op.{Op}
@@ -29,7 +30,7 @@ use Rattle.session.specs.declared.control.Decided.{Decided}
 use Rattle.session.specs.declared.control.Decided.TheVariants as comes_to
 use Rattle.session.specs.Machine.{Machine}
 use Rattle.session.specs.Steady.{IsSteady}
-use Rattle.session.specs.Step.{node_bound, node_named, buffer_bound, buffer_named, new_name, unless, edits, edits_node, edits_nodes, edits_buffer, edits_with_buffer, sets_buffer, rate_of, edge_of, form_to, form_from, starts, decided, with_edit, settled, step, is_start, KeepsTime, IsFor, Steps}
+use Rattle.session.specs.Step.{decided_with, node_bound, node_named, buffer_bound, buffer_named, new_name, unless, edits, edits_node, edits_nodes, edits_buffer, edits_with_buffer, sets_buffer, rate_of, edge_of, form_to, form_from, starts, decided, with_edit, settled, is_start, KeepsTime, IsFor, Steps}
 use Rattle.session.proofs.Named.{named_there}
 
 -- ---- names that stand for what is there
@@ -148,6 +149,7 @@ is_new (op.CreateChannelSplitter new outputs) name in_range is = subst (λ (x : 
 is_new (op.CreateChannelMerger new inputs) name in_range is = subst (λ (x : Option (List ℕ)). IfSome x IsNewName) is in_range.0
 is_new (op.CreateBufferSource new buffer looping loop_start loop_end rate) name in_range is = subst (λ (x : Option (List ℕ)). IfSome x IsNewName) is in_range.0
 is_new (op.CreateBuffer new channels frames rate) name in_range is = subst (λ (x : Option (List ℕ)). IfSome x IsNewName) is in_range.0
+is_new (op.DecodeAudioData new path) name in_range is = subst (λ (x : Option (List ℕ)). IfSome x IsNewName) is in_range.0
 is_new other name in_range is = absurd cc
 
 -- ---- what a call leaves
@@ -188,27 +190,22 @@ settled_leaves m steady call (comes_to.Change e) fits =
       kept_start = λ other. edit_started m e (new_name call.op);
     }
 
-pub step_leaves : (m : Machine) (call : Call) → IsSteady m → IsInRange call.op → Leaves m (step m call).machine call.op
-step_leaves m call steady in_range = settled_leaves m steady call (decided m call.op) (decided_for m steady call.op in_range)
-
 -- after the call that starts rendering, it was started
 then_started : (m : Machine) (call : Call) (s : Option ℕ) → m.context.started ≡ s → IsSome (settled m call (starts s)).machine.context.started
 then_started m call None is = refl
 then_started m call (Some ordinal) is = rw is refl
 
-op_starts : (m : Machine) (call : Call) (o : Op) → is_start o ≡ true → IsSome (settled m call (decided m o)).machine.context.started
+op_starts : (m : Machine) (call : Call) (held : Paths) (o : Op) → is_start o ≡ true → IsSome (settled m call (decided_with m held o)).machine.context.started
 unfolding decided
-op_starts m call op.StartRendering is = then_started m call m.context.started refl
-op_starts m call other is = absurd cc
-
-pub starts_then : (m : Machine) (call : Call) → is_start call.op ≡ true → IsSome (step m call).machine.context.started
-starts_then m call is = op_starts m call call.op is
+op_starts m call held op.StartRendering is = then_started m call m.context.started refl
+op_starts m call held other is = absurd cc
 
 -- a machine after a call, or as it was for want of memory
-pub stepped_leaves : (old new : Machine) (call : Call) (r : Result Answer NoMemory) → IfOk r (Steps new (step old call)) → OnErr r (new ≡ old) → IsSteady old → IsInRange call.op → Leaves old new call.op
-stepped_leaves old new call (Ok said) done failed steady in_range = subst (λ (m : Machine). Leaves old m call.op) (sym done.0) (step_leaves old call steady in_range)
-stepped_leaves old new call (Err e) done failed steady in_range = subst (λ (m : Machine). Leaves old m call.op) (sym failed) (leaves_all old call.op)
+pub stepped_leaves : (old new : Machine) (call : Call) (d : Decided) (r : Result Answer NoMemory) → IfOk r (Steps new (settled old call d)) → OnErr r (new ≡ old) → IsSteady old → IsFor old call.op d
+    → Leaves old new call.op
+stepped_leaves old new call d (Ok said) done failed steady fits = subst (λ (m : Machine). Leaves old m call.op) (sym done.0) (settled_leaves old steady call d fits)
+stepped_leaves old new call d (Err e) done failed steady fits = subst (λ (m : Machine). Leaves old m call.op) (sym failed) (leaves_all old call.op)
 
-pub stepped_started : (old new : Machine) (call : Call) (r : Result Answer NoMemory) → IfOk r (Steps new (step old call)) → is_start call.op ≡ true → OnOk r (IsSome new.context.started)
-stepped_started old new call (Ok said) done is = subst (λ (m : Machine). IsSome m.context.started) (sym done.0) (starts_then old call is)
-stepped_started old new call (Err e) done is = tt
+pub stepped_started : (old new : Machine) (call : Call) (held : Paths) (d : Decided) (said : Answer) → Steps new (settled old call d) said → d ≡ decided_with old held call.op → is_start call.op ≡ true
+    → IsSome new.context.started
+stepped_started old new call held d said done is starts = rw (done.0, is) (op_starts old call held call.op starts)

@@ -1,8 +1,14 @@
 -- Which calls start the rendering.
-use Rattle.std.proofs.Common.{ℕ, ◌≡◌, List, [], ◌∷◌, Bool, true, false, ◌||◌, Option, Some, None, refl, ◌∙◌, ap}
-use Rattle.std.specs.Prelude.{is_some}
+use Rattle.std.proofs.Common.{ℕ, ◌≡◌, List, [], ◌∷◌, length, Bool, true, false, ◌||◌, Option, Some, None, Result, Ok, Err, refl, ◌∙◌, ap}
+use Rattle.std.specs.Prelude.{◌==◌, nat_lt, is_some, if◌then◌else◌}
 use Rattle.std.specs.List.{list_any}
+use Rattle.io_edge.specs.Paths.{Paths}
 use Rattle.wa_base.specs.declared.exceptions.Exc.{Exc}
+use Rattle.wa_base.specs.declared.exceptions.Exc.TheVariants.{NotSupported}
+use Rattle.wa_base.specs.declared.features.Feature.TheVariants.{Resampling, AssetSize}
+use Rattle.wav_io.specs.WavGrammar.{wav_of}
+use Rattle.wav_io.specs.declared.wav.Wav.{Wav}
+use Rattle.wav_io.specs.declared.wav.WavErr.{WavErr}
 use Rattle.wa_base.specs.declared.graph_names.BufId.{BufId}
 use Rattle.wa_base.specs.declared.graph_names.NodeId.{NodeId}
 use Rattle.script_ast.specs.declared.call_list.Call.{Call}
@@ -17,11 +23,12 @@ use Rattle.meaning.specs.declared.scheds.LoopPart.TheVariants as part
 use Rattle.meaning.specs.declared.sources.SourceEdit.TheVariants as source
 use Rattle.meaning.specs.Changes.{refusal}
 use Rattle.session.specs.declared.control.Decided.{Decided}
+use Rattle.session.specs.Assets.{Folder, max_asset, rejected, unless_rejected, adopts, by_reading, decodes}
 use Rattle.session.specs.Machine.{Machine}
 use Rattle.session.specs.Session.{Told, after_calls, after_call}
-use Rattle.session.specs.Step.{is_start, unless, edits, edits_node, edits_nodes, edits_buffer, edits_with_buffer, sets_buffer, rate_of, buffer_named, disconnects, starts, decided, settled, with_edit, new_name, node_named, edge_of, form_from, form_to}
+use Rattle.session.specs.Step.{is_start, unless, edits, edits_node, edits_nodes, edits_buffer, edits_with_buffer, sets_buffer, rate_of, buffer_named, disconnects, starts, decided, decided_with, settled, with_edit, new_name, node_named, edge_of, form_from, form_to}
 
-module _ (machine : Machine) (call : Call) where
+module _ (machine : Machine) (call : Call) (held : Paths) where
   -- what an operation comes to leaves alone whether rendering was started
   abbrev Leaves : Decided → Type 0
   Leaves d = (settled machine call d).machine.context.started ≡ machine.context.started
@@ -61,12 +68,38 @@ module _ (machine : Machine) (call : Call) where
   disconnects_leaves from output None input = node_leaves from (λ node. edit.Disconnect node (form_from output))
   disconnects_leaves from output (Some to) input = nodes_leaves from (node_named machine to) (λ node target. edit.Disconnect node (form_to output input target))
 
+  unless_rejected_leaves : (r : Option Exc) (e : Edit) → Leaves (unless_rejected r e)
+  unless_rejected_leaves None e = unless_leaves None e
+  unless_rejected_leaves (Some exception) e = refl
+
+  adopts_leaves : (wav : Wav) → Leaves (adopts machine wav)
+  adopts_leaves wav = by_rate (wav.rate == machine.world.spec.rate)
+    where
+      e : Edit
+      e = edit.Buffers (buffer_edit.Adopt wav)
+
+      by_rate : (b : Bool) → Leaves (if b then unless_rejected (refusal machine.world e) e else rejected (NotSupported (Some Resampling)))
+      by_rate true = unless_rejected_leaves (refusal machine.world e) e
+      by_rate false = refl
+
+  reading_leaves : (read : Result Wav WavErr) → Leaves (by_reading machine read)
+  reading_leaves (Ok wav) = adopts_leaves wav
+  reading_leaves (Err fault) = refl
+
+  decodes_leaves : (found : Option (List ℕ)) → Leaves (decodes machine found)
+  decodes_leaves None = refl
+  decodes_leaves (Some bytes) = by_length (nat_lt max_asset (length bytes))
+    where
+      by_length : (b : Bool) → Leaves (if b then rejected (NotSupported (Some AssetSize)) else by_reading machine (wav_of bytes))
+      by_length true = refl
+      by_length false = reading_leaves (wav_of bytes)
+
   start_starts : (s : Option ℕ) → machine.context.started ≡ s → is_some (settled machine call (starts s)).machine.context.started ≡ true
   start_starts None is = refl
   start_starts (Some ordinal) is = rw is refl
 
   -- after a call rendering was started where it was before, or where the call starts it
-  op_starts : (o : Op) → is_some (settled machine call (decided machine o)).machine.context.started ≡ (is_start o || is_some machine.context.started)
+  op_starts : (o : Op) → is_some (settled machine call (decided_with machine held o)).machine.context.started ≡ (is_start o || is_some machine.context.started)
   unfolding decided
   op_starts (op.CreateConstantSource name offset) = ap (λ s. is_some s) (edits_leaves (edit.Create (Constant offset)))
   op_starts (op.CreateGain name gain) = ap (λ s. is_some s) (edits_leaves (edit.Create (Gain gain)))
@@ -89,6 +122,7 @@ module _ (machine : Machine) (call : Call) where
   op_starts (op.SetLoopEnd node value) = ap (λ s. is_some s) (node_leaves (node_named machine node) (λ n. edit.Source n (source.SetLoop (part.End value))))
   op_starts (op.CopyToChannel buffer channel samples first) =
       ap (λ s. is_some s) (buffer_leaves (buffer_named machine buffer) (λ b. edit.Buffers (buffer_edit.Write b channel samples first)))
+  op_starts (op.DecodeAudioData name path) = ap (λ s. is_some s) (decodes_leaves (held path))
   op_starts op.StartRendering = start_starts machine.context.started refl
   op_starts op.Resume = refl
   op_starts op.ReadState = refl
@@ -96,11 +130,11 @@ module _ (machine : Machine) (call : Call) where
   op_starts other = refl
 
 -- after a list of calls rendering was started where it was before, or where one of them starts it
-pub calls_start : (calls : List Call) (told : Told) → is_some (after_calls told calls).machine.context.started ≡ (list_any (λ (call : Call). is_start call.op) calls || is_some told.machine.context.started)
-calls_start [] told = refl
-calls_start (call ∷ calls) told =
-    calls_start calls (after_call told call)
-    ∙ ap (λ b. list_any (λ (c : Call). is_start c.op) calls || b) (op_starts told.machine call call.op)
+pub calls_start : (folder : Folder) (calls : List Call) (told : Told) → is_some (after_calls folder told calls).machine.context.started ≡ (list_any (λ (call : Call). is_start call.op) calls || is_some told.machine.context.started)
+calls_start folder [] told = refl
+calls_start folder (call ∷ calls) told =
+    calls_start folder calls (after_call told (folder (length told.lines)) call)
+    ∙ ap (λ b. list_any (λ (c : Call). is_start c.op) calls || b) (op_starts told.machine call (folder (length told.lines)) call.op)
     ∙ turned (list_any (λ (c : Call). is_start c.op) calls) (is_start call.op) (is_some told.machine.context.started)
   where
     turned : (a b d : Bool) → (a || (b || d)) ≡ ((b || a) || d)

@@ -1,3 +1,4 @@
+pub mod Assets
 pub mod Frames
 pub mod Machine
 pub mod Quantum

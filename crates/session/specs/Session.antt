@@ -1,10 +1,12 @@
 -- A whole session, without a sample in it.
-use Rattle.std.specs.Prelude.{ℕ, zero, suc, ◌+◌, ◌-◌, ◌/◌, ◌==◌, nat_le, List, [], ◌∷◌, ◌++◌, filter, if◌then◌else◌, unwrap_or, Bool, true, false, Option, Some, None}
+use Rattle.std.specs.Prelude.{ℕ, zero, suc, ◌≡◌, ◌⊎◌, ◌+◌, ◌-◌, ◌/◌, ◌==◌, nat_le, List, [], ◌∷◌, ◌++◌, length, filter, if◌then◌else◌, unwrap_or, Bool, true, false, Option, Some, None}
+use Rattle.std.specs.List.{list_any}
 use Rattle.wa_base.specs.declared.contexts.ContextSpec.{ContextSpec}
 use Rattle.wa_base.specs.Contexts.{quantum_of, is_supported}
 use Rattle.wa_base.specs.declared.contexts.State.{State}
 use Rattle.wa_base.specs.declared.contexts.State.TheVariants as state
 use Rattle.wa_base.specs.declared.exceptions.Exc.TheVariants.{NotSupported}
+use Rattle.io_edge.specs.Paths.{Paths}
 use Rattle.script_ast.specs.declared.call_list.Call.{Call}
 use Rattle.script_ast.specs.declared.call_list.Script.{Script}
 use Rattle.transcript.specs.declared.lines.Answer.TheVariants.{Resolved}
@@ -19,8 +21,9 @@ use Rattle.meaning.specs.declared.world.World.{World}
 use Rattle.meaning.specs.declared.scheds.Play.{Play}
 use Rattle.meaning.specs.Worlds.{first_world}
 use Rattle.session.specs.Quantum.{ends_by, after}
+use Rattle.session.specs.Assets.{Folder}
 use Rattle.session.specs.Machine.{Machine}
-use Rattle.session.specs.Step.{step}
+use Rattle.session.specs.Step.{step, is_decode}
 
 -- a machine, and the lines so far
 pub record Told : Type 0 where
@@ -29,15 +32,17 @@ pub record Told : Type 0 where
 
 -- ---- calls
 
-abbrev pub after_call : Told → Call → Told
-after_call told call = record {
-  machine = (step told.machine call).machine;
-  lines = told.lines ++ line.Call call.ordinal (step told.machine call).answer ∷ [];
+-- after a call, where the paths of the folder hold this; each call adds a line
+abbrev pub after_call : Told → Paths → Call → Told
+after_call told held call = record {
+  machine = (step told.machine held call).machine;
+  lines = told.lines ++ line.Call call.ordinal (step told.machine held call).answer ∷ [];
 }
 
-abbrev pub after_calls : Told → List Call → Told
-after_calls told [] = told
-after_calls told (call ∷ calls) = after_calls (after_call told call) calls
+-- after calls, each of which finds the folder as it is at that moment
+abbrev pub after_calls : Folder → Told → List Call → Told
+after_calls folder told [] = told
+after_calls folder told (call ∷ calls) = after_calls folder (after_call told (folder (length told.lines)) call) calls
 
 -- the calls of the list that a call holds; 0 holds the main list
 abbrev pub held_by : ℕ → List Call → List Call
@@ -119,25 +124,25 @@ abbrev pub finished : Told → List World → Played
 finished told tape = record { lines = told.lines ++ line.Complete told.machine.world.spec.length ∷ []; end = Completed; tape = tape }
 
 -- where the length is reached the context closes, and the list of startRendering runs
-abbrev pub ends : List Call → Told → ℕ → Told
-ends calls told ordinal = after_calls (closing told ordinal) (held_by ordinal calls)
+abbrev pub ends : Folder → List Call → Told → ℕ → Told
+ends folder calls told ordinal = after_calls folder (closing told ordinal) (held_by ordinal calls)
 
 abbrev pub by_turn : Turn → Played → (ℕ → Played) → Played
 by_turn Went more done = more
 by_turn (Done ordinal) more done = done ordinal
 
 -- A turn puts the world in force onto the tape and renders a quantum of it, and then rendering goes on or ends. There are no more turns than quanta left.
-abbrev pub turns : ℕ → List Call → Told → List World → Played
-turns zero calls told tape = finished told tape
-turns (suc left) calls told tape =
+abbrev pub turns : ℕ → Folder → List Call → Told → List World → Played
+turns zero folder calls told tape = finished told tape
+turns (suc left) folder calls told tape =
     let tape = tape ++ told.machine.world ∷ [] in
     let told = after_quantum told in
-    by_turn (turn_of told.machine) (turns left calls told tape) (λ ordinal. finished (ends calls told ordinal) tape)
+    by_turn (turn_of told.machine) (turns left folder calls told tape) (λ ordinal. finished (ends folder calls told ordinal) tape)
 
 -- rendering that was started goes on to its end
-abbrev pub rendered : List Call → Told → Option ℕ → Played
-rendered calls told None = record { lines = told.lines; end = Idle; tape = [] }
-rendered calls told (Some ordinal) = turns (quanta_left told.machine) calls told []
+abbrev pub rendered : Folder → List Call → Told → Option ℕ → Played
+rendered folder calls told None = record { lines = told.lines; end = Idle; tape = [] }
+rendered folder calls told (Some ordinal) = turns (quanta_left told.machine) folder calls told []
 
 -- the machine before the first call: the destination is there, and its name needs no binding
 abbrev pub first_machine : ContextSpec → Machine
@@ -152,13 +157,25 @@ abbrev pub first_told : ContextSpec → Told
 first_told spec = record { machine = first_machine spec; lines = [] }
 
 -- the main list runs first
-abbrev pub main_list : List Call → Told → Told
-main_list calls told = after_calls told (held_by 0 calls)
+abbrev pub main_list : Folder → List Call → Told → Told
+main_list folder calls told = after_calls folder told (held_by 0 calls)
 
-abbrev pub replayed : List Call → Told → Played
-replayed calls told = rendered calls (main_list calls told) (main_list calls told).machine.context.started
+abbrev pub replayed : Folder → List Call → Told → Played
+replayed folder calls told = rendered folder calls (main_list folder calls told) (main_list folder calls told).machine.context.started
 
-unfoldable pub session_of : Script → Played
-session_of script =
-    if is_supported script.context then replayed script.calls (first_told script.context)
+-- a session, over a folder of assets
+unfoldable pub session_of : Folder → Script → Played
+session_of folder script =
+    if is_supported script.context then replayed folder script.calls (first_told script.context)
     else record { lines = []; end = Refused (NotSupported None); tape = [] }
+
+-- ---- which sessions look into the folder
+
+abbrev pub has_decode : List Call → Bool
+has_decode calls = list_any (λ (call : Call). is_decode call.op) calls
+
+-- a decodeAudioData is in the main list, or in the list of the startRendering that is accepted there
+abbrev pub Decodes : Folder → List Call → Told → Type 0
+Decodes folder calls told =
+    (has_decode (held_by 0 calls) ≡ true)
+    ⊎ ((ordinal : ℕ) × ((main_list folder calls told).machine.context.started ≡ Some ordinal) × (has_decode (held_by ordinal calls) ≡ true))

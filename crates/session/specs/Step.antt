@@ -6,6 +6,7 @@ use Rattle.wa_base.specs.declared.exceptions.Exc.{Exc}
 use Rattle.wa_base.specs.declared.exceptions.Exc.TheVariants.{NotSupported, InvalidState, WrongType}
 use Rattle.wa_base.specs.declared.graph_names.BufId.{BufId}
 use Rattle.wa_base.specs.declared.graph_names.NodeId.{NodeId}
+use Rattle.io_edge.specs.Paths.{Paths}
 use Rattle.script_ast.specs.declared.call_list.Call.{Call}
 use Rattle.script_ast.specs.declared.operations.Op.{Op}
 use Rattle.script_ast.specs.declared.operations.Op.TheVariants as op
@@ -29,6 +30,7 @@ use Rattle.meaning.specs.declared.world.World.{World}
 use Rattle.meaning.specs.Changes.{edited, refusal, creates}
 use Rattle.session.specs.declared.control.Decided.{Decided}
 use Rattle.session.specs.declared.control.Decided.TheVariants as comes_to
+use Rattle.session.specs.Assets.{decodes}
 use Rattle.session.specs.Machine.{Machine, IsAccepted}
 
 -- ---- the objects that names stand for
@@ -59,6 +61,7 @@ new_name (op.CreateChannelSplitter name number_of_outputs) = Some name
 new_name (op.CreateChannelMerger name number_of_inputs) = Some name
 new_name (op.CreateBufferSource name buffer looping loop_start loop_end playback_rate) = Some name
 new_name (op.CreateBuffer name channels frames rate) = Some name
+new_name (op.DecodeAudioData name path) = Some name
 new_name other = None
 
 -- ---- what an operation comes to
@@ -162,6 +165,11 @@ decided machine op.ReadState = comes_to.Answer (answer.State machine.context.sta
 decided machine op.ReadTime = comes_to.Answer (answer.Time machine.context.now)
 decided machine other = refused (NotSupported None)
 
+-- and one that looks into the folder of assets, where the paths hold this
+abbrev pub decided_with : Machine → Paths → Op → Decided
+decided_with machine held (op.DecodeAudioData name path) = decodes machine (held path)
+decided_with machine held other = decided machine other
+
 -- ---- what is done
 
 -- the machine after a call, and the answer
@@ -189,20 +197,30 @@ with_edit machine change (Some name) = record machine {
 abbrev pub with_start : Machine → ℕ → Machine
 with_start machine ordinal = record machine { context = record machine.context { state = state.Running; started = Some ordinal } }
 
+-- the answer to an edit that was made; decodeAudioData gives a promise, which resolves within the call
+abbrev pub done : Op → Answer
+done (op.DecodeAudioData name path) = answer.Resolved
+done other = answer.Ok
+
 -- a call that is only answered leaves the machine as it is, refused or not
 abbrev pub settled : Machine → Call → Decided → Stepped
 settled machine call (comes_to.Answer said) = record { machine = machine; answer = said }
 settled machine call comes_to.Start = record { machine = with_start machine call.ordinal; answer = answer.Pending }
-settled machine call (comes_to.Change change) = record { machine = with_edit machine change (new_name call.op); answer = answer.Ok }
+settled machine call (comes_to.Change change) = record { machine = with_edit machine change (new_name call.op); answer = done call.op }
 
-abbrev pub step : Machine → Call → Stepped
-step machine call = settled machine call (decided machine call.op)
+-- a call, where the paths of the folder hold this
+abbrev pub step : Machine → Paths → Call → Stepped
+step machine held call = settled machine call (decided_with machine held call.op)
 
 -- ---- what is said of a call
 
 abbrev pub is_start : Op → Bool
 is_start op.StartRendering = true
 is_start other = false
+
+abbrev pub is_decode : Op → Bool
+is_decode (op.DecodeAudioData name path) = true
+is_decode other = false
 
 -- What an operation may come to: only startRendering starts the rendering, and only once; an edit is one that the world accepts, and what it creates gets a name.
 abbrev pub IsFor : Machine → Op → Decided → Type 0

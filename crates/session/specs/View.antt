@@ -7,6 +7,7 @@ use Rattle.meaning.specs.World.{plain}
 use Rattle.meaning.specs.Worlds.{IsRegular}
 use Rattle.quantum_render.specs.Stands.{RendererView, StandsFor}
 use Rattle.script_ast.specs.declared.call_list.Call.{Call}
+use Rattle.session.specs.Assets.{Folder}
 use Rattle.session.specs.Machine.{Machine}
 use Rattle.session.specs.Rows.{samples_of}
 use Rattle.session.specs.Session.{Told, Played, first_told, quanta_left, turns}
@@ -64,5 +65,5 @@ pub record IsAsBefore (old new : SessionView) : Type 0 where
   pub stands : (tape : List World) → Stands old tape → Stands new tape
 
 -- what a session comes to that goes on turn by turn
-abbrev pub turns_of : SessionView → List Call → Played
-turns_of view calls = turns (quanta_left view.told.machine) calls view.told []
+abbrev pub turns_of : Folder → SessionView → List Call → Played
+turns_of folder view calls = turns (quanta_left view.told.machine) folder calls view.told []

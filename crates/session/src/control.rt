@@ -1,4 +1,6 @@
-ghost use Rattle.std.specs.Prelude.{◌≡◌, ◌<◌, ◌≤◌, ◌+◌, nat_le, if◌then◌else◌, false, true, length, None, Some, option_map, IfOk, IfSome, IsSome, OnOk, OnErr};
+ghost use Rattle.std.specs.Prelude.{◌≡◌, ◌<◌, ◌≤◌, ◌+◌, nat_le, if◌then◌else◌, false, true, length, None, Some, option_map, IsTrue, IfOk, IfSome, IsErrOf, IsSome, OnOk, OnErr};
+ghost use Rattle.io_edge.specs.Faults.{Rose};
+ghost use Rattle.io_edge.specs.Paths.{Paths, SamePaths};
 ghost use Rattle.wa_base.specs.Contexts.{IsSupported, quantum_of};
 ghost use Rattle.script_ast.specs.Ranges.{IsInRange, IsNewName};
 ghost use Rattle.meaning.specs.World.{plain};
@@ -6,6 +8,7 @@ ghost use Rattle.meaning.specs.Validity.{IsValid};
 ghost use Rattle.quantum_render.specs.Sites.{AreStill};
 ghost use Rattle.meaning.specs.Changes.{IsNamed, Grows, creates};
 ghost use Rattle.meaning.specs.Sources.{IsNamedBy};
+ghost use Rattle.session.specs.Assets.{IsHeld};
 ghost use Rattle.session.specs.Machine.{Machine, IsInState, IsAccepted};
 ghost use Rattle.session.specs.Session.{first_machine, lines_after, machine_after, closed_machine};
 ghost use Rattle.session.specs.Steady.{IsSteady};
@@ -14,7 +17,9 @@ ghost use Rattle.session.specs.Step.{Steps, KeepsTime};
 
 use crate::ends::{ended_lines, mark_ended};
 use crate::quantum::QUANTUM;
+use crate::session::Stop;
 use conn_graph::{Edge, Form, Target};
+use io_edge::Files;
 use meaning::{AttributeEdit, BufferEdit, Change, Edit, LoopPart, SourceEdit, World};
 use name_book::{Book, Object};
 use node_table::Kind;
@@ -79,21 +84,44 @@ impl Control {
 }
 
 impl Control {
-    /// Does one call. A refused call changes nothing, and after `NoMemory` all is as before.
-    pub fn step(&mut self, call: &Call) -> Result<Answer, NoMemory>
+    /// Does one call. A refused call changes nothing, and after a `Stop` all is as before.
+    pub fn step<F: Files>(&mut self, call: &Call, files: &mut F) -> Result<Answer, Stop>
         requires { IsInRange call.now.op }
-        ensures ok { IfOk result (Steps self.new (spec.step self.old call.now)) }
+        ensures ok { IfOk result (λ answer. (held : Paths) × IsHeld (F.tells files.old) (F.paths files.old) held × Steps self.new (spec.step self.old held call.now) answer) }
         ensures kept { KeepsTime self.old self.new }
         ensures grows { Grows self.old.context.now self.old.world self.new.world }
         ensures kept_start { spec.is_start call.now.op ≡ false → self.new.context.started ≡ self.old.context.started }
         ensures started { spec.is_start call.now.op ≡ true → OnOk result (IsSome self.new.context.started) }
         ensures err { OnErr result (self.new ≡ self.old) }
+        ensures tells { F.tells files.new ≡ F.tells files.old }
+        ensures paths { IsTrue (F.tells files.old) → SamePaths (F.paths files.old) (F.paths files.new) }
+        ensures later { F.read_faults files.old ≤ F.read_faults files.new }
+        ensures writes { F.write_faults files.new ≡ F.write_faults files.old }
+        ensures cause { IsErrOf result Stop.AssetFault → Rose (F.read_faults files.old) (F.read_faults files.new) × (spec.is_decode call.now.op ≡ true) }
     {
-        let decided = self.decide(&call.op)?;
-        self.settle(call, decided)
+        let decided = self.decide_with(&call.op, files)?;
+        Ok(self.settle(call, decided)?)
     }
 
-    // What an operation comes to. Nothing is changed.
+    // What an operation comes to, where it may look into the folder of assets. Nothing is changed.
+    fn decide_with<F: Files>(&self, op: &Op, files: &mut F) -> Result<Decided, Stop>
+        requires { IsInRange op.now }
+        ensures decided { IfOk result (λ decided. (held : Paths) × IsHeld (F.tells files.old) (F.paths files.old) held × (decided ≡ spec.decided_with self.now held op.now)) }
+        ensures fits { IfOk result (spec.IsFor self.now op.now) }
+        ensures steady { IsSteady self.now }
+        ensures tells { F.tells files.new ≡ F.tells files.old }
+        ensures paths { IsTrue (F.tells files.old) → SamePaths (F.paths files.old) (F.paths files.new) }
+        ensures later { F.read_faults files.old ≤ F.read_faults files.new }
+        ensures writes { F.write_faults files.new ≡ F.write_faults files.old }
+        ensures cause { IsErrOf result Stop.AssetFault → Rose (F.read_faults files.old) (F.read_faults files.new) × (spec.is_decode op.now ≡ true) }
+    {
+        match op {
+            Op::DecodeAudioData { path, .. } => self.decode(self.alloc, path, files),
+            _ => Ok(self.decide(op)?),
+        }
+    }
+
+    // What any other operation comes to. Nothing is changed.
     #[tactic(auto, unfolding(crate::specs::Step::decided))]
     fn decide(&self, op: &Op) -> Result<Decided, NoMemory>
         requires { IsInRange op.now }
@@ -409,7 +437,7 @@ impl Control {
                     Some(name) => self.create(name, edit)?,
                     None => self.change(edit)?,
                 }
-                Ok(Answer::Ok)
+                Ok(done(&call.op))
             }
         }
     }
@@ -561,8 +589,19 @@ fn new_name(op: &Op) -> Option<&Name>
         | Op::CreateChannelSplitter { name, .. }
         | Op::CreateChannelMerger { name, .. }
         | Op::CreateBufferSource { name, .. }
-        | Op::CreateBuffer { name, .. } => Some(name),
+        | Op::CreateBuffer { name, .. }
+        | Op::DecodeAudioData { name, .. } => Some(name),
         _ => None,
+    }
+}
+
+// The answer to an edit that was made.
+fn done(op: &Op) -> Answer
+    ensures { result ≡ spec.done op.now }
+{
+    match op {
+        Op::DecodeAudioData { .. } => Answer::Resolved,
+        _ => Answer::Ok,
     }
 }
 

@@ -1,6 +1,7 @@
 //! The machine of a session: control calls, render quanta and the samples that they give.
 #![tactic(auto)]
 
+mod assets;
 mod control;
 mod ends;
 mod quantum;

@@ -1,8 +1,11 @@
-ghost use Rattle.std.specs.Prelude.{◌≡◌, ◌++◌, List, [], IsSome, IfOk, IfSome, IsErrOf, OnOk, Some};
+ghost use Rattle.std.specs.Prelude.{◌≡◌, ◌≤◌, ◌++◌, ℕ, List, [], length, true, IsTrue, IsSome, IfOk, IsErrOf, OnOk, Some};
+ghost use Rattle.io_edge.specs.Faults.{Rose};
+ghost use Rattle.io_edge.specs.Paths.{SamePaths};
 ghost use Rattle.script_ast.specs.WellFormed.{AreCallsAfter};
 ghost use Rattle.wa_base.specs.Contexts.{IsSupported};
-ghost use Rattle.session.specs.Rendering.{rendering_of};
-ghost use Rattle.session.specs.Session.{after_calls, held_by, replayed as replayed_of, session_of};
+ghost use Rattle.session.specs.Assets.{Folder, IsFolderOf, AgreeBetween, AgreeFrom};
+ghost use Rattle.session.specs.Rendering.{IsOutcomeOf};
+ghost use Rattle.session.specs.Session.{after_calls, first_told, held_by, has_decode, replayed as replayed_of, session_of, Decodes};
 ghost use Rattle.session.specs.Step.{KeepsTime};
 ghost use Rattle.session.specs.View.{Stands, turns_of};
 ghost use Rattle.meaning.specs.declared.world.World.{World};
@@ -26,11 +29,12 @@ pub struct Outcome {
 }
 
 /// Replays a script: its main list at frame 0 and, where that started rendering, the quanta of the
-/// context up to its length, and then the list that the promise of startRendering holds.
+/// context up to its length, and then the list that the promise of startRendering holds. Assets are
+/// read from `files`.
 ///
-/// A refused context, and refused calls, are part of the outcome. After a `Stop` nothing is left of
-/// the session. No file is written.
-#[tactic(auto, unfolding(crate::specs::Session::session_of, crate::specs::Rendering::rendering_of))]
+/// A refused context, and refused calls, are part of the outcome. `AssetFault` comes where reading an
+/// asset failed. After a `Stop` nothing is left of the session. No file is written.
+#[tactic(auto, unfolding(crate::specs::Session::session_of))]
 pub fn run<F: Files>(
     alloc: Global,
     script: &Script,
@@ -38,15 +42,13 @@ pub fn run<F: Files>(
     files: &mut F,
 ) -> Result<Outcome, Stop>
     requires { AreCallsAfter 0 script.now.calls }
-    ensures lines { IfOk result (λ outcome. outcome.lines.items ≡ (session_of script.now).lines) }
-    ensures end { IfOk result (λ outcome. outcome.end ≡ (session_of script.now).end) }
-    ensures rendered { IfOk result (λ outcome. outcome.rendered ≡ rendering_of options.audio script.now.context (session_of script.now)) }
-    ensures supported { IfOk result (λ outcome. IfSome outcome.rendered (λ rendered. IsSupported rendered.spec)) }
+    ensures outcome { IfOk result (λ outcome. (folder : Folder) × IsFolderOf (F.tells files.old) (F.paths files.old) folder × IsOutcomeOf options.audio script.now.context (session_of folder script.now) outcome) }
     ensures tells { F.tells files.new ≡ F.tells files.old }
-    ensures paths { F.paths files.new ≡ F.paths files.old }
-    ensures read_faults { F.read_faults files.new ≡ F.read_faults files.old }
-    ensures write_faults { F.write_faults files.new ≡ F.write_faults files.old }
-    ensures cause { IsErrOf result Stop.AssetFault → ⊥ }
+    ensures paths { IsTrue (F.tells files.old) → SamePaths (F.paths files.old) (F.paths files.new) }
+    ensures later { F.read_faults files.old ≤ F.read_faults files.new }
+    ensures writes { F.write_faults files.new ≡ F.write_faults files.old }
+    ensures cause { IsErrOf result Stop.AssetFault → Rose (F.read_faults files.old) (F.read_faults files.new)
+        × ((folder : Folder) × IsFolderOf (F.tells files.old) (F.paths files.old) folder × Decodes folder script.now.calls (first_told script.now.context)) }
 {
     match Session::new(alloc, script.context, options) {
         Ok(session) => replayed(session, script.calls.as_slice(), files),
@@ -60,19 +62,17 @@ pub fn run<F: Files>(
 }
 
 // Replays the calls of a script in a session without a call yet.
-#[tactic(auto, unfolding(crate::specs::Rendering::rendering_of))]
 fn replayed<F: Files>(mut session: Session, calls: &[Call], files: &mut F) -> Result<Outcome, Stop>
     requires calls { AreCallsAfter 0 calls.now }
     requires fresh { Stands session [] }
-    ensures lines { IfOk result (λ outcome. outcome.lines.items ≡ (replayed_of calls.now session.told).lines) }
-    ensures end { IfOk result (λ outcome. outcome.end ≡ (replayed_of calls.now session.told).end) }
-    ensures rendered { IfOk result (λ outcome. outcome.rendered ≡ rendering_of session.audio session.told.machine.world.spec (replayed_of calls.now session.told)) }
-    ensures supported { IfOk result (λ outcome. IfSome outcome.rendered (λ rendered. IsSupported rendered.spec)) }
+    ensures outcome { IfOk result (λ outcome. (folder : Folder) × IsFolderOf (F.tells files.old) (F.paths files.old) folder
+        × IsOutcomeOf session.audio session.told.machine.world.spec (replayed_of folder calls.now session.told) outcome) }
     ensures tells { F.tells files.new ≡ F.tells files.old }
-    ensures paths { F.paths files.new ≡ F.paths files.old }
-    ensures read_faults { F.read_faults files.new ≡ F.read_faults files.old }
-    ensures write_faults { F.write_faults files.new ≡ F.write_faults files.old }
-    ensures cause { IsErrOf result Stop.AssetFault → ⊥ }
+    ensures paths { IsTrue (F.tells files.old) → SamePaths (F.paths files.old) (F.paths files.new) }
+    ensures later { F.read_faults files.old ≤ F.read_faults files.new }
+    ensures writes { F.write_faults files.new ≡ F.write_faults files.old }
+    ensures cause { IsErrOf result Stop.AssetFault → Rose (F.read_faults files.old) (F.read_faults files.new)
+        × ((folder : Folder) × IsFolderOf (F.tells files.old) (F.paths files.old) folder × Decodes folder calls.now session.told) }
 {
     call_list(&mut session, calls, 0, files)?;
     if session.started().is_none() {
@@ -82,21 +82,19 @@ fn replayed<F: Files>(mut session: Session, calls: &[Call], files: &mut F) -> Re
 }
 
 // Renders a session turn by turn, from its first quantum to its end.
-#[tactic(auto, unfolding(crate::specs::Rendering::rendering_of))]
 fn go_on<F: Files>(mut session: Session, calls: &[Call], files: &mut F) -> Result<Outcome, Stop>
     requires calls { AreCallsAfter 0 calls.now }
     requires running { session.told.machine.context.state ≡ State.Running }
     requires context { IsSupported session.told.machine.world.spec }
     requires fresh { Stands session [] }
-    ensures lines { IfOk result (λ outcome. outcome.lines.items ≡ (turns_of session calls.now).lines) }
-    ensures end { IfOk result (λ outcome. outcome.end ≡ (turns_of session calls.now).end) }
-    ensures rendered { IfOk result (λ outcome. outcome.rendered ≡ rendering_of session.audio session.told.machine.world.spec (turns_of session calls.now)) }
-    ensures supported { IfOk result (λ outcome. IfSome outcome.rendered (λ rendered. IsSupported rendered.spec)) }
+    ensures outcome { IfOk result (λ outcome. (folder : Folder) × IsFolderOf (F.tells files.old) (F.paths files.old) folder
+        × ((other : Folder) → AgreeFrom (length session.told.lines) folder other → IsOutcomeOf session.audio session.told.machine.world.spec (turns_of other session calls.now) outcome)) }
     ensures tells { F.tells files.new ≡ F.tells files.old }
-    ensures paths { F.paths files.new ≡ F.paths files.old }
-    ensures read_faults { F.read_faults files.new ≡ F.read_faults files.old }
-    ensures write_faults { F.write_faults files.new ≡ F.write_faults files.old }
-    ensures cause { IsErrOf result Stop.AssetFault → ⊥ }
+    ensures paths { IsTrue (F.tells files.old) → SamePaths (F.paths files.old) (F.paths files.new) }
+    ensures later { F.read_faults files.old ≤ F.read_faults files.new }
+    ensures writes { F.write_faults files.new ≡ F.write_faults files.old }
+    ensures cause { IsErrOf result Stop.AssetFault → Rose (F.read_faults files.old) (F.read_faults files.new)
+        × ((ordinal : ℕ) × (session.told.machine.context.started ≡ Some ordinal) × (has_decode (held_by ordinal calls.now) ≡ true)) }
 {
     loop {
         match session.advance()? {
@@ -117,16 +115,19 @@ fn call_list<F: Files>(
     files: &mut F,
 ) -> Result<(), Stop>
     requires calls { AreCallsAfter 0 calls.now }
-    ensures told { OnOk result (session.new.told ≡ after_calls session.old.told (held_by holder calls.now)) }
+    ensures told { OnOk result ((folder : Folder) × IsFolderOf (F.tells files.old) (F.paths files.old) folder
+        × ((other : Folder) → AgreeBetween (length session.old.told.lines) (length session.new.told.lines) folder other
+        → session.new.told ≡ after_calls other session.old.told (held_by holder calls.now))) }
+    ensures longer { length session.old.told.lines ≤ length session.new.told.lines }
     ensures audio { session.new.audio ≡ session.old.audio }
     ensures kept { KeepsTime session.old.told.machine session.new.told.machine }
     ensures started { IsSome session.old.told.machine.context.started → IsSome session.new.told.machine.context.started }
     ensures stands { (tape : List World) → Stands session.old tape → Stands session.new tape }
     ensures tells { F.tells files.new ≡ F.tells files.old }
-    ensures paths { F.paths files.new ≡ F.paths files.old }
-    ensures read_faults { F.read_faults files.new ≡ F.read_faults files.old }
-    ensures write_faults { F.write_faults files.new ≡ F.write_faults files.old }
-    ensures cause { IsErrOf result Stop.AssetFault → ⊥ }
+    ensures paths { IsTrue (F.tells files.old) → SamePaths (F.paths files.old) (F.paths files.new) }
+    ensures later { F.read_faults files.old ≤ F.read_faults files.new }
+    ensures writes { F.write_faults files.new ≡ F.write_faults files.old }
+    ensures cause { IsErrOf result Stop.AssetFault → Rose (F.read_faults files.old) (F.read_faults files.new) × (has_decode (held_by holder calls.now) ≡ true) }
 {
     for call in calls {
         if call.holder == holder {

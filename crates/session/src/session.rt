@@ -1,10 +1,13 @@
 ghost use Rattle.std.specs.Prelude.{◌≡◌, ◌↔◌, ◌≤◌, ◌<◌, ◌*◌, ℕ, Some, ◌⊎◌, nat_le, ◌∷◌, ◌++◌, [], List, true, false, length, replicate, pos, IsTrue, IsSome, IsNone, IfOk, IfSome, IfErr, IsErrOf, OnOk, OnErr, Ok, ◌&&◌, if◌then◌else◌};
+ghost use Rattle.io_edge.specs.Faults.{Rose};
+ghost use Rattle.io_edge.specs.Paths.{Paths, SamePaths};
 ghost use Rattle.script_ast.specs.Ranges.{IsInRange};
 ghost use Rattle.session.specs.Machine.{IsInState};
 ghost use Rattle.wa_base.specs.Contexts.{IsSupported};
 ghost use Rattle.session.specs.Session.{after_call, after_quantum, machine_after, turn_of, closing, has_closed, end_of, lines_at_end};
 ghost use Rattle.wa_base.specs.Contexts.{is_supported as supports};
-ghost use Rattle.session.specs.Step.{is_start, KeepsTime};
+ghost use Rattle.session.specs.Assets.{IsHeld};
+ghost use Rattle.session.specs.Step.{is_start, is_decode, KeepsTime};
 ghost use Rattle.session.specs.View.{IsFirst, IsAsBefore, Stands};
 ghost use Rattle.meaning.specs.declared.world.World.{World};
 
@@ -108,25 +111,26 @@ impl Session {
         })
     }
 
-    /// Does one control call at the time of the context. A refusal is a line. After a `Stop` the
-    /// session stands as before, and the call can be made again.
-    pub fn call<F: Files>(&mut self, call: &Call, _files: &mut F) -> Result<(), Stop>
+    /// Does one control call at the time of the context. A refusal is a line. decodeAudioData settles
+    /// within the call; its file is one of `files`. `AssetFault` comes where reading that failed. After
+    /// a `Stop` the session stands as before, and the call can be made again.
+    pub fn call<F: Files>(&mut self, call: &Call, files: &mut F) -> Result<(), Stop>
         requires { IsInRange call.now.op }
-        ensures told { OnOk result (self.new.told ≡ after_call self.old.told call.now) }
+        ensures told { OnOk result ((held : Paths) × IsHeld (F.tells files.old) (F.paths files.old) held × (self.new.told ≡ after_call self.old.told held call.now)) }
         ensures audio { self.new.audio ≡ self.old.audio }
         ensures kept { KeepsTime self.old.told.machine self.new.told.machine }
         ensures started { IsSome self.old.told.machine.context.started → IsSome self.new.told.machine.context.started }
         ensures stands { (tape : List World) → Stands self.old tape → Stands self.new tape }
         ensures err { OnErr result (self.new ≡ self.old) }
-        ensures tells { F.tells _files.new ≡ F.tells _files.old }
-        ensures paths { F.paths _files.new ≡ F.paths _files.old }
-        ensures read_faults { F.read_faults _files.new ≡ F.read_faults _files.old }
-        ensures write_faults { F.write_faults _files.new ≡ F.write_faults _files.old }
-        ensures cause { IsErrOf result Stop.AssetFault → ⊥ }
+        ensures tells { F.tells files.new ≡ F.tells files.old }
+        ensures paths { IsTrue (F.tells files.old) → SamePaths (F.paths files.old) (F.paths files.new) }
+        ensures later { F.read_faults files.old ≤ F.read_faults files.new }
+        ensures writes { F.write_faults files.new ≡ F.write_faults files.old }
+        ensures cause { IsErrOf result Stop.AssetFault → Rose (F.read_faults files.old) (F.read_faults files.new) × (is_decode call.now.op ≡ true) }
     {
         self.lines.reserve(2)?;
         let samples = self.samples_for(&call.op)?;
-        let answer = self.control.step(call)?;
+        let answer = self.control.step(call, files)?;
         if let Some(samples) = samples {
             self.samples = samples;
         }

@@ -1,5 +1,6 @@
-use Rattle.std.proofs.Common.{◌≡◌, ◌-◌, List}
+use Rattle.std.proofs.Common.{◌≡◌, ◌≤◌, ◌-◌, List, length}
 use Rattle.wa_base.specs.declared.contexts.State.TheVariants as state
+use Rattle.session.specs.Assets.{Folder}
 use Rattle.session.specs.Session.{quanta_left, turns}
 use Rattle.session.specs.View.{Stands, turns_of}
 use Rattle.meaning.specs.declared.world.World.{World}
@@ -7,7 +8,9 @@ use Rattle.session.proofs.replay.go_on.Given as goal
 
 abbrev pub invariant-loop-session : goal.invariant-loop-session
 invariant-loop-session g l = (l.session.told.machine.context.state ≡ state.Running)
-    × ((tape : List World) × Stands l.session tape × (turns (quanta_left l.session.told.machine) l.calls l.session.told tape ≡ turns_of l.fn.session l.fn.calls))
+    × ((tape : List World) × Stands l.session tape × ((folder : Folder) → turns (quanta_left l.session.told.machine) folder l.calls l.session.told tape ≡ turns_of folder l.fn.session l.fn.calls))
+    × (length l.fn.session.told.lines ≤ length l.session.told.lines)
+    × (l.session.told.machine.context.started ≡ l.fn.session.told.machine.context.started)
     × (l.session.told.machine.world.spec ≡ l.fn.session.told.machine.world.spec)
     × (l.session.audio ≡ l.fn.session.audio)
     × (g.F.Files.tells l.files ≡ g.F.Files.tells l.fn.files)

@@ -1,27 +1,23 @@
-use Rattle.std.proofs.Common.{subst, sym}
 use Rattle.std.specs.Prelude.{IfOk}
-use Rattle.session.specs.Step.{IsFor, Steps, settled, step}
-use Rattle.session.proofs.Deciding.{Leaves, decided_for, stepped_leaves, stepped_started}
+use Rattle.session.specs.Step.{Steps, settled}
+use Rattle.session.proofs.Deciding.{Leaves, stepped_leaves, stepped_started}
 use Rattle.session.proofs.control.Control.step.Goals as goal
+use Rattle.session.proofs.control.Control.step.Goals.{In_ok-settle}
+use Rattle.session.proofs.control.Control.step.Given.{Over}
 
-pub settle-requires-clause-decided : goal.settle-requires-clause-decided
-settle-requires-clause-decided c =
-    subst (IsFor c.args.self.now c.args.call.now.op) (sym c.in_ok-decided.ensures.decided) (decided_for c.args.self.now c.decide.ensures.steady c.args.call.now.op c.requires)
-
-stepped : (c : goal.After-settle) → IfOk c.settle.result (Steps c.settle.new.self (step c.args.self.now c.args.call.now))
-stepped c = subst (λ d. IfOk c.settle.result (Steps c.settle.new.self (settled c.args.self.now c.args.call.now d))) c.in_ok-decided.ensures.decided c.settle.ensures.ok
-
-leaves : (c : goal.After-settle) → Leaves c.args.self.now c.settle.new.self c.args.call.now.op
-leaves c = stepped_leaves c.args.self.now c.settle.new.self c.args.call.now c.settle.result (stepped c) c.settle.ensures.err c.decide.ensures.steady c.requires
+leaves : (g : Over) (c : In_ok-settle g) → Leaves c.args.self.now c.settle.new.self c.args.call.now.op
+leaves g c = stepped_leaves c.args.self.now c.settle.new.self c.args.call.now c.in_ok-decided.decided c.settle.result c.settle.ensures.ok c.settle.ensures.err c.decide_with.ensures.steady c.in_ok-decided.ensures.fits
 
 pub returns-clause-kept : goal.returns-clause-kept
-returns-clause-kept c = (leaves c).kept
+returns-clause-kept g c = (leaves g c).kept
 
 pub returns-clause-grows : goal.returns-clause-grows
-returns-clause-grows c = (leaves c).grows
+returns-clause-grows g c = (leaves g c).grows
 
 pub returns-clause-kept_start : goal.returns-clause-kept_start
-returns-clause-kept_start c = (leaves c).kept_start
+returns-clause-kept_start g c = (leaves g c).kept_start
 
 pub returns-clause-started : goal.returns-clause-started
-returns-clause-started c = stepped_started c.args.self.now c.settle.new.self c.args.call.now c.settle.result (stepped c)
+returns-clause-started g c = λ starts.
+    let decided = c.in_ok-decided.ensures.decided in
+    stepped_started c.args.self.now c.settle.new.self c.args.call.now decided.0 c.in_ok-decided.decided _ c.in_ok-settle.ensures.ok decided.2 starts
