@@ -98,6 +98,28 @@ END
     : >wanted
     run 5 out.wav
 
+    # Status 7: an asset is a folder. The lines that were there by then are not written.
+    mkdir -p asset.wav
+    cat >in <<'END'
+{"version":1,"context":{"channels":1,"length":128,"rate":48000},"calls":[{"op":"readTime"},
+{"op":"startRendering","then":[{"op":"decodeAudioData","as":"b","path":"asset.wav"}]}]}
+END
+    : >wanted
+    run 7 out.wav
+
+    # A path that could lead out of the folder leads nowhere, also where it would come back.
+    mkdir -p inside
+    cp "$top/examples/bell.wav" .
+    cat >in <<END
+{"version":1,"context":{"channels":1,"length":128,"rate":8000},"calls":[
+{"op":"decodeAudioData","as":"b","path":"$work/bell.wav"},{"op":"decodeAudioData","as":"b","path":"inside/../bell.wav"},
+{"op":"decodeAudioData","as":"b","path":"/dev/zero"},{"op":"decodeAudioData","as":"b","path":"inside/bell.wav"},
+{"op":"decodeAudioData","as":"b","path":"bell.wav"}]}
+END
+    printf '%d rejected NotFoundError\n' 1 2 3 4 >wanted
+    printf '5 resolved\nend idle\n' >>wanted
+    run 3 out.wav
+
     # Status 9: the file's folder is not there.
     cp "$constant.json" in
     cp "$constant.txt" wanted
@@ -107,7 +129,7 @@ done
 if [ "$programs" -eq 0 ]; then
     echo 'after the gate: it left no program, so nothing was run'
 else
-    echo "after the gate: program files run: $programs; as wanted: $passed of $((passed + failed)) looks at real runs with the statuses 0, 2, 3, 4, 5 and 9"
+    echo "after the gate: program files run: $programs; as wanted: $passed of $((passed + failed)) looks at real runs with the statuses 0, 2, 3, 4, 5, 7 and 9"
 fi
 if [ $# -gt 0 ]; then
     rest=${1#* passed, }

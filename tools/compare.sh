@@ -2,15 +2,22 @@
 # Compares what waplay gives for scripts with what tools/expected.py works out, and with the
 # transcript in the file beside the script. Status 0 where all agree. Run it from anywhere:
 #
-#     tools/compare.sh             each examples/NAME.json; the tests must have the same texts, and
-#                                  the second calculation must give what was worked out by hand
+#     tools/compare.sh             each examples/NAME.json; the tests must have the same texts, but for
+#                                  scripts that decode assets; the second calculation must give what
+#                                  was worked out by hand; and the assets must be those that
+#                                  tools/assets.py makes
 #     tools/compare.sh FILE..      these scripts; the transcript of NAME.json is NAME.txt, if any
 #
-# It runs ./waplay, or the program that the variable WAPLAY names.
+# Each script is run in the folder that it stands in, so its assets are the files beside it. It runs
+# ./waplay, or the program that the variable WAPLAY names.
 set -u
 
 top=$(CDPATH='' cd "$(dirname "$0")/.." && pwd -P) || exit 2
 waplay=${WAPLAY:-$top/waplay}
+case $waplay in
+    /*) ;;
+    *) waplay=$PWD/$waplay ;;
+esac
 work=$(mktemp -d) || exit 2
 trap 'rm -rf "$work"' EXIT
 
@@ -20,11 +27,15 @@ fail() {
     wrong=$((wrong + 1))
 }
 
-# Whether the tests have a file's text. They make that of two_hundred_constants by a loop.
+# Whether the tests have a file's text. They make that of two_hundred_constants by a loop, and have none
+# of a script that decodes assets, which are files.
 is_in_tests() {
     case $1 in
         */two_hundred_constants.*) return 0 ;;
     esac
+    if grep -q '"decodeAudioData"' "${1%.*}.json"; then
+        return 0
+    fi
     python3 -c 'import sys
 text = open(sys.argv[1]).read()
 tests = [open(path).read() for path in sys.argv[2:]]
@@ -35,6 +46,7 @@ sys.exit(not any(form in test for form in (text, literal) for test in tests))' \
 
 if [ $# -eq 0 ]; then
     python3 "$top/tools/expected.py" --rows >"$work/rows" || fail "$(cat "$work/rows")"
+    python3 "$top/tools/assets.py" --check >"$work/assets" || fail "$(cat "$work/assets")"
     set -- "$top"/examples/*.json
     for script in "$@"; do
         is_in_tests "$script" || fail "$script: no test has this text"
@@ -46,17 +58,26 @@ fi
 
 for script in "$@"; do
     rm -f "$work/out.wav"
-    "$waplay" "$work/out.wav" <"$script" >"$work/lines"
+    folder=$(CDPATH='' cd "$(dirname "$script")" && pwd -P) || exit 2
+    name=$(basename "$script")
+    (cd "$folder" && exec "$waplay" "$work/out.wav" <"./$name" >"$work/lines")
     status=$?
-    python3 "$top/tools/expected.py" "$script" --lines >"$work/expected" || exit 2
+    (cd "$folder" && exec python3 "$top/tools/expected.py" "./$name" --lines >"$work/expected") || exit 2
     cmp -s "$work/lines" "$work/expected" || fail "$script: another transcript than expected.py's"
     text=${script%.json}.txt
     [ ! -e "$text" ] || cmp -s "$work/lines" "$text" || fail "$script: another transcript than $text"
     if grep -q '^end completed$' "$work/expected"; then
         [ "$status" -eq 0 ] || fail "$script: status $status"
-        python3 "$top/tools/expected.py" "$script" --check "$work/out.wav" || fail "$script: another WAV file"
+        (cd "$folder" && exec python3 "$top/tools/expected.py" "./$name" --check "$work/out.wav") ||
+            fail "$script: another WAV file"
     else
-        grep -q '^script: ' "$work/expected" && wanted=4 || wanted=3
+        if [ ! -s "$work/expected" ]; then
+            wanted=7
+        elif grep -q '^script: ' "$work/expected"; then
+            wanted=4
+        else
+            wanted=3
+        fi
         [ "$status" -eq "$wanted" ] || fail "$script: status $status"
         [ ! -e "$work/out.wav" ] || fail "$script: a WAV file where there is none"
     fi

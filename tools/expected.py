@@ -2,9 +2,8 @@
 """Works out what waplay gives for a script: a second calculation, apart from the program's.
 
 It follows the rules of docs/PROFILE.md and docs/FORMATS.md in the plainest way, so that its answers
-can be compared with those of the program. It needs Python 3 and nothing else. It has the code for
-assets too, which are files of the folder that it runs in, but the operation that asks for one is not
-read yet (see OPERATIONS).
+can be compared with those of the program. It needs Python 3 and nothing else. Assets are the files of
+the folder that it runs in, as they are for the program.
 
     python3 tools/expected.py SCRIPT               the transcript, the sum of each channel's samples,
                                                    and the SHA-256 of the WAV file
@@ -85,7 +84,6 @@ OPERATIONS = {
     "readState": [],
     "readTime": [],
 }
-del OPERATIONS["decodeAudioData"]  # which the program does not read yet; without this line it is read
 
 RANGES = {"fix": (-(2**31), 2**31 - 1), "time": (-(2**40), 2**40), "count": (0, 2**32 - 1)}
 
@@ -834,11 +832,6 @@ def write_asset(path, data):
         file.truncate(data) if isinstance(data, int) else file.write(data)
 
 
-def is_read(session):
-    """Whether the operations of a session are read."""
-    return all(op in OPERATIONS for op in script_with(*session[:2])[1])
-
-
 def sessions_that_differ(sessions):
     """The sessions that replaying gives otherwise, with what it gives."""
     wrong = []
@@ -867,13 +860,10 @@ def rows_are_met():
     routed = [(calls, (channels, QUANTUM, 48000), answers, [], samples and [samples] * QUANTUM)
               for calls, channels, answers, samples in worked_rows.SESSIONS]
     for what, sessions in ("splitters and mergers", routed), ("buffers", worked_rows.BUFFER_SESSIONS):
-        read = [session for session in sessions if is_read(session)]
-        differ = sessions_that_differ(read)
+        differ = sessions_that_differ(sessions)
         for session in differ:
             print("%s\n%s%s" % session)
-        print("%d sessions of %s, %d differences" % (len(read), what, len(differ)))
-        if len(read) < len(sessions):
-            print("%d more of these are passed over: an operation of theirs is not read" % (len(sessions) - len(read)))
+        print("%d sessions of %s, %d differences" % (len(sessions), what, len(differ)))
         wrong += differ
     return not wrong
 

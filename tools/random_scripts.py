@@ -1,12 +1,11 @@
 #!/usr/bin/env python3
 """Makes random scripts, and compares what waplay gives for them with what tools/expected.py works out.
 
-Of each script it compares the exit status, the transcript and every byte of the WAV file. Where
-decodeAudioData is read, by tools/expected.py and by the program, scripts that decode assets have these
-files beside them: WAV files of every kind, files that are none, files of another rate, links, folders,
-and paths that lead nowhere or out of the folder. Else there are no assets. A script and its assets hang
-on the seed and its number, and on which operations are read: what the program does not read is in no
-script, and gets a line. So each script can be made again by itself. It needs Python 3, and for
+Of each script it compares the exit status, the transcript and every byte of the WAV file. Scripts
+that decode assets have these files beside them: WAV files of every kind, files that are none, files of
+another rate, links, folders, and paths that lead nowhere or out of the folder. A script and its assets
+hang on the seed and its number, and on which operations are read: what the program does not read is in
+no script, and gets a line. So each script can be made again by itself. It needs Python 3, and for
 --measure GNU time.
 
     python3 tools/random_scripts.py                       compares 1,000 scripts with the program that

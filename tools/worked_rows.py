@@ -1,6 +1,5 @@
 """Rows and sessions that were worked out by hand, with which tools/expected.py is compared: run it with
---rows. Nothing here was worked out by a program. Sessions with an operation that tools/expected.py does
-not read are passed over.
+--rows. Nothing here was worked out by a program.
 """
 
 # Rows that were worked out by hand: channels, interpretation, and what they are mixed to. K is ROOT_HALF.

@@ -3,6 +3,8 @@
 #![tactic(auto)]
 
 #[cfg(test)]
+mod assets;
+#[cfg(test)]
 mod graphs;
 #[cfg(test)]
 mod pieces;

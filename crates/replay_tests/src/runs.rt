@@ -97,6 +97,7 @@ const HEADER_OF_32: [u8; 44] = [
 pub struct Failing {
     pub read: u64,
     pub write: u64,
+    pub fetch: u64,
     pub append: u64,
 }
 
@@ -104,6 +105,7 @@ pub struct Failing {
 pub const NONE: Failing = Failing {
     read: 0,
     write: 0,
+    fetch: 0,
     append: 0,
 };
 
@@ -146,6 +148,7 @@ fn edge_of(alloc: Global, script: &[u8], failing: Failing) -> Result<Edge, NoMem
         sink: MemSink::new(alloc, 4),
     };
     edge.source.fail(failing.read)?;
+    edge.files.fail_fetch(failing.fetch)?;
     edge.files.fail_append(failing.append)?;
     edge.sink.fail(failing.write)?;
     Ok(edge)
@@ -180,6 +183,28 @@ pub fn replay(
     let words = words_of(alloc, words)?;
     let status = status_of(alloc, words.as_slice(), &mut edge);
     left_by(alloc, status, &edge)
+}
+
+// What a run left where a file stands in the folder.
+fn left_with(alloc: Global, path: &str, file: &[u8], edge: &mut Edge) -> Result<Left, NoMemory> {
+    edge.files.put(path, Bytes::from(file.to_vec(alloc)?))?;
+    let words = words_of(alloc, &["out.wav"])?;
+    let status = status_of(alloc, words.as_slice(), edge);
+    left_by(alloc, status, edge)
+}
+
+/// What a run of this script and these faults left, where this file stands in the folder.
+pub fn replay_with(
+    alloc: Global,
+    script: &[u8],
+    path: &str,
+    file: &[u8],
+    failing: Failing,
+) -> Result<Left, NoMemory> {
+    let mut edge = edge_of(alloc, script, failing)?;
+    let left = left_with(alloc, path, file, &mut edge);
+    drop(edge);
+    left
 }
 
 // A WAV file: its header, a frame so often, and what follows.

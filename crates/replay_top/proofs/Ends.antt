@@ -1,33 +1,90 @@
 -- How the ends of a run meet the answer.
-use Rattle.std.proofs.Common.{◌≡◌, ◌≤◌, ℕ, List, [], length, Option, ◌∷◌, Some, None, Bool, true, false, if◌then◌else◌, Result, Ok, Err, nat_lt, arith, refl, sym, inl, inr}
-use Rattle.std.specs.Prelude.{unwrap_or}
+use Rattle.std.proofs.Common.{◌≡◌, ◌≤◌, ◌<◌, ℕ, List, [], length, Option, ◌∷◌, Some, None, Bool, true, false, if◌then◌else◌, Result, Ok, Err, nat_lt, arith, refl, sym, inl, inr, ◌∙◌}
+use Rattle.std.specs.Prelude.{unwrap_or, take, IsTrue}
 use Rattle.std.specs.Io.KnownBytes.{IsAtEnd}
 use Rattle.std.proofs.lemmas.Bool.Decides.{nat_tests}
-use Rattle.io_edge.specs.Paths.{Paths}
+use Rattle.io_edge.specs.Paths.{Paths, SamePaths, Sets}
 use Rattle.io_edge.specs.Told.{IsToldAs}
 use Rattle.script_ast.specs.declared.call_list.Script.{Script}
 use Rattle.script_json.specs.Script.{script_of}
 use Rattle.script_json.specs.declared.faults.ScriptErr.{ScriptErr}
 use Rattle.transcript.specs.declared.lines.EndWord.{EndWord}
 use Rattle.transcript.specs.declared.lines.EndWord.TheVariants.{Completed, Stalled, Idle, Refused}
+use Rattle.session.specs.Assets.{Folder}
 use Rattle.session.specs.Session.{session_of}
-use Rattle.replay_top.specs.Answer.{Answer, status_of, without_file, answer_to_bytes, answer_to_script}
-use Rattle.replay_top.specs.Run.{Outside, outside, IsWhole, Answers, Ran, IsReadToEnd, TextEnds}
+use Rattle.replay_top.specs.Answer.{Answer, File, status_of, without_file, answer_to_bytes, answer_to_script}
+use Rattle.replay_top.specs.Run.{Outside, outside, SameFiles, HasFile, HasFrontOfFile, IsWhole, IsCutShort, Answers, Replays, Counts, Ran, IsReadToEnd, TextEnds}
 use Rattle.replay_top.specs.Words.{Reading, asks_source, is_out, plain_reading, reading}
 use Rattle.replay_top.specs.declared.status.Status.{Status}
-use Rattle.replay_top.specs.declared.status.Status.TheVariants.{Rendered, Unrendered, BadWords, BadScript, ScriptTooLong, ScriptFault, TranscriptFault, WavFault, NoMemory}
+use Rattle.replay_top.specs.declared.status.Status.TheVariants.{Rendered, Unrendered, BadWords, BadScript, ScriptTooLong, ScriptFault, AssetFault, TranscriptFault, WavFault, NoMemory}
 
--- how a run ends whose source was read without a fault
-pub ran : (status : Status) (asked : Option Reading) (answer : Answer) (faults now : ℕ) (old new : Outside) → Answers status answer old new → Ran status asked answer faults now old new
-ran Rendered asked answer faults now old new ends = ends
-ran Unrendered asked answer faults now old new ends = ends
-ran BadWords asked answer faults now old new ends = ends
-ran BadScript asked answer faults now old new ends = ends
-ran ScriptTooLong asked answer faults now old new ends = ends
-ran ScriptFault asked answer faults now old new ends = absurd ends
-ran TranscriptFault asked answer faults now old new ends = ends
-ran WavFault asked answer faults now old new ends = ends
-ran NoMemory asked answer faults now old new ends = ends
+-- how a run ends whose script was read
+pub ran : (status : Status) (asked : Option Reading) (answer : Answer) (decodes : Type 0) (count : Counts) (old new : Outside) → Replays status answer decodes count.read_faults count.read_now old new → Ran status asked answer decodes count old new
+ran Rendered asked answer decodes count old new ends = ends
+ran Unrendered asked answer decodes count old new ends = ends
+ran BadWords asked answer decodes count old new ends = ends
+ran BadScript asked answer decodes count old new ends = ends
+ran ScriptTooLong asked answer decodes count old new ends = ends
+ran ScriptFault asked answer decodes count old new ends = absurd ends
+ran AssetFault asked answer decodes count old new ends = ends
+ran TranscriptFault asked answer decodes count old new ends = ends
+ran WavFault asked answer decodes count old new ends = ends
+ran NoMemory asked answer decodes count old new ends = ends
+
+-- how it ends where no asset was to be read
+pub replays : (status : Status) (answer : Answer) (decodes : Type 0) (faults now : ℕ) (old new : Outside) → Answers status answer old new → Replays status answer decodes faults now old new
+replays Rendered answer decodes faults now old new ends = ends
+replays Unrendered answer decodes faults now old new ends = ends
+replays BadWords answer decodes faults now old new ends = ends
+replays BadScript answer decodes faults now old new ends = ends
+replays ScriptTooLong answer decodes faults now old new ends = ends
+replays ScriptFault answer decodes faults now old new ends = absurd ends
+replays AssetFault answer decodes faults now old new ends = absurd ends
+replays TranscriptFault answer decodes faults now old new ends = ends
+replays WavFault answer decodes faults now old new ends = ends
+replays NoMemory answer decodes faults now old new ends = ends
+
+-- ---- a store whose files were read in between, of which none changed
+
+module _ (written : Option (List ℕ)) (sink_faults : ℕ) (tells : Bool) (paths later : Paths) (write_faults : ℕ) (new : Outside) (same : IsTrue tells → SamePaths paths later) where
+  abbrev before : Outside
+  before = outside written sink_faults tells paths write_faults
+
+  abbrev since : Outside
+  since = outside written sink_faults tells later write_faults
+
+  files_since : SameFiles since new → SameFiles before new
+  files_since is told q = is told q ∙ same told q
+
+  sets_since : (path bytes : List ℕ) → IsTrue tells → Sets later new.paths path bytes → Sets paths new.paths path bytes
+  sets_since path bytes told sets = record { here = sets.here; others = λ q other. sets.others q other ∙ same told q }
+
+  file_since : (file : Option File) → HasFile since new file → HasFile before new file
+  file_since None has = files_since has
+  file_since (Some file) has = λ told. sets_since file.path file.bytes told (has told)
+
+  front_since : (file : Option File) → HasFrontOfFile since new file → HasFrontOfFile before new file
+  front_since None has = files_since has
+  front_since (Some file) has = λ told. elim (has told) [
+    | inl is ↦ inl (λ q. is q ∙ same told q)
+    | inr part ↦ inr (part.0, sets_since file.path (take part.0 file.bytes) told part.1)
+  ]
+
+  cut_since : (answer : Answer) → IsCutShort answer since new → IsCutShort answer before new
+  cut_since answer (inl (text, files)) = inl (text, files_since files)
+  cut_since answer (inr (text, file)) = inr (text, front_since answer.file file)
+
+  pub answers_since : (status : Status) (answer : Answer) → Answers status answer since new → Answers status answer before new
+  answers_since Rendered answer ends = (ends.0, ends.1, file_since answer.file ends.2)
+  answers_since Unrendered answer ends = (ends.0, ends.1, file_since answer.file ends.2)
+  answers_since BadWords answer ends = (ends.0, ends.1, file_since answer.file ends.2)
+  answers_since BadScript answer ends = (ends.0, ends.1, file_since answer.file ends.2)
+  answers_since ScriptTooLong answer ends = (ends.0, ends.1, file_since answer.file ends.2)
+  answers_since ScriptFault answer ends = absurd ends
+  answers_since AssetFault answer ends = absurd ends
+  answers_since TranscriptFault answer ends = record { cause = ends.cause; text = ends.text; files = files_since ends.files }
+  answers_since WavFault answer ends = record { cause = ends.cause; due = ends.due; text = ends.text; files = front_since answer.file ends.files }
+  answers_since NoMemory answer ends = cut_since answer ends
 
 -- how a run ended whose whole answer is a text
 pub text_answered : (result status : Status) (text : List ℕ) (old new : Option (List ℕ)) (faults now : ℕ) (tells : Bool) (paths : Paths) (write_faults : ℕ)
@@ -45,8 +102,11 @@ pub told_bytes : (left : Option (List ℕ)) → IsToldAs left (unwrap_or left []
 told_bytes None = tt
 told_bytes (Some bytes) = refl
 
-pub answer_to_bytes-within : (asked : Reading) (bytes : List ℕ) → length bytes ≤ 16777216 → answer_to_bytes asked bytes ≡ answer_to_script asked (script_of bytes)
-answer_to_bytes-within asked bytes within = let short : nat_lt 16777216 (length bytes) ≡ false = grind (arith, nat_tests) in rw short refl
+pub answer_to_bytes-within : (asked : Reading) (folder : Folder) (bytes : List ℕ) → length bytes ≤ 16777216 → answer_to_bytes asked folder bytes ≡ answer_to_script asked folder (script_of bytes)
+answer_to_bytes-within asked folder bytes within = let short : nat_lt 16777216 (length bytes) ≡ false = grind (arith, nat_tests) in rw short refl
+
+pub answer_to_bytes-past : (asked : Reading) (folder : Folder) (bytes : List ℕ) → 16777216 < length bytes → answer_to_bytes asked folder bytes ≡ without_file ScriptTooLong []
+answer_to_bytes-past asked folder bytes past = let long : nat_lt 16777216 (length bytes) ≡ true = grind (arith, nat_tests) in rw long refl
 
 reads_end : (end : EndWord) → status_of end ≡ BadWords → ⊥
 reads_end Completed is = cc
@@ -55,9 +115,9 @@ reads_end Idle is = cc
 reads_end (Refused exception) is = cc
 
 -- the answer to a script is never that the words have no reading
-reads_script : (asked : Reading) (script : Result Script ScriptErr) → (answer_to_script asked script).status ≡ BadWords → ⊥
-reads_script asked (Ok script) is = reads_end (session_of script).end is
-reads_script asked (Err fault) is = cc
+reads_script : (asked : Reading) (folder : Folder) (script : Result Script ScriptErr) → (answer_to_script asked folder script).status ≡ BadWords → ⊥
+reads_script asked folder (Ok script) is = reads_end (session_of folder script).end is
+reads_script asked folder (Err fault) is = cc
 
 -- a reading that words have asks for the source
 pub reading_asks : (words : List (List ℕ)) (asked : Reading) → reading words ≡ Some asked → asks_source (reading words) ≡ true
@@ -70,14 +130,15 @@ reading_asks (word ∷ []) asked is = by_test (is_out word) refl is
 reading_asks (word ∷ second ∷ more) asked is = absurd cc
 
 -- where the script's bytes were read to their end, the source is at its end
-pub IsReadToEnd-answered : (status : Status) (asked : Reading) (script : Result Script ScriptErr) (old new : Outside) (left now : Option (List ℕ))
-    → Answers status (answer_to_script asked script) old new → IsAtEnd now → IsReadToEnd status left now
-IsReadToEnd-answered Rendered asked script old new left now ends end = end
-IsReadToEnd-answered Unrendered asked script old new left now ends end = end
-IsReadToEnd-answered BadWords asked script old new left now ends end = reads_script asked script (sym ends.0)
-IsReadToEnd-answered BadScript asked script old new left now ends end = end
-IsReadToEnd-answered ScriptTooLong asked script old new left now ends end = tt
-IsReadToEnd-answered ScriptFault asked script old new left now ends end = tt
-IsReadToEnd-answered TranscriptFault asked script old new left now ends end = end
-IsReadToEnd-answered WavFault asked script old new left now ends end = end
-IsReadToEnd-answered NoMemory asked script old new left now ends end = tt
+pub IsReadToEnd-answered : (status : Status) (asked : Reading) (folder : Folder) (script : Result Script ScriptErr) (decodes : Type 0) (read_faults read_now : ℕ) (old new : Outside) (left now : Option (List ℕ))
+    → Replays status (answer_to_script asked folder script) decodes read_faults read_now old new → IsAtEnd now → IsReadToEnd status left now
+IsReadToEnd-answered Rendered asked folder script decodes read_faults read_now old new left now ends end = end
+IsReadToEnd-answered Unrendered asked folder script decodes read_faults read_now old new left now ends end = end
+IsReadToEnd-answered BadWords asked folder script decodes read_faults read_now old new left now ends end = reads_script asked folder script (sym ends.0)
+IsReadToEnd-answered BadScript asked folder script decodes read_faults read_now old new left now ends end = end
+IsReadToEnd-answered ScriptTooLong asked folder script decodes read_faults read_now old new left now ends end = tt
+IsReadToEnd-answered ScriptFault asked folder script decodes read_faults read_now old new left now ends end = tt
+IsReadToEnd-answered AssetFault asked folder script decodes read_faults read_now old new left now ends end = end
+IsReadToEnd-answered TranscriptFault asked folder script decodes read_faults read_now old new left now ends end = end
+IsReadToEnd-answered WavFault asked folder script decodes read_faults read_now old new left now ends end = end
+IsReadToEnd-answered NoMemory asked folder script decodes read_faults read_now old new left now ends end = tt

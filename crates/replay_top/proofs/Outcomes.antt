@@ -14,6 +14,7 @@ use Rattle.transcript.specs.declared.lines.EndWord.TheVariants.{Completed, Stall
 use Rattle.session.specs.declared.rendered.Rendered.{Rendered}
 use Rattle.session.specs.Rendering.{completes, rendering_of}
 use Rattle.session.specs.Rows.{sample_in, samples_of}
+use Rattle.session.specs.Assets.{Folder}
 use Rattle.session.specs.Session.{session_of}
 use Rattle.meaning.specs.declared.world.World.{World}
 use Rattle.session.proofs.Interleaving.{interleaved_rendered}
@@ -68,19 +69,19 @@ answer_at audio Idle asked text spec tape ranges = rw and-false refl
 answer_at audio (Refused exception) asked text spec tape ranges = rw and-false refl
 
 -- what a session of a script hands over can be written
-pub writable : (audio : Bool) (script : Script) → IfSome (rendering_of audio script.context (session_of script)) IsWritable
+pub writable : (audio : Bool) (folder : Folder) (script : Script) → IfSome (rendering_of audio script.context (session_of folder script)) IsWritable
 unfolding session_of rendering_of
-writable audio script = elim (cases_Bool (is_supported script.context)) [
-  | inl holds ↦ writable_at audio (session_of script).end script.context (session_of script).tape (ranges_of script.context holds)
+writable audio folder script = elim (cases_Bool (is_supported script.context)) [
+  | inl holds ↦ writable_at audio (session_of folder script).end script.context (session_of folder script).tape (ranges_of script.context holds)
   | inr fails ↦ rw (fails, and-false) tt
 ]
 
 -- the answer to what it hands over is the session's
-pub rendering_answered : (asked : Reading) (script : Script)
-    → answer_to_rendering asked (session_of script).end (text_of (session_of script).lines (session_of script).end) (rendering_of (renders asked.mode) script.context (session_of script))
-    ≡ answer_to_session asked script.context (session_of script)
+pub rendering_answered : (asked : Reading) (folder : Folder) (script : Script)
+    → answer_to_rendering asked (session_of folder script).end (text_of (session_of folder script).lines (session_of folder script).end) (rendering_of (renders asked.mode) script.context (session_of folder script))
+    ≡ answer_to_session asked script.context (session_of folder script)
 unfolding session_of rendering_of
-rendering_answered asked script = elim (cases_Bool (is_supported script.context)) [
-  | inl holds ↦ answer_at (renders asked.mode) (session_of script).end asked _ script.context (session_of script).tape (ranges_of script.context holds)
+rendering_answered asked folder script = elim (cases_Bool (is_supported script.context)) [
+  | inl holds ↦ answer_at (renders asked.mode) (session_of folder script).end asked _ script.context (session_of folder script).tape (ranges_of script.context holds)
   | inr fails ↦ rw (fails, and-false) refl
 ]

@@ -10,6 +10,8 @@ use Rattle.transcript.specs.declared.lines.EndWord.{EndWord}
 use Rattle.transcript.specs.declared.lines.EndWord.TheVariants.{Completed, Stalled, Idle, Refused}
 use Rattle.wav_io.specs.WavText.{wav_bytes}
 use Rattle.session.specs.Rendering.{completes}
+use Rattle.session.specs.Assets.{Folder}
+use Rattle.session.specs.Session as session
 use Rattle.session.specs.Session.{Played, session_of}
 use Rattle.meaning.specs.declared.world.World.{World}
 use Rattle.meaning.specs.Rendered.{rows}
@@ -67,20 +69,25 @@ answer_to_session asked spec session = record {
 
 -- ---- a script
 
-abbrev pub answer_to_script : Reading → Result Script ScriptErr → Answer
-answer_to_script asked (Ok script) = answer_to_session asked script.context (session_of script)
-answer_to_script asked (Err fault) = without_file BadScript (fault_line fault)
+abbrev pub answer_to_script : Reading → Folder → Result Script ScriptErr → Answer
+answer_to_script asked folder (Ok script) = answer_to_session asked script.context (session_of folder script)
+answer_to_script asked folder (Err fault) = without_file BadScript (fault_line fault)
 
-abbrev pub answer_to_bytes : Reading → List ℕ → Answer
-answer_to_bytes asked bytes = if nat_lt max_script (length bytes) then without_file ScriptTooLong [] else answer_to_script asked (script_of bytes)
+abbrev pub answer_to_bytes : Reading → Folder → List ℕ → Answer
+answer_to_bytes asked folder bytes = if nat_lt max_script (length bytes) then without_file ScriptTooLong [] else answer_to_script asked folder (script_of bytes)
 
 -- ---- words
 
 -- every reading so far reads the source
-abbrev pub answer_to_reading : Option Reading → List ℕ → Answer
-answer_to_reading None bytes = without_file BadWords usage
-answer_to_reading (Some asked) bytes = answer_to_bytes asked bytes
+abbrev pub answer_to_reading : Option Reading → Folder → List ℕ → Answer
+answer_to_reading None folder bytes = without_file BadWords usage
+answer_to_reading (Some asked) folder bytes = answer_to_bytes asked folder bytes
 
--- the answer to the words of a command line and the bytes of a script
-abbrev pub answer : List (List ℕ) → List ℕ → Answer
-answer words bytes = answer_to_reading (reading words) bytes
+-- the answer to the words of a command line and the bytes of a script, over a folder of assets
+abbrev pub answer : List (List ℕ) → List ℕ → Folder → Answer
+answer words bytes folder = answer_to_reading (reading words) folder bytes
+
+-- the session of a script that was read looks into the folder
+abbrev pub Decodes : Folder → Result Script ScriptErr → Type 0
+Decodes folder (Ok script) = session.Decodes folder script.calls (session.first_told script.context)
+Decodes folder (Err fault) = ⊥

@@ -1,7 +1,7 @@
 -- The exit status of the program.
 use Rattle.std.specs.Prelude.{ℕ}
 use Rattle.replay_top.specs.declared.status.Status.{Status}
-use Rattle.replay_top.specs.declared.status.Status.TheVariants.{Rendered, Unrendered, BadWords, BadScript, ScriptTooLong, ScriptFault, TranscriptFault, WavFault, NoMemory}
+use Rattle.replay_top.specs.declared.status.Status.TheVariants.{Rendered, Unrendered, BadWords, BadScript, ScriptTooLong, ScriptFault, AssetFault, TranscriptFault, WavFault, NoMemory}
 
 -- the number that the process ends with; 1 is never one of them
 abbrev pub exit_status : Status → ℕ
@@ -11,6 +11,7 @@ exit_status Unrendered = 3
 exit_status BadScript = 4
 exit_status ScriptTooLong = 5
 exit_status ScriptFault = 6
+exit_status AssetFault = 7
 exit_status TranscriptFault = 8
 exit_status WavFault = 9
 exit_status NoMemory = 10

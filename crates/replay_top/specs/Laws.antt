@@ -5,6 +5,7 @@ use Rattle.wa_base.specs.Contexts.{is_supported}
 use Rattle.script_ast.specs.declared.call_list.Call.{Call}
 use Rattle.script_ast.specs.declared.call_list.Script.{Script}
 use Rattle.script_json.specs.Script.{script_of}
+use Rattle.session.specs.Assets.{Folder}
 use Rattle.session.specs.Session.{held_by}
 use Rattle.session.specs.Step.{is_start}
 use Rattle.replay_top.specs.Answer.{answer, max_script}
@@ -25,6 +26,6 @@ pub record IsRendered (words : List (List ℕ)) (bytes : List ℕ) : Type 0 wher
   pub read : script_of bytes ≡ Ok script
   pub renders : Renders script
 
--- The answer is Rendered exactly there.
+-- The answer is Rendered exactly there, whatever the folder of assets holds.
 abbrev pub CompletenessLaw : Type 0
-CompletenessLaw = (words : List (List ℕ)) (bytes : List ℕ) → ((answer words bytes).status ≡ Rendered) ↔ IsRendered words bytes
+CompletenessLaw = (words : List (List ℕ)) (bytes : List ℕ) (folder : Folder) → ((answer words bytes folder).status ≡ Rendered) ↔ IsRendered words bytes

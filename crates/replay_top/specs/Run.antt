@@ -7,7 +7,7 @@ use Rattle.io_edge.specs.Told.{AppendsFront, AppendsProperFront}
 use Rattle.replay_top.specs.Answer.{Answer, File}
 use Rattle.replay_top.specs.Words.{Reading, asks_source}
 use Rattle.replay_top.specs.declared.status.Status.{Status}
-use Rattle.replay_top.specs.declared.status.Status.TheVariants.{Rendered, Unrendered, BadWords, BadScript, ScriptTooLong, ScriptFault, TranscriptFault, WavFault, NoMemory}
+use Rattle.replay_top.specs.declared.status.Status.TheVariants.{Rendered, Unrendered, BadWords, BadScript, ScriptTooLong, ScriptFault, AssetFault, TranscriptFault, WavFault, NoMemory}
 
 -- the sink and the file store at one moment: what they tell and how often they failed
 pub record Outside : Type 0 where
@@ -58,13 +58,26 @@ IsCutShort answer old new =
     (AppendsFront old.written new.written answer.text × SameFiles old new)
     ⊎ (Appends old.written new.written answer.text × HasFrontOfFile old new answer.file)
 
+-- a session that looks into the folder of assets could not read a file, before anything was written
+pub record IsAssetFault (decodes : Type 0) (faults now : ℕ) (old new : Outside) : Type 0 where
+  pub cause : Rose faults now
+  pub runs : decodes
+  pub text : Keeps old.written new.written
+  pub files : SameFiles old new
+
 -- how a run ended that is told its answer
 abbrev pub Answers : Status → Answer → Outside → Outside → Type 0
 Answers TranscriptFault answer old new = IsTranscriptFault answer old new
 Answers WavFault answer old new = IsWavFault answer old new
 Answers NoMemory answer old new = IsCutShort answer old new
 Answers ScriptFault answer old new = ⊥
+Answers AssetFault answer old new = ⊥
 Answers status answer old new = IsWhole status answer old new
+
+-- how a run ended whose script was read, where a store's count of failed reads went from `faults` to `now`
+abbrev pub Replays : Status → Answer → Type 0 → ℕ → ℕ → Outside → Outside → Type 0
+Replays AssetFault answer decodes faults now old new = IsAssetFault decodes faults now old new
+Replays status answer decodes faults now old new = Answers status answer old new
 
 -- the source's script is asked for, and the source failed before anything was written
 pub record IsScriptFault (asked : Option Reading) (faults now : ℕ) (old new : Outside) : Type 0 where
@@ -73,16 +86,28 @@ pub record IsScriptFault (asked : Option Reading) (faults now : ℕ) (old new : 
   pub text : Keeps old.written new.written
   pub files : SameFiles old new
 
--- how a run ended, where a source's count of faults went from `faults` to `now`
-abbrev pub Ran : Status → Option Reading → Answer → ℕ → ℕ → Outside → Outside → Type 0
-Ran ScriptFault asked answer faults now old new = IsScriptFault asked faults now old new
-Ran status asked answer faults now old new = Answers status answer old new
+-- counts of faults before a run and after it: of the source, and of a store's reads
+pub record Counts : Type 0 where
+  pub faults : ℕ
+  pub now : ℕ
+  pub read_faults : ℕ
+  pub read_now : ℕ
+
+abbrev pub counts : ℕ → ℕ → ℕ → ℕ → Counts
+counts faults now read_faults read_now = record { faults = faults; now = now; read_faults = read_faults; read_now = read_now }
+
+-- how a run ended
+abbrev pub Ran : Status → Option Reading → Answer → Type 0 → Counts → Outside → Outside → Type 0
+Ran ScriptFault asked answer decodes count old new = IsScriptFault asked count.faults count.now old new
+Ran AssetFault asked answer decodes count old new = IsAssetFault decodes count.read_faults count.read_now old new
+Ran status asked answer decodes count old new = Answers status answer old new
 
 -- where the source's script is asked for: which ends come only after it was read to its end, and which never comes
 abbrev pub IsReadToEnd : Status → Option (List ℕ) → Option (List ℕ) → Type 0
 IsReadToEnd Rendered left now = IsAtEnd now
 IsReadToEnd Unrendered left now = IsAtEnd now
 IsReadToEnd BadScript left now = IsAtEnd now
+IsReadToEnd AssetFault left now = IsAtEnd now
 IsReadToEnd TranscriptFault left now = IsAtEnd now
 IsReadToEnd WavFault left now = IsAtEnd now
 IsReadToEnd BadWords left now = ⊥

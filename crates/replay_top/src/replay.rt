@@ -1,13 +1,14 @@
-ghost use Rattle.std.specs.Prelude.{◌≡◌, ◌≤◌, ℕ, List, map, string_bytes, IfSome};
+ghost use Rattle.std.specs.Prelude.{◌≡◌, ◌≤◌, ℕ, List, map, string_bytes, Ok, IfSome};
 ghost use Rattle.io_edge.specs.Told.{IsToldAs};
 ghost use Rattle.script_ast.specs.WellFormed.{IsWellFormed};
 ghost use Rattle.script_json.specs.Script.{script_of};
+ghost use Rattle.session.specs.Assets.{Folder, IsFolderOf};
 ghost use Rattle.session.specs.Session.{session_of};
 ghost use Rattle.transcript.specs.Text.{text_of};
 ghost use Rattle.replay_top.specs.Answer as answers;
 ghost use Rattle.replay_top.specs.FaultLine as faults;
 ghost use Rattle.replay_top.specs.Outcome.{answer_to_rendering, with_wav};
-ghost use Rattle.replay_top.specs.Run.{outside, Ran, Answers, IsRead, TextEnds};
+ghost use Rattle.replay_top.specs.Run.{outside, counts, Ran, Replays, Answers, IsRead, TextEnds};
 ghost use Rattle.replay_top.specs.WavFile.{IsWritable};
 ghost use Rattle.replay_top.specs.Words.{asks_source, reading as reading_in};
 
@@ -18,18 +19,20 @@ use crate::words::{Reading, USAGE, reading_of};
 use io_edge::{EdgeErr, Files, ReadErr, Sink, Source, read_all, write_all};
 use script_ast::Script;
 use script_json::{ScriptErr, read};
-use session::{Options, Outcome, Rendered};
+use session::{Options, Outcome, Rendered, Stop};
 use std::alloc::Global;
 use transcript::{EndWord, text};
 
 const MAX_SCRIPT: usize = 16_777_216;
 
-/// Replays a session: reads the words of a command line and a script, writes the transcript into the
-/// sink and, where the session completes, a WAV file at the path that the words name.
+/// Replays a session: reads the words of a command line and a script, and the assets that the script
+/// decodes; writes the transcript into the sink and, where the session completes, a WAV file at the path
+/// that the words name.
 ///
-/// There are bytes, those of the source at entry where it tells them, such that the run ended as the
-/// program's answer to the words and these bytes says; or a fault came, with its cause and with what
-/// then stands outside; or memory ran out, with what then stands.
+/// There are bytes, those of the source at entry where it tells them, and a folder of assets, that of the
+/// store at entry where it tells it, such that the run ended as the program's answer to the words, these
+/// bytes and this folder says; or a fault came, with its cause and with what then stands outside; or
+/// memory ran out, with what then stands.
 pub fn run<S: Source, F: Files, T: Sink>(
     alloc: Global,
     words: &[String],
@@ -39,8 +42,10 @@ pub fn run<S: Source, F: Files, T: Sink>(
 ) -> Status
     ensures ran { let before = outside (T.written transcript.old) (T.faults transcript.old) (F.tells files.old) (F.paths files.old) (F.write_faults files.old) in
         let after = outside (T.written transcript.new) (T.faults transcript.new) (F.tells files.new) (F.paths files.new) (F.write_faults files.new) in
+        let count = counts (S.faults script.old) (S.faults script.new) (F.read_faults files.old) (F.read_faults files.new) in
         (bytes : List ℕ) × IsToldAs (S.left script.old) bytes
-        × Ran result (reading_in (map string_bytes words.now)) (answers.answer (map string_bytes words.now) bytes) (S.faults script.old) (S.faults script.new) before after }
+        × ((folder : Folder) × IsFolderOf (F.tells files.old) (F.paths files.old) folder
+        × Ran result (reading_in (map string_bytes words.now)) (answers.answer (map string_bytes words.now) bytes folder) (answers.Decodes folder (script_of bytes)) count before after) }
     ensures read { IsRead (asks_source (reading_in (map string_bytes words.now))) result (S.left script.old) (S.left script.new) }
     ensures tells { F.tells files.new ≡ F.tells files.old }
     ensures source_later { S.faults script.old ≤ S.faults script.new }
@@ -69,7 +74,8 @@ fn replay_bytes<F: Files, T: Sink>(
 ) -> Status
     ensures ends { let before = outside (T.written transcript.old) (T.faults transcript.old) (F.tells files.old) (F.paths files.old) (F.write_faults files.old) in
         let after = outside (T.written transcript.new) (T.faults transcript.new) (F.tells files.new) (F.paths files.new) (F.write_faults files.new) in
-        Answers result (answers.answer_to_script reading.now (script_of bytes.now)) before after }
+        (folder : Folder) × IsFolderOf (F.tells files.old) (F.paths files.old) folder
+        × Replays result (answers.answer_to_script reading.now folder (script_of bytes.now)) (answers.Decodes folder (script_of bytes.now)) (F.read_faults files.old) (F.read_faults files.new) before after }
     ensures tells { F.tells files.new ≡ F.tells files.old }
     ensures sink_later { T.faults transcript.old ≤ T.faults transcript.new }
     ensures read_later { F.read_faults files.old ≤ F.read_faults files.new }
@@ -93,7 +99,8 @@ fn replay_script<F: Files, T: Sink>(
     requires { IsWellFormed script.now }
     ensures ends { let before = outside (T.written transcript.old) (T.faults transcript.old) (F.tells files.old) (F.paths files.old) (F.write_faults files.old) in
         let after = outside (T.written transcript.new) (T.faults transcript.new) (F.tells files.new) (F.paths files.new) (F.write_faults files.new) in
-        Answers result (answers.answer_to_session reading.now script.now.context (session_of script.now)) before after }
+        (folder : Folder) × IsFolderOf (F.tells files.old) (F.paths files.old) folder
+        × Replays result (answers.answer_to_session reading.now script.now.context (session_of folder script.now)) (answers.Decodes folder (Ok script.now)) (F.read_faults files.old) (F.read_faults files.new) before after }
     ensures tells { F.tells files.new ≡ F.tells files.old }
     ensures sink_later { T.faults transcript.old ≤ T.faults transcript.new }
     ensures read_later { F.read_faults files.old ≤ F.read_faults files.new }
@@ -105,7 +112,8 @@ fn replay_script<F: Files, T: Sink>(
     };
     match session::run(alloc, script, options, files) {
         Ok(outcome) => answer_outcome(alloc, reading, &outcome, files, transcript),
-        Err(_) => Status::NoMemory,
+        Err(Stop::AssetFault) => Status::AssetFault,
+        Err(Stop::NoMemory) => Status::NoMemory,
     }
 }
 

@@ -15,6 +15,8 @@ pub enum Status {
     ScriptTooLong,
     /// Reading the script failed; nothing is written.
     ScriptFault,
+    /// Reading an asset failed; nothing is written, and no file is touched.
+    AssetFault,
     /// Writing the transcript, the usage line or a fault's line failed; no file is touched.
     TranscriptFault,
     /// Writing the WAV file failed; the transcript is written.
@@ -37,6 +39,7 @@ impl Status {
             Status::BadScript => 4,
             Status::ScriptTooLong => 5,
             Status::ScriptFault => 6,
+            Status::AssetFault => 7,
             Status::TranscriptFault => 8,
             Status::WavFault => 9,
             Status::NoMemory => 10,

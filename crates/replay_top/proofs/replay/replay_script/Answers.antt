@@ -1,15 +1,29 @@
-use Rattle.std.proofs.Common.{ap}
+use Rattle.std.proofs.Common.{Err, refl, ap, inl}
+use Rattle.std.proofs.KnownBytes.{Appends-nil, Keeps-refl}
+use Rattle.session.specs.Assets.{Folder}
+use Rattle.session.specs.Session.{session_of}
+use Rattle.replay_top.specs.Answer.{answer_to_session, Decodes}
 use Rattle.replay_top.specs.Words.{renders}
+use Rattle.replay_top.proofs.Ends.{replays, answers_since}
 use Rattle.replay_top.proofs.Outcomes.{writable, rendering_answered}
 use Rattle.replay_top.proofs.replay.replay_script.Goals as goal
 
 pub answer_outcome-requires : goal.answer_outcome-requires
-answer_outcome-requires g c = rw c.in-Ok.ensures.rendered (writable _ c.args.script.now)
+answer_outcome-requires g c =
+    let outcome = c.in-Ok.ensures.outcome in
+    rw outcome.2.rendered (writable _ outcome.0 c.args.script.now)
 
 pub returns-in-Ok-clause-ends : goal.returns-in-Ok-clause-ends
 returns-in-Ok-clause-ends g c =
-    let ends = c.in-Ok.ensures in
+    let outcome = c.in-Ok.ensures.outcome in
     let audio = c.renders.ensures in
-    let mode = ap (λ r. renders r.mode) c.reading.view_is in
-    rw (← rendering_answered c.args.reading.now c.args.script.now, ← mode)
-    (rw (ends.lines, ends.end, ends.rendered, ends.tells, ends.paths, ends.write_faults, audio) at c.answer_outcome.ensures.ends)
+    let mode = ap (λ r. renders r.mode) c.reading.view_is in (
+      outcome.0,
+      outcome.1,
+      replays _ _ _ _ _ _ _ (answers_since _ _ _ _ _ _ _ c.in-Ok.ensures.paths _ _ (rw (← rendering_answered c.args.reading.now outcome.0 c.args.script.now, ← mode)
+          (rw (outcome.2.lines, outcome.2.end, outcome.2.rendered, c.in-Ok.ensures.tells, c.in-Ok.ensures.writes, audio) at c.answer_outcome.ensures.ends))),
+    )
+
+pub returns-in-Err-NoMemory-clause-ends : goal.returns-in-Err-NoMemory-clause-ends
+returns-in-Err-NoMemory-clause-ends g c =
+    ((λ n. g.F.Files.paths c.args.files.now), (λ n told q. refl), inl ((0, Appends-nil (g.T.Sink.written c.args.transcript.now)), c.in-Err-NoMemory.ensures.paths))
