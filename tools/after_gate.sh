@@ -113,11 +113,11 @@ END
     cat >in <<END
 {"version":1,"context":{"channels":1,"length":128,"rate":8000},"calls":[
 {"op":"decodeAudioData","as":"b","path":"$work/bell.wav"},{"op":"decodeAudioData","as":"b","path":"inside/../bell.wav"},
-{"op":"decodeAudioData","as":"b","path":"/dev/zero"},{"op":"decodeAudioData","as":"b","path":"inside/bell.wav"},
+{"op":"decodeAudioData","as":"b","path":"/dev/zero"},{"op":"decodeAudioData","as":"b","path":"bell.wav\\u0000"},{"op":"decodeAudioData","as":"b","path":"inside/bell.wav"},
 {"op":"decodeAudioData","as":"b","path":"bell.wav"}]}
 END
-    printf '%d rejected NotFoundError\n' 1 2 3 4 >wanted
-    printf '5 resolved\nend idle\n' >>wanted
+    printf '%d rejected NotFoundError\n' 1 2 3 4 5 >wanted
+    printf '6 resolved\nend idle\n' >>wanted
     run 3 out.wav
 
     # Status 9: the file's folder is not there.

@@ -52,7 +52,7 @@ fn misses(rt: &HostRuntime, path: &str) -> bool {
     is_missing(DirFiles::new(rt).fetch(rt.alloc(), path, LENGTH))
 }
 
-// The first six lead out of the folder, and at the last three there is no file.
+// The first six lead out of the folder, and at the last four there is no file.
 fn keeps_to_its_folder(rt: &HostRuntime) -> bool {
     misses(rt, "fetched_inside/../fetched_inside/a.wav")
         && misses(rt, "fetched_inside/inner/../a.wav")
@@ -62,6 +62,7 @@ fn keeps_to_its_folder(rt: &HostRuntime) -> bool {
         && misses(rt, "fetched_inside/..")
         && misses(rt, "fetched_inside/c.wav")
         && misses(rt, "fetched_inside/a.wav/b.wav")
+        && misses(rt, "fetched_inside/a.wav\0")
         && misses(rt, "")
 }
 

@@ -3,7 +3,7 @@ use Rattle.std.specs.Prelude.{ℕ, ◌==◌, ◌||◌, List, Bool, true, false, 
 use Rattle.std.specs.List.{list_any, slice_split}
 use Rattle.std.specs.Str.{bytes_eq}
 use Rattle.std.specs.declared.io.ErrorKind.{ErrorKind}
-use Rattle.std.specs.declared.io.ErrorKind.TheVariants.{NotFound, NotADirectory}
+use Rattle.std.specs.declared.io.ErrorKind.TheVariants.{NotFound, NotADirectory, InvalidInput}
 
 -- how many reads failed and how many writes did, each of which stops at the last value of a counter of 64 bits
 pub record FolderFaults : Type 0 where
@@ -22,8 +22,9 @@ has_parent path = list_any (λ part. bytes_eq part (codes "..")) (parts path)
 abbrev pub leads_out : List ℕ → Bool
 leads_out path = (slice_index path 0 == 47) || has_parent path
 
--- the system finds no file: there is none of this name, or what stands before a slash is no folder
+-- the system finds no file: there is none of this name, what stands before a slash is no folder, or no file can have the name, as where it has a byte 0
 abbrev pub finds_none : ErrorKind → Bool
 finds_none NotFound = true
 finds_none NotADirectory = true
+finds_none InvalidInput = true
 finds_none kind = false

@@ -29,7 +29,10 @@ fn has_parent(path: &str) -> bool
 fn finds_none(kind: ErrorKind) -> bool
     ensures { result ≡ folder_spec.finds_none kind }
 {
-    matches!(kind, ErrorKind::NotFound | ErrorKind::NotADirectory)
+    matches!(
+        kind,
+        ErrorKind::NotFound | ErrorKind::NotADirectory | ErrorKind::InvalidInput
+    )
 }
 
 // Reads the file that the system has at `path`.
