@@ -120,6 +120,17 @@ END
     printf '6 resolved\nend idle\n' >>wanted
     run 3 out.wav
 
+    # An asset of one byte more than there may be, and one of as many, which are no WAV file.
+    truncate -s 67108865 long.wav
+    truncate -s 67108864 whole.wav
+    cat >in <<'END'
+{"version":1,"context":{"channels":1,"length":128,"rate":48000},"calls":[
+{"op":"decodeAudioData","as":"b","path":"long.wav"},{"op":"decodeAudioData","as":"b","path":"whole.wav"}]}
+END
+    printf '1 rejected NotSupportedError profile:asset-size\n2 rejected EncodingError\nend idle\n' >wanted
+    run 3 out.wav
+    rm -f long.wav whole.wav
+
     # Status 9: the file's folder is not there.
     cp "$constant.json" in
     cp "$constant.txt" wanted

@@ -5,6 +5,8 @@
 #[cfg(test)]
 mod assets;
 #[cfg(test)]
+mod buffer_rows;
+#[cfg(test)]
 mod graphs;
 #[cfg(test)]
 mod pieces;
