@@ -15,19 +15,13 @@ them. It needs Python 3 and nothing else.
 import collections
 import sys
 
-MASK = 2**64 - 1
-LEAST, GREATEST = -2**31, 2**31 - 1
+sys.dont_write_bytecode = True
+import digests
+from digests import GREATEST, LEAST, mixed, rounded
 
 
-class Random:
-    """A linear congruential generator, whose upper bits are taken."""
-
-    def __init__(self, seed):
-        self.state = seed
-
-    def below(self, bound):
-        self.state = (self.state * 6364136223846793005 + 1442695040888963407) & MASK
-        return (self.state >> 33) % bound
+class Samples(digests.Random):
+    """Random samples and coefficients."""
 
     def sample(self):
         kind = self.below(40)
@@ -53,10 +47,6 @@ class Random:
     def count(self):
         kind = self.below(24)
         return (0, 21)[kind] if kind < 2 else 1 + self.below(20)
-
-
-def rounded(num, den):
-    return (2 * num + den) // (2 * den)
 
 
 def filter_refusal(forward, back):
@@ -111,10 +101,6 @@ class Shaper:
         return self.curve[k] + rounded(rise * (way - k * 2**25), 2**25)
 
 
-def mixed(digest, item):
-    return ((digest ^ item) * 1099511628211) & MASK
-
-
 def with_samples(digest, samples):
     for sample in samples:
         digest = mixed(digest, sample + 2**31)
@@ -160,8 +146,8 @@ def one_shaper(random, digest, counts):
 
 
 def main():
-    random = Random(2025)
-    digest = 14695981039346656037
+    random = Samples(2025)
+    digest = digests.EMPTY
     counts = collections.Counter()
     for _ in range(10_000):
         digest = one_filter(random, digest, counts)

@@ -14,20 +14,15 @@ are made as the tests make them. It needs Python 3 and nothing else.
 import collections
 import sys
 
-MASK = 2**64 - 1
-LEAST, GREATEST = -2**31, 2**31 - 1
+sys.dont_write_bytecode = True
+import digests
+from digests import GREATEST, LEAST, mixed, rounded
+
 FAR = 2**40
 
 
-class Random:
-    """A linear congruential generator, whose upper bits are taken."""
-
-    def __init__(self, seed):
-        self.state = seed
-
-    def below(self, bound):
-        self.state = (self.state * 6364136223846793005 + 1442695040888963407) & MASK
-        return (self.state >> 33) % bound
+class Numbers(digests.Random):
+    """Random values, times and durations."""
 
     def value(self):
         kind = self.below(4)
@@ -40,10 +35,6 @@ class Random:
     def duration(self):
         kind = self.below(20)
         return 0 if kind == 0 else FAR if kind == 1 else self.below(90)
-
-
-def rounded(num, den):
-    return (2 * num + den) // (2 * den)
 
 
 def on_line(start, end, n, frames):
@@ -200,13 +191,9 @@ def answer_number(answer):
     return NUMBERS[answer]
 
 
-def mixed(digest, item):
-    return ((digest ^ item) * 1099511628211) & MASK
-
-
 def main():
-    random = Random(2024)
-    digest = 14695981039346656037
+    random = Numbers(2024)
+    digest = digests.EMPTY
     counts = collections.Counter()
     for _ in range(20_000):
         line = Timeline(random.value())

@@ -1,0 +1,27 @@
+"""What the second calculations of tools/timelines.py and tools/filters.py share: the random numbers and the
+digest, both made as the tests make them, and the rounding of docs/PROFILE.md."""
+
+MASK = 2**64 - 1
+LEAST, GREATEST = -2**31, 2**31 - 1
+
+# The digest of nothing.
+EMPTY = 14695981039346656037
+
+
+class Random:
+    """A linear congruential generator, whose upper bits are taken."""
+
+    def __init__(self, seed):
+        self.state = seed
+
+    def below(self, bound):
+        self.state = (self.state * 6364136223846793005 + 1442695040888963407) & MASK
+        return (self.state >> 33) % bound
+
+
+def mixed(digest, item):
+    return ((digest ^ item) * 1099511628211) & MASK
+
+
+def rounded(num, den):
+    return (2 * num + den) // (2 * den)
