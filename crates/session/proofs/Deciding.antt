@@ -1,6 +1,6 @@
 -- What an operation comes to, and what that leaves of a machine.
 use Rattle.std.proofs.Common.{ℕ, ◌≡◌, ◌<◌, length, List, true, false, Option, Some, None, Result, Ok, Err, IsSome, refl, sym, ◌∙◌, ap, subst, arith}
-use Rattle.std.specs.Prelude.{is_some, unwrap_or, IfSome, IfOk, OnOk, OnErr}
+use Rattle.std.specs.Prelude.{is_some, unwrap_or, IfSome, IfOk, OnErr}
 use Rattle.wa_base.specs.declared.exceptions.Exc.{Exc}
 use Rattle.wa_base.specs.declared.graph_names.BufId.{BufId}
 use Rattle.wa_base.specs.declared.graph_names.NodeId.{NodeId}

@@ -1,5 +1,5 @@
 -- What a store answers leads to what its paths hold.
-use Rattle.std.proofs.Common.{ℕ, ◌≡◌, ◌≤◌, ◌<◌, ◌⊎◌, inl, inr, List, length, replicate, true, Option, Some, None, Result, Ok, Err, refl, ap, sym, subst, arith}
+use Rattle.std.proofs.Common.{ℕ, ◌≡◌, ◌≤◌, ◌<◌, inl, inr, List, length, replicate, true, Option, Some, None, Result, Ok, Err, refl, ap, sym, subst, arith}
 use Rattle.std.proofs.lemmas.Bool.Decides.{nat_tests}
 use Rattle.std.proofs.lemmas.List.{length-replicate}
 use Rattle.std.specs.Prelude.{nat_lt, IsErrOf}
@@ -10,12 +10,9 @@ use Rattle.io_edge.specs.declared.files.Fetched.{Fetched}
 use Rattle.io_edge.specs.declared.files.Fetched.TheVariants.{Bytes, Missing, TooLong}
 use Rattle.script_ast.specs.declared.operations.Op.{Op}
 use Rattle.script_ast.specs.declared.operations.Op.TheVariants as op
-use Rattle.session.specs.declared.control.Decided.{Decided}
-use Rattle.session.specs.declared.control.Decided.TheVariants as comes_to
-use Rattle.session.specs.Assets.{IsFit, max_asset, decodes, found_of}
+use Rattle.session.specs.Assets.{max_asset, decodes, found_of}
 use Rattle.session.specs.Machine.{Machine}
-use Rattle.session.specs.Steady.{IsSteady}
-use Rattle.session.specs.Step.{decided, decided_with, IsFor}
+use Rattle.session.specs.Step.{decided, decided_with}
 
 -- more bytes than an asset may have are more, whichever they are
 long_found : (m : Machine) (bytes other : List ℕ) → max_asset < length bytes → max_asset < length other → decodes m (Some bytes) ≡ decodes m (Some other)
@@ -35,12 +32,6 @@ same_found m (Some bytes) (TooLong n) within is =
     let longer : max_asset < length (replicate n 0) = subst (λ k. max_asset < k) (sym (length-replicate n 0)) within in
     let long : max_asset < length bytes = omega arith in
     long_found m (replicate n 0) bytes longer long
-
--- what a decodeAudioData comes to fits the call
-pub fit_for : (m : Machine) (d : Decided) (name path : List ℕ) → IsSteady m → IsFit m d → IsFor m (op.DecodeAudioData name path) d
-fit_for m (comes_to.Answer said) name path steady fit = tt
-fit_for m comes_to.Start name path steady fit = absurd fit
-fit_for m (comes_to.Change change) name path steady fit = (record { time = let low = steady.time in omega arith; named = fit.0; accepted = fit.1 }, fit.2)
 
 -- no other operation looks into the folder
 pub looks_away : (m : Machine) (held : Paths) (o : Op) → ((name path : List ℕ) → o ≡ op.DecodeAudioData name path → ⊥) → decided_with m held o ≡ decided m o

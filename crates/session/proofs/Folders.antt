@@ -1,12 +1,11 @@
 -- What the folder of assets held at the moments of a session, put together call by call.
-use Rattle.std.proofs.Common.{ℕ, zero, suc, ◌≡◌, ◌≤◌, ◌<◌, ◌+◌, List, [], ◌∷◌, ◌++◌, length, drop, Bool, true, false, ◌||◌, refl, sym, ◌∙◌, ap, subst, arith}
-use Rattle.std.proofs.lemmas.Bool.{cases_Bool}
+use Rattle.std.proofs.Common.{ℕ, zero, suc, ◌≡◌, ◌≤◌, ◌<◌, ◌+◌, List, [], ◌∷◌, length, Bool, true, false, ◌||◌, refl, sym, ◌∙◌, ap, arith}
 use Rattle.std.proofs.lemmas.Bool.Decides.{nat_tests}
 use Rattle.std.proofs.lemmas.List.{length-append}
-use Rattle.std.specs.Prelude.{◌==◌, nat_lt, IsTrue, if◌then◌else◌, filter, slice_index_or}
-use Rattle.io_edge.specs.Paths.{Paths, SamePaths}
+use Rattle.std.specs.Prelude.{◌==◌, nat_lt, if◌then◌else◌, slice_index_or}
+use Rattle.io_edge.specs.Paths.{Paths}
 use Rattle.script_ast.specs.declared.call_list.Call.{Call}
-use Rattle.session.specs.Assets.{Folder, IsHeld, IsFolderOf, AgreeBetween, AgreeFrom}
+use Rattle.session.specs.Assets.{Folder, IsHeld, IsFolderOf, AgreeBetween}
 use Rattle.session.specs.Session.{Told, after_call, after_calls, held_by, has_decode}
 use Rattle.session.specs.Step.{is_decode}
 
@@ -31,13 +30,6 @@ splice_of tells paths moment first later a b n told q = by_test (nat_lt n moment
     by_test : (early : Bool) → (if early then first n else later n) q ≡ paths q
     by_test true = a n told q
     by_test false = b n told q
-
-pub agree_before : (low moment : ℕ) (first later other : Folder) → AgreeBetween low moment (spliced moment first later) other → AgreeBetween low moment first other
-agree_before low moment first later other agree n from before = agree n from before ∙ spliced_before moment first later n before
-
--- what is held at a moment is what is held later on too, where nothing changed
-pub held_later : (tells : Bool) (old new held : Paths) → (IsTrue tells → SamePaths old new) → IsHeld tells new held → IsHeld tells old held
-held_later tells old new held same is told q = is told q ∙ same told q
 
 -- what was found up to a moment: calls that are left come to what all calls come to, whatever a folder holds from then on
 abbrev pub Found : Bool → Paths → ℕ → ℕ → (Folder → Told) → (Folder → Told) → Type 0

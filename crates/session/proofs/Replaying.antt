@@ -1,5 +1,5 @@
 -- What a session comes to once its main list ran.
-use Rattle.std.proofs.Common.{ℕ, ◌≡◌, ◌≤◌, ◌<◌, List, [], length, Bool, true, false, Option, Some, None, refl, sym, ◌∙◌, ap, subst, arith}
+use Rattle.std.proofs.Common.{ℕ, ◌≡◌, List, [], length, Bool, true, false, Option, Some, None, refl, sym, ◌∙◌, ap}
 use Rattle.std.specs.Prelude.{is_some}
 use Rattle.io_edge.specs.Paths.{Paths}
 use Rattle.wa_base.specs.Contexts.{is_supported}

@@ -1,4 +1,4 @@
-use Rattle.std.proofs.Common.{◌≡◌, false, None, refl, inl, inr, rules}
+use Rattle.std.proofs.Common.{◌≡◌, false, None, refl, rules}
 use Rattle.wa_base.specs.Contexts.{is_supported}
 use Rattle.wa_base.specs.declared.exceptions.Exc.TheVariants.{NotSupported}
 use Rattle.session.specs.Assets.{Folder}

@@ -1,7 +1,7 @@
 use Rattle.std.proofs.Common.{refl, sym, subst, ◌∙◌}
 use Rattle.session.specs.Step.{IsFor}
 use Rattle.session.proofs.Deciding.{decided_for}
-use Rattle.session.proofs.Finding.{looks_away, fit_for}
+use Rattle.session.proofs.Finding.{looks_away}
 use Rattle.session.proofs.control.Control.decide_with.Goals as goal
 
 pub returns-in_ok-decide-in_default-clause-decided : goal.returns-in_ok-decide-in_default-clause-decided

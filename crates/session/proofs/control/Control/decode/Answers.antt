@@ -1,4 +1,4 @@
-use Rattle.std.proofs.Common.{◌≡◌, true, false, refl, inl, inr, subst, ◌∙◌}
+use Rattle.std.proofs.Common.{refl, inl, inr, subst, ◌∙◌}
 use Rattle.io_edge.specs.Fetch.{IsFetchedOf}
 use Rattle.std.proofs.lemmas.Bool.{cases_Bool}
 use Rattle.session.specs.Assets.{found_of}

@@ -1,5 +1,3 @@
-use Rattle.std.specs.Prelude.{IfOk}
-use Rattle.session.specs.Step.{Steps, settled}
 use Rattle.session.proofs.Deciding.{Leaves, stepped_leaves, stepped_started}
 use Rattle.session.proofs.control.Control.step.Goals as goal
 use Rattle.session.proofs.control.Control.step.Goals.{In_ok-settle}
