@@ -7,7 +7,7 @@ use Rattle.param_events.specs.declared.events.Event.{Event}
 use Rattle.param_events.specs.Events.{time_of, end_of}
 use Rattle.param_events.specs.Timeline.{IsOrderedFrom}
 use Rattle.param_events.proofs.Order.{order, time-end}
-use Rattle.param_cursor.proofs.Neighbours.{rising_times}
+use Rattle.param_events.proofs.Order.{rising_times}
 use Rattle.param_cursor.specs.Cursors.{StandsAt, within}
 
 early : ℕ → List Event → List Event

@@ -5,34 +5,17 @@ use Rattle.std.specs.Option.{IsSomeAnd}
 use Rattle.std.proofs.lemmas.Bool.Decides.{nat_tests}
 use Rattle.param_events.specs.declared.events.Event.{Event}
 use Rattle.param_events.specs.declared.events.Event.TheVariants.{Set, Curve}
-use Rattle.param_events.specs.Events.{time_of, end_of, until, after, last}
+use Rattle.param_events.specs.Events.{time_of, until, after, last}
 use Rattle.param_events.specs.Timeline.{IsOrderedFrom, IsTimeline}
 use Rattle.param_events.specs.Values.{between, curve_value, towards, value_at}
 use Rattle.param_events.proofs.Finds.{found, found_base}
-use Rattle.param_events.proofs.Order.{split_at, time-end, last_taken, last_event, last_is}
+use Rattle.param_events.proofs.Order.{split_at, rising_times, last_taken, last_event, last_is}
 
 pub curve_runs : (base : ℤ) (time duration end : ℕ) (points : List ℤ) (next : Option Event) (f : ℕ) → f < end
     → between base (Some (Curve time duration end points)) next f ≡ curve_value points duration (f - time)
 curve_runs base time duration end points next f l =
     let t : nat_lt f end ≡ true = grind (arith, nat_tests) in
     ap (λ b. cond b (curve_value points duration (f - time)) (towards (curve_value points duration (end - time)) end next f)) t
-
--- later events of an ordered list are not earlier
-from_low : (low k : ℕ) (es : List Event) (d : Event) → IsOrderedFrom low es → k < length es → low ≤ time_of (get_or es k d)
-from_low low k [] d h l = absurd (omega arith)
-from_low low zero (e ∷ es) d h l = h.0
-from_low low (suc k) (e ∷ es) d h l =
-    let first = h.0 in
-    let own = time-end e h.1 in
-    let rest = from_low (end_of e) k es d h.2 (omega arith) in
-    omega (arith, first, own, rest)
-
-pub rising_times : (low i j : ℕ) (es : List Event) (d : Event) → IsOrderedFrom low es → i ≤ j → j < length es → time_of (get_or es i d) ≤ time_of (get_or es j d)
-rising_times low i j [] d h l m = absurd (omega arith)
-rising_times low zero zero (e ∷ es) d h l m = omega arith
-rising_times low zero (suc j) (e ∷ es) d h l m = let own = time-end e h.1 in let rest = from_low (end_of e) j es d h.2 (omega arith) in omega (arith, own, rest)
-rising_times low (suc i) zero (e ∷ es) d h l m = absurd (omega arith)
-rising_times low (suc i) (suc j) (e ∷ es) d h l m = rising_times (end_of e) i j es d h.2 (omega arith) (omega arith)
 
 -- the events up to a frame that lies between two neighbours
 pub parted : (f place : ℕ) (es : List Event) → IsOrderedFrom 0 es → place ≤ length es → ((d : Event) → 0 < place → time_of (get_or es (place - 1) d) ≤ f) → ((d : Event) → place < length es → f < time_of (get_or es place d))

@@ -1,5 +1,4 @@
 ghost use Rattle.std.specs.Prelude.{◌≡◌, IfSome, option_copied};
-ghost use Rattle.param_events.specs.Edits as edits;
 ghost use Rattle.param_events.specs.Timeline.{IsSound};
 ghost use Rattle.param_cursor.specs.Cursors as cursors;
 
@@ -14,27 +13,11 @@ pub struct Level {
     pub until: u64,
 }
 
-// Whether the event is a curve that ends after a frame.
-fn goes_past(here: Option<&Event>, frame: u64) -> bool
-    ensures { result ≡ edits.goes_past frame (option_copied here.entry) }
-{
-    match here {
-        Some(Event::Curve { end, .. }) => frame < *end,
-        _ => false,
-    }
-}
-
-fn is_ramp(next: Option<&Event>) -> bool
-    ensures { result ≡ edits.is_ramp (option_copied next.entry) }
-{
-    matches!(next, Some(Event::Ramp { .. }))
-}
-
 // Whether the value moves from a frame on, after one event and before the next.
 pub(crate) fn moves(here: Option<&Event>, next: Option<&Event>, frame: u64) -> bool
     ensures { result ≡ cursors.moves (option_copied here.entry) (option_copied next.entry) frame }
 {
-    goes_past(here, frame) || is_ramp(next)
+    here.is_some_and(|event| event.goes_past(frame)) || next.is_some_and(|event| event.is_ramp())
 }
 
 // The value that an event leaves, and the base where there is none.

@@ -1,12 +1,12 @@
 -- Events that are cancelled.
-use Rattle.std.proofs.Common.{ℕ, ℤ, zero, suc, ◌≡◌, ◌<◌, ◌≤◌, List, [], ◌∷◌, length, take, get_or, true, false, cond, refl, ◌∙◌, ap, arith}
+use Rattle.std.proofs.Common.{ℕ, ℤ, zero, suc, ◌≡◌, ◌<◌, ◌≤◌, List, [], ◌∷◌, length, take, get_or, Bool, true, false, cond, refl, ◌∙◌, ap, sym, subst, arith}
 use Rattle.std.specs.List.{filter}
 use Rattle.std.proofs.lemmas.Bool.Decides.{nat_tests}
 use Rattle.param_events.specs.declared.events.Event.{Event}
 use Rattle.param_events.specs.declared.events.Event.TheVariants.{Set, Ramp, Curve}
 use Rattle.param_events.specs.Edits.{stays, moment, base_after, cancelled}
 use Rattle.param_events.specs.Events.{time_of, end_of, until}
-use Rattle.param_events.specs.Timeline.{Timeline, IsSound, IsBegun, IsOrderedFrom}
+use Rattle.param_events.specs.Timeline.{Timeline, IsSound, IsBegun, IsOrderedFrom, IsTimeline}
 use Rattle.param_events.proofs.Order.{time-end}
 
 pub take_ordered : (low i : ℕ) (events : List Event) → IsOrderedFrom low events → IsOrderedFrom low (take i events)
@@ -36,6 +36,26 @@ gone time low (e ∷ es) l h =
     let first = h.0 in
     let k = time-end e h.1 in
     ap (λ b. cond b (e ∷ filter (stays time) es) (filter (stays time) es)) (stays_no time e (omega arith)) ∙ gone time (end_of e) es (omega arith) h.2
+
+-- what stays is a timeline's
+stay_ordered : (time low : ℕ) (events : List Event) → IsOrderedFrom low events → IsOrderedFrom low (filter (stays time) events)
+stay_ordered time low [] h = tt
+stay_ordered time low (e ∷ es) h = by_test (stays time e) refl (stay_ordered time (end_of e) es h.2)
+  where
+    by_test : (b : Bool) → stays time e ≡ b → IsOrderedFrom (end_of e) (filter (stays time) es) → IsOrderedFrom low (cond b (e ∷ filter (stays time) es) (filter (stays time) es))
+    by_test true is rest = (h.0, h.1, rest)
+    by_test false is rest = subst (IsOrderedFrom low) (sym (gone time (end_of e) es (stays_end time e h.1 is) h.2)) tt
+
+stay_begun : (time low : ℕ) (events : List Event) → IsOrderedFrom low events → IsBegun events → IsBegun (filter (stays time) events)
+stay_begun time low [] h b = tt
+stay_begun time low (e ∷ es) h b = by_test (stays time e) refl
+  where
+    by_test : (x : Bool) → stays time e ≡ x → IsBegun (cond x (e ∷ filter (stays time) es) (filter (stays time) es))
+    by_test true is = b
+    by_test false is = subst IsBegun (sym (gone time (end_of e) es (stays_end time e h.1 is) h.2)) tt
+
+pub stay_kept : (time : ℕ) (events : List Event) → IsTimeline events → IsTimeline (filter (stays time) events)
+stay_kept time events h = record { begun = stay_begun time 0 events h.ordered h.begun; ordered = stay_ordered time 0 events h.ordered }
 
 -- the first i events stay, and the next one does not
 pub stay_at : (time low i : ℕ) (es : List Event) (d : Event) → IsOrderedFrom low es → i ≤ length es → ((k : ℕ) → k < i → stays time (get_or es k d) ≡ true) → (i < length es → stays time (get_or es i d) ≡ false)

@@ -27,6 +27,23 @@ after_no time e es l = let t : nat_lt time (time_of e) ≡ false = grind (arith,
 pub after_yes : (time : ℕ) (e : Event) (es : List Event) → time < time_of e → after time (e ∷ es) ≡ e ∷ after time es
 after_yes time e es l = let t : nat_lt time (time_of e) ≡ true = grind (arith, nat_tests) in ap (λ b. cond b (e ∷ after time es) (after time es)) t
 
+-- later events of an ordered list are not earlier
+from_low : (low k : ℕ) (es : List Event) (d : Event) → IsOrderedFrom low es → k < length es → low ≤ time_of (get_or es k d)
+from_low low k [] d h l = absurd (omega arith)
+from_low low zero (e ∷ es) d h l = h.0
+from_low low (suc k) (e ∷ es) d h l =
+    let first = h.0 in
+    let own = time-end e h.1 in
+    let rest = from_low (end_of e) k es d h.2 (omega arith) in
+    omega (arith, first, own, rest)
+
+pub rising_times : (low i j : ℕ) (es : List Event) (d : Event) → IsOrderedFrom low es → i ≤ j → j < length es → time_of (get_or es i d) ≤ time_of (get_or es j d)
+rising_times low i j [] d h l m = absurd (omega arith)
+rising_times low zero zero (e ∷ es) d h l m = omega arith
+rising_times low zero (suc j) (e ∷ es) d h l m = let own = time-end e h.1 in let rest = from_low (end_of e) j es d h.2 (omega arith) in omega (arith, own, rest)
+rising_times low (suc i) zero (e ∷ es) d h l m = absurd (omega arith)
+rising_times low (suc i) (suc j) (e ∷ es) d h l m = rising_times (end_of e) i j es d h.2 (omega arith) (omega arith)
+
 -- events that begin after a time are all after it
 pub all_after : (time low : ℕ) (es : List Event) → time < low → IsOrderedFrom low es → (until time es ≡ []) × (after time es ≡ es)
 all_after time low [] l h = (refl, refl)

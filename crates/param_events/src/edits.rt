@@ -20,12 +20,7 @@ pub(crate) fn place(events: &[Event], time: u64) -> usize
     ensures before { until time events.now ≡ take result events.now }
     ensures after { after time events.now ≡ drop result events.now }
 {
-    for (i, event) in events.iter().enumerate() {
-        if time < event.time() {
-            return i;
-        }
-    }
-    events.len()
+    events.partition_point(|event| event.time() <= time)
 }
 
 // Puts an event behind all that have a time at or before its own.
@@ -171,7 +166,7 @@ fn goes_past(events: &[Event], i: usize, time: u64) -> bool
 fn is_ramp(events: &[Event], i: usize) -> bool
     ensures { result ≡ edits.is_ramp (first (drop i events.now)) }
 {
-    i < events.len() && matches!(events[i], Event::Ramp { .. })
+    i < events.len() && events[i].is_ramp()
 }
 
 // Ends what is under way at a time, and takes away what comes later.

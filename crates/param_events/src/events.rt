@@ -65,14 +65,21 @@ impl Event {
         }
     }
 
-    // Whether it is a curve that ends after a time.
-    pub(crate) fn goes_past(&self, at: u64) -> bool
+    /// Whether it is a curve that ends after a frame.
+    pub fn goes_past(&self, at: u64) -> bool
         ensures { result ≡ edits.goes_past at (Some self.now) }
     {
         match self {
             Event::Curve { end, .. } => at < *end,
             _ => false,
         }
+    }
+
+    /// Whether it is a ramp.
+    pub fn is_ramp(&self) -> bool
+        ensures { result ≡ edits.is_ramp (Some self.now) }
+    {
+        matches!(self, Event::Ramp { .. })
     }
 
     // Ends a curve at a time; its points and its duration stay.

@@ -1,5 +1,6 @@
 ghost use Rattle.std.specs.Prelude.{◌≡◌, ◌+◌, ◌<◌, ◌≤◌, ◌≤ℤ◌, ◌^◌, pos, unsigned_abs, None, Some, OnOk, IfOk, IfErr};
 ghost use Rattle.std.specs.List.{position};
+ghost use Rattle.std.specs.Result.{result_err};
 ghost use Rattle.param_events.specs.Edits as edits;
 
 use crate::events::Event;
@@ -158,4 +159,11 @@ pub(crate) fn free_span(
         Ok(()) => Ok(at),
         Err(refusal) => Err(refusal),
     }
+}
+
+// The reason of a test that did not pass.
+pub(crate) fn refusal_of<T: Drop>(test: Result<T, ParamErr>) -> Option<ParamErr>
+    ensures { result ≡ result_err test }
+{
+    test.err()
 }

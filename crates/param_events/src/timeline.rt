@@ -2,10 +2,11 @@ ghost use Rattle.std.specs.Prelude.{◌≡◌, [], length, ◌+◌, ◌<◌, ◌
 ghost use Rattle.param_events.specs.Edits as edits;
 ghost use Rattle.param_events.specs.Edits.{IsCause};
 ghost use Rattle.param_events.specs.Timeline.{IsTimeline};
+ghost use Rattle.param_events.specs.Values as values;
 
 use crate::edits::{base_after, cancel_from, hold_from, put_curve, put_ramp, put_set};
 use crate::events::{Event, copy_events};
-use crate::refusals::{ParamErr, free_moment, free_span, moment, outside_curves};
+use crate::refusals::{ParamErr, free_moment, free_span, moment, outside_curves, refusal_of};
 use crate::values::value_at;
 use std::alloc::Global;
 use std::marker::Model;
@@ -192,6 +193,49 @@ impl Timeline {
         let value = value_at(self.base, self.events.as_slice(), at);
         hold_from(&mut self.events, at, value);
         Ok(())
+    }
+
+    /// Why `set_value` and `ramp` are refused at a time, if they are. Nothing is changed.
+    pub fn event_refusal(&self, now: u64, time: i64) -> Option<ParamErr>
+        ensures { result ≡ edits.event_refusal now time self.now.events }
+    {
+        refusal_of(free_moment(self.events.as_slice(), now, time))
+    }
+
+    /// Why `curve` is refused, if it is. Nothing is changed.
+    pub fn curve_refusal(
+        &self,
+        now: u64,
+        points: &[Fix],
+        time: i64,
+        duration: i64,
+    ) -> Option<ParamErr>
+        requires { now ≤ 2 ^ 62 }
+        ensures { result ≡ edits.curve_refusal now points.now time duration self.now.events }
+    {
+        refusal_of(free_span(self.events.as_slice(), now, points.len(), time, duration))
+    }
+
+    /// Why `set_now` is refused, if it is. Nothing is changed.
+    pub fn now_refusal(&self, now: u64) -> Option<ParamErr>
+        ensures { result ≡ edits.in_curve now self.now.events }
+    {
+        refusal_of(outside_curves(self.events.as_slice(), now))
+    }
+
+    /// Why `cancel` and `hold` are refused at a time, if they are, whatever the timeline.
+    pub fn time_refusal(time: i64) -> Option<ParamErr>
+        ensures { result ≡ edits.time_refusal time }
+    {
+        refusal_of(moment(0, time))
+    }
+
+    /// The intrinsic value at a frame (paramIntrinsicValue). Without events it is the base, and no search
+    /// is made.
+    pub fn value_at(&self, frame: u64) -> Fix
+        ensures { result ≡ values.value_at self.now.base self.now.events frame }
+    {
+        value_at(self.base, self.events.as_slice(), frame)
     }
 
     /// Sets the current value slot, as each render quantum does. Base and events stay.

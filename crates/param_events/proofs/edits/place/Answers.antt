@@ -1,22 +1,24 @@
-use Rattle.std.proofs.Common.{◌≡◌, pos, length, take, drop, get_or, arith, ap, sym, ◌∙◌}
+use Rattle.std.proofs.Common.{pos, ◌≡◌, take, drop, leb, leb-true, arith, rules}
+use Rattle.std.proofs.lemmas.Bool.Decides.{nat_tests}
+use Rattle.std.proofs.lemmas.List.Sorted.{IsPartitionPoint-from_clause, IsPartitionedBy-leb}
+use Rattle.param_events.specs.declared.events.Event.{Event}
 use Rattle.param_events.specs.declared.events.Event.TheVariants.{Set}
 use Rattle.param_events.specs.Events.{time_of, until, after}
-use Rattle.param_events.proofs.Order.{split_at}
+use Rattle.param_events.proofs.Order.{split_at, rising_times}
 use Rattle.param_events.proofs.edits.place.Goals as goal
 
-found : (c : goal.Then-time) → (until c.args.time c.args.events.now ≡ take c.loop-i.i c.args.events.now) × (after c.args.time c.args.events.now ≡ drop c.loop-i.i c.args.events.now)
+found : (c : goal.After-partition_point)
+    → (until c.args.time c.args.events.now ≡ take c.partition_point.result c.args.events.now) × (after c.args.time c.args.events.now ≡ drop c.partition_point.result c.args.events.now)
 found c =
-    split_at c.args.time 0 c.loop-i.i c.args.events.now c.index-events-i.result c.requires (omega arith) (λ k m. c.loop-i.invariant k c.index-events-i.result m)
-    (λ m. let is : time_of (get_or c.args.events.now c.loop-i.i c.index-events-i.result) ≡ c.time.result = ap time_of (sym c.index-events-i.is) ∙ sym c.time.ensures in omega arith)
-
-pub returns-then-time-clause-before : goal.returns-then-time-clause-before
-returns-then-time-clause-before c = (found c).0
-
-pub returns-then-time-clause-after : goal.returns-then-time-clause-after
-returns-then-time-clause-after c = (found c).1
+    let d : Event = Set 0 (pos 0) in
+    let parted = IsPartitionedBy-leb time_of _ c.args.time (λ i j e l m. rising_times 0 i j c.args.events.now e c.requires l m) in
+    let point = IsPartitionPoint-from_clause (λ e. leb (time_of e) c.args.time) _ _ c.partition_point.ensures.partitioned parted (λ a r q k. search rules) in
+    split_at c.args.time 0 c.partition_point.result c.args.events.now d c.requires c.partition_point.ensures.bound
+    (λ k l. leb-true _ _ (point.0 k d (omega arith) l))
+    (λ l. let no = point.1 c.partition_point.result d (omega arith) l in grind (arith, nat_tests))
 
 pub returns-clause-before : goal.returns-clause-before
-returns-clause-before c = (split_at c.args.time 0 (length c.args.events.now) c.args.events.now (Set 0 (pos 0)) c.requires (omega arith) (λ k m. c.loop-i.invariant k (Set 0 (pos 0)) (omega arith)) (λ m. absurd (omega arith))).0
+returns-clause-before c = (found c).0
 
 pub returns-clause-after : goal.returns-clause-after
-returns-clause-after c = (split_at c.args.time 0 (length c.args.events.now) c.args.events.now (Set 0 (pos 0)) c.requires (omega arith) (λ k m. c.loop-i.invariant k (Set 0 (pos 0)) (omega arith)) (λ m. absurd (omega arith))).1
+returns-clause-after c = (found c).1

@@ -5,7 +5,8 @@ use Rattle.param_events.specs.declared.events.Event.TheVariants.{Set}
 use Rattle.param_events.specs.Events.{time_of}
 use Rattle.param_events.proofs.Order.{order}
 use Rattle.param_cursor.proofs.Draws.{drawn_joined}
-use Rattle.param_cursor.proofs.Neighbours.{rising_times, if_there, at_place, at_some, last_next}
+use Rattle.param_events.proofs.Order.{rising_times}
+use Rattle.param_cursor.proofs.Neighbours.{if_there, at_place, at_some, last_next}
 use Rattle.param_cursor.specs.Cursors.{StandsAt}
 use Rattle.param_cursor.proofs.Counting.{moved_by}
 use Rattle.param_cursor.proofs.cursor.Cursor.fill.Goals as goal
