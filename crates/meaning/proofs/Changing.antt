@@ -1,5 +1,5 @@
 -- What a change leaves of a world.
-use Rattle.std.proofs.Common.{ℕ, zero, suc, ◌≡◌, ◌<◌, ◌≤◌, ◌+◌, ◌++◌, length, length-append, List, slice_index_or, slice_get, slice_set, map, [], ◌∷◌, Bool, true, false, Some, None, ◌==◌, inl, inr, refl, sym, ◌∙◌, ap, arith, Option, Result, Ok, Err}
+use Rattle.std.proofs.Common.{ℕ, ◌≡◌, ◌≤◌, ◌+◌, ◌++◌, length, length-append, List, slice_index_or, slice_get, slice_set, map, [], ◌∷◌, Bool, true, false, Some, None, ◌==◌, refl, sym, ◌∙◌, ap, arith, Option, Result, Ok, Err}
 use Rattle.std.specs.Prelude.{if◌then◌else◌, OnOk, OnErr}
 use Rattle.std.specs.List.{position}
 use Rattle.std.specs.Result.{result_err}
@@ -10,7 +10,7 @@ use Rattle.wa_base.specs.declared.exceptions.Exc.{Exc}
 use Rattle.wa_base.specs.declared.memory.NoMemory.{NoMemory}
 use Rattle.wa_base.specs.declared.exceptions.Exc.TheVariants.{NotSupported}
 use Rattle.wa_base.specs.declared.features.Feature.TheVariants.{DestinationOutput}
-use Rattle.law_base.specs.Members.{IsIn, AreDistinct}
+use Rattle.law_base.specs.Members.{AreDistinct}
 use Rattle.node_table.specs.Kinds.{is_destination, range_refusal, IsInEntry}
 use Rattle.node_table.specs.Nodes.{creation_refusal, node_of, changed_at, refusal_at}
 use Rattle.node_table.proofs.NodeLists.{second_none}
@@ -34,6 +34,8 @@ use Rattle.meaning.proofs.Valid.{plain_valid, connected_valid, disconnected_vali
 use Rattle.meaning.proofs.Creating.{created_valid, node_kept, node_new, IsNewPlay}
 use Rattle.meaning.proofs.Setting.{KeepsNode, set_valid, changed_same, node_keeps_attribute}
 use Rattle.meaning.proofs.Sourcing.{new_play_is, new_source_is, source_edited_valid, acquired_keeps}
+use Rattle.meaning.proofs.OneChanged.{written_over}
+use Rattle.meaning.proofs.Automating.{automated_valid}
 use Rattle.meaning.proofs.Buffering.{buffers_edited_valid, buffers_stay}
 
 -- the nodes stay, and so does what was there before a new one
@@ -96,7 +98,7 @@ unrefused from w e accepted = by_test (from == 0) accepted
     by_test true is = absurd cc
     by_test false is = is
 
-pub edited_grows : (w : World) (now : ℕ) (e : Edit) → IsNamed w e → refusal w e ≡ None → IsValid w → Grows now w (edited w now e)
+pub edited_grows : (w : World) (now : ℕ) (e : Edit) → IsNamed w e → refusal w now e ≡ None → IsValid w → Grows now w (edited w now e)
 edited_grows w now (edit.Create kind) named accepted valid = grows_created w kind (new_play (length w.nodes) kind) (new_play_is w kind) now named.0 named.1 accepted
 edited_grows w now (edit.CreateBufferSource rate buffer points) named accepted valid =
     grows_created w (Buffer rate) (Some (new_source (length w.nodes) rate buffer points)) (new_source_is w rate buffer points named) now refl tt
@@ -105,6 +107,7 @@ edited_grows w now (edit.Connect edge) named accepted valid =
     grows_still now w _ (λ v. connected_valid w edge v named.0 named.1 (unrefused edge.from.0 w edge accepted)) refl (omega arith) refl
 edited_grows w now (edit.Disconnect from form) named accepted valid = grows_still now w _ (λ v. disconnected_valid w from.0 form v) refl (omega arith) refl
 edited_grows w now (edit.Source node e) named accepted valid = grows_still now w _ (λ v. source_edited_valid w now node.0 e named accepted v) refl (acquired_keeps w.store e (find_play w.scheds.items node.0)).long refl
+edited_grows w now (edit.Param id e) named accepted valid = grows_still now w _ (λ v. automated_valid w now id e accepted v) refl (omega arith) refl
 edited_grows w now (edit.Attribute node e) named accepted valid = grows_set w node.0 now (attribute_refusal e) (attribute_set e) (node_keeps_attribute e) accepted
 edited_grows w now (edit.Buffers e) named accepted valid = grows_still now w _ (λ v. buffers_edited_valid w e named accepted v) refl (buffers_stay w.store e) refl
 
@@ -113,49 +116,14 @@ changed_grows w change valid accepts = edited_grows w change.time change.edit ac
 
 -- ---- the schedule of one source
 
--- no other schedule changes
-others_stay : (node : ℕ) (change : Play → Play) (plays : List Play) → (IsIn node (map (λ (p : Play). p.id.0) plays) → ⊥) → map (changed_play node change) plays ≡ plays
-others_stay node change [] none = refl
-others_stay node change (p ∷ ps) none =
-    let other : (p.id.0 == node) ≡ false = by_test (p.id.0 == node) refl in
-    let rest = others_stay node change ps (λ h. none (inr h)) in
-    cc
-  where
-    by_test : (b : Bool) → (p.id.0 == node) ≡ b → b ≡ false
-    by_test true is = absurd (none (inl (grind (arith, nat_tests))))
-    by_test false is = refl
-
--- the source at a place is one of the sources
-later : (plays : List Play) (place : ℕ) (d : Play) → place < length plays → (i : ℕ) → (slice_index_or plays place d).id.0 ≡ i → IsIn i (map (λ (p : Play). p.id.0) plays)
-later [] place d below i is = absurd (omega arith)
-later (p ∷ ps) zero d below i is = inl (sym is)
-later (p ∷ ps) (suc place) d below i is = inr (later ps place d (omega arith) i is)
-
--- where the sources are distinct, the first schedule of a node is written over, and no other
-pub written_over : (node : ℕ) (change : Play → Play) (plays : List Play) (place : ℕ) (d : Play) → place < length plays → (slice_index_or plays place d).id.0 ≡ node
-    → AreDistinct (map (λ (p : Play). p.id.0) plays) → map (changed_play node change) plays ≡ slice_set plays place (change (slice_index_or plays place d))
-written_over node change [] place d below is once = absurd (omega arith)
-written_over node change (p ∷ ps) zero d below is once =
-    let same : (p.id.0 == node) ≡ true = grind (arith, nat_tests) in
-    let rest = others_stay node change ps (λ h. once.0 (rw is h)) in
-    cc
-written_over node change (p ∷ ps) (suc place) d below is once =
-    let other : (p.id.0 == node) ≡ false = by_test (p.id.0 == node) refl in
-    let rest = written_over node change ps place d (omega arith) is once.1 in
-    cc
-  where
-    by_test : (b : Bool) → (p.id.0 == node) ≡ b → b ≡ false
-    by_test true same = absurd (once.0 (later ps place d (omega arith) p.id.0 (is ∙ sym (grind (arith, nat_tests)))))
-    by_test false same = refl
-
 -- the schedule that is found, changed and written over
 pub rescheduled_is : (w : World) (node place : ℕ) (play new : Play) (change : Play → Play) → AreDistinct (play_nodes w) → position (λ (p : Play). p.id.0 == node) w.scheds.items ≡ Some place
     → slice_get w.scheds.items place ≡ Some play → new ≡ change play → slice_set w.scheds.items place new ≡ map (changed_play node change) w.scheds.items
 rescheduled_is w node place play new change once found there is =
     let at : slice_index_or w.scheds.items place play ≡ play = get_or_from_slice_get w.scheds.items place play play there in
     let first = position-Some (λ (p : Play). p.id.0 == node) w.scheds.items place play found in
-    let same : (slice_index_or w.scheds.items place play).id.0 ≡ node = let test = first.1 in grind (arith, nat_tests) in
-    ap (λ p. slice_set w.scheds.items place p) (is ∙ ap change (sym at)) ∙ sym (written_over node change w.scheds.items place play first.0 same once)
+    ap (λ p. slice_set w.scheds.items place p) (is ∙ ap change (sym at))
+    ∙ sym (written_over (λ (p : Play). p.id.0 == node) change (λ (p : Play). p.id.0) node (λ p h. let same : p.id.0 ≡ node = grind (arith, nat_tests) in same) w.scheds.items place play once first.0 first.1)
 
 -- a call that is not refused is done
 pub not_refused : {X : Type 0} (r : Result (Unit {0}) Exc) → result_err r ≡ None → OnOk r X → X

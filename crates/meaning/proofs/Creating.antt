@@ -1,6 +1,7 @@
 -- A world stays valid when a node is created.
 use Rattle.std.proofs.Common.{ℕ, ◌≡◌, ◌+◌, ◌<◌, length, List, [], ◌∷◌, ◌++◌, map, slice_index_or, ℤ, true, false, Option, Some, None, inl, inr, refl, sym, ◌∙◌, ap, arith, subst, length-append}
 use Rattle.std.specs.Prelude.{◌↔◌, IsSome, is_some}
+use Rattle.std.specs.List.Sorted.{IsStrictlyIncreasing}
 use Rattle.std.proofs.lemmas.Bool.{cases_lt}
 use Rattle.std.proofs.lemmas.List.{append-nil, get_or_append_left, length-map, map-append}
 use Rattle.std.proofs.Math.Seq.{get_or-append_seam}
@@ -21,8 +22,10 @@ use Rattle.meaning.specs.declared.world.World.{World}
 use Rattle.meaning.specs.declared.params.Param.{Param}
 use Rattle.meaning.specs.declared.scheds.Play.{Play}
 use Rattle.meaning.specs.World.{no_node, is_source, param_id}
-use Rattle.meaning.specs.Validity.{IsValid, IsPlayOf, HasNodes, HasParams, HasScheds, ports_of, param_ids, play_nodes}
+use Rattle.meaning.specs.Validity.{IsValid, IsPlayOf, HasNodes, HasParams, HasScheds, ports_of, param_ids, param_nodes, play_nodes}
 use Rattle.meaning.specs.Changes.{param_of, new_params, plays_of, created}
+use Rattle.meaning.proofs.FirstItems.{node}
+use Rattle.meaning.proofs.ParamOrder.{rising_more, node_low}
 
 -- a node that was there, and the new one
 pub node_kept : (nodes : List Node) (n : Node) (i : ℕ) → i < length nodes → slice_index_or (nodes ++ n ∷ []) i no_node ≡ slice_index_or nodes i no_node
@@ -101,9 +104,9 @@ new_line node None x is = absurd is
 new_line node (Some p) x (inl same) = subst (λ (y : Param). IsTimeline y.line.events) (sym same) (record { begun = tt; ordered = tt })
 new_line node (Some p) x (inr none) = absurd none
 
-ids_once : (node : ℕ) (ids : List ParamId) (p : Option (ParamName × ℤ)) → AreDistinct ids → ((id : ParamId) → IsIn id ids → id.node.0 < node) → AreDistinct (ids ++ new_ids node p)
-ids_once node ids None once low = rw (append-nil ids) once
-ids_once node ids (Some (name, value)) once low = distinct_more ids (param_id node name) once (λ h. let l = low (param_id node name) h in absurd (omega arith))
+nodes_in_order : (count : ℕ) (nodes : List ℕ) (p : Option (ParamName × ℤ)) → IsStrictlyIncreasing nodes → ((i : ℕ) → IsIn i nodes → i < count) → IsStrictlyIncreasing (nodes ++ map node (new_params count p))
+nodes_in_order count nodes None up low = rw (append-nil nodes) up
+nodes_in_order count nodes (Some (name, value)) up low = rising_more nodes count up low
 
 -- the node of its schedule
 abbrev new_numbers : Option Play → List ℕ
@@ -175,6 +178,9 @@ module _ (w : World) (kind : Kind) (play : Option Play) (new : IsNewPlay w kind 
   ids : param_ids (created w kind play now) ≡ param_ids w ++ new_ids count (param_of kind)
   ids = map-append (λ (x : Param). x.id) w.params.items (new_params count (param_of kind))
 
+  nodes : param_nodes (created w kind play now) ≡ param_nodes w ++ map node (new_params count (param_of kind))
+  nodes = map-append node w.params.items (new_params count (param_of kind))
+
   created_each : (i : ℕ) (name : ParamName) → Place w.nodes i → IsIn (param_id i name) (param_ids w ++ new_ids count (param_of kind)) ↔ IsSome (param_base (slice_index_or more i no_node).kind name)
   created_each i name (there l) =
       rw (kept i l) (
@@ -200,7 +206,7 @@ module _ (w : World) (kind : Kind) (play : Option Play) (new : IsNewPlay w kind 
       | inl k ↦ let l = valid.params.there id k in omega (arith, long)
       | inr k ↦ let e = new_id_node count (param_of kind) id k in omega (arith, long)
     ];
-    once = rw ids (ids_once count (param_ids w) (param_of kind) valid.params.once valid.params.there);
+    order = rw nodes (nodes_in_order count (param_nodes w) (param_of kind) valid.params.order (λ i h. node_low w.params.items count i valid.params.there h));
     lines = λ p is. elim (IsIn-append w.params.items _ p is) [ inl k ↦ valid.params.lines p k | inr k ↦ new_line count (param_of kind) p k ];
     targets = λ e id is leads. rw ids (IsIn-append_first _ _ _ (valid.params.targets e id is leads));
   }

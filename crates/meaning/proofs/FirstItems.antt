@@ -1,8 +1,10 @@
 -- Where items have keys of their own, one that has a key is the first that has it.
 use Rattle.std.proofs.Common.{ℕ, zero, suc, ◌≡◌, ◌+◌, ◌<◌, length, List, [], ◌∷◌, map, slice_index_or, Bool, true, false, cond, not, None, Some, inl, inr, refl, sym, ◌∙◌, ap, ap₂, arith, subst}
 use Rattle.std.specs.Prelude.{◌==◌, nat_lt, slice_get, unwrap_or}
-use Rattle.std.specs.List.{position, position_or_len}
+use Rattle.std.specs.List.{AllPairs, position, position_or_len}
+use Rattle.std.specs.List.Sorted.{IsStrictlyIncreasing}
 use Rattle.std.proofs.lemmas.Bool.Decides.{nat_tests}
+use Rattle.std.proofs.lemmas.List.Kept.{AllPairs-from_increasing}
 use Rattle.wa_base.specs.declared.graph_names.ParamId.{ParamId}
 use Rattle.wa_base.specs.declared.graph_names.ParamName.{ParamName}
 use Rattle.law_base.specs.Members.{IsIn, AreDistinct}
@@ -12,7 +14,7 @@ use Rattle.meaning.specs.declared.params.Param.{Param}
 use Rattle.meaning.specs.declared.scheds.Play.{Play}
 use Rattle.meaning.specs.declared.world.World.{World}
 use Rattle.meaning.specs.World.{param_id}
-use Rattle.meaning.specs.Validity.{IsValid}
+use Rattle.meaning.specs.Validity.{IsValid, param_ids}
 
 module _ {X K : Type 0} (key : X → K) (test : X → Bool) (k : K) (means : (x : X) → test x ≡ true → key x ≡ k) where
   key_in : (xs : List X) (i : ℕ) (d : X) → i < length xs → IsIn (key (slice_index_or xs i d)) (map key xs)
@@ -37,22 +39,61 @@ module _ {X K : Type 0} (key : X → K) (test : X → Bool) (k : K) (means : (x 
 same_name_is : (a b : ParamName) → same_name a b ≡ true → a ≡ b
 same_name_is a b h = grind arith
 
-same_param_is : (a b : ParamId) → same_param a b ≡ true → a ≡ b
+pub same_param_is : (a b : ParamId) → same_param a b ≡ true → a ≡ b
 same_param_is a b h =
     let parts = and_parts (a.node.0 == b.node.0) (same_name a.name b.name) h in
     let number : a.node.0 ≡ b.node.0 = let t : (a.node.0 == b.node.0) ≡ true = parts.0 in grind (arith, nat_tests) in
     let name : a.name ≡ b.name = same_name_is a.name b.name parts.1 in
     ap₂ param_id number name
 
+-- ---- parameters in order of their nodes
+
+-- the node of a parameter
+abbrev pub node : Param → ℕ
+node p = p.id.node.0
+
+abbrev pub AreInOrder : List Param → Type 0
+AreInOrder params = IsStrictlyIncreasing (map node params)
+
+later_nodes : (params : List Param) (n : ℕ) → ((j d : ℕ) → j < length (map node params) → n < slice_index_or (map node params) j d) → (id : ParamId) → IsIn id (map (λ (p : Param). p.id) params) → n < id.node.0
+later_nodes [] n above id is = absurd is
+later_nodes (p ∷ ps) n above id (inl same) = let l = above 0 0 (omega arith) in subst (λ (i : ParamId). n < i.node.0) (sym same) l
+later_nodes (p ∷ ps) n above id (inr is) = later_nodes ps n (λ j d l. above (suc j) d (omega arith)) id is
+
+apart : (params : List Param) → AllPairs (λ a b. a < b) (map node params) → AreDistinct (map (λ (p : Param). p.id) params)
+apart [] up = tt
+apart (p ∷ ps) up = (
+  (λ h. let l : node p < node p = later_nodes ps (node p) (λ j d m. up 0 (suc j) d (omega arith) (omega arith)) p.id h in absurd (omega arith)),
+  apart ps (λ i j d l m. up (suc i) (suc j) d (omega arith) (omega arith)),
+)
+
+pub distinct_from_order : (params : List Param) → AreInOrder params → AreDistinct (map (λ (p : Param). p.id) params)
+distinct_from_order params order = apart params (AllPairs-from_increasing (map node params) order)
+
+-- no parameter of a world stands twice
+pub params_once : (w : World) → IsValid w → AreDistinct (param_ids w)
+params_once w valid = distinct_from_order w.params.items valid.params.order
+
+-- a parameter that is there is found
+pub found_there : (params : List Param) (id : ParamId) (i : ℕ) (d : Param) → AreInOrder params → i < length params → same_param (slice_index_or params i d).id id ≡ true
+    → position (λ (p : Param). same_param p.id id) params ≡ Some i
+found_there params id i d order l t = position_is (λ (p : Param). p.id) (λ p. same_param p.id id) id (λ p h. same_param_is p.id id h) params i d (distinct_from_order params order) l t
+
 pub param_position : (w : World) → IsValid w → (id : ParamId) (i : ℕ) (d : Param) → i < length w.params.items → same_param (slice_index_or w.params.items i d).id id ≡ true
     → position (λ (p : Param). same_param p.id id) w.params.items ≡ Some i
-param_position w valid id i d l t = position_is (λ (p : Param). p.id) (λ p. same_param p.id id) id (λ p h. same_param_is p.id id h) w.params.items i d valid.params.once l t
+param_position w valid id i d l t = found_there w.params.items id i d valid.params.order l t
 
 pub play_position : (w : World) → IsValid w → (node i : ℕ) (d : Play) → i < length w.scheds.items → ((slice_index_or w.scheds.items i d).id.0 == node) ≡ true
     → position (λ (p : Play). p.id.0 == node) w.scheds.items ≡ Some i
 play_position w valid node i d l t = position_is (λ (p : Play). p.id.0) (λ p. p.id.0 == node) node (λ p h. let same : p.id.0 ≡ node = grind (arith, nat_tests) in same) w.scheds.items i d valid.scheds.once l t
 
--- an item at a place is in the list
+-- an item of the list is at a place
+pub at_place : {X : Type 0} (xs : List X) (x : X) → IsIn x xs → (i : ℕ) × (i < length xs) × (slice_get xs i ≡ Some x)
+at_place [] x is = absurd is
+at_place (y ∷ ys) x (inl same) = (0, omega arith, ap Some (sym same))
+at_place (y ∷ ys) x (inr is) = let k = at_place ys x is in (suc k.0, let l = k.1 in omega arith, k.2)
+
+-- and an item at a place is in the list
 pub found_is_in : {X : Type 0} (xs : List X) (i : ℕ) (x : X) → slice_get xs i ≡ Some x → IsIn x xs
 found_is_in [] i x is = absurd cc
 found_is_in (y ∷ xs) zero x is = inl (let found : Some y ≡ Some x = is in sym (ap (λ o. unwrap_or o x) found))

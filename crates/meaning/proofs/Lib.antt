@@ -13,8 +13,11 @@ pub mod Valid
 pub mod Creating
 pub mod Setting
 pub mod FirstItems
+pub mod ParamOrder
+pub mod OneChanged
 pub mod Sourcing
 pub mod Buffering
+pub mod Automating
 pub mod Loops
 pub mod Changing
 pub mod Rows

@@ -71,7 +71,7 @@ set_valid w node refusal change keeps fine valid = record {
   params = record {
     each = λ i name below. subst (λ (k : Kind). IsIn (param_id i name) (param_ids w) ↔ IsSome (param_base k name)) (sym (kinds i)) (valid.params.each i name (rw same at below));
     there = λ id is. rw same (valid.params.there id is);
-    once = valid.params.once;
+    order = valid.params.order;
     lines = valid.params.lines;
     targets = valid.params.targets;
   };

@@ -1,5 +1,5 @@
 -- Worlds stay valid, whatever becomes of sources and buffers.
-use Rattle.std.proofs.Common.{ℕ, zero, suc, ◌≡◌, ◌<◌, ◌≤◌, ◌==◌, length, List, [], ◌∷◌, ◌++◌, Bool, true, false, Option, Some, None, inl, inr, refl, sym, ◌∙◌, ap, subst, arith}
+use Rattle.std.proofs.Common.{ℕ, zero, suc, ◌≡◌, ◌<◌, ◌≤◌, ◌==◌, length, List, [], ◌∷◌, ◌++◌, Bool, true, false, Option, Some, None, refl, sym, ◌∙◌, ap, subst, arith}
 use Rattle.std.specs.Prelude.{if◌then◌else◌, ◌&&◌, unsigned_abs, slice_get, slice_index_or, is_some, unwrap_or, option_and_then, option_map, IsSome}
 use Rattle.std.specs.Option.{option_map_or}
 use Rattle.std.proofs.lemmas.Bool.Decides.{nat_tests}
@@ -28,7 +28,7 @@ use Rattle.meaning.specs.Validity.{IsValid, IsPlayOf, IsConstantPlay, IsBufferPl
 use Rattle.meaning.specs.Plays.{new_source, play_edited, frozen_in, acquires, acquired, with_part}
 use Rattle.meaning.specs.Sources.{with_store, source_edited, source_refusal, IsBufferOf, IsNamedBy}
 use Rattle.meaning.specs.Changes.{new_play}
-use Rattle.meaning.proofs.FirstItems.{play_position, found_is_in}
+use Rattle.meaning.proofs.FirstItems.{play_position, found_is_in, at_place}
 use Rattle.meaning.proofs.Valid.{valid_of, with_play_valid}
 use Rattle.meaning.proofs.Creating.{IsNewPlay, IsOwn}
 
@@ -160,11 +160,6 @@ acquires_there store (edit.SetLoop part) p b there is = absurd cc
 -- ---- an edit of a source
 
 -- the first source of a node is its only one
-at_place : (plays : List Play) (p : Play) → IsIn p plays → (i : ℕ) × (i < length plays) × (slice_get plays i ≡ Some p)
-at_place [] p is = absurd is
-at_place (q ∷ qs) p (inl same) = (0, omega arith, ap Some (sym same))
-at_place (q ∷ qs) p (inr is) = let k = at_place qs p is in (suc k.0, let l = k.1 in omega arith, k.2)
-
 found_in : (w : World) → IsValid w → (p : Play) → IsIn p w.scheds.items → find_play w.scheds.items p.id.0 ≡ Some p
 found_in w valid p is =
     let k = at_place w.scheds.items p is in

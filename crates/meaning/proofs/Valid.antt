@@ -38,7 +38,7 @@ valid_of w w' spec nodes graph params plays kinds store valid = record {
   params = record {
     each = λ i name below. rw (nodes, params) (valid.params.each i name (rw nodes at below));
     there = λ id is. rw nodes (valid.params.there id (rw params at is));
-    once = rw params valid.params.once;
+    order = rw params valid.params.order;
     lines = λ p is. valid.params.lines p (rw params at is);
     targets = λ e id is to. rw params (valid.params.targets e id (rw graph at is) to);
   };
@@ -96,7 +96,7 @@ with_graph_valid w g valid graph nodes targets = record {
   nodes = record { some = valid.nodes.some; few = valid.nodes.few; first = valid.nodes.first; others = valid.nodes.others };
   graph = graph;
   ports = nodes ∙ valid.ports;
-  params = record { each = valid.params.each; there = valid.params.there; once = valid.params.once; lines = valid.params.lines; targets = targets };
+  params = record { each = valid.params.each; there = valid.params.there; order = valid.params.order; lines = valid.params.lines; targets = targets };
   scheds = record { each = valid.scheds.each; once = valid.scheds.once; kinds = valid.scheds.kinds };
   store = valid.store;
 }

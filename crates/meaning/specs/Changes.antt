@@ -24,6 +24,7 @@ use Rattle.meaning.specs.declared.change.Edit.TheVariants as edit
 use Rattle.meaning.specs.declared.world.World.{World}
 use Rattle.meaning.specs.declared.params.Param.{Param}
 use Rattle.meaning.specs.declared.scheds.Play.{Play}
+use Rattle.meaning.specs.Automation.{automated, automation_refusal}
 use Rattle.meaning.specs.Lists.{listed}
 use Rattle.meaning.specs.Plays.{new_source}
 use Rattle.meaning.specs.Sources.{with_store, source_edited, buffers_edited, makes_buffer, source_refusal, source_creation_refusal, buffers_refusal, IsBufferOf, IsNamedBy, IsEditOf}
@@ -89,6 +90,7 @@ edited w now (edit.CreateBufferSource rate buffer points) = created w (Buffer ra
 edited w now (edit.Connect edge) = with_graph w (connected w.graph.value edge)
 edited w now (edit.Disconnect from form) = with_graph w (disconnected w.graph.value from.0 form)
 edited w now (edit.Source node e) = source_edited w now node.0 e
+edited w now (edit.Param id e) = automated w now id e
 edited w now (edit.Attribute node e) = with_nodes w (changed_at node.0 (attribute_set e) w.nodes)
 edited w now (edit.Buffers e) = with_store w (buffers_edited w.store e)
 
@@ -99,6 +101,7 @@ creates (edit.CreateBufferSource rate buffer points) = true
 creates (edit.Connect edge) = false
 creates (edit.Disconnect from form) = false
 creates (edit.Source node e) = false
+creates (edit.Param id e) = false
 creates (edit.Attribute node e) = false
 creates (edit.Buffers e) = makes_buffer e
 
@@ -117,14 +120,16 @@ attribute_refusal (attribute.Count count) = count_refusal count
 attribute_refusal (attribute.Mode mode) = mode_refusal mode
 attribute_refusal (attribute.Interp interp) = interp_refusal interp
 
-abbrev pub refusal : World → Edit → Option Exc
-refusal w (edit.Create kind) = creation_refusal w.nodes kind
-refusal w (edit.CreateBufferSource rate buffer points) = source_creation_refusal w rate buffer
-refusal w (edit.Connect edge) = output_refusal edge.from.0 (connect_refusal w.graph.value edge)
-refusal w (edit.Disconnect from form) = output_refusal from.0 (disconnect_refusal w.graph.value from.0 form)
-refusal w (edit.Source node e) = source_refusal w e (find_play w.scheds.items node.0)
-refusal w (edit.Attribute node e) = refusal_at w.nodes node.0 (attribute_refusal e)
-refusal w (edit.Buffers e) = buffers_refusal w.store e
+-- why an edit is refused at a time
+abbrev pub refusal : World → ℕ → Edit → Option Exc
+refusal w now (edit.Create kind) = creation_refusal w.nodes kind
+refusal w now (edit.CreateBufferSource rate buffer points) = source_creation_refusal w rate buffer
+refusal w now (edit.Connect edge) = output_refusal edge.from.0 (connect_refusal w.graph.value edge)
+refusal w now (edit.Disconnect from form) = output_refusal from.0 (disconnect_refusal w.graph.value from.0 form)
+refusal w now (edit.Source node e) = source_refusal w e (find_play w.scheds.items node.0)
+refusal w now (edit.Param id e) = automation_refusal w now id e
+refusal w now (edit.Attribute node e) = refusal_at w.nodes node.0 (attribute_refusal e)
+refusal w now (edit.Buffers e) = buffers_refusal w.store e
 
 -- ---- what a world accepts
 
@@ -140,6 +145,7 @@ IsNamed w (edit.CreateBufferSource rate buffer points) = IsBufferOf w.store buff
 IsNamed w (edit.Connect edge) = (edge.from.0 < length w.nodes) × IsTarget w edge.to
 IsNamed w (edit.Disconnect from form) = (from.0 < length w.nodes) × IfSome (form_node form) (λ node. node < length w.nodes)
 IsNamed w (edit.Source node e) = IsNamedBy w.store e
+IsNamed w (edit.Param id e) = IsIn id (param_ids w)
 IsNamed w (edit.Attribute node e) = node.0 < length w.nodes
 IsNamed w (edit.Buffers e) = IsEditOf w.store e
 
@@ -147,7 +153,7 @@ IsNamed w (edit.Buffers e) = IsEditOf w.store e
 pub record Accepts (w : World) (change : Change) : Type 0 where
   pub time : change.time ≤ 2 ^ 62
   pub named : IsNamed w change.edit
-  pub accepted : refusal w change.edit ≡ None
+  pub accepted : refusal w change.time change.edit ≡ None
 
 -- ---- what a change leaves
 

@@ -10,5 +10,6 @@ pub mod Blocks
 pub mod Pasts
 pub mod Plays
 pub mod Sources
+pub mod Automation
 pub mod Changes
 pub mod Laws

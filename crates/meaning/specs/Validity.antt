@@ -1,5 +1,6 @@
 -- What holds of every world of a session.
 use Rattle.std.specs.Prelude.{ℕ, ◌≡◌, ◌↔◌, ◌<◌, ◌≤◌, List, length, map, None, Some, IsSome, IfSome, true}
+use Rattle.std.specs.List.Sorted.{IsStrictlyIncreasing}
 use Rattle.wa_base.specs.Contexts.{IsSupported}
 use Rattle.wa_base.specs.declared.contexts.ContextSpec.{ContextSpec}
 use Rattle.wa_base.specs.declared.graph_names.ParamId.{ParamId}
@@ -44,11 +45,14 @@ ports_of node = record { inputs = inputs node.kind; outputs = outputs node.kind;
 abbrev pub param_ids : World → List ParamId
 param_ids w = map (λ (p : Param). p.id) w.params.items
 
--- each parameter that a node's kind has stands in the list once, and nothing else; and what a connection leads to stands there
+abbrev pub param_nodes : World → List ℕ
+param_nodes w = map (λ (p : Param). p.id.node.0) w.params.items
+
+-- Each parameter that a node's kind has stands in the list, and nothing else. They stand in order of their nodes, of which each has one at most. What a connection leads to stands there.
 pub record HasParams (w : World) : Type 0 where
   pub each : (i : ℕ) (name : ParamName) → i < length w.nodes → IsIn (param_id i name) (param_ids w) ↔ IsSome (param_base (kind_of w i) name)
   pub there : (id : ParamId) → IsIn id (param_ids w) → id.node.0 < length w.nodes
-  pub once : AreDistinct (param_ids w)
+  pub order : IsStrictlyIncreasing (param_nodes w)
   pub lines : (p : Param) → IsIn p w.params.items → IsTimeline p.line.events
   pub targets : (e : Edge) (id : ParamId) → IsIn e w.graph.value.edges → e.to ≡ to_param id → IsIn id (param_ids w)
 

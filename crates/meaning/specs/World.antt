@@ -78,6 +78,10 @@ find_param params id = option_and_then (slice_get params) (position (λ p. same_
 abbrev pub intrinsic_value : World → ParamId → ℕ → ℤ
 intrinsic_value w id frame = option_map_or (λ p. value_at p.line.base p.line.events frame) (find_param w.params.items id) (pos 0)
 
+-- the current value slot, which a script reads as the parameter's `value`
+abbrev pub slot_of : World → ParamId → ℤ
+slot_of w id = option_map_or (λ p. p.line.slot) (find_param w.params.items id) (pos 0)
+
 abbrev pub is_k : Rate → Bool
 is_k A = false
 is_k K = true

@@ -7,13 +7,14 @@ ghost use Rattle.meaning.specs.Changes as changes;
 ghost use Rattle.meaning.specs.Validity.{IsValid};
 ghost use Rattle.meaning.specs.World.{plain};
 
+use crate::automation::ParamEdit;
 use crate::buffers::BufferEdit;
 use crate::sources::SourceEdit;
 use crate::world::World;
 use conn_graph::{Edge, Form};
 use node_table::Kind;
 use sched_source::Loop;
-use wa_base::{BufId, Exc, Feature, Interp, Mode, NoMemory, NodeId};
+use wa_base::{BufId, Exc, Feature, Interp, Mode, NoMemory, NodeId, ParamId};
 
 /// What a control call edits in a world. It names nodes by their numbers.
 #[derive(Debug, Drop)]
@@ -42,6 +43,11 @@ pub enum Edit {
     Source {
         node: NodeId,
         edit: SourceEdit,
+    },
+    /// A parameter is edited.
+    Param {
+        id: ParamId,
+        edit: ParamEdit,
     },
     /// An attribute of a node is set.
     Attribute {
@@ -73,11 +79,13 @@ pub struct Change {
 }
 
 impl World {
-    /// The exception with which an edit is refused, if it is. Nothing is changed.
-    pub fn refusal(&self, edit: &Edit) -> Option<Exc>
+    /// The exception with which an edit is refused at a time of the context, in frames, if it is. Nothing
+    /// is changed.
+    pub fn refusal(&self, now: u64, edit: &Edit) -> Option<Exc>
         requires valid { IsValid self.now }
+        requires time { now ≤ 2 ^ 62 }
         requires named { changes.IsNamed (plain self.now) edit.now }
-        ensures { result ≡ changes.refusal (plain self.now) edit.now }
+        ensures { result ≡ changes.refusal (plain self.now) now edit.now }
     {
         match edit {
             Edit::Create { kind } => self.nodes.creation_refusal(kind),
@@ -87,6 +95,7 @@ impl World {
             Edit::Connect { edge } => self.connect_refusal(*edge),
             Edit::Disconnect { from, form } => self.disconnect_refusal(*from, *form),
             Edit::Source { node, edit } => self.source_refusal(*node, *edit),
+            Edit::Param { id, edit } => self.automation_refusal(now, *id, edit),
             Edit::Attribute { node, edit } => self.attribute_refusal(*node, *edit),
             Edit::Buffers { edit } => self.buffers_refusal(edit),
         }
@@ -108,7 +117,7 @@ impl World {
         requires valid { IsValid self.old }
         requires time { now ≤ 2 ^ 62 }
         requires named { changes.IsNamed (plain self.old) edit }
-        requires accepted { changes.refusal (plain self.old) edit ≡ None }
+        requires accepted { changes.refusal (plain self.old) now edit ≡ None }
         ensures ok { OnOk result (plain self.new ≡ changes.edited (plain self.old) now edit) }
         ensures err { OnErr result (plain self.new ≡ plain self.old) }
     {
@@ -128,6 +137,7 @@ impl World {
                 self.edit_source(now, node, edit);
                 Ok(())
             }
+            Edit::Param { id, edit } => self.edit_param(now, id, edit),
             Edit::Attribute { node, edit } => done(self.set_attribute(node, edit)),
             Edit::Buffers { edit } => self.edit_buffers(edit),
         }

@@ -5,6 +5,7 @@
 ghost use Rattle.meaning.specs.Laws.{RecursionLaw, HeightLaw, FixpointLaw, RangeLaw, OrderLaw, BlockLaw, PastLaw};
 ghost use Rattle.meaning.specs.Changes.{ChangeLaw};
 
+mod automation;
 mod buffers;
 mod change;
 mod growth;
@@ -14,6 +15,7 @@ mod scheds;
 mod sources;
 mod world;
 
+pub use automation::ParamEdit;
 pub use buffers::BufferEdit;
 pub use change::{AttributeEdit, Change, Edit};
 pub use conn_graph::muting_law;

@@ -1,6 +1,8 @@
-ghost use Rattle.std.specs.Prelude.{◌≡◌, Some, IfOk, option_and_then, slice_get};
-ghost use Rattle.conn_graph.specs.Edges.{same_param};
+ghost use Rattle.std.specs.Prelude.{◌≡◌, map, Some, IfOk, option_and_then, slice_get};
 ghost use Rattle.std.specs.List.{position};
+ghost use Rattle.std.specs.List.Sorted.{IsStrictlyIncreasing};
+ghost use Rattle.conn_graph.specs.Edges.{same_param};
+ghost use Rattle.meaning.specs.Automation.{slot_set};
 ghost use Rattle.meaning.specs.World.{find_param};
 ghost use Rattle.meaning.specs.declared.params.Param.{Param as parameter};
 
@@ -21,6 +23,20 @@ pub struct Param {
 pub type Params = Listed<Param>;
 
 impl Param {
+    // Whether it is the parameter with an identity.
+    fn has_id(&self, id: ParamId) -> bool
+        ensures { result ≡ same_param self.now.id id }
+    {
+        self.id.node.0 == id.node.0 && self.id.name == id.name
+    }
+
+    // Sets the current value slot to the intrinsic value at a frame.
+    fn set_slot(&mut self, first: u64)
+        ensures { self.new ≡ slot_set first self.old }
+    {
+        self.line.mark(self.line.value_at(first));
+    }
+
     // An equal parameter with memory of its own.
     fn copy(&self) -> Result<Param, NoMemory>
         ensures { IfOk result (λ copy. copy ≡ self.now) }
@@ -34,12 +50,23 @@ impl Param {
 }
 
 impl Listed<Param> {
-    /// The place of a parameter. A list that lacks it has none.
+    /// The place of a parameter, by a search that halves the list at each step. A list that lacks it has
+    /// none.
     pub fn find(&self, id: ParamId) -> Option<usize>
+        requires { IsStrictlyIncreasing (map (λ (p : parameter). p.id.node.0) self.now.items) }
         ensures place { result ≡ position (λ (p : parameter). same_param p.id id) self.now.items }
         ensures item { option_and_then (slice_get self.now.items) result ≡ find_param self.now.items id }
     {
         place_of(self.as_slice(), id)
+    }
+
+    // Sets the current value slot of each parameter to its intrinsic value at a frame.
+    pub(crate) fn set_slots(&mut self, first: u64)
+        ensures { self.new.items ≡ map (slot_set first) self.old.items }
+    {
+        for place in 0..self.len() {
+            self.at_mut(place).set_slot(first);
+        }
     }
 
     /// A list of equal parameters, with memory of its own.
@@ -50,13 +77,17 @@ impl Listed<Param> {
     }
 }
 
-// The place of the first parameter with an identity.
+// The place of a parameter, where they stand in order of their nodes.
 fn place_of(params: &[Param], id: ParamId) -> Option<usize>
+    requires { IsStrictlyIncreasing (map (λ (p : parameter). p.id.node.0) params.now) }
     ensures { result ≡ position (λ (p : parameter). same_param p.id id) params.now }
 {
-    params
-        .iter()
-        .position(|p| p.id.node.0 == id.node.0 && p.id.name == id.name)
+    let place = params.partition_point(|p| p.id.node.0 < id.node.0);
+    if place < params.len() && params[place].has_id(id) {
+        Some(place)
+    } else {
+        None
+    }
 }
 
 // Equal parameters, in order.
