@@ -1,0 +1,44 @@
+-- The values of a parameter in a quantum of 128 frames.
+use Rattle.std.specs.Prelude.{ℕ, ◌+◌, ◌≡◌, ◌<◌, ℤ, pos, Bool, true, List, [], length, slice_index_or, if◌then◌else◌}
+use Rattle.wa_base.specs.declared.graph_names.Rate.{Rate}
+use Rattle.wa_base.specs.declared.graph_names.Rate.TheVariants.{A, K}
+use Rattle.param_events.specs.Values.{value_at}
+use Rattle.meaning.specs.declared.params.Param.{Param}
+use Rattle.law_base.specs.Members.{IsIn}
+
+-- What contracts see of a level: the automation rate, and one value for each frame, or one for all.
+pub record LevelView : Type 0 where
+  pub rate : Rate
+  pub steady : Bool
+  pub values : List ℤ
+
+-- the value at frame m of the quantum
+abbrev pub level_at : LevelView → ℕ → ℤ
+level_at level m = slice_index_or level.values (if level.steady then 0 else m) (pos 0)
+
+-- there is room for one value for each frame
+abbrev pub HasRoom : LevelView → Type 0
+HasRoom level = length level.values ≡ 128
+
+-- the frame at which the value of frame m is taken: at k-rate it is the first of the quantum
+abbrev pub taken_at : Rate → ℕ → ℕ
+taken_at A m = m
+taken_at K m = 0
+
+-- the level of a parameter in the quantum that begins at a frame: its intrinsic value at each frame
+pub record IsLevelOf (param : Param) (first : ℕ) (level : LevelView) : Type 0 where
+  pub room : HasRoom level
+  pub rate : level.rate ≡ param.rate
+  pub values : (m : ℕ) → m < 128 → level_at level m ≡ value_at param.line.base param.line.events (first + taken_at param.rate m)
+
+-- stands where there is no level
+abbrev pub no_level : LevelView
+no_level = record { rate = A; steady = true; values = [] }
+
+-- the level of the parameter of a node
+abbrev pub level_of : List LevelView → ℕ → LevelView
+level_of levels node = slice_index_or levels node no_level
+
+-- each parameter has its level, at the place of its node
+abbrev pub AreLevels : List Param → ℕ → List LevelView → Type 0
+AreLevels params first levels = (p : Param) → IsIn p params → IsLevelOf p first (level_of levels p.id.node.0)

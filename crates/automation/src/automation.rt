@@ -1,0 +1,145 @@
+ghost use Rattle.std.specs.Prelude.{◌≡◌, ◌<◌, ◌≤◌, ◌+◌, ◌^◌, ℕ, length, slice_index_or, OnOk};
+ghost use Rattle.std.specs.List.{sum_by};
+ghost use Rattle.law_base.specs.Members.{IsIn};
+ghost use Rattle.meaning.specs.declared.params.Param.{Param as a_param};
+ghost use Rattle.param_cursor.specs.Cursors.{StandsAt};
+ghost use Rattle.automation.specs.Levels.{AreLevels, HasRoom, level_of};
+ghost use Rattle.automation.specs.Ready.{AreOfNodes, IsReady, looks_at};
+
+use crate::level::Level;
+use meaning::Param;
+use param_cursor::Cursor;
+use std::alloc::Global;
+use std::marker::Model;
+use std::sync::ledger::Ledger;
+use wa_base::{NoMemory, NodeId, Steps};
+
+/// The automation of all parameters of a world: for each a place in its timeline, and its level in
+/// the last quantum.
+///
+/// A quantum takes two calls over the same parameters: `prepare`, and `take`. Each node has at most
+/// one parameter of those that can be automated, so a level is named by its node.
+#[derive(Drop)]
+pub struct Automation {
+    alloc: Global,
+    cursors: Vec<Cursor>,
+    levels: Vec<Level>,
+}
+
+impl Model for Automation {
+    ghost use Rattle.automation.specs.Ready.{AutomationView};
+
+    ghost Value = { AutomationView };
+
+    ghost view = { λ s. record { cursors = s.cursors.items; levels = s.levels.items } };
+}
+
+impl Automation {
+    /// Of no parameter. It takes no memory.
+    pub fn new(alloc: Global) -> Automation {
+        Automation {
+            alloc,
+            cursors: Vec::new(alloc),
+            levels: Vec::new(alloc),
+        }
+    }
+
+    /// Takes the memory for parameters of so many nodes, and moves to a frame in each timeline. It
+    /// looks at no more events of a timeline than their number has binary digits.
+    pub fn prepare<L: Ledger>(
+        &mut self,
+        params: &[Param],
+        nodes: usize,
+        first: u64,
+        steps: &mut Steps<L>,
+    ) -> Result<(), NoMemory>
+        requires { AreOfNodes nodes params.now }
+        ensures ready { OnOk result (IsReady params.now first self.new) }
+        ensures cost { (digits : a_param → ℕ) → ((p : a_param) → IsIn p params.now → length p.line.events < 2 ^ digits p) → steps.new ≤ steps.old + sum_by digits params.now }
+    {
+        self.cursors.resize(params.len(), Cursor::new())?;
+        extend(self.alloc, &mut self.levels, nodes)?;
+        make_room(self.levels.as_mut_slice(), params)?;
+        seek(self.cursors.as_mut_slice(), params, first, steps);
+        Ok(())
+    }
+
+    /// Takes the values of all parameters in the quantum that begins at `first`. It takes no memory,
+    /// and looks at four events of each timeline and those with a time in the quantum at most.
+    pub fn take<L: Ledger>(&mut self, params: &[Param], first: u64, steps: &mut Steps<L>)
+        requires nodes { (nodes : ℕ) × AreOfNodes nodes params.now }
+        requires first { first ≤ 2 ^ 62 }
+        requires ready { IsReady params.now first self.old }
+        ensures levels { AreLevels params.now first self.new.levels }
+        ensures cost { steps.new ≤ steps.old + sum_by (looks_at first) params.now }
+    {
+        take_each(
+            self.levels.as_mut_slice(),
+            self.cursors.as_mut_slice(),
+            params,
+            first,
+            steps,
+        );
+    }
+
+    /// The levels, one for each node. That of a node without a parameter says nothing.
+    pub fn levels(&self) -> &[Level]
+        ensures { result.now ≡ self.now.levels }
+    {
+        self.levels.as_slice()
+    }
+}
+
+// Makes a level for each node.
+fn extend(alloc: Global, levels: &mut Vec<Level>, nodes: usize) -> Result<(), NoMemory>
+    ensures { OnOk result (nodes ≤ length levels.new.items) }
+{
+    for _ in levels.len()..nodes {
+        levels.push(Level::empty(alloc))?;
+    }
+    Ok(())
+}
+
+// Takes the memory for the values of each parameter.
+fn make_room(levels: &mut [Level], params: &[Param]) -> Result<(), NoMemory>
+    requires { AreOfNodes (length levels.old) params.now }
+    ensures length { length levels.new ≡ length levels.old }
+    ensures room { OnOk result ((p : a_param) → IsIn p params.now → HasRoom (level_of levels.new p.id.node.0)) }
+{
+    for param in params {
+        levels[param.id.node.0 as usize].reserve()?;
+    }
+    Ok(())
+}
+
+// Moves each cursor to a frame in the timeline of its parameter.
+fn seek<L: Ledger>(cursors: &mut [Cursor], params: &[Param], first: u64, steps: &mut Steps<L>)
+    requires { length cursors.old ≡ length params.now }
+    ensures length { length cursors.new ≡ length cursors.old }
+    ensures stands { (i : ℕ) (p : a_param) → i < length params.now → StandsAt (slice_index_or cursors.new i 0) (slice_index_or params.now i p).line.events first }
+    ensures cost { (digits : a_param → ℕ) → ((p : a_param) → IsIn p params.now → length p.line.events < 2 ^ digits p) → steps.new ≤ steps.old + sum_by digits params.now }
+{
+    for (i, cursor) in cursors.iter_mut().enumerate() {
+        cursor.reseek(first, &params[i].line, steps);
+    }
+}
+
+// Takes the values of each parameter, one after another.
+fn take_each<L: Ledger>(
+    levels: &mut [Level],
+    cursors: &mut [Cursor],
+    params: &[Param],
+    first: u64,
+    steps: &mut Steps<L>,
+)
+    requires nodes { (nodes : ℕ) × AreOfNodes nodes params.now }
+    requires first { first ≤ 2 ^ 62 }
+    requires ready { IsReady params.now first (record { cursors = cursors.old; levels = levels.old }) }
+    ensures levels { AreLevels params.now first levels.new }
+    ensures cost { steps.new ≤ steps.old + sum_by (looks_at first) params.now }
+{
+    for (i, param) in params.iter().enumerate() {
+        let node = param.id.node.0 as usize;
+        levels[node].take(param, &mut cursors[i], first, steps);
+    }
+}

@@ -1,0 +1,105 @@
+ghost use Rattle.std.specs.Prelude.{◌≡◌, ◌<◌, ◌≤◌, ◌+◌, ◌^◌, ℕ, pos, length, slice_index_or, OnOk};
+ghost use Rattle.param_cursor.specs.Cursors.{StandsAt, within};
+ghost use Rattle.automation.specs.Levels.{HasRoom, IsLevelOf};
+ghost use Rattle.automation.specs.Held.{AreValues};
+
+use meaning::Param;
+use param_cursor::Cursor;
+use std::alloc::Global;
+use std::marker::Model;
+use std::sync::ledger::Ledger;
+use wa_base::{Fix, NoMemory, Rate, Steps};
+
+// The frames of a render quantum.
+const QUANTUM: usize = 128;
+
+/// The intrinsic values of a parameter in a render quantum of 128 frames (paramIntrinsicValue), in
+/// units of 2^-24. At k-rate all have the value of the first frame.
+#[derive(Drop)]
+pub struct Level {
+    rate: Rate,
+    // Whether the first value stands for all frames.
+    steady: bool,
+    values: Vec<Fix>,
+}
+
+/// How a level holds its values: one that it has at all frames, or one for each frame.
+#[derive(Clone, Copy, Debug)]
+pub enum Values<'a> {
+    Steady(Fix),
+    Moving(&'a [Fix]),
+}
+
+impl Model for Level {
+    ghost use Rattle.automation.specs.Levels.{LevelView};
+
+    ghost Value = { LevelView };
+
+    ghost view = { λ s. record { rate = s.rate; steady = s.steady; values = s.values.items } };
+}
+
+impl Level {
+    // Of no parameter. It takes no memory.
+    pub(crate) fn empty(alloc: Global) -> Level {
+        Level {
+            rate: Rate::A,
+            steady: true,
+            values: Vec::new(alloc),
+        }
+    }
+
+    // Takes the memory for a value for each frame.
+    pub(crate) fn reserve(&mut self) -> Result<(), NoMemory>
+        ensures { OnOk result (HasRoom self.new) }
+    {
+        self.values.resize(QUANTUM, 0)?;
+        Ok(())
+    }
+
+    // Takes the values of a parameter in the quantum that begins at `first`.
+    pub(crate) fn take<L: Ledger>(
+        &mut self,
+        param: &Param,
+        cursor: &mut Cursor,
+        first: u64,
+        steps: &mut Steps<L>,
+    )
+        requires room { HasRoom self.old }
+        requires first { first ≤ 2 ^ 62 }
+        requires stands { StandsAt cursor.old param.now.line.events first }
+        ensures level { IsLevelOf param.now first self.new }
+        ensures cost { steps.new ≤ steps.old + 4 + length (within first (first + 128) param.now.line.events) }
+    {
+        self.rate = param.rate;
+        let count = match param.rate {
+            Rate::A => QUANTUM,
+            Rate::K => 1,
+        };
+        let level = cursor.steady(first, &param.line, steps);
+        self.steady = count == 1 || first + count as u64 <= level.until;
+        if first + count as u64 <= level.until {
+            self.values[0] = level.value;
+        } else {
+            cursor.fill(&mut self.values[0..count], first, &param.line, steps);
+        }
+    }
+
+    /// The automation rate (AudioParam.automationRate).
+    pub fn rate(&self) -> Rate
+        ensures { result ≡ self.now.rate }
+    {
+        self.rate
+    }
+
+    /// All values of the quantum.
+    pub fn values(&self) -> Values<'_>
+        requires { HasRoom self.now }
+        ensures { AreValues self.now result }
+    {
+        if self.steady {
+            Values::Steady(self.values[0])
+        } else {
+            Values::Moving(self.values.as_slice())
+        }
+    }
+}
