@@ -1,7 +1,6 @@
 ghost use Rattle.std.specs.Prelude.{◌≡◌, ◌<◌, ◌≤◌, ◌+◌, ◌*◌, ◌^◌, OnOk};
 ghost use Rattle.wa_base.specs.Contexts.{IsSupported, quantum_of};
 ghost use Rattle.meaning.specs.Validity.{IsValid};
-ghost use Rattle.quantum_render.specs.Sites.{AreStill};
 
 use meaning::World;
 use quantum_render::Renderer;
@@ -24,7 +23,6 @@ fn render<L: Ledger>(
     steps: &mut Steps<L>,
 ) -> Result<(), NoMemory>
     requires valid { IsValid world.now }
-    requires still { AreStill world.now }
     requires spec { world.now.spec ≡ renderer.old.spec }
     requires first { first ≡ quantum_of renderer.old.spec * renderer.old.quanta }
     requires time { first ≤ 2 ^ 62 }
@@ -45,7 +43,6 @@ fn loudest_of<L: Ledger>(
     steps: &mut Steps<L>,
 ) -> Result<i32, NoMemory>
     requires valid { IsValid world.now }
-    requires still { AreStill world.now }
     requires spec { world.now.spec ≡ renderer.old.spec }
     requires channels { 1 < renderer.old.spec.channels }
     requires first { renderer.old.quanta ≡ 0 }
@@ -65,7 +62,6 @@ fn loudest_in<L: Ledger>(
     steps: &mut Steps<L>,
 ) -> Result<i32, NoMemory>
     requires valid { IsValid world.now }
-    requires still { AreStill world.now }
     requires spec { IsSupported world.now.spec }
     requires channels { 1 < world.now.spec.channels }
 {

@@ -1,3 +1,7 @@
+ghost use Rattle.std.specs.Prelude.{◌≡◌, [], ◌∷◌, ◌++◌, map, OnOk};
+ghost use Rattle.std.specs.List.Sorted.{IsStrictlyIncreasing};
+ghost use Rattle.meaning.specs.declared.params.Param.{Param as parameter};
+
 use conn_graph::{Edge, Target};
 use meaning::{Param, Params, Play, Scheds, World};
 use node_table::Kind;
@@ -16,7 +20,9 @@ const CONTEXT: ContextSpec = ContextSpec {
     rate: 48_000,
 };
 
-fn id(node: u32, name: ParamName) -> ParamId {
+fn id(node: u32, name: ParamName) -> ParamId
+    ensures { result.node.0 ≡ node }
+{
     ParamId {
         node: NodeId(node),
         name,
@@ -44,7 +50,9 @@ fn connect(world: &mut World, from: u32, output: u32) -> Result<bool, Refusal> {
     })
 }
 
-fn push_param(alloc: Global, params: &mut Params, id: ParamId, base: Fix) -> Result<(), NoMemory> {
+fn push_param(alloc: Global, params: &mut Params, id: ParamId, base: Fix) -> Result<(), NoMemory>
+    ensures { OnOk result (map (λ (p : parameter). p.id.node.0) params.new.items ≡ map (λ (p : parameter). p.id.node.0) params.old.items ++ id.node.0 ∷ []) }
+{
     params.push(Param {
         id,
         line: Timeline::new(alloc, base),
@@ -128,20 +136,26 @@ fn a_new_world_has_the_destination_alone(rt: HostRuntime) -> Result<(), Fail> {
     Ok(())
 }
 
-fn push_three(alloc: Global, params: &mut Params) -> Result<(), NoMemory> {
+fn push_three(alloc: Global, params: &mut Params) -> Result<(), NoMemory>
+    requires { params.old.items ≡ [] }
+    ensures { OnOk result (map (λ (p : parameter). p.id.node.0) params.new.items ≡ 1 ∷ 2 ∷ 4 ∷ []) }
+{
     params.reserve()?;
     push_param(alloc, params, id(1, ParamName::Offset), 5)?;
     push_param(alloc, params, id(2, ParamName::Gain), 7)?;
-    push_param(alloc, params, id(1, ParamName::Gain), 9)
+    push_param(alloc, params, id(4, ParamName::Gain), 9)
 }
 
-fn has_three(params: &Params) -> bool {
+fn has_three(params: &Params) -> bool
+    requires { IsStrictlyIncreasing (map (λ (p : parameter). p.id.node.0) params.now.items) }
+{
     for (node, name, place) in [
         (1, ParamName::Offset, Some(0)),
         (2, ParamName::Gain, Some(1)),
-        (1, ParamName::Gain, Some(2)),
+        (4, ParamName::Gain, Some(2)),
         (2, ParamName::Offset, None),
         (3, ParamName::Gain, None),
+        (5, ParamName::Gain, None),
     ] {
         if params.find(id(node, name)) != place {
             return false;
@@ -159,12 +173,11 @@ fn are_marked(params: &Params) -> bool {
 fn finds_parameters(alloc: Global) -> Result<bool, NoMemory> {
     let mut params = Params::new(alloc);
     let was_empty = params.is_empty();
-    let pushed = push_three(alloc, &mut params);
+    push_three(alloc, &mut params)?;
     let has_three = has_three(&params);
     mark_k_rate(&mut params, 1, -3);
     let are_marked = are_marked(&params);
     drop(params);
-    pushed?;
     Ok(was_empty && has_three && are_marked)
 }
 

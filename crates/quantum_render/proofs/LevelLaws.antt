@@ -54,7 +54,7 @@ taken_low w id m l = by_rate (is_k_rate w id)
 -- from one sum for each frame, of which the one that is taken is used
 pub level_is : (w : World) (blocks : List BlockView) (counts : List ℕ) (id : ParamId) (first m : ℕ) (edges : List Edge) (sums : ℕ → ℤ) (value : ℤ) (b : Bool) → m < 128
     → edges ≡ into w.graph.value id.node.0
-    → ((frame : ℕ) → intrinsic_value w id frame ≡ value)
+    → intrinsic_value w id (first + taken_at w id m) ≡ value
     → is_k_rate w id ≡ b
     → ((k : ℕ) → k < 128 → sums k ≡ total (map (part (frame_of w blocks counts k) Speakers 1 0) (filter (leads_to (Param id)) edges)))
     → sat (value +ℤ sat (sums (if b then 0 else m))) ≡ level_of w blocks counts id first m
@@ -64,7 +64,7 @@ level_is w blocks counts id first m edges sums value b l here intrinsic rate eac
     let sources = ap (λ es. filter (leads_to (Param id)) es) here ∙ param_sources w.graph.value id in
     ap (λ (r : Bool). sat (value +ℤ sat (sums (if r then 0 else m)))) (sym rate)
     ∙ ap (λ x. sat (value +ℤ sat x)) (carried ∙ ap (λ es. total (map (part (frame_of w blocks counts k) Speakers 1 0) es)) sources)
-    ∙ ap (λ x. sat (x +ℤ mixed_sum (frame_of w blocks counts k) Speakers 1 0 (filter (λ e. leads_to (Param id) e) w.graph.value.edges))) (sym (intrinsic (first + k)))
+    ∙ ap (λ x. sat (x +ℤ mixed_sum (frame_of w blocks counts k) Speakers 1 0 (filter (λ e. leads_to (Param id) e) w.graph.value.edges))) (sym intrinsic)
     ∙ nominal_is (kind_of w id.node.0) _
 
 -- without a connection to a target nothing leads to it
@@ -79,7 +79,7 @@ unreached target (e ∷ es) h = by_test (leads_to target e) h (unreached target 
 -- then the level is the intrinsic value
 pub level_unreached : (w : World) (blocks : List BlockView) (counts : List ℕ) (id : ParamId) (first m : ℕ) (edges : List Edge) (value : ℤ) (b : Bool) → m < 128
     → edges ≡ into w.graph.value id.node.0
-    → ((frame : ℕ) → intrinsic_value w id frame ≡ value)
+    → intrinsic_value w id (first + taken_at w id m) ≡ value
     → is_k_rate w id ≡ b
     → list_any (leads_to (Param id)) edges ≡ false
     → sat (value +ℤ sat (pos 0)) ≡ level_of w blocks counts id first m

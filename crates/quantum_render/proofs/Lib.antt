@@ -1,3 +1,4 @@
+mod Automated
 pub mod Slots
 pub mod Connections
 pub mod Made

@@ -22,6 +22,7 @@ use Rattle.meaning.proofs.QuantumLaws.{AreRight, count_right, muted_right}
 use Rattle.quantum_render.specs.Blocks.{BlockView, at, slot, block_of, lanes_of, counts_in, drafts_of, frame_of, IsSilent, Writes}
 use Rattle.quantum_render.specs.Fits.{AreFit}
 use Rattle.quantum_render.specs.Plans.{IsPlan, AreCounted}
+use Rattle.automation.specs.Levels.{LevelView}
 use Rattle.quantum_render.specs.Sites.{SiteView}
 use Rattle.quantum_render.specs.Renders.{Renders}
 use Rattle.quantum_render.proofs.Slots.{slot_low}
@@ -86,11 +87,11 @@ module _ (w : World) (joined : IsJoined (plain w)) (order : List End) (i : ℕ) 
   pub next : IsLegalAfter w.graph.value c.done (x ∷ drop (i + 1) order)
   next = next_in_order w order c.done i c.legal l
 
-  abbrev pub site_of : List Edge → SiteView
-  site_of edges = record { world = w; end = x; into = edges; counts = counts; first = first }
+  abbrev pub site_of : List Edge → List LevelView → SiteView
+  site_of edges levels = record { world = w; end = x; into = edges; counts = counts; levels = levels; first = first }
 
-  pub passing_goes_on : (edges : List Edge) (blocks' : List BlockView) → Writes blocks blocks' x → Renders (site_of edges) blocks blocks' (kind_of w x.node.0) → Passing w order (i + 1) counts first blocks'
-  passing_goes_on edges blocks' writes renders =
+  pub passing_goes_on : (edges : List Edge) (levels : List LevelView) (blocks' : List BlockView) → Writes blocks blocks' x → Renders (site_of edges levels) blocks blocks' (kind_of w x.node.0) → Passing w order (i + 1) counts first blocks'
+  passing_goes_on edges levels blocks' writes renders =
       let fit' = still_fit w counts blocks blocks' writes.lanes c.fit in
       record {
         done = x ∷ c.done;

@@ -8,22 +8,23 @@ use Rattle.meaning.specs.declared.world.World.{World}
 use Rattle.meaning.specs.World.{kind_of}
 use Rattle.quantum_render.specs.Blocks.{BlockView, no_block, at, room_of, slot, block_of, counts_in, Writes}
 use Rattle.quantum_render.specs.Fits.{AreFit}
+use Rattle.automation.specs.Levels.{LevelView}
 use Rattle.quantum_render.specs.Sites.{SiteView, IsSite}
 use Rattle.quantum_render.proofs.Slots.{slot_low, slot-half, lane-only}
 use Rattle.quantum_render.proofs.Sources.{end_low, site_slot}
 use Rattle.quantum_render.proofs.Connections.{writes_one, written}
 
 -- a site whose fields are known but for its connections
-pub site_here : (s : SiteView) (w : World) (e : End) (counts : List ℕ) (first : ℕ) → s.world ≡ w → s.end ≡ e → s.counts ≡ counts → s.first ≡ first
-    → s ≡ (let x : SiteView = record { world = w; end = e; into = s.into; counts = counts; first = first } in x)
-site_here s w e counts first world end channels begins = λ i. record { world = world i; end = end i; into = s.into; counts = channels i; first = begins i }
+pub site_here : (s : SiteView) (w : World) (e : End) (counts : List ℕ) (levels : List LevelView) (first : ℕ) → s.world ≡ w → s.end ≡ e → s.counts ≡ counts → s.levels ≡ levels → s.first ≡ first
+    → s ≡ (let x : SiteView = record { world = w; end = e; into = s.into; counts = counts; levels = levels; first = first } in x)
+site_here s w e counts levels first world end channels automated begins = λ i. record { world = world i; end = end i; into = s.into; counts = channels i; levels = automated i; first = begins i }
 
 -- the fields of a site are those that contracts see
-pub site_is : (s : SiteView) (w : World) (e : End) (edges : List Edge) (counts : List ℕ) (first : ℕ) → IsSite w e edges counts first
-    → (let x : SiteView = record { world = w; end = e; into = edges; counts = counts; first = first } in x) ≡ s → IsSite s.world s.end s.into s.counts s.first
-site_is s w e edges counts first site same = subst (λ (x : SiteView). IsSite x.world x.end x.into x.counts x.first) same site
+pub site_is : (s : SiteView) (w : World) (e : End) (edges : List Edge) (counts : List ℕ) (levels : List LevelView) (first : ℕ) → IsSite w e edges counts levels first
+    → (let x : SiteView = record { world = w; end = e; into = edges; counts = counts; levels = levels; first = first } in x) ≡ s → IsSite s.world s.end s.into s.counts s.levels s.first
+site_is s w e edges counts levels first site same = subst (λ (x : SiteView). IsSite x.world x.end x.into x.counts x.levels x.first) same site
 
-module _ (s : SiteView) (site : IsSite s.world s.end s.into s.counts s.first) (old : List BlockView) (fit : AreFit s.world s.counts old) (k : ℕ) (here : k ≡ slot s.end) where
+module _ (s : SiteView) (site : IsSite s.world s.end s.into s.counts s.levels s.first) (old : List BlockView) (fit : AreFit s.world s.counts old) (k : ℕ) (here : k ≡ slot s.end) where
   pub slot_within : slot s.end < length old
   slot_within = subst (λ n. slot s.end < n) (sym fit.places) (slot_low s.end (length s.world.nodes) (end_low s.world site.valid s.end site.there))
 
@@ -31,7 +32,7 @@ module _ (s : SiteView) (site : IsSite s.world s.end s.into s.counts s.first) (o
   own_within = subst (λ j. j < length old) (sym here) slot_within
 
   pub mono_own : is_mono (kind_of s.world s.end.node.0) ≡ true → counts_in s.counts s.end ≡ 1
-  mono_own is = site.range.mono (slot s.end) (site_slot s.world s.end s.into s.counts s.first site) (subst (λ n. is_mono (kind_of s.world n) ≡ true) (sym (slot-half s.end)) is)
+  mono_own is = site.range.mono (slot s.end) (site_slot s.world s.end s.into s.counts s.levels s.first site) (subst (λ n. is_mono (kind_of s.world n) ≡ true) (sym (slot-half s.end)) is)
 
   -- the block has so many lanes in all
   module _ (all : ℕ) (are : outputs (kind_of s.world s.end.node.0) * counts_in s.counts s.end ≡ all) where

@@ -26,6 +26,7 @@ use Rattle.meaning.specs.Validity.{ports_of, IsValid}
 use Rattle.quantum_render.specs.Blocks.{BlockView, slot, counts_in}
 use Rattle.quantum_render.specs.Connections.{into, leads_to}
 use Rattle.quantum_render.specs.Fits.{AreFit, IsSource}
+use Rattle.automation.specs.Levels.{LevelView}
 use Rattle.quantum_render.specs.Sites.{IsSite}
 use Rattle.quantum_render.proofs.Slots.{slot_low, output_low}
 
@@ -93,9 +94,9 @@ pub end_low : (w : World) → IsValid w → (e : End) → IsIn e (ends w.graph.v
 end_low w valid e is = subst (λ k. e.node.0 < k) (same_nodes w valid) (end_is w.graph.value e is).0
 
 -- the connections of a site come from ends that are there
-pub source_there : (w : World) (e : End) (edges : List Edge) (counts : List ℕ) (first : ℕ) → IsSite w e edges counts first → (i : ℕ) (d : Edge) → i < length edges
+pub source_there : (w : World) (e : End) (edges : List Edge) (counts : List ℕ) (levels : List LevelView) (first : ℕ) → IsSite w e edges counts levels first → (i : ℕ) (d : Edge) → i < length edges
     → HasPlace w.graph.value (slice_index_or edges i d)
-source_there w e edges counts first site i d l =
+source_there w e edges counts levels first site i d l =
     subst (λ (es : List Edge). HasPlace w.graph.value (slice_index_or es i d)) (sym site.into)
     (into_places w.graph.value e.node.0 site.valid.graph i d (subst (λ (es : List Edge). i < length es) site.into l))
 
@@ -107,19 +108,19 @@ into_slots w valid n counts places edges here i d l =
     let place = subst (λ (es : List Edge). HasPlace w.graph.value (slice_index_or es i d)) (sym here) (into_places w.graph.value n valid.graph i d (subst (λ (es : List Edge). i < length es) here l)) in
     subst (λ k. slot (reader_of x.from.0) < k) (sym places) (slot_low (reader_of x.from.0) (length w.nodes) (subst (λ k. x.from.0 < k) (same_nodes w valid) place.from))
 
-pub source_slot : (w : World) (e : End) (edges : List Edge) (counts : List ℕ) (first : ℕ) → IsSite w e edges counts first → (i : ℕ) (d : Edge) → i < length edges
+pub source_slot : (w : World) (e : End) (edges : List Edge) (counts : List ℕ) (levels : List LevelView) (first : ℕ) → IsSite w e edges counts levels first → (i : ℕ) (d : Edge) → i < length edges
     → slot (reader_of (slice_index_or edges i d).from.0) < length counts
-source_slot w e edges counts first site i d l = into_slots w site.valid e.node.0 counts site.range.places edges site.into i d l
+source_slot w e edges counts levels first site i d l = into_slots w site.valid e.node.0 counts site.range.places edges site.into i d l
 
 -- and from outputs that their blocks have
-pub source_is : (w : World) (e : End) (edges : List Edge) (counts : List ℕ) (first : ℕ) (blocks : List BlockView) → IsSite w e edges counts first → AreFit w counts blocks
+pub source_is : (w : World) (e : End) (edges : List Edge) (counts : List ℕ) (levels : List LevelView) (first : ℕ) (blocks : List BlockView) → IsSite w e edges counts levels first → AreFit w counts blocks
     → (i : ℕ) (d : Edge) → i < length edges → IsSource counts blocks (slice_index_or edges i d)
-source_is w e edges counts first blocks site fit i d l =
+source_is w e edges counts levels first blocks site fit i d l =
     let x : Edge = slice_index_or edges i d in
     let source : End = reader_of x.from.0 in
-    let place = source_there w e edges counts first site i d l in
+    let place = source_there w e edges counts levels first site i d l in
     let node : x.from.0 < length w.nodes = subst (λ k. x.from.0 < k) (same_nodes w site.valid) place.from in
-    let there : slot source < length counts = source_slot w e edges counts first site i d l in
+    let there : slot source < length counts = source_slot w e edges counts levels first site i d l in
     let long = site.range.places in
     let wide = fit.places in
     record {
@@ -131,15 +132,15 @@ source_is w e edges counts first blocks site fit i d l =
           (output_low x.output (outputs (kind_of w x.from.0)) (counts_in counts source) (subst (λ n. x.output < n) (outputs_are w site.valid x.from.0 node) place.output));
     }
 
-pub site_few : (w : World) (e : End) (edges : List Edge) (counts : List ℕ) (first : ℕ) → IsSite w e edges counts first → length edges ≤ 8192
-site_few w e edges counts first site = subst (λ (es : List Edge). length es ≤ 8192) (sym site.into) (into_few w.graph.value e.node.0 site.valid.graph)
+pub site_few : (w : World) (e : End) (edges : List Edge) (counts : List ℕ) (levels : List LevelView) (first : ℕ) → IsSite w e edges counts levels first → length edges ≤ 8192
+site_few w e edges counts levels first site = subst (λ (es : List Edge). length es ≤ 8192) (sym site.into) (into_few w.graph.value e.node.0 site.valid.graph)
 
 -- a site's end has its place
-pub site_slot : (w : World) (e : End) (edges : List Edge) (counts : List ℕ) (first : ℕ) → IsSite w e edges counts first → slot e < length counts
-site_slot w e edges counts first site = subst (λ k. slot e < k) (sym site.range.places) (slot_low e (length w.nodes) (end_low w site.valid e site.there))
+pub site_slot : (w : World) (e : End) (edges : List Edge) (counts : List ℕ) (levels : List LevelView) (first : ℕ) → IsSite w e edges counts levels first → slot e < length counts
+site_slot w e edges counts levels first site = subst (λ k. slot e < k) (sym site.range.places) (slot_low e (length w.nodes) (end_low w site.valid e site.there))
 
-pub place_within : (w : World) (e : End) (edges : List Edge) (counts : List ℕ) (first : ℕ) → IsSite w e edges counts first → (k : ℕ) → k ≡ slot e → k < length counts
-place_within w e edges counts first site k here = subst (λ j. j < length counts) (sym here) (site_slot w e edges counts first site)
+pub place_within : (w : World) (e : End) (edges : List Edge) (counts : List ℕ) (levels : List LevelView) (first : ℕ) → IsSite w e edges counts levels first → (k : ℕ) → k ≡ slot e → k < length counts
+place_within w e edges counts levels first site k here = subst (λ j. j < length counts) (sym here) (site_slot w e edges counts levels first site)
 
 -- ---- the connections to each node, one connection after another
 

@@ -4,7 +4,7 @@ use Rattle.wa_base.specs.declared.graph_names.End.{End}
 use Rattle.law_base.specs.Members.{IsIn}
 use Rattle.conn_graph.specs.declared.edges.Edge.{Edge}
 use Rattle.conn_graph.specs.Ends.{reader_of, ends}
-use Rattle.meaning.specs.declared.params.Param.{Param}
+use Rattle.automation.specs.Levels.{LevelView, AreLevels}
 use Rattle.meaning.specs.declared.world.World.{World}
 use Rattle.meaning.specs.Validity.{IsValid}
 use Rattle.quantum_render.specs.declared.sums.Inlet.{Inlet}
@@ -20,6 +20,8 @@ pub record SiteView : Type 0 where
   pub into : List Edge
   -- the channels of each end
   pub counts : List ℕ
+  -- the level of each node's parameter
+  pub levels : List LevelView
   -- the first frame of the quantum
   pub first : ℕ
 
@@ -28,18 +30,14 @@ pub record IsBegun (begin : ℕ) : Type 0 where
   pub whole : 128 * (begin / 128) ≡ begin
   pub time : begin ≤ 2 ^ 62
 
--- no parameter has an event in its timeline
-abbrev pub AreStill : World → Type 0
-AreStill w = (p : Param) → IsIn p w.params.items → p.line.events ≡ []
-
 -- what holds of every site
-pub record IsSite (w : World) (e : End) (edges : List Edge) (counts : List ℕ) (begin : ℕ) : Type 0 where
+pub record IsSite (w : World) (e : End) (edges : List Edge) (counts : List ℕ) (automated : List LevelView) (begin : ℕ) : Type 0 where
   pub valid : IsValid w
-  pub still : AreStill w
   pub there : IsIn e (ends w.graph.value)
   pub into : edges ≡ leads_into w.graph.value e.node.0
   pub range : AreInRange w counts
   pub begun : IsBegun begin
+  pub levels : AreLevels w.params.items begin automated
 
 -- A connection is the only one to a node, leads to the inlet and has its number of channels.
 pub record IsLone (s : SiteView) (inlet : Inlet) (edge : Edge) : Type 0 where

@@ -1,5 +1,5 @@
 -- What a renderer stands for.
-use Rattle.std.specs.Prelude.{ℕ, ℤ, ◌≡◌, ◌<◌, ◌≤◌, ◌+◌, ◌-◌, ◌*◌, ◌++◌, ◌∷◌, [], List, length}
+use Rattle.std.specs.Prelude.{ℕ, ℤ, ◌≡◌, ◌<◌, ◌≤◌, ◌^◌, ◌+◌, ◌-◌, ◌*◌, ◌++◌, ◌∷◌, [], List, length}
 use Rattle.wa_base.specs.Contexts.{quantum_of}
 use Rattle.wa_base.specs.declared.contexts.ContextSpec.{ContextSpec}
 use Rattle.wa_base.specs.declared.graph_names.End.{End}
@@ -10,6 +10,7 @@ use Rattle.meaning.specs.declared.world.World.{World}
 use Rattle.meaning.specs.Rendered.{sample}
 use Rattle.meaning.specs.Worlds.{IsRegular}
 use Rattle.meaning.specs.Pasts.{Past, past}
+use Rattle.automation.specs.Ready.{AutomationView, IsReady}
 use Rattle.quantum_render.specs.Blocks.{BlockView}
 use Rattle.quantum_render.specs.Fits.{AreInRange, AreFit}
 use Rattle.quantum_render.specs.Plans.{IsPlan, AreCounted}
@@ -25,6 +26,8 @@ pub record RendererView : Type 0 where
   pub order : List End
   pub muted : List End
   pub into : List (List Edge)
+  -- the place in each timeline, and the level of each node's parameter
+  pub automation : AutomationView
   -- the channels of each end in the next quantum
   pub counts : List ℕ
   -- the block of each end
@@ -50,11 +53,14 @@ Shows r tape = (c m : ℕ) → c < r.spec.channels → m < quantum_of r.spec →
 pub record IsPrepared (r : RendererView) (w : World) : Type 0 where
   pub plan : IsPlan w r.order r.muted r.into
   pub places : length r.counts ≡ 2 * length w.nodes
+  -- each cursor stands at the first frame of the next quantum in its timeline
+  pub automation : IsReady w.params.items (quantum_of r.spec * r.quanta) r.automation
 
 -- The channels are those of the quantum after each tape for which the renderer stands.
 pub record IsCounted (r : RendererView) (w : World) : Type 0 where
   pub plan : IsPlan w r.order r.muted r.into
   pub range : AreInRange w r.counts
+  pub automation : IsReady w.params.items (quantum_of r.spec * r.quanta) r.automation
   pub counted : (tape : List World) → StandsFor r tape → IsRegular (quantum_of r.spec) (tape ++ w ∷ []) → AreCounted (quantum_of r.spec) w r.counts tape
 
 pub record IsGrown (r : RendererView) (w : World) : Type 0 where
@@ -62,6 +68,7 @@ pub record IsGrown (r : RendererView) (w : World) : Type 0 where
   pub blocks : AreFit w r.counts r.blocks
 
 -- what holds of every renderer
-pub record IsWhole (most : ℕ) (last : List ℤ) : Type 0 where
+pub record IsWhole (most number : ℕ) (last : List ℤ) : Type 0 where
   pub channels : most ≤ 32
+  pub time : number ≤ 2 ^ 56
   pub out : length last ≡ 4096

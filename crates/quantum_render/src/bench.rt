@@ -1,15 +1,17 @@
-ghost use Rattle.std.specs.Prelude.{[], ◌∷◌, true, ◌≡◌, ◌≤◌, ◌<◌, ◌+◌, ◌*◌, ◌^◌, ◌+ℤ◌, ℕ, pos, length, slice_index_or, IfSome};
+ghost use Rattle.std.specs.Prelude.{[], ◌∷◌, true, ◌≡◌, ◌≤◌, ◌<◌, ◌+◌, ◌*◌, ◌^◌, ◌+ℤ◌, ℕ, pos, length, slice_index_or, IsSome, IfSome};
 ghost use Rattle.wa_base.specs.Numbers.{sat as saturated};
-ghost use Rattle.meaning.specs.World.{plain, param_id};
+ghost use Rattle.meaning.specs.World.{plain, kind_of, param_id};
+ghost use Rattle.node_table.specs.Kinds.{param_base};
 ghost use Rattle.meaning.specs.Counts.{input_channels};
 ghost use Rattle.meaning.specs.Values.{Frame as a_frame, input_value, computed_value};
+ghost use Rattle.std.specs.List.{list_any};
 ghost use Rattle.quantum_render.specs.Blocks.{at, counts_in};
+ghost use Rattle.quantum_render.specs.Connections.{leads_to};
 ghost use Rattle.quantum_render.specs.Fits.{AreFit};
 ghost use Rattle.quantum_render.specs.Sites.{IsLone};
 ghost use Rattle.quantum_render.specs.Renders.{past_of, here_of};
 
 use crate::block::Block;
-use crate::levels::{automation, is_reached};
 use crate::site::{Site, reader, slot};
 use crate::sums::{CHANNELS, Inlet, Sums};
 use conn_graph::{Edge, Target};
@@ -88,9 +90,10 @@ impl Bench {
         }
     }
 
-    // Takes the computed values of a parameter of the end's node.
+    // Takes the computed values of the parameter that the kind of the end's node has.
     pub(crate) fn take_levels(&mut self, blocks: &[Block], site: &Site, name: ParamName)
-        requires { AreFit site.now.world site.now.counts blocks.now }
+        requires fit { AreFit site.now.world site.now.counts blocks.now }
+        requires there { IsSome (param_base (kind_of site.now.world site.now.end.node.0) name) }
         ensures heard { self.new.heard ≡ self.old.heard }
         ensures levels { (before : ℕ → a_frame) (m : ℕ) → m < 128 →
             at self.new.levels 0 m ≡ computed_value 128 (site.now.first + m) (past_of site.now blocks.now before) (here_of site.now blocks.now m) (param_id site.now.end.node.0 name) }
@@ -99,10 +102,10 @@ impl Bench {
             node: site.end.node,
             name,
         };
-        let (value, rate) = automation(site.world, id, site.near);
+        let level = &site.levels[site.end.node.0 as usize];
+        self.levels.take_level(level);
         let target = Target::Param(id);
         if !is_reached(site.into, target) {
-            self.levels.hold(value);
             return;
         }
         let inlet = Inlet {
@@ -111,8 +114,8 @@ impl Bench {
             interp: Interp::Speakers,
         };
         self.sums.gather(blocks, site, inlet);
-        self.levels.follow(value, &self.sums);
-        match rate {
+        self.levels.add(&self.sums);
+        match level.rate() {
             Rate::A => {}
             Rate::K => self.levels.hold_first(),
         }
@@ -133,4 +136,11 @@ fn lone_connection(site: &Site, inlet: Inlet) -> Option<Edge>
     } else {
         None
     }
+}
+
+// Whether a connection leads to the target.
+fn is_reached(into: &[Edge], target: Target) -> bool
+    ensures { result ≡ list_any (leads_to target) into.now }
+{
+    into.iter().any(|edge| target.is_same(edge.to))
 }

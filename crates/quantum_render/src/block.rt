@@ -1,9 +1,10 @@
-ghost use Rattle.std.specs.Prelude.{◌≡◌, ◌≤◌, ◌<◌, ◌*◌, ◌+◌, ◌^◌, ◌+ℤ◌, ℕ, pos, Some, length, slice_index_or, OnOk, IfOk, FitsSigned, if◌then◌else◌};
+ghost use Rattle.std.specs.Prelude.{◌≡◌, ◌≤◌, ◌<◌, ◌*◌, ◌+◌, ◌^◌, ◌+ℤ◌, ℕ, pos, Some, length, slice_index_or, OnOk, IfOk, IfSome, FitsSigned, if◌then◌else◌};
 ghost use Rattle.std.specs.Int.{w32};
 ghost use Rattle.wa_base.specs.Numbers.{sat as saturated, scale as scaled};
 ghost use Rattle.sched_source.specs.Schedule.{is_between, played};
 ghost use Rattle.meaning.specs.World.{channels_in, samples_in};
 ghost use Rattle.channel_mix.specs.Blocks.{sample};
+ghost use Rattle.automation.specs.Levels.{HasRoom, level_at};
 ghost use Rattle.quantum_render.specs.Blocks.{at, shown, carried, room_of, lanes_of};
 ghost use Rattle.quantum_render.specs.Sums.{sum_at};
 ghost use Rattle.quantum_render.specs.Held.{IsHeld, IsCarried};
@@ -15,6 +16,7 @@ use crate::kernels::{
 };
 use crate::playing::Source;
 use crate::sums::Sums;
+use automation::{Level, Values};
 use std::alloc::Global;
 use std::marker::Model;
 use wa_base::{Fix, NoMemory};
@@ -148,30 +150,58 @@ impl Block {
         fill(&mut self.values[0..1], value);
     }
 
-    // Becomes one lane: at each frame the sum there, added to a value.
-    pub(crate) fn follow(&mut self, value: Fix, sums: &Sums)
+    // Becomes one lane with the values of a level.
+    pub(crate) fn take_level(&mut self, level: &Level)
         requires room { 128 ≤ room_of self.old }
-        requires mono { sums.now.count ≡ 1 }
+        requires level { HasRoom level.now }
         ensures lanes { self.new.lanes ≡ 1 }
         ensures room { room_of self.new ≡ room_of self.old }
-        ensures values { (m : ℕ) → m < 128 → at self.new 0 m ≡ saturated (value +ℤ saturated (sum_at sums.now 0 m)) }
+        ensures values { (m : ℕ) → m < 128 → at self.new 0 m ≡ level_at level.now m }
+        ensures fit { (m : ℕ) → m < 128 → FitsSigned w32 (level_at level.now m) }
     {
-        match sums.steady() {
-            Some(held) => self.hold(level_of(value, held[0])),
-            None => self.follow_moving(value, sums),
+        match level.values() {
+            Values::Steady(value) => self.hold(value),
+            Values::Moving(values) => self.copy_moving(values, 1),
         }
     }
 
-    fn follow_moving(&mut self, value: Fix, sums: &Sums)
-        requires room { 128 ≤ room_of self.old }
-        requires mono { sums.now.count ≡ 1 }
+    // Of one lane, adds at each frame the sum there, saturated before and after.
+    pub(crate) fn add(&mut self, sums: &Sums)
+        requires mono { self.old.lanes ≡ 1 }
+        requires sum { sums.now.count ≡ 1 }
         ensures lanes { self.new.lanes ≡ 1 }
         ensures room { room_of self.new ≡ room_of self.old }
-        ensures values { (m : ℕ) → m < 128 → at self.new 0 m ≡ saturated (value +ℤ saturated (sum_at sums.now 0 m)) }
+        ensures values { (m : ℕ) → m < 128 → at self.new 0 m ≡ saturated (at self.old 0 m +ℤ saturated (sum_at sums.now 0 m)) }
     {
-        self.lanes = 1;
+        match self.steady_level(sums) {
+            Some(level) => self.hold(level),
+            None => self.add_moving(sums),
+        }
+    }
+
+    // Of one lane, the level with its sum, where both are the same at all frames.
+    fn steady_level(&self, sums: &Sums) -> Option<Fix>
+        requires mono { self.now.lanes ≡ 1 }
+        requires sum { sums.now.count ≡ 1 }
+        ensures { IfSome result (λ level. (m : ℕ) → m < 128 → level ≡ saturated (at self.now 0 m +ℤ saturated (sum_at sums.now 0 m))) }
+    {
+        if !self.steady {
+            return None;
+        }
+        let held = sums.steady()?;
+        Some(level_of(self.values[0], held[0]))
+    }
+
+    fn add_moving(&mut self, sums: &Sums)
+        requires mono { self.old.lanes ≡ 1 }
+        requires sum { sums.now.count ≡ 1 }
+        ensures lanes { self.new.lanes ≡ 1 }
+        ensures room { room_of self.new ≡ room_of self.old }
+        ensures values { (m : ℕ) → m < 128 → at self.new 0 m ≡ saturated (at self.old 0 m +ℤ saturated (sum_at sums.now 0 m)) }
+    {
+        move_on(&mut self.values[0..QUANTUM], self.steady);
         self.steady = false;
-        sums.levels(0, &mut self.values[0..QUANTUM], value);
+        sums.add_to(&mut self.values[0..QUANTUM], 0);
     }
 
     // Of one lane, holds the value of the first frame.

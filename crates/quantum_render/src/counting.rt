@@ -14,7 +14,7 @@ ghost use Rattle.quantum_render.specs.Connections.{into as leads_into, leads_to}
 ghost use Rattle.quantum_render.specs.Fits.{AreInRange};
 ghost use Rattle.quantum_render.specs.Plans.{IsPlan, AreCounted};
 
-use crate::places::{Near, near_of};
+use crate::places::near_of;
 use crate::playing::sounding;
 use crate::site::{reader, slot};
 use channel_mix::count;
@@ -30,7 +30,7 @@ pub(crate) fn count_channels(
     world: &World,
     order: &[End],
     into: &[Items<Edge>],
-    near: &[Near],
+    near: &[usize],
     first: u64,
 )
     requires valid { IsValid world.now }
@@ -48,7 +48,7 @@ pub(crate) fn count_channels(
 }
 
 // The number of channels of an end, by the kind of its node.
-fn count_of(counts: &[u32], world: &World, end: End, into: &[Edge], near: Near, first: u64) -> u32
+fn count_of(counts: &[u32], world: &World, end: End, into: &[Edge], near: usize, first: u64) -> u32
     requires valid { IsValid world.now }
     requires range { AreInRange world.now counts.now }
     requires there { IsIn end (ends world.now.graph.value) }
@@ -68,7 +68,7 @@ fn count_of(counts: &[u32], world: &World, end: End, into: &[Edge], near: Near, 
 }
 
 // The channels of a buffer source: those of its buffer where it sounds in the quantum.
-fn played_count(world: &World, node: NodeId, near: Near, first: u64) -> u32
+fn played_count(world: &World, node: NodeId, near: usize, first: u64) -> u32
     requires valid { IsValid world.now }
     requires time { first ≤ 2 ^ 62 }
     ensures value { result ≡ played_channels world.now node.0 128 first }

@@ -8,7 +8,6 @@ mod counting;
 mod held;
 mod kernels;
 mod kinds;
-mod levels;
 mod pass;
 mod places;
 mod plan;

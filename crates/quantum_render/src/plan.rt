@@ -7,12 +7,13 @@ ghost use Rattle.cycle_order.specs.Choices.{chosen_order};
 ghost use Rattle.conn_graph.specs.Ends.{ends};
 ghost use Rattle.quantum_render.specs.Connections.{into as leads_into};
 ghost use Rattle.quantum_render.specs.Fits.{AreInRange};
-ghost use Rattle.quantum_render.specs.Sites.{IsBegun, AreStill};
+ghost use Rattle.automation.specs.Levels.{AreLevels};
+ghost use Rattle.quantum_render.specs.Sites.{IsBegun};
 ghost use Rattle.meaning.specs.Validity.{IsValid};
 ghost use Rattle.quantum_render.specs.Plans.{IsPlan, IsPlanOf};
 
-use crate::places::{Near, near_of, places};
-use crate::site::Site;
+use crate::places::{near_of, places};
+use crate::site::{Quantum, Site};
 use conn_graph::{Edge, Graph};
 use cycle_order::{Ends, order, survey};
 use meaning::World;
@@ -31,7 +32,7 @@ pub(crate) struct Plan {
     muted: Ends,
     // For each node, the connections that lead to it.
     into: Vec<Items<Edge>>,
-    near: Vec<Near>,
+    near: Vec<usize>,
 }
 
 impl Model for Plan {
@@ -125,37 +126,33 @@ impl Plan {
     }
 
     // An end with the connections that lead to its node.
-    pub(crate) fn site<'a>(
-        &'a self,
-        world: &'a World,
-        counts: &'a [u32],
-        end: End,
-        first: u64,
-    ) -> Site<'a>
-        requires valid { IsValid world.now }
-        requires still { AreStill world.now }
-        requires plan { IsPlan world.now self.now.order self.now.muted self.now.into }
-        requires range { AreInRange world.now counts.now }
-        requires there { IsIn end (ends world.now.graph.value) }
-        requires begun { IsBegun first }
-        ensures world { result.world ≡ world.now }
-        ensures counts { result.counts ≡ counts.now }
+    pub(crate) fn site<'a>(&'a self, quantum: Quantum<'a>, end: End) -> Site<'a>
+        requires valid { IsValid quantum.world.now }
+        requires plan { IsPlan quantum.world.now self.now.order self.now.muted self.now.into }
+        requires range { AreInRange quantum.world.now quantum.counts.now }
+        requires there { IsIn end (ends quantum.world.now.graph.value) }
+        requires begun { IsBegun quantum.first }
+        requires levels { AreLevels quantum.world.now.params.items quantum.first quantum.levels.now }
+        ensures world { result.world ≡ quantum.entry.world.now }
+        ensures counts { result.counts ≡ quantum.entry.counts.now }
+        ensures levels { result.levels ≡ quantum.entry.levels.now }
         ensures end { result.end ≡ end }
-        ensures first { result.first ≡ first }
+        ensures first { result.first ≡ quantum.entry.first }
     {
         let node = end.node.0 as usize;
         Site {
-            world,
+            world: quantum.world,
             end,
             into: self.into[node].as_slice(),
-            counts,
-            first,
+            counts: quantum.counts,
+            levels: quantum.levels,
+            first: quantum.first,
             near: near_of(self.near.as_slice(), end.node),
         }
     }
 
-    // Where the parameter and the schedule of each node are likely to stand.
-    pub(crate) fn near(&self) -> &[Near] {
+    // Where the schedule of each node is likely to stand.
+    pub(crate) fn near(&self) -> &[usize] {
         self.near.as_slice()
     }
 

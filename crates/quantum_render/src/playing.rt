@@ -7,7 +7,7 @@ ghost use Rattle.quantum_render.specs.Heard.{heard_source};
 
 use crate::block::QUANTUM;
 use crate::kernels::fill;
-use crate::places::{Near, play_place};
+use crate::places::play_place;
 use buffer_store::Store;
 use meaning::World;
 use sched_source::Sched;
@@ -33,7 +33,7 @@ impl<'a> Model for Source<'a> {
 }
 
 // A source with its buffer, where it sounds in the quantum that begins at `first`.
-pub(crate) fn sounding(world: &World, node: NodeId, near: Near, first: u64) -> Option<Source<'_>>
+pub(crate) fn sounding(world: &World, node: NodeId, near: usize, first: u64) -> Option<Source<'_>>
     requires valid { IsValid world.now }
     requires time { first ≤ 2 ^ 62 }
     ensures { result ≡ heard_source world.now node.0 first }

@@ -5,7 +5,8 @@ ghost use Rattle.meaning.specs.Rendered.{sample};
 ghost use Rattle.meaning.specs.Validity.{IsValid};
 ghost use Rattle.meaning.specs.Worlds.{IsRegular};
 ghost use Rattle.cycle_order.specs.Choices.{chosen_order};
-ghost use Rattle.quantum_render.specs.Sites.{AreStill};
+ghost use Rattle.std.specs.List.{sum_by};
+ghost use Rattle.automation.specs.Ready.{looks_at};
 ghost use Rattle.quantum_render.specs.Stands.{StandsFor, Shows, IsPrepared, IsCounted, IsGrown};
 
 use crate::bench::Bench;
@@ -14,8 +15,9 @@ use crate::blocks::fit_blocks;
 use crate::counting::count_channels;
 use crate::pass::render_quantum;
 use crate::plan::Plan;
-use crate::site::{reader, slot};
+use crate::site::{Quantum, reader, slot};
 use crate::sums::CHANNELS;
+use automation::Automation;
 use meaning::World;
 use std::alloc::Global;
 use std::marker::Model;
@@ -32,6 +34,7 @@ pub struct Renderer {
     spec: ContextSpec,
     quanta: u64,
     plan: Plan,
+    automation: Automation,
     counts: Vec<u32>,
     blocks: Vec<Block>,
     bench: Bench,
@@ -50,12 +53,13 @@ impl Model for Renderer {
       order = r.plan.order;
       muted = r.plan.muted;
       into = r.plan.into;
+      automation = r.automation;
       counts = r.counts.items;
       blocks = r.blocks.items;
       out = r.out.items;
     } };
 
-    ghost invariant = { λ r. IsWhole r.spec.channels r.out.items };
+    ghost invariant = { λ r. IsWhole r.spec.channels r.quanta r.out.items };
 }
 
 impl Renderer {
@@ -71,6 +75,7 @@ impl Renderer {
             spec,
             quanta: 0,
             plan: Plan::new(alloc, tie),
+            automation: Automation::new(alloc),
             counts: Vec::new(alloc),
             blocks: Vec::new(alloc),
             bench: Bench::new(alloc)?,
@@ -78,9 +83,10 @@ impl Renderer {
         })
     }
 
-    /// Surveys and orders a world, and takes the memory for its counts. It may be called at any
-    /// time, and begins a quantum anew. After `NoMemory` the renderer stands for the same tapes.
-    /// Where nodes and connections are those of the last call, its survey and order are kept.
+    /// Surveys and orders a world, moves to the next quantum in each timeline, and takes the memory
+    /// for counts and levels. It may be called at any time, and begins a quantum anew. After
+    /// `NoMemory` the renderer stands for the same tapes. Where nodes and connections are those of
+    /// the last call, its survey and order are kept.
     pub fn prepare<L: Ledger>(
         &mut self,
         world: &World,
@@ -96,7 +102,11 @@ impl Renderer {
         ensures quanta { self.new.quanta ≡ self.old.quanta }
     {
         self.plan.follow(self.alloc, world, steps)?;
-        self.counts.resize(2 * world.nodes.len() as usize, 1)?;
+        let nodes = world.nodes.len() as usize;
+        self.counts.resize(2 * nodes, 1)?;
+        let first = self.quanta * QUANTUM as u64;
+        self.automation
+            .prepare(world.params.as_slice(), nodes, first, steps)?;
         Ok(())
     }
 
@@ -137,11 +147,10 @@ impl Renderer {
         fit_blocks(self.alloc, &mut self.blocks, world, self.counts.as_slice())
     }
 
-    /// Renders the next quantum, which begins at frame `first`. It takes no memory. The world's
-    /// parameters have no events in their timelines: those are not built.
+    /// Renders the next quantum, which begins at frame `first`. It takes no memory, and looks at four
+    /// events of each timeline and those with a time in the quantum at most.
     pub fn pass<L: Ledger>(&mut self, world: &World, first: u64, steps: &mut Steps<L>)
         requires valid { IsValid world.now }
-        requires still { AreStill world.now }
         requires spec { world.now.spec ≡ self.old.spec }
         requires grown { IsGrown self.old world.now }
         requires first { first ≡ quantum_of self.old.spec * self.old.quanta }
@@ -151,10 +160,17 @@ impl Renderer {
         ensures spec { self.new.spec ≡ self.old.spec }
         ensures tie { self.new.tie ≡ self.old.tie }
         ensures quanta { self.new.quanta ≡ self.old.quanta + 1 }
+        ensures cost { steps.new ≤ steps.old + sum_by (looks_at first) world.now.params.items }
     {
+        self.automation.take(world.params.as_slice(), first, steps);
+        let quantum = Quantum {
+            world,
+            counts: self.counts.as_slice(),
+            levels: self.automation.levels(),
+            first,
+        };
         let blocks = self.blocks.as_mut_slice();
-        let counts = self.counts.as_slice();
-        render_quantum(blocks, &mut self.bench, &self.plan, world, counts, first);
+        render_quantum(blocks, &mut self.bench, &self.plan, quantum);
         let blocks: &[Block] = &*blocks;
         blocks[slot(reader(NodeId(0)))].copy_out(self.out.as_mut_slice());
         self.quanta += 1;

@@ -4,7 +4,7 @@ ghost use Rattle.conn_graph.specs.Ends.{reader_of};
 ghost use Rattle.meaning.specs.World.{kind_of};
 ghost use Rattle.quantum_render.specs.Blocks.{slot as slot_of, counts_in};
 
-use crate::places::Near;
+use automation::Level;
 use conn_graph::Edge;
 use meaning::World;
 use std::marker::Model;
@@ -27,6 +27,16 @@ pub(crate) fn reader(node: NodeId) -> End
     }
 }
 
+// What the ends of a world are rendered by in the quantum that begins at a frame: the channels of each
+// end, by its slot, and the level of each node's parameter.
+#[derive(Clone, Copy)]
+pub(crate) struct Quantum<'a> {
+    pub world: &'a World,
+    pub counts: &'a [u32],
+    pub levels: &'a [Level],
+    pub first: u64,
+}
+
 // An end of a node of a valid world with the connections that lead to the node, in the quantum that
 // begins at a frame.
 #[derive(Drop)]
@@ -36,8 +46,10 @@ pub(crate) struct Site<'a> {
     pub into: &'a [Edge],
     // The channels of each end, by its slot.
     pub counts: &'a [u32],
+    // The level of each node's parameter.
+    pub levels: &'a [Level],
     pub first: u64,
-    pub near: Near,
+    pub near: usize,
 }
 
 impl<'a> Model for Site<'a> {
@@ -45,9 +57,9 @@ impl<'a> Model for Site<'a> {
 
     ghost Value = { SiteView };
 
-    ghost view = { λ s. record { world = s.world.now; end = s.end; into = s.into.now; counts = s.counts.now; first = s.first } };
+    ghost view = { λ s. record { world = s.world.now; end = s.end; into = s.into.now; counts = s.counts.now; levels = s.levels.now; first = s.first } };
 
-    ghost invariant = { λ s. IsSite s.world.now s.end s.into.now s.counts.now s.first };
+    ghost invariant = { λ s. IsSite s.world.now s.end s.into.now s.counts.now s.levels.now s.first };
 }
 
 impl Site<'_> {

@@ -11,7 +11,7 @@ ghost use Rattle.quantum_render.specs.Sums.{sum_at};
 
 use crate::block::{Block, QUANTUM};
 use crate::held::Held;
-use crate::kernels::{clear_unless, each_level, fill, level_of, settle};
+use crate::kernels::{clear_unless, each_level, each_level_on, fill, settle};
 use crate::site::{Site, reader, slot};
 use channel_mix::mix_add;
 use conn_graph::{Edge, Target};
@@ -112,19 +112,19 @@ impl Sums {
         }
     }
 
-    // Writes the sums of a channel, each added to a value.
-    pub(crate) fn levels(&self, channel: usize, levels: &mut [Fix], value: Fix)
+    // Adds to each level the sum of a channel there, saturated before and after.
+    pub(crate) fn add_to(&self, levels: &mut [Fix], channel: usize)
         requires channel { channel < self.now.count }
         requires length { length levels.old ≡ 128 }
         ensures length { length levels.new ≡ length levels.old }
-        ensures values { (m : ℕ) → m < length levels.old → slice_index_or levels.new m (pos 0) ≡ saturated (value +ℤ saturated (sum_at self.now channel m)) }
+        ensures values { (m : ℕ) → m < length levels.old → slice_index_or levels.new m (pos 0) ≡ saturated (slice_index_or levels.old m (pos 0) +ℤ saturated (sum_at self.now channel m)) }
     {
         let held = self.held[channel];
         if self.moves {
             let first = channel * QUANTUM;
-            each_level(levels, value, held, &self.moving[first..first + QUANTUM]);
+            each_level(levels, held, &self.moving[first..first + QUANTUM]);
         } else {
-            fill(levels, level_of(value, held));
+            each_level_on(levels, held);
         }
     }
 

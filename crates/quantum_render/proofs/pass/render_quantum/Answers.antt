@@ -16,34 +16,34 @@ use Rattle.quantum_render.proofs.pass.render_quantum.Goals as goal
 pub hush-requires : goal.hush-requires
 hush-requires c =
     subst (λ (ms : List End). (i : ℕ) (d : End) → i < length ms → slot (slice_index_or ms i d) < length c.args.blocks.now) (sym c.muted.ensures)
-    (mute_there c.args.world.now c.requires.valid c.args.plan.now.order c.args.plan.now.muted c.args.plan.now.into c.requires.plan c.args.counts.now c.args.blocks.now c.requires.fit)
+    (mute_there c.args.quantum.world.now c.requires.valid c.args.plan.now.order c.args.plan.now.muted c.args.plan.now.into c.requires.plan c.args.quantum.counts.now c.args.blocks.now c.requires.fit)
 
 pub loop-end-init : goal.loop-end-init
 loop-end-init c = record {
-  passing = passing_begins c.args.world.now (joined c.args.world.now c.requires.valid) c.args.plan.now.order c.args.plan.now.muted c.args.plan.now.into c.requires.plan
-      c.args.counts.now c.args.first c.hush.new.blocks (still_fit c.args.world.now c.args.counts.now c.args.blocks.now c.hush.new.blocks c.hush.ensures.lanes c.requires.fit)
+  passing = passing_begins c.args.quantum.world.now (joined c.args.quantum.world.now c.requires.valid) c.args.plan.now.order c.args.plan.now.muted c.args.plan.now.into c.requires.plan
+      c.args.quantum.counts.now c.args.quantum.first c.hush.new.blocks (still_fit c.args.quantum.world.now c.args.quantum.counts.now c.args.blocks.now c.hush.new.blocks c.hush.ensures.lanes c.requires.fit)
       (subst (λ (ms : List End). (i : ℕ) (d : End) → i < length ms → IsSilent c.hush.new.blocks (slice_index_or ms i d)) c.muted.ensures c.hush.ensures.silent);
 }
 
 pub site-site-requires-clause-there : goal.site-site-requires-clause-there
 site-site-requires-clause-there c =
-    subst (λ (order : List End). IsIn (slice_index_or order c.loop-end.end-index no_end) (ends c.args.world.now.graph.value)) (sym c.order-end-items.ensures)
-    (next c.args.world.now (joined c.args.world.now c.requires.valid) c.args.plan.now.order c.loop-end.end-index c.args.counts.now c.args.first c.loop-end.blocks c.loop-end.invariant.passing
+    subst (λ (order : List End). IsIn (slice_index_or order c.loop-end.end-index no_end) (ends c.args.quantum.world.now.graph.value)) (sym c.order-end-items.ensures)
+    (next c.args.quantum.world.now (joined c.args.quantum.world.now c.requires.valid) c.args.plan.now.order c.loop-end.end-index c.args.quantum.counts.now c.args.quantum.first c.loop-end.blocks c.loop-end.invariant.passing
     (subst (λ (order : List End). c.loop-end.end-index < length order) c.order-end-items.ensures c.loop-end-test.true)).0
 
 pub render-requires : goal.render-requires
 render-requires c =
-    subst (λ (x : SiteView). AreFit x.world x.counts c.loop-end.blocks) (sym (site_here c.site-site.result c.args.world.now _ c.args.counts.now c.args.first c.site-site.ensures.world c.site-site.ensures.end c.site-site.ensures.counts c.site-site.ensures.first))
+    subst (λ (x : SiteView). AreFit x.world x.counts c.loop-end.blocks) (sym (site_here c.site-site.result c.args.quantum.world.now _ c.args.quantum.counts.now c.args.quantum.levels.now c.args.quantum.first c.site-site.ensures.world c.site-site.ensures.end c.site-site.ensures.counts c.site-site.ensures.levels c.site-site.ensures.first))
     c.loop-end.invariant.passing.fit
 
 pub loop-end-preserved : goal.loop-end-preserved
 loop-end-preserved c =
     let place = c.order-end-items.ensures in
-    let here = site_here c.site-site.result c.args.world.now (slice_index_or c.args.plan.now.order c.loop-end.end-index no_end) c.args.counts.now c.args.first
-    c.site-site.ensures.world (c.site-site.ensures.end ∙ ap (λ (order : List End). slice_index_or order c.loop-end.end-index no_end) place) c.site-site.ensures.counts c.site-site.ensures.first in
+    let here = site_here c.site-site.result c.args.quantum.world.now (slice_index_or c.args.plan.now.order c.loop-end.end-index no_end) c.args.quantum.counts.now c.args.quantum.levels.now c.args.quantum.first
+    c.site-site.ensures.world (c.site-site.ensures.end ∙ ap (λ (order : List End). slice_index_or order c.loop-end.end-index no_end) place) c.site-site.ensures.counts c.site-site.ensures.levels c.site-site.ensures.first in
     record {
-      passing = passing_goes_on c.args.world.now (joined c.args.world.now c.requires.valid) c.args.plan.now.order c.loop-end.end-index c.args.counts.now c.args.first c.loop-end.blocks c.loop-end.invariant.passing
-          (subst (λ (order : List End). c.loop-end.end-index < length order) place c.loop-end-test.true) c.site-site.result.into c.render.new.blocks
+      passing = passing_goes_on c.args.quantum.world.now (joined c.args.quantum.world.now c.requires.valid) c.args.plan.now.order c.loop-end.end-index c.args.quantum.counts.now c.args.quantum.first c.loop-end.blocks c.loop-end.invariant.passing
+          (subst (λ (order : List End). c.loop-end.end-index < length order) place c.loop-end-test.true) c.site-site.result.into c.args.quantum.levels.now c.render.new.blocks
           (subst (λ (x : SiteView). Writes c.loop-end.blocks c.render.new.blocks x.end) here c.render.ensures.writes)
           (subst (λ (x : SiteView). Renders x c.loop-end.blocks c.render.new.blocks (kind_of x.world x.end.node.0)) here c.render.ensures.renders);
     }
@@ -51,6 +51,6 @@ loop-end-preserved c =
 pub returns : goal.returns
 returns c = record {
   fit = c.loop-end.invariant.passing.fit;
-  values = passing_ends c.args.world.now c.args.plan.now.order c.loop-end.end-index c.args.counts.now c.args.first c.loop-end.blocks c.loop-end.invariant.passing
+  values = passing_ends c.args.quantum.world.now c.args.plan.now.order c.loop-end.end-index c.args.quantum.counts.now c.args.quantum.first c.loop-end.blocks c.loop-end.invariant.passing
       (subst (λ (order : List End). length order ≤ c.loop-end.end-index) c.order-end-items.ensures c.loop-end-test.false);
 }

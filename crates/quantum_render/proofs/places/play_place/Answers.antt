@@ -7,8 +7,8 @@ use Rattle.quantum_render.proofs.places.play_place.Goals as goal
 pub returns-then-is_play-clause-item : goal.returns-then-is_play-clause-item
 returns-then-is_play-clause-item c =
     let plays = c.args.world.now.scheds.items in
-    let place : ℕ = c.args.near.play in
-    let there : place < length plays = subst (λ xs. place < length xs) c.as_slice-plays.ensures c.if-place-plays.true in
-    let found = c.index-plays-place.is ∙ ap (λ xs. slice_index_or xs place c.index-plays-place.result) c.as_slice-plays.ensures in
+    let place : ℕ = c.args.near in
+    let there : place < length plays = subst (λ xs. place < length xs) c.as_slice-plays.ensures c.if-near-plays.true in
+    let found = c.index-plays-near.is ∙ ap (λ xs. slice_index_or xs place c.index-plays-near.result) c.as_slice-plays.ensures in
     let has = ap (λ (p : Play). p.id.0 == c.args.node.0) (sym found) ∙ sym c.is_play.ensures ∙ c.if-is_play.true in
-    sym (ap (option_and_then (slice_get plays)) (play_position c.args.world.now c.requires c.args.node.0 place c.index-plays-place.result there has))
+    sym (ap (option_and_then (slice_get plays)) (play_position c.args.world.now c.requires c.args.node.0 place c.index-plays-near.result there has))

@@ -10,7 +10,7 @@ use Rattle.quantum_render.proofs.Rendering.{site_is}
 use Rattle.quantum_render.proofs.bench.Bench.render.Goals as goal
 
 -- the kind of a site's node is the one that the table gives
-kind_of_site : (s : SiteView) → IsSite s.world s.end s.into s.counts s.first → (kind : Kind) → kind_at s.world.nodes s.end.node.0 ≡ Some kind → kind_of s.world s.end.node.0 ≡ kind
+kind_of_site : (s : SiteView) → IsSite s.world s.end s.into s.counts s.levels s.first → (kind : Kind) → kind_at s.world.nodes s.end.node.0 ≡ Some kind → kind_of s.world s.end.node.0 ≡ kind
 kind_of_site s site kind is = kind_is s.world s.end.node.0 kind (end_low s.world site.valid s.end site.there) is
 
 pub kind-requires : goal.kind-requires
@@ -18,80 +18,80 @@ kind-requires c = end_low c.site.inside.world.now c.site.invariant.valid c.site.
 
 pub render_destination-requires-clause-kind : goal.render_destination-requires-clause-kind
 render_destination-requires-clause-kind c =
-    kind_of_site c.args.site.now (site_is c.args.site.now _ _ _ _ _ c.site.invariant c.site.view_is) c.kind.result.now
+    kind_of_site c.args.site.now (site_is c.args.site.now _ _ _ _ _ _ c.site.invariant c.site.view_is) c.kind.result.now
     (subst (λ (x : SiteView). kind_at x.world.nodes x.end.node.0 ≡ Some c.kind.result.now) c.site.view_is c.kind.ensures.value) ∙ c.in-Destination.is
 
 pub render_constant-requires-clause-kind : goal.render_constant-requires-clause-kind
 render_constant-requires-clause-kind c = (
   c.in-Constant.offset,
-  kind_of_site c.args.site.now (site_is c.args.site.now _ _ _ _ _ c.site.invariant c.site.view_is) c.kind.result.now
+  kind_of_site c.args.site.now (site_is c.args.site.now _ _ _ _ _ _ c.site.invariant c.site.view_is) c.kind.result.now
       (subst (λ (x : SiteView). kind_at x.world.nodes x.end.node.0 ≡ Some c.kind.result.now) c.site.view_is c.kind.ensures.value) ∙ c.in-Constant.is,
 )
 
 pub render_buffer-requires-clause-kind : goal.render_buffer-requires-clause-kind
 render_buffer-requires-clause-kind c = (
   c.in-Buffer.rate,
-  kind_of_site c.args.site.now (site_is c.args.site.now _ _ _ _ _ c.site.invariant c.site.view_is) c.kind.result.now
+  kind_of_site c.args.site.now (site_is c.args.site.now _ _ _ _ _ _ c.site.invariant c.site.view_is) c.kind.result.now
       (subst (λ (x : SiteView). kind_at x.world.nodes x.end.node.0 ≡ Some c.kind.result.now) c.site.view_is c.kind.ensures.value) ∙ c.in-Buffer.is,
 )
 
 pub render_gain-requires-clause-kind : goal.render_gain-requires-clause-kind
 render_gain-requires-clause-kind c = (
   c.in-Gain.gain,
-  kind_of_site c.args.site.now (site_is c.args.site.now _ _ _ _ _ c.site.invariant c.site.view_is) c.kind.result.now
+  kind_of_site c.args.site.now (site_is c.args.site.now _ _ _ _ _ _ c.site.invariant c.site.view_is) c.kind.result.now
       (subst (λ (x : SiteView). kind_at x.world.nodes x.end.node.0 ≡ Some c.kind.result.now) c.site.view_is c.kind.ensures.value) ∙ c.in-Gain.is,
 )
 
 pub render_splitter-requires-clause-kind : goal.render_splitter-requires-clause-kind
 render_splitter-requires-clause-kind c = (
   c.in-Splitter.outputs,
-  kind_of_site c.args.site.now (site_is c.args.site.now _ _ _ _ _ c.site.invariant c.site.view_is) c.kind.result.now
+  kind_of_site c.args.site.now (site_is c.args.site.now _ _ _ _ _ _ c.site.invariant c.site.view_is) c.kind.result.now
       (subst (λ (x : SiteView). kind_at x.world.nodes x.end.node.0 ≡ Some c.kind.result.now) c.site.view_is c.kind.ensures.value) ∙ c.in-Splitter.is,
 )
 
 pub render_merger-requires-clause-kind : goal.render_merger-requires-clause-kind
 render_merger-requires-clause-kind c = (
   c.in-Merger.inputs,
-  kind_of_site c.args.site.now (site_is c.args.site.now _ _ _ _ _ c.site.invariant c.site.view_is) c.kind.result.now
+  kind_of_site c.args.site.now (site_is c.args.site.now _ _ _ _ _ _ c.site.invariant c.site.view_is) c.kind.result.now
       (subst (λ (x : SiteView). kind_at x.world.nodes x.end.node.0 ≡ Some c.kind.result.now) c.site.view_is c.kind.ensures.value) ∙ c.in-Merger.is,
 )
 
 pub returns-in-Destination-clause-renders : goal.returns-in-Destination-clause-renders
 returns-in-Destination-clause-renders c =
     subst (Renders c.args.site.now c.args.blocks.now c.render_destination.new.blocks)
-    (sym (kind_of_site c.args.site.now (site_is c.args.site.now _ _ _ _ _ c.site.invariant c.site.view_is) c.kind.result.now
+    (sym (kind_of_site c.args.site.now (site_is c.args.site.now _ _ _ _ _ _ c.site.invariant c.site.view_is) c.kind.result.now
     (subst (λ (x : SiteView). kind_at x.world.nodes x.end.node.0 ≡ Some c.kind.result.now) c.site.view_is c.kind.ensures.value) ∙ c.in-Destination.is))
     c.render_destination.ensures.renders
 
 pub returns-in-Constant-clause-renders : goal.returns-in-Constant-clause-renders
 returns-in-Constant-clause-renders c =
     subst (Renders c.args.site.now c.args.blocks.now c.render_constant.new.blocks)
-    (sym (kind_of_site c.args.site.now (site_is c.args.site.now _ _ _ _ _ c.site.invariant c.site.view_is) c.kind.result.now
+    (sym (kind_of_site c.args.site.now (site_is c.args.site.now _ _ _ _ _ _ c.site.invariant c.site.view_is) c.kind.result.now
     (subst (λ (x : SiteView). kind_at x.world.nodes x.end.node.0 ≡ Some c.kind.result.now) c.site.view_is c.kind.ensures.value) ∙ c.in-Constant.is))
     (c.render_constant.ensures.renders c.in-Constant.offset)
 
 pub returns-in-Buffer-clause-renders : goal.returns-in-Buffer-clause-renders
 returns-in-Buffer-clause-renders c =
     subst (Renders c.args.site.now c.args.blocks.now c.render_buffer.new.blocks)
-    (sym (kind_of_site c.args.site.now (site_is c.args.site.now _ _ _ _ _ c.site.invariant c.site.view_is) c.kind.result.now
+    (sym (kind_of_site c.args.site.now (site_is c.args.site.now _ _ _ _ _ _ c.site.invariant c.site.view_is) c.kind.result.now
     (subst (λ (x : SiteView). kind_at x.world.nodes x.end.node.0 ≡ Some c.kind.result.now) c.site.view_is c.kind.ensures.value) ∙ c.in-Buffer.is))
     (c.render_buffer.ensures.renders c.in-Buffer.rate)
 
 pub returns-in-Gain-clause-renders : goal.returns-in-Gain-clause-renders
 returns-in-Gain-clause-renders c =
     subst (Renders c.args.site.now c.args.blocks.now c.render_gain.new.blocks)
-    (sym (kind_of_site c.args.site.now (site_is c.args.site.now _ _ _ _ _ c.site.invariant c.site.view_is) c.kind.result.now
+    (sym (kind_of_site c.args.site.now (site_is c.args.site.now _ _ _ _ _ _ c.site.invariant c.site.view_is) c.kind.result.now
     (subst (λ (x : SiteView). kind_at x.world.nodes x.end.node.0 ≡ Some c.kind.result.now) c.site.view_is c.kind.ensures.value) ∙ c.in-Gain.is))
     (c.render_gain.ensures.renders c.in-Gain.gain)
 
 pub returns-in-Splitter-clause-renders : goal.returns-in-Splitter-clause-renders
 returns-in-Splitter-clause-renders c =
-    let kind = kind_of_site c.args.site.now (site_is c.args.site.now _ _ _ _ _ c.site.invariant c.site.view_is) c.kind.result.now
+    let kind = kind_of_site c.args.site.now (site_is c.args.site.now _ _ _ _ _ _ c.site.invariant c.site.view_is) c.kind.result.now
     (subst (λ (x : SiteView). kind_at x.world.nodes x.end.node.0 ≡ Some c.kind.result.now) c.site.view_is c.kind.ensures.value) ∙ c.in-Splitter.is in
     subst (Renders c.args.site.now c.args.blocks.now c.render_splitter.new.blocks) (sym kind) (c.render_splitter.ensures.renders c.in-Splitter.outputs kind)
 
 pub returns-in-Merger-clause-renders : goal.returns-in-Merger-clause-renders
 returns-in-Merger-clause-renders c =
-    let kind = kind_of_site c.args.site.now (site_is c.args.site.now _ _ _ _ _ c.site.invariant c.site.view_is) c.kind.result.now
+    let kind = kind_of_site c.args.site.now (site_is c.args.site.now _ _ _ _ _ _ c.site.invariant c.site.view_is) c.kind.result.now
     (subst (λ (x : SiteView). kind_at x.world.nodes x.end.node.0 ≡ Some c.kind.result.now) c.site.view_is c.kind.ensures.value) ∙ c.in-Merger.is in
     subst (Renders c.args.site.now c.args.blocks.now c.render_merger.new.blocks) (sym kind) (c.render_merger.ensures.renders c.in-Merger.inputs kind)

@@ -5,24 +5,27 @@ use Rattle.meaning.specs.World.{sounds_at}
 use Rattle.quantum_render.specs.Blocks.{BlockView, at, slot, room_of}
 use Rattle.quantum_render.specs.Benches.{BenchView}
 use Rattle.quantum_render.specs.Sites.{SiteView}
+use Rattle.std.specs.Prelude.{is_some}
+use Rattle.wa_base.specs.declared.graph_names.ParamName.TheVariants.{Offset}
+use Rattle.node_table.specs.Kinds.{param_base}
 use Rattle.quantum_render.proofs.Rendering.{site_is, own_within, own_room, mono_own, writes_own, renders_own}
 use Rattle.quantum_render.proofs.bench.Bench.render_constant.Goals as goal
 
 pub bounds-blocks-slot : goal.bounds-blocks-slot
 bounds-blocks-slot c =
-    let site = site_is c.args.site.now _ _ _ _ _ c.site.invariant c.site.view_is in
+    let site = site_is c.args.site.now _ _ _ _ _ _ c.site.invariant c.site.view_is in
     own_within c.args.site.now site c.args.blocks.now c.requires.fit c.slot.result (c.slot.ensures ∙ ap (λ (x : SiteView). slot x.end) c.site.view_is)
 
 pub copy-requires : goal.copy-requires
 copy-requires c =
-    let site = site_is c.args.site.now _ _ _ _ _ c.site.invariant c.site.view_is in
+    let site = site_is c.args.site.now _ _ _ _ _ _ c.site.invariant c.site.view_is in
     let here = c.slot.ensures ∙ ap (λ (x : SiteView). slot x.end) c.site.view_is in
     subst (λ n. n * 128 ≤ room_of (slice_index_or c.args.blocks.now c.slot.result c.index-blocks-slot.result)) (mono_own c.args.site.now site c.args.blocks.now c.requires.fit c.slot.result here (ap is_mono c.requires.kind.1) ∙ sym c.sound.ensures.lanes)
     (own_room c.args.site.now site c.args.blocks.now c.requires.fit c.slot.result here (ap outputs c.requires.kind.1) c.index-blocks-slot.result)
 
 pub returns-clause-writes : goal.returns-clause-writes
 returns-clause-writes c =
-    let site = site_is c.args.site.now _ _ _ _ _ c.site.invariant c.site.view_is in
+    let site = site_is c.args.site.now _ _ _ _ _ _ c.site.invariant c.site.view_is in
     let here = c.slot.ensures ∙ ap (λ (x : SiteView). slot x.end) c.site.view_is in
     writes_own c.args.site.now site c.args.blocks.now c.requires.fit c.slot.result here (ap outputs c.requires.kind.1) c.copy.new.self
     (c.copy.ensures.lanes ∙ c.sound.ensures.lanes ∙ sym (mono_own c.args.site.now site c.args.blocks.now c.requires.fit c.slot.result here (ap is_mono c.requires.kind.1)))
@@ -30,7 +33,7 @@ returns-clause-writes c =
 pub returns-clause-renders : goal.returns-clause-renders
 returns-clause-renders c offset j earlier begins counted before =
     let s : SiteView = c.args.site.now in
-    let site = site_is s _ _ _ _ _ c.site.invariant c.site.view_is in
+    let site = site_is s _ _ _ _ _ _ c.site.invariant c.site.view_is in
     let levels : c.self.inside.levels ≡ c.take_levels.new.self.levels = ap (λ (b : BenchView). b.levels) c.self.view_is in
     let time = c.site.invariant.begun.time in
     renders_own s site c.args.blocks.now c.requires.fit c.slot.result (c.slot.ensures ∙ ap (λ (x : SiteView). slot x.end) c.site.view_is) (ap outputs c.requires.kind.1) c.copy.new.self _
@@ -43,3 +46,6 @@ returns-clause-renders c offset j earlier begins counted before =
     (c.span-start.ensures (c.site.inside.first + m) (omega arith) ∙ ap (λ (x : SiteView). sounds_at s.world s.end.node.0 (x.first + m)) c.site.view_is)
     ∙ ap (λ x. if sounds_at s.world s.end.node.0 (s.first + m) then x else pos 0)
     (ap (λ (b : BlockView). at b 0 m) levels ∙ c.take_levels.ensures.levels before m now))
+
+pub take_levels-requires-clause-there : goal.take_levels-requires-clause-there
+take_levels-requires-clause-there c = ap (λ k. is_some (param_base k Offset)) c.requires.kind.1

@@ -22,21 +22,21 @@ pub attrs-requires : goal.attrs-requires
 attrs-requires c = end_low c.site.inside.world.now c.site.invariant.valid c.site.inside.end c.site.invariant.there
 
 -- the lone connection is the first of the site
-source_of : (s : SiteView) → IsSite s.world s.end s.into s.counts s.first → (blocks : List BlockView) → AreFit s.world s.counts blocks → (e : Edge) → into s.world.graph.value s.end.node.0 ≡ e ∷ [] → IsSource s.counts blocks e
+source_of : (s : SiteView) → IsSite s.world s.end s.into s.counts s.levels s.first → (blocks : List BlockView) → AreFit s.world s.counts blocks → (e : Edge) → into s.world.graph.value s.end.node.0 ≡ e ∷ [] → IsSource s.counts blocks e
 source_of s site blocks fit e only =
     let one : s.into ≡ e ∷ [] = site.into ∙ only in
     subst (λ (es : List Edge). IsSource s.counts blocks (slice_index_or es 0 no_edge)) one
-    (source_is s.world s.end s.into s.counts s.first blocks site fit 0 no_edge (rw one (omega arith)))
+    (source_is s.world s.end s.into s.counts s.levels s.first blocks site fit 0 no_edge (rw one (omega arith)))
 
 pub bounds-blocks-slot : goal.bounds-blocks-slot
 bounds-blocks-slot c =
-    let site = site_is c.args.site.now _ _ _ _ _ c.site.invariant c.site.view_is in
+    let site = site_is c.args.site.now _ _ _ _ _ _ c.site.invariant c.site.view_is in
     let source = source_of c.args.site.now site c.args.blocks.now c.requires.fit c.in-Some.edge c.in-Some.ensures.only in
     subst (λ k. k < length c.args.blocks.now) (sym (c.slot.ensures ∙ ap slot c.reader.ensures)) source.block
 
 pub copy_output-requires-clause-output : goal.copy_output-requires-clause-output
 copy_output-requires-clause-output c =
-    let site = site_is c.args.site.now _ _ _ _ _ c.site.invariant c.site.view_is in
+    let site = site_is c.args.site.now _ _ _ _ _ _ c.site.invariant c.site.view_is in
     let source = source_of c.args.site.now site c.args.blocks.now c.requires.fit c.in-Some.edge c.in-Some.ensures.only in
     let place = c.slot.ensures ∙ ap slot c.reader.ensures in
     let block = c.index-blocks-slot.is ∙ get_or_default c.args.blocks.now c.slot.result c.index-blocks-slot.result no_block (rw place source.block) ∙ ap (λ k. slice_index_or c.args.blocks.now k no_block) place in
@@ -46,7 +46,7 @@ copy_output-requires-clause-output c =
 pub returns-in-Some-clause-input : goal.returns-in-Some-clause-input
 returns-in-Some-clause-input c channels channel m low now =
     let s : SiteView = c.args.site.now in
-    let site = site_is s _ _ _ _ _ c.site.invariant c.site.view_is in
+    let site = site_is s _ _ _ _ _ _ c.site.invariant c.site.view_is in
     let e : Edge = c.in-Some.edge in
     let lone : IsLone s _ e = c.in-Some.ensures in
     let source = source_of s site c.args.blocks.now c.requires.fit e lone.only in
@@ -60,7 +60,7 @@ returns-in-Some-clause-input c channels channel m low now =
 pub returns-clause-input : goal.returns-clause-input
 returns-clause-input c channels channel m low now =
     let s : SiteView = c.args.site.now in
-    let site = site_is s _ _ _ _ _ c.site.invariant c.site.view_is in
+    let site = site_is s _ _ _ _ _ _ c.site.invariant c.site.view_is in
     let blocks : List BlockView = c.args.blocks.now in
     let low' : channel < c.gather.new.self.count = subst (λ n. channel < n) (sym c.gather.ensures.count) low in
     c.saturate.ensures.values channel m low' now

@@ -8,6 +8,9 @@ use Rattle.meaning.specs.Rendered.{sample}
 use Rattle.quantum_render.specs.Blocks.{BlockView, no_block, shown, slot, block_of}
 use Rattle.quantum_render.specs.Plans.{AreCounted}
 use Rattle.quantum_render.specs.Stands.{RendererView}
+use Rattle.meaning.specs.declared.params.Param.{Param}
+use Rattle.automation.specs.Ready.{AreOfNodes}
+use Rattle.quantum_render.proofs.Automated.{of_nodes}
 use Rattle.quantum_render.proofs.Made.{rewritten}
 use Rattle.quantum_render.proofs.OutLaws.{destination_lanes, out_is}
 use Rattle.quantum_render.proofs.renderer.Renderer.pass.Goals as goal
@@ -15,9 +18,9 @@ use Rattle.quantum_render.proofs.renderer.Renderer.pass.Goals as goal
 pub returns-clause-shows : goal.returns-clause-shows
 returns-clause-shows g c tape stands regular channel m few now =
     let w : World = c.args.world.now in
-    let counts : List ℕ = c.as_slice-counts.result.now in
+    let counts : List ℕ = c.as_slice-2.result.now in
     let begins : c.args.first ≡ 128 * length tape = c.requires.first ∙ ap (λ n. 128 * n) stands.quanta in
-    let kept : counts ≡ c.args.self.now.counts = c.as_slice-counts.ensures.value ∙ ap (λ (r : RendererView). r.counts) c.self.view_is in
+    let kept : counts ≡ c.args.self.now.counts = c.as_slice-2.ensures.value ∙ ap (λ (r : RendererView). r.counts) c.self.view_is in
     let counted : AreCounted 128 w counts tape = subst (λ cs. AreCounted 128 w cs tape) (sym kept) (c.requires.grown.counted.counted tape stands regular) in
     let fit = c.render_quantum.ensures.fit in
     let some = c.requires.valid.nodes.some in
@@ -32,3 +35,6 @@ returns-clause-shows g c tape stands regular channel m few now =
     (destination_lanes w c.requires.valid c.render_quantum.new.blocks counts fit)
     (subst (λ (s : ContextSpec). channel < s.channels) (ap (λ (r : RendererView). r.spec) c.self.view_is ∙ sym c.requires.spec) few) now
     ∙ ap (λ k. sample 128 (tape ++ w ∷ []) (128 * k + m) channel) (let e : length tape ≡ length (tape ++ w ∷ []) - 1 = omega arith in e)
+
+pub take-requires-clause-nodes : goal.take-requires-clause-nodes
+take-requires-clause-nodes g c = (length c.args.world.now.nodes, subst (λ (ps : List Param). AreOfNodes (length c.args.world.now.nodes) ps) (sym c.as_slice.ensures) (of_nodes c.args.world.now c.requires.valid))

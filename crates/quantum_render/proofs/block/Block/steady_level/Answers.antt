@@ -1,0 +1,27 @@
+use Rattle.std.proofs.Common.{rules, Bool, pos, slice_index_or, length, ◌<◌, ◌≡◌, ◌+ℤ◌, sym, ◌∙◌, ap, ap₂, arith, FitsSigned}
+use Rattle.std.specs.Int.{w32, w64}
+use Rattle.std.proofs.lemmas.Int.{to_z-of_z}
+use Rattle.std.proofs.lemmas.List.{get_or_default}
+use Rattle.channel_mix.specs.Blocks.{sample}
+use Rattle.wa_base.specs.Numbers.{sat}
+use Rattle.quantum_render.specs.Blocks.{BlockView, at, all_values}
+use Rattle.quantum_render.proofs.Holding.{steady_at}
+use Rattle.quantum_render.proofs.block.Block.steady_level.Goals as goal
+
+pub returns : goal.returns
+returns c m now =
+    let held = c.in_ok-held.ensures in
+    let fits : FitsSigned w32 c.level_of.result = search rules in
+    let level : FitsSigned w32 c.index.result.now = search rules in
+    let sum : FitsSigned w64 (slice_index_or c.in_ok-held.held.now 0 (pos 0)) = search rules in
+    let lanes : c.self.inside.lanes ≡ 1 = ap (λ (b : BlockView). b.lanes) c.self.view_is ∙ c.requires.mono in
+    let room = c.self.invariant.room in
+    let some : 0 < length c.self.inside.values.items = search rules in
+    let was : at c.args.self.now 0 m ≡ c.index.result.now =
+    ap (λ (b : BlockView). at b 0 m) (sym c.self.view_is)
+    ∙ ap (λ (b : Bool). sample 128 (all_values b c.self.inside.lanes c.self.inside.values.items) 0 m) c.if-not-self.false
+    ∙ steady_at c.self.inside.lanes c.self.inside.values.items 0 m (omega (arith, lanes)) now
+    ∙ get_or_default c.self.inside.values.items 0 (pos 0) c.index.result.now some ∙ sym c.index.ensures in
+    to_z-of_z _ _ fits
+    ∙ c.level_of.ensures
+    ∙ ap₂ (λ v x. sat (v +ℤ sat x)) (to_z-of_z _ _ level ∙ sym was) (to_z-of_z _ _ sum ∙ sym (held.2 0 m (omega arith) now))
