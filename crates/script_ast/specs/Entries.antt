@@ -86,6 +86,14 @@ connect =
     row field.To kind.Name Needed ∷
     row field.Input kind.Count (Count 0) ∷ []
 
+-- `connectParam`
+abbrev pub connect_param : List Row
+connect_param =
+    row field.From kind.Name Needed ∷
+    row field.Output kind.Count (Count 0) ∷
+    row field.To kind.Name Needed ∷
+    row field.Param kind.Name Needed ∷ []
+
 -- `disconnect`
 abbrev pub disconnect : List Row
 disconnect =
@@ -93,6 +101,14 @@ disconnect =
     row field.Output kind.Count Null ∷
     row field.To kind.Name Null ∷
     row field.Input kind.Count Null ∷ []
+
+-- `disconnectParam`
+abbrev pub disconnect_param : List Row
+disconnect_param =
+    row field.From kind.Name Needed ∷
+    row field.To kind.Name Needed ∷
+    row field.Param kind.Name Needed ∷
+    row field.Output kind.Count Null ∷ []
 
 -- `setChannelCount`
 abbrev pub set_channel_count : List Row
@@ -157,6 +173,77 @@ abbrev pub stop : List Row
 stop =
     row field.Node kind.Name Needed ∷
     row field.When kind.Time (Number (pos 0)) ∷ []
+
+-- `setValue`
+abbrev pub set_value : List Row
+set_value =
+    row field.Node kind.Name Needed ∷
+    row field.Param kind.Name Needed ∷
+    row field.Value kind.Fix Needed ∷ []
+
+-- `setValueAtTime`
+abbrev pub set_value_at_time : List Row
+set_value_at_time =
+    row field.Node kind.Name Needed ∷
+    row field.Param kind.Name Needed ∷
+    row field.Value kind.Fix Needed ∷
+    row field.Time kind.Time Needed ∷ []
+
+-- `linearRampToValueAtTime`
+abbrev pub linear_ramp_to_value_at_time : List Row
+linear_ramp_to_value_at_time =
+    row field.Node kind.Name Needed ∷
+    row field.Param kind.Name Needed ∷
+    row field.Value kind.Fix Needed ∷
+    row field.Time kind.Time Needed ∷ []
+
+-- `setValueCurveAtTime`
+abbrev pub set_value_curve_at_time : List Row
+set_value_curve_at_time =
+    row field.Node kind.Name Needed ∷
+    row field.Param kind.Name Needed ∷
+    row field.Values kind.Fixes Needed ∷
+    row field.Time kind.Time Needed ∷
+    row field.Duration kind.Time Needed ∷ []
+
+-- `cancelScheduledValues`
+abbrev pub cancel_scheduled_values : List Row
+cancel_scheduled_values =
+    row field.Node kind.Name Needed ∷
+    row field.Param kind.Name Needed ∷
+    row field.Time kind.Time Needed ∷ []
+
+-- `cancelAndHoldAtTime`
+abbrev pub cancel_and_hold_at_time : List Row
+cancel_and_hold_at_time =
+    row field.Node kind.Name Needed ∷
+    row field.Param kind.Name Needed ∷
+    row field.Time kind.Time Needed ∷ []
+
+-- `setAutomationRate`
+abbrev pub set_automation_rate : List Row
+set_automation_rate =
+    row field.Node kind.Name Needed ∷
+    row field.Param kind.Name Needed ∷
+    row field.Value kind.Rate Needed ∷ []
+
+-- `exponentialRampToValueAtTime`
+abbrev pub exponential_ramp_to_value_at_time : List Row
+exponential_ramp_to_value_at_time =
+    row field.Node kind.Name Needed ∷
+    row field.Param kind.Name Needed ∷ []
+
+-- `setTargetAtTime`
+abbrev pub set_target_at_time : List Row
+set_target_at_time =
+    row field.Node kind.Name Needed ∷
+    row field.Param kind.Name Needed ∷ []
+
+-- `readValue`
+abbrev pub read_value : List Row
+read_value =
+    row field.Node kind.Name Needed ∷
+    row field.Param kind.Name Needed ∷ []
 
 -- `startRendering`
 abbrev pub start_rendering : List Row

@@ -10,7 +10,9 @@ use Rattle.script_ast.specs.declared.entries.Row.{Row}
 use Rattle.script_ast.specs.declared.op_names.LeftOutName.{LeftOutName}
 use Rattle.script_ast.specs.declared.op_names.LeftOutName.TheVariants as left_out
 use Rattle.script_ast.specs.declared.op_names.OpName.{OpName}
-use Rattle.script_ast.specs.declared.op_names.OpName.TheVariants.{CreateConstantSource, CreateGain, CreateChannelSplitter, CreateChannelMerger, CreateBufferSource, CreateBuffer, Connect, Disconnect, SetChannelCount, SetChannelCountMode, SetChannelInterpretation, SetBuffer, SetLoop, SetLoopStart, SetLoopEnd, CopyToChannel, Start, Stop, StartRendering, Resume, DecodeAudioData, ReadState, ReadTime, LeftOut}
+use Rattle.script_ast.specs.declared.op_names.OpName.TheVariants.{CreateConstantSource, CreateGain, CreateChannelSplitter, CreateChannelMerger, CreateBufferSource, CreateBuffer, Connect, ConnectParam, Disconnect, DisconnectParam, SetChannelCount, SetChannelCountMode, SetChannelInterpretation, SetBuffer, SetLoop, SetLoopStart, SetLoopEnd, CopyToChannel, Start, Stop, Param, StartRendering, Resume, DecodeAudioData, ReadState, ReadTime, LeftOut}
+use Rattle.script_ast.specs.declared.param_ops.ParamOpName.{ParamOpName}
+use Rattle.script_ast.specs.declared.param_ops.ParamOpName.TheVariants as param
 
 -- the `op` of an operation that the profile leaves out
 abbrev pub left_out_word : LeftOutName → List ℕ
@@ -48,6 +50,19 @@ left_out_feature left_out.CreateScriptProcessor = feature.ScriptProcessor
 left_out_feature left_out.CreateAudioWorkletNode = feature.AudioWorklet
 left_out_feature left_out.CreateConvolver = feature.Convolver
 
+-- the `op` of an operation on a parameter
+abbrev pub param_op_word : ParamOpName → List ℕ
+param_op_word param.SetValue = codes "setValue"
+param_op_word param.SetValueAtTime = codes "setValueAtTime"
+param_op_word param.LinearRampToValueAtTime = codes "linearRampToValueAtTime"
+param_op_word param.SetValueCurveAtTime = codes "setValueCurveAtTime"
+param_op_word param.CancelScheduledValues = codes "cancelScheduledValues"
+param_op_word param.CancelAndHoldAtTime = codes "cancelAndHoldAtTime"
+param_op_word param.SetAutomationRate = codes "setAutomationRate"
+param_op_word param.ExponentialRampToValueAtTime = codes "exponentialRampToValueAtTime"
+param_op_word param.SetTargetAtTime = codes "setTargetAtTime"
+param_op_word param.ReadValue = codes "readValue"
+
 -- the `op` of an operation
 abbrev pub op_word : OpName → List ℕ
 op_word CreateConstantSource = codes "createConstantSource"
@@ -57,7 +72,9 @@ op_word CreateChannelMerger = codes "createChannelMerger"
 op_word CreateBufferSource = codes "createBufferSource"
 op_word CreateBuffer = codes "createBuffer"
 op_word Connect = codes "connect"
+op_word ConnectParam = codes "connectParam"
 op_word Disconnect = codes "disconnect"
+op_word DisconnectParam = codes "disconnectParam"
 op_word SetChannelCount = codes "setChannelCount"
 op_word SetChannelCountMode = codes "setChannelCountMode"
 op_word SetChannelInterpretation = codes "setChannelInterpretation"
@@ -68,6 +85,7 @@ op_word SetLoopEnd = codes "setLoopEnd"
 op_word CopyToChannel = codes "copyToChannel"
 op_word Start = codes "start"
 op_word Stop = codes "stop"
+op_word (Param name) = param_op_word name
 op_word StartRendering = codes "startRendering"
 op_word Resume = codes "resume"
 op_word DecodeAudioData = codes "decodeAudioData"
@@ -85,7 +103,9 @@ operations =
     CreateBufferSource ∷
     CreateBuffer ∷
     Connect ∷
+    ConnectParam ∷
     Disconnect ∷
+    DisconnectParam ∷
     SetChannelCount ∷
     SetChannelCountMode ∷
     SetChannelInterpretation ∷
@@ -96,6 +116,16 @@ operations =
     CopyToChannel ∷
     Start ∷
     Stop ∷
+    Param param.SetValue ∷
+    Param param.SetValueAtTime ∷
+    Param param.LinearRampToValueAtTime ∷
+    Param param.SetValueCurveAtTime ∷
+    Param param.CancelScheduledValues ∷
+    Param param.CancelAndHoldAtTime ∷
+    Param param.SetAutomationRate ∷
+    Param param.ExponentialRampToValueAtTime ∷
+    Param param.SetTargetAtTime ∷
+    Param param.ReadValue ∷
     StartRendering ∷
     Resume ∷
     DecodeAudioData ∷
@@ -125,6 +155,19 @@ first_named word names = find (λ name. bytes_eq (op_word name) word) names
 unfoldable pub op_named : List ℕ → Option OpName
 op_named word = first_named word operations
 
+-- the fields of an operation on a parameter, in the order in which they are read
+abbrev pub param_op_fields : ParamOpName → List Row
+param_op_fields param.SetValue = entry.set_value
+param_op_fields param.SetValueAtTime = entry.set_value_at_time
+param_op_fields param.LinearRampToValueAtTime = entry.linear_ramp_to_value_at_time
+param_op_fields param.SetValueCurveAtTime = entry.set_value_curve_at_time
+param_op_fields param.CancelScheduledValues = entry.cancel_scheduled_values
+param_op_fields param.CancelAndHoldAtTime = entry.cancel_and_hold_at_time
+param_op_fields param.SetAutomationRate = entry.set_automation_rate
+param_op_fields param.ExponentialRampToValueAtTime = entry.exponential_ramp_to_value_at_time
+param_op_fields param.SetTargetAtTime = entry.set_target_at_time
+param_op_fields param.ReadValue = entry.read_value
+
 -- the fields of an operation, in the order in which they are read
 abbrev pub fields_of : OpName → List Row
 fields_of CreateConstantSource = entry.create_constant_source
@@ -134,7 +177,9 @@ fields_of CreateChannelMerger = entry.create_channel_merger
 fields_of CreateBufferSource = entry.create_buffer_source
 fields_of CreateBuffer = entry.create_buffer
 fields_of Connect = entry.connect
+fields_of ConnectParam = entry.connect_param
 fields_of Disconnect = entry.disconnect
+fields_of DisconnectParam = entry.disconnect_param
 fields_of SetChannelCount = entry.set_channel_count
 fields_of SetChannelCountMode = entry.set_channel_count_mode
 fields_of SetChannelInterpretation = entry.set_channel_interpretation
@@ -145,6 +190,7 @@ fields_of SetLoopEnd = entry.set_loop_end
 fields_of CopyToChannel = entry.copy_to_channel
 fields_of Start = entry.start
 fields_of Stop = entry.stop
+fields_of (Param name) = param_op_fields name
 fields_of StartRendering = entry.start_rendering
 fields_of Resume = []
 fields_of DecodeAudioData = entry.decode_audio_data
@@ -166,6 +212,7 @@ is_calls kind.Fixes = false
 is_calls kind.Path = false
 is_calls kind.Mode = false
 is_calls kind.Interp = false
+is_calls kind.Rate = false
 is_calls kind.Calls = true
 is_calls kind.Object = false
 

@@ -1,10 +1,12 @@
 -- The fields that hold one of a list of words: what each word stands for.
 use Rattle.std.specs.Prelude.{ℕ, List, [], ◌∷◌, bytes_eq, find, Option}
-use Rattle.wa_base.specs.GraphNames.{mode_word, interp_word}
+use Rattle.wa_base.specs.GraphNames.{mode_word, interp_word, rate_word}
 use Rattle.wa_base.specs.declared.graph_names.Mode.{Mode}
 use Rattle.wa_base.specs.declared.graph_names.Mode.TheVariants.{Max, ClampedMax, Explicit}
 use Rattle.wa_base.specs.declared.graph_names.Interp.{Interp}
 use Rattle.wa_base.specs.declared.graph_names.Interp.TheVariants.{Speakers, Discrete}
+use Rattle.wa_base.specs.declared.graph_names.Rate.{Rate}
+use Rattle.wa_base.specs.declared.graph_names.Rate.TheVariants.{A, K}
 
 -- every ChannelCountMode
 abbrev pub modes : List Mode
@@ -29,3 +31,15 @@ first_interp word listed = find (λ interp. bytes_eq (interp_word interp) word) 
 -- the ChannelInterpretation that a text names
 unfoldable pub interp_named : List ℕ → Option Interp
 interp_named word = first_interp word interps
+
+-- every AutomationRate
+abbrev pub rates : List Rate
+rates = A ∷ K ∷ []
+
+-- the first of these rates that the text names
+abbrev pub first_rate : List ℕ → List Rate → Option Rate
+first_rate word listed = find (λ rate. bytes_eq (rate_word rate) word) listed
+
+-- the AutomationRate that a text names
+unfoldable pub rate_named : List ℕ → Option Rate
+rate_named word = first_rate word rates

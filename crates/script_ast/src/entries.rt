@@ -30,6 +30,8 @@ pub enum Kind {
     Mode,
     /// The word of a ChannelInterpretation.
     Interp,
+    /// The word of an AutomationRate.
+    Rate,
     /// An array.
     Calls,
     /// An object.
@@ -132,11 +134,25 @@ pub const CONNECT: [Row; 4] = [
     row!(Input, Count, Count(0)),
 ];
 
+pub const CONNECT_PARAM: [Row; 4] = [
+    row!(From, Name, Needed),
+    row!(Output, Count, Count(0)),
+    row!(To, Name, Needed),
+    row!(Param, Name, Needed),
+];
+
 pub const DISCONNECT: [Row; 4] = [
     row!(From, Name, Needed),
     row!(Output, Count, Null),
     row!(To, Name, Null),
     row!(Input, Count, Null),
+];
+
+pub const DISCONNECT_PARAM: [Row; 4] = [
+    row!(From, Name, Needed),
+    row!(To, Name, Needed),
+    row!(Param, Name, Needed),
+    row!(Output, Count, Null),
 ];
 
 pub const SET_CHANNEL_COUNT: [Row; 2] = [row!(Node, Name, Needed), row!(Value, Count, Needed)];
@@ -171,6 +187,61 @@ pub const START: [Row; 4] = [
 ];
 
 pub const STOP: [Row; 2] = [row!(Node, Name, Needed), row!(When, Time, Number(0))];
+
+pub const SET_VALUE: [Row; 3] = [
+    row!(Node, Name, Needed),
+    row!(Param, Name, Needed),
+    row!(Value, Fix, Needed),
+];
+
+pub const SET_VALUE_AT_TIME: [Row; 4] = [
+    row!(Node, Name, Needed),
+    row!(Param, Name, Needed),
+    row!(Value, Fix, Needed),
+    row!(Time, Time, Needed),
+];
+
+pub const LINEAR_RAMP_TO_VALUE_AT_TIME: [Row; 4] = [
+    row!(Node, Name, Needed),
+    row!(Param, Name, Needed),
+    row!(Value, Fix, Needed),
+    row!(Time, Time, Needed),
+];
+
+pub const SET_VALUE_CURVE_AT_TIME: [Row; 5] = [
+    row!(Node, Name, Needed),
+    row!(Param, Name, Needed),
+    row!(Values, Fixes, Needed),
+    row!(Time, Time, Needed),
+    row!(Duration, Time, Needed),
+];
+
+pub const CANCEL_SCHEDULED_VALUES: [Row; 3] = [
+    row!(Node, Name, Needed),
+    row!(Param, Name, Needed),
+    row!(Time, Time, Needed),
+];
+
+pub const CANCEL_AND_HOLD_AT_TIME: [Row; 3] = [
+    row!(Node, Name, Needed),
+    row!(Param, Name, Needed),
+    row!(Time, Time, Needed),
+];
+
+pub const SET_AUTOMATION_RATE: [Row; 3] = [
+    row!(Node, Name, Needed),
+    row!(Param, Name, Needed),
+    row!(Value, Rate, Needed),
+];
+
+pub const EXPONENTIAL_RAMP_TO_VALUE_AT_TIME: [Row; 2] = [
+    row!(Node, Name, Needed),
+    row!(Param, Name, Needed),
+];
+
+pub const SET_TARGET_AT_TIME: [Row; 2] = [row!(Node, Name, Needed), row!(Param, Name, Needed)];
+
+pub const READ_VALUE: [Row; 2] = [row!(Node, Name, Needed), row!(Param, Name, Needed)];
 
 pub const START_RENDERING: [Row; 1] = [row!(Then, Calls, NoCalls)];
 

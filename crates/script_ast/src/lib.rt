@@ -7,6 +7,7 @@ pub mod entries;
 mod fields;
 mod op_names;
 mod operations;
+mod param_ops;
 mod paths;
 mod words;
 
@@ -16,5 +17,6 @@ pub use entries::{Fallback, Kind, Row, fallback_in};
 pub use fields::Field;
 pub use op_names::{LeftOutName, OP_NAMES, OpName, is_built};
 pub use operations::{Op, Oversample};
+pub use param_ops::ParamOpName;
 pub use paths::Path;
-pub use words::{interp_named, mode_named};
+pub use words::{interp_named, mode_named, rate_named};

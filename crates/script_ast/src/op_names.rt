@@ -2,11 +2,13 @@ ghost use Rattle.std.specs.Prelude.{◌≡◌, Some, IsTrue, ◌↔◌, IsSome, 
 ghost use Rattle.script_ast.specs.OpNames.{left_out_word, left_out_feature, op_word, op_named, first_named, fields_of, has_calls};
 
 use crate::entries::{
-    CONNECT, COPY_TO_CHANNEL, CREATE_BUFFER, CREATE_BUFFER_SOURCE, CREATE_CHANNEL_MERGER,
-    CREATE_CHANNEL_SPLITTER, CREATE_CONSTANT_SOURCE, CREATE_GAIN, DECODE_AUDIO_DATA, DISCONNECT,
-    Kind, Row, SET_BUFFER, SET_CHANNEL_COUNT, SET_CHANNEL_COUNT_MODE, SET_CHANNEL_INTERPRETATION,
-    SET_LOOP, SET_LOOP_END, SET_LOOP_START, START, START_RENDERING, STOP,
+    CONNECT, CONNECT_PARAM, COPY_TO_CHANNEL, CREATE_BUFFER, CREATE_BUFFER_SOURCE,
+    CREATE_CHANNEL_MERGER, CREATE_CHANNEL_SPLITTER, CREATE_CONSTANT_SOURCE, CREATE_GAIN,
+    DECODE_AUDIO_DATA, DISCONNECT, DISCONNECT_PARAM, Kind, Row, SET_BUFFER, SET_CHANNEL_COUNT,
+    SET_CHANNEL_COUNT_MODE, SET_CHANNEL_INTERPRETATION, SET_LOOP, SET_LOOP_END, SET_LOOP_START,
+    START, START_RENDERING, STOP,
 };
+use crate::param_ops::ParamOpName;
 use wa_base::Feature;
 
 /// The name of an operation that the profile leaves out.
@@ -89,7 +91,9 @@ pub enum OpName {
     CreateBufferSource,
     CreateBuffer,
     Connect,
+    ConnectParam,
     Disconnect,
+    DisconnectParam,
     SetChannelCount,
     SetChannelCountMode,
     SetChannelInterpretation,
@@ -100,6 +104,7 @@ pub enum OpName {
     CopyToChannel,
     Start,
     Stop,
+    Param(ParamOpName),
     StartRendering,
     Resume,
     DecodeAudioData,
@@ -109,7 +114,7 @@ pub enum OpName {
 }
 
 /// Every operation.
-pub const OP_NAMES: [OpName; 38] = [
+pub const OP_NAMES: [OpName; 50] = [
     OpName::CreateConstantSource,
     OpName::CreateGain,
     OpName::CreateChannelSplitter,
@@ -117,7 +122,9 @@ pub const OP_NAMES: [OpName; 38] = [
     OpName::CreateBufferSource,
     OpName::CreateBuffer,
     OpName::Connect,
+    OpName::ConnectParam,
     OpName::Disconnect,
+    OpName::DisconnectParam,
     OpName::SetChannelCount,
     OpName::SetChannelCountMode,
     OpName::SetChannelInterpretation,
@@ -128,6 +135,16 @@ pub const OP_NAMES: [OpName; 38] = [
     OpName::CopyToChannel,
     OpName::Start,
     OpName::Stop,
+    OpName::Param(ParamOpName::SetValue),
+    OpName::Param(ParamOpName::SetValueAtTime),
+    OpName::Param(ParamOpName::LinearRampToValueAtTime),
+    OpName::Param(ParamOpName::SetValueCurveAtTime),
+    OpName::Param(ParamOpName::CancelScheduledValues),
+    OpName::Param(ParamOpName::CancelAndHoldAtTime),
+    OpName::Param(ParamOpName::SetAutomationRate),
+    OpName::Param(ParamOpName::ExponentialRampToValueAtTime),
+    OpName::Param(ParamOpName::SetTargetAtTime),
+    OpName::Param(ParamOpName::ReadValue),
     OpName::StartRendering,
     OpName::Resume,
     OpName::DecodeAudioData,
@@ -165,7 +182,9 @@ impl OpName {
             OpName::CreateBufferSource => "createBufferSource",
             OpName::CreateBuffer => "createBuffer",
             OpName::Connect => "connect",
+            OpName::ConnectParam => "connectParam",
             OpName::Disconnect => "disconnect",
+            OpName::DisconnectParam => "disconnectParam",
             OpName::SetChannelCount => "setChannelCount",
             OpName::SetChannelCountMode => "setChannelCountMode",
             OpName::SetChannelInterpretation => "setChannelInterpretation",
@@ -176,6 +195,7 @@ impl OpName {
             OpName::CopyToChannel => "copyToChannel",
             OpName::Start => "start",
             OpName::Stop => "stop",
+            OpName::Param(name) => name.word(),
             OpName::StartRendering => "startRendering",
             OpName::Resume => "resume",
             OpName::DecodeAudioData => "decodeAudioData",
@@ -211,7 +231,9 @@ impl OpName {
             OpName::CreateBufferSource => &CREATE_BUFFER_SOURCE,
             OpName::CreateBuffer => &CREATE_BUFFER,
             OpName::Connect => &CONNECT,
+            OpName::ConnectParam => &CONNECT_PARAM,
             OpName::Disconnect => &DISCONNECT,
+            OpName::DisconnectParam => &DISCONNECT_PARAM,
             OpName::SetChannelCount => &SET_CHANNEL_COUNT,
             OpName::SetChannelCountMode => &SET_CHANNEL_COUNT_MODE,
             OpName::SetChannelInterpretation => &SET_CHANNEL_INTERPRETATION,
@@ -222,6 +244,7 @@ impl OpName {
             OpName::CopyToChannel => &COPY_TO_CHANNEL,
             OpName::Start => &START,
             OpName::Stop => &STOP,
+            OpName::Param(name) => name.fields(),
             OpName::StartRendering => &START_RENDERING,
             OpName::DecodeAudioData => &DECODE_AUDIO_DATA,
             OpName::Resume | OpName::ReadState | OpName::ReadTime | OpName::LeftOut(_) => &[],

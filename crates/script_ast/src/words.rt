@@ -1,11 +1,13 @@
 ghost use Rattle.std.specs.Prelude.{◌≡◌, option_map};
-ghost use Rattle.script_ast.specs.Words.{first_mode, mode_named, first_interp, interp_named};
+ghost use Rattle.script_ast.specs.Words.{first_mode, mode_named, first_interp, interp_named, first_rate, rate_named};
 
-use wa_base::{Interp, Mode};
+use wa_base::{Interp, Mode, Rate};
 
 const MODES: [Mode; 3] = [Mode::Max, Mode::ClampedMax, Mode::Explicit];
 
 const INTERPS: [Interp; 2] = [Interp::Speakers, Interp::Discrete];
+
+const RATES: [Rate; 2] = [Rate::A, Rate::K];
 
 /// The mode with this word; `None` where the word is no mode's.
 #[tactic(auto, unfolding(crate::specs::Words::mode_named))]
@@ -23,6 +25,14 @@ pub fn interp_named(word: &str) -> Option<Interp>
     find_interp(&INTERPS, word).copied()
 }
 
+/// The automation rate with this word; `None` where the word is no rate's.
+#[tactic(auto, unfolding(crate::specs::Words::rate_named))]
+pub fn rate_named(word: &str) -> Option<Rate>
+    ensures { result ≡ rate_named word.now }
+{
+    find_rate(&RATES, word).copied()
+}
+
 // The first of the modes with this word.
 fn find_mode<'a>(modes: &'a [Mode], word: &str) -> Option<&'a Mode>
     ensures { option_map (λ mode. mode.now) result ≡ first_mode word.now modes.now }
@@ -35,4 +45,11 @@ fn find_interp<'a>(interps: &'a [Interp], word: &str) -> Option<&'a Interp>
     ensures { option_map (λ interp. interp.now) result ≡ first_interp word.now interps.now }
 {
     interps.iter().find(|interp| interp.word() == word)
+}
+
+// The first of the automation rates with this word.
+fn find_rate<'a>(rates: &'a [Rate], word: &str) -> Option<&'a Rate>
+    ensures { option_map (λ rate. rate.now) result ≡ first_rate word.now rates.now }
+{
+    rates.iter().find(|rate| rate.word() == word)
 }

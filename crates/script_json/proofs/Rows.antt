@@ -5,12 +5,13 @@ use Rattle.serde_json.specs.Read.{read}
 use Rattle.script_ast.specs.OpNames.{op_named}
 use Rattle.wa_base.specs.declared.graph_names.Mode.TheVariants.{ClampedMax}
 use Rattle.wa_base.specs.declared.graph_names.Interp.TheVariants.{Discrete}
+use Rattle.wa_base.specs.declared.graph_names.Rate.TheVariants.{K}
 use Rattle.script_ast.specs.Ranges.{is_new_name}
-use Rattle.script_ast.specs.Words.{mode_named, interp_named}
+use Rattle.script_ast.specs.Words.{mode_named, interp_named, rate_named}
 use Rattle.script_ast.specs.declared.fields.Field.TheVariants as field
 use Rattle.script_ast.specs.declared.operations.Op.TheVariants as op
 use Rattle.script_json.specs.Calls.{placed, call_faults, call_of}
-use Rattle.script_json.specs.Fields.{number_in, flag_in, fixes_of, text_in, time_or_null_in, count_or_null_in, text_or_null_in, mode_in, interp_in}
+use Rattle.script_json.specs.Fields.{number_in, flag_in, fixes_of, text_in, time_or_null_in, count_or_null_in, text_or_null_in, mode_in, interp_in, rate_in}
 use Rattle.script_json.specs.Script.{context_in, main_list, calls_of, head_faults, script_faults, script_in, script_or_fault}
 use Rattle.script_json.specs.declared.faults.ScriptErr.TheVariants.{BadJson, MissingField, WrongKind, UnknownOp, OutOfRange}
 
@@ -123,3 +124,38 @@ samples_copied = refl
 path_is_empty : script_or_fault (read (codes "{\"version\":1,\"context\":{\"channels\":1,\"length\":1,\"rate\":1},\"calls\":[{\"op\":\"decodeAudioData\",\"as\":\"b\",\"path\":\"\"}]}")) ≡ Err (OutOfRange 1 field.Path)
 unfolding serde_json_on_literals context_in main_list calls_of head_faults script_faults placed call_faults op_named is_new_name
 path_is_empty = refl
+
+-- the value of a ramp stands before its time
+ramped : script_or_fault (read (codes "{\"version\":1,\"context\":{\"channels\":1,\"length\":1,\"rate\":1},\"calls\":[{\"op\":\"linearRampToValueAtTime\",\"node\":\"g\",\"param\":\"gain\",\"value\":-3,\"time\":128}]}"))
+    ≡ Ok (record { context = record { channels = 1; length = 1; rate = 1 }; calls = record { ordinal = 1; holder = 0; op = op.LinearRampToValueAtTime (codes "g") (codes "gain") (neg_ℤ (pos 3)) (pos 128) } ∷ [] })
+unfolding serde_json_on_literals context_in main_list calls_of head_faults script_faults script_in placed call_faults call_of op_named number_in text_in
+ramped = refl
+
+value_before_time : script_or_fault (read (codes "{\"version\":1,\"context\":{\"channels\":1,\"length\":1,\"rate\":1},\"calls\":[{\"op\":\"linearRampToValueAtTime\",\"node\":\"g\",\"param\":\"gain\",\"time\":0.5}]}")) ≡ Err (MissingField 1 field.Value)
+unfolding serde_json_on_literals context_in main_list calls_of head_faults script_faults placed call_faults op_named
+value_before_time = refl
+
+curved : script_or_fault (read (codes "{\"version\":1,\"context\":{\"channels\":1,\"length\":1,\"rate\":1},\"calls\":[{\"op\":\"setValueCurveAtTime\",\"node\":\"g\",\"param\":\"gain\",\"values\":[0,5],\"time\":1,\"duration\":2}]}"))
+    ≡ Ok (record { context = record { channels = 1; length = 1; rate = 1 }; calls = record { ordinal = 1; holder = 0; op = op.SetValueCurveAtTime (codes "g") (codes "gain") (pos 0 ∷ pos 5 ∷ []) (pos 1) (pos 2) } ∷ [] })
+unfolding serde_json_on_literals context_in main_list calls_of head_faults script_faults script_in placed call_faults call_of op_named number_in fixes_of text_in
+curved = refl
+
+-- the words of an automation rate
+rate_set : script_or_fault (read (codes "{\"version\":1,\"context\":{\"channels\":1,\"length\":1,\"rate\":1},\"calls\":[{\"op\":\"setAutomationRate\",\"node\":\"g\",\"param\":\"gain\",\"value\":\"k-rate\"}]}"))
+    ≡ Ok (record { context = record { channels = 1; length = 1; rate = 1 }; calls = record { ordinal = 1; holder = 0; op = op.SetAutomationRate (codes "g") (codes "gain") K } ∷ [] })
+unfolding serde_json_on_literals context_in main_list calls_of head_faults script_faults script_in placed call_faults call_of op_named rate_named number_in text_in rate_in
+rate_set = refl
+
+rate_in_capitals : script_or_fault (read (codes "{\"version\":1,\"context\":{\"channels\":1,\"length\":1,\"rate\":1},\"calls\":[{\"op\":\"setAutomationRate\",\"node\":\"g\",\"param\":\"gain\",\"value\":\"K-rate\"}]}")) ≡ Err (OutOfRange 1 field.Value)
+unfolding serde_json_on_literals context_in main_list calls_of head_faults script_faults placed call_faults op_named rate_named
+rate_in_capitals = refl
+
+-- any text may name a parameter, and a null stands for all outputs
+param_cut : script_or_fault (read (codes "{\"version\":1,\"context\":{\"channels\":1,\"length\":1,\"rate\":1},\"calls\":[{\"op\":\"disconnectParam\",\"from\":\"a\",\"to\":\"b\",\"param\":\"\",\"output\":null}]}"))
+    ≡ Ok (record { context = record { channels = 1; length = 1; rate = 1 }; calls = record { ordinal = 1; holder = 0; op = op.DisconnectParam (codes "a") (codes "b") [] None } ∷ [] })
+unfolding serde_json_on_literals context_in main_list calls_of head_faults script_faults script_in placed call_faults call_of op_named number_in text_in count_or_null_in
+param_cut = refl
+
+no_param : script_or_fault (read (codes "{\"version\":1,\"context\":{\"channels\":1,\"length\":1,\"rate\":1},\"calls\":[{\"op\":\"connectParam\",\"from\":\"a\",\"to\":\"b\"}]}")) ≡ Err (MissingField 1 field.Param)
+unfolding serde_json_on_literals context_in main_list calls_of head_faults script_faults placed call_faults op_named
+no_param = refl

@@ -23,11 +23,13 @@ use Rattle.script_ast.specs.declared.entries.Row.{Row}
 use Rattle.script_ast.specs.declared.fields.Field.{Field}
 use Rattle.script_ast.specs.declared.fields.Field.TheVariants as field
 use Rattle.script_ast.specs.declared.op_names.OpName.{OpName}
-use Rattle.script_ast.specs.declared.op_names.OpName.TheVariants.{CreateConstantSource, CreateGain, CreateChannelSplitter, CreateChannelMerger, CreateBufferSource, CreateBuffer, Connect, Disconnect, SetChannelCount, SetChannelCountMode, SetChannelInterpretation, SetBuffer, SetLoop, SetLoopStart, SetLoopEnd, CopyToChannel, Start, Stop, StartRendering, Resume, DecodeAudioData, ReadState, ReadTime, LeftOut}
+use Rattle.script_ast.specs.declared.op_names.OpName.TheVariants.{CreateConstantSource, CreateGain, CreateChannelSplitter, CreateChannelMerger, CreateBufferSource, CreateBuffer, Connect, ConnectParam, Disconnect, DisconnectParam, SetChannelCount, SetChannelCountMode, SetChannelInterpretation, SetBuffer, SetLoop, SetLoopStart, SetLoopEnd, CopyToChannel, Start, Stop, Param, StartRendering, Resume, DecodeAudioData, ReadState, ReadTime, LeftOut}
+use Rattle.script_ast.specs.declared.param_ops.ParamOpName.{ParamOpName}
+use Rattle.script_ast.specs.declared.param_ops.ParamOpName.TheVariants as param
 use Rattle.script_json.proofs.CallSteps.{both_none, length-calls, outcome_ok}
 use Rattle.script_json.proofs.FormLaws.{disconnect_form}
 use Rattle.script_json.proofs.PlacedLaws.{placed_all}
-use Rattle.script_json.specs.Calls.{Placed, placed, has_then, call_faults, call_of, name_in, name_faults, op_faults, op_in}
+use Rattle.script_json.specs.Calls.{Placed, placed, has_then, call_faults, call_of, name_in, name_faults, op_faults, op_in, param_op_in}
 use Rattle.script_json.specs.Fields.{field_faults, cause_faults, member_faults, member_at, number_in, number_within, given_number, time_or_null_in, count_in, count_or_null_in, fix_of, fixes_of, fixes_in, list_in, text_in}
 use Rattle.script_json.specs.Outcome.{outcome}
 use Rattle.script_json.specs.Reading.{placed_at, calls_read}
@@ -142,6 +144,18 @@ pub fixes_in-range : (field : Field) (d : Data) → AreFixes (fixes_in field d)
 unfolding fixes_of
 fixes_in-range field d = fixes_of-range (list_in field d)
 
+param_op_in-range : (clock : Clock) (d : Data) (name : ParamOpName) → IsInRange (param_op_in clock name d)
+param_op_in-range clock d param.SetValue = fix_in-range _ _ d
+param_op_in-range clock d param.SetValueAtTime = (fix_in-range _ _ d, time_in-range clock _ _ d)
+param_op_in-range clock d param.LinearRampToValueAtTime = (fix_in-range _ _ d, time_in-range clock _ _ d)
+param_op_in-range clock d param.SetValueCurveAtTime = (fixes_in-range field.Values d, time_in-range clock _ _ d, time_in-range clock _ _ d)
+param_op_in-range clock d param.CancelScheduledValues = time_in-range clock _ _ d
+param_op_in-range clock d param.CancelAndHoldAtTime = time_in-range clock _ _ d
+param_op_in-range clock d param.SetAutomationRate = tt
+param_op_in-range clock d param.ExponentialRampToValueAtTime = tt
+param_op_in-range clock d param.SetTargetAtTime = tt
+param_op_in-range clock d param.ReadValue = tt
+
 pub op_in-range : (clock : Clock) (n : ℕ) (d : Data) (name : OpName) → op_faults clock n d name ≡ [] → IsInRange (op_in clock name d)
 op_in-range clock n d CreateConstantSource h = (text_in-new_name clock n d (both_none _ _ (both_none _ _ h).0).0, fix_in-range _ _ d)
 op_in-range clock n d CreateGain h = (text_in-new_name clock n d (both_none _ _ (both_none _ _ h).0).0, fix_in-range _ _ d)
@@ -150,9 +164,11 @@ op_in-range clock n d CreateChannelMerger h = (text_in-new_name clock n d (both_
 op_in-range clock n d CreateBufferSource h = (text_in-new_name clock n d (both_none _ _ (both_none _ _ h).0).0, time_in-range clock _ _ d, time_in-range clock _ _ d, fix_in-range _ _ d)
 op_in-range clock n d CreateBuffer h = (text_in-new_name clock n d (both_none _ _ (both_none _ _ h).0).0, count_in-range _ _ d, count_in-range _ _ d, count_in-range _ _ d)
 op_in-range clock n d Connect h = (count_in-range _ _ d, count_in-range _ _ d)
+op_in-range clock n d ConnectParam h = count_in-range _ _ d
 op_in-range clock n d Disconnect h =
     let e = both_none _ _ h in
     (count_or_null_in-range _ d, count_or_null_in-range _ d, disconnect_form clock n d e.0 e.1)
+op_in-range clock n d DisconnectParam h = count_or_null_in-range _ d
 op_in-range clock n d SetChannelCount h = count_in-range _ _ d
 op_in-range clock n d SetChannelCountMode h = tt
 op_in-range clock n d SetChannelInterpretation h = tt
@@ -163,6 +179,7 @@ op_in-range clock n d SetLoopEnd h = time_in-range clock _ _ d
 op_in-range clock n d CopyToChannel h = (count_in-range _ _ d, fixes_in-range field.Samples d, count_in-range _ _ d)
 op_in-range clock n d Start h = (time_in-range clock _ _ d, time_in-range clock _ _ d, time_or_null_in-range clock _ d)
 op_in-range clock n d Stop h = time_in-range clock _ _ d
+op_in-range clock n d (Param name) h = param_op_in-range clock d name
 op_in-range clock n d StartRendering h = tt
 op_in-range clock n d Resume h = tt
 op_in-range clock n d DecodeAudioData h =

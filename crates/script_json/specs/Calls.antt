@@ -9,10 +9,12 @@ use Rattle.script_ast.specs.declared.call_list.Call.{Call}
 use Rattle.script_ast.specs.declared.clocks.Clock.{Clock}
 use Rattle.script_ast.specs.declared.fields.Field.TheVariants as field
 use Rattle.script_ast.specs.declared.op_names.OpName.{OpName}
-use Rattle.script_ast.specs.declared.op_names.OpName.TheVariants.{CreateConstantSource, CreateGain, CreateChannelSplitter, CreateChannelMerger, CreateBufferSource, CreateBuffer, Connect, Disconnect, SetChannelCount, SetChannelCountMode, SetChannelInterpretation, SetBuffer, SetLoop, SetLoopStart, SetLoopEnd, CopyToChannel, Start, Stop, StartRendering, Resume, DecodeAudioData, ReadState, ReadTime, LeftOut}
+use Rattle.script_ast.specs.declared.op_names.OpName.TheVariants.{CreateConstantSource, CreateGain, CreateChannelSplitter, CreateChannelMerger, CreateBufferSource, CreateBuffer, Connect, ConnectParam, Disconnect, DisconnectParam, SetChannelCount, SetChannelCountMode, SetChannelInterpretation, SetBuffer, SetLoop, SetLoopStart, SetLoopEnd, CopyToChannel, Start, Stop, Param, StartRendering, Resume, DecodeAudioData, ReadState, ReadTime, LeftOut}
 use Rattle.script_ast.specs.declared.operations.Op.{Op}
 use Rattle.script_ast.specs.declared.operations.Op.TheVariants as op
-use Rattle.script_json.specs.Fields.{is_there, fields_faults, lack_faults, text_in, text_or_null_in, fix_in, time_in, time_or_null_in, count_in, count_or_null_in, flag_in, fixes_in, mode_in, interp_in}
+use Rattle.script_ast.specs.declared.param_ops.ParamOpName.{ParamOpName}
+use Rattle.script_ast.specs.declared.param_ops.ParamOpName.TheVariants as param
+use Rattle.script_json.specs.Fields.{is_there, fields_faults, lack_faults, text_in, text_or_null_in, fix_in, time_in, time_or_null_in, count_in, count_or_null_in, flag_in, fixes_in, mode_in, interp_in, rate_in}
 use Rattle.script_json.specs.declared.faults.ScriptErr.{ScriptErr}
 use Rattle.script_json.specs.declared.faults.ScriptErr.TheVariants.{WrongKind, UnknownOp}
 
@@ -84,6 +86,19 @@ name_faults clock n d (Some name) = op_faults clock n d name
 unfoldable pub call_faults : Clock → Placed → List ScriptErr
 call_faults clock call = if is_some (as_object call.value) then name_faults clock call.ordinal call.value (name_in call.value) else WrongKind call.ordinal field.Call ∷ []
 
+-- a call of an operation on a parameter with its fields
+abbrev pub param_op_in : Clock → ParamOpName → Data → Op
+param_op_in clock param.SetValue d = op.SetValue (text_in field.Node d) (text_in field.Param d) (fix_in entry.set_value field.Value d)
+param_op_in clock param.SetValueAtTime d = op.SetValueAtTime (text_in field.Node d) (text_in field.Param d) (fix_in entry.set_value_at_time field.Value d) (time_in clock entry.set_value_at_time field.Time d)
+param_op_in clock param.LinearRampToValueAtTime d = op.LinearRampToValueAtTime (text_in field.Node d) (text_in field.Param d) (fix_in entry.linear_ramp_to_value_at_time field.Value d) (time_in clock entry.linear_ramp_to_value_at_time field.Time d)
+param_op_in clock param.SetValueCurveAtTime d = op.SetValueCurveAtTime (text_in field.Node d) (text_in field.Param d) (fixes_in field.Values d) (time_in clock entry.set_value_curve_at_time field.Time d) (time_in clock entry.set_value_curve_at_time field.Duration d)
+param_op_in clock param.CancelScheduledValues d = op.CancelScheduledValues (text_in field.Node d) (text_in field.Param d) (time_in clock entry.cancel_scheduled_values field.Time d)
+param_op_in clock param.CancelAndHoldAtTime d = op.CancelAndHoldAtTime (text_in field.Node d) (text_in field.Param d) (time_in clock entry.cancel_and_hold_at_time field.Time d)
+param_op_in clock param.SetAutomationRate d = op.SetAutomationRate (text_in field.Node d) (text_in field.Param d) (rate_in field.Value d)
+param_op_in clock param.ExponentialRampToValueAtTime d = op.ExponentialRampToValueAtTime (text_in field.Node d) (text_in field.Param d)
+param_op_in clock param.SetTargetAtTime d = op.SetTargetAtTime (text_in field.Node d) (text_in field.Param d)
+param_op_in clock param.ReadValue d = op.ReadValue (text_in field.Node d) (text_in field.Param d)
+
 -- a call of an operation with its fields
 abbrev pub op_in : Clock → OpName → Data → Op
 op_in clock CreateConstantSource d = op.CreateConstantSource (text_in field.As d) (fix_in entry.create_constant_source field.Offset d)
@@ -93,7 +108,9 @@ op_in clock CreateChannelMerger d = op.CreateChannelMerger (text_in field.As d) 
 op_in clock CreateBufferSource d = op.CreateBufferSource (text_in field.As d) (text_or_null_in field.Buffer d) (flag_in entry.create_buffer_source field.Loop d) (time_in clock entry.create_buffer_source field.LoopStart d) (time_in clock entry.create_buffer_source field.LoopEnd d) (fix_in entry.create_buffer_source field.PlaybackRate d)
 op_in clock CreateBuffer d = op.CreateBuffer (text_in field.As d) (count_in entry.create_buffer field.Channels d) (count_in entry.create_buffer field.Length d) (count_in entry.create_buffer field.Rate d)
 op_in clock Connect d = op.Connect (text_in field.From d) (count_in entry.connect field.Output d) (text_in field.To d) (count_in entry.connect field.Input d)
+op_in clock ConnectParam d = op.ConnectParam (text_in field.From d) (count_in entry.connect_param field.Output d) (text_in field.To d) (text_in field.Param d)
 op_in clock Disconnect d = op.Disconnect (text_in field.From d) (count_or_null_in field.Output d) (text_or_null_in field.To d) (count_or_null_in field.Input d)
+op_in clock DisconnectParam d = op.DisconnectParam (text_in field.From d) (text_in field.To d) (text_in field.Param d) (count_or_null_in field.Output d)
 op_in clock SetChannelCount d = op.SetChannelCount (text_in field.Node d) (count_in entry.set_channel_count field.Value d)
 op_in clock SetChannelCountMode d = op.SetChannelCountMode (text_in field.Node d) (mode_in field.Value d)
 op_in clock SetChannelInterpretation d = op.SetChannelInterpretation (text_in field.Node d) (interp_in field.Value d)
@@ -104,6 +121,7 @@ op_in clock SetLoopEnd d = op.SetLoopEnd (text_in field.Node d) (time_in clock e
 op_in clock CopyToChannel d = op.CopyToChannel (text_in field.Buffer d) (count_in entry.copy_to_channel field.Channel d) (fixes_in field.Samples d) (count_in entry.copy_to_channel field.At d)
 op_in clock Start d = op.Start (text_in field.Node d) (time_in clock entry.start field.When d) (time_in clock entry.start field.Offset d) (time_or_null_in clock field.Duration d)
 op_in clock Stop d = op.Stop (text_in field.Node d) (time_in clock entry.stop field.When d)
+op_in clock (Param name) d = param_op_in clock name d
 op_in clock StartRendering d = op.StartRendering
 op_in clock Resume d = op.Resume
 op_in clock DecodeAudioData d = op.DecodeAudioData (text_in field.As d) (text_in field.Path d)

@@ -6,6 +6,8 @@ use Rattle.wa_base.specs.declared.graph_names.Mode.{Mode}
 use Rattle.wa_base.specs.declared.graph_names.Mode.TheVariants.{Max}
 use Rattle.wa_base.specs.declared.graph_names.Interp.{Interp}
 use Rattle.wa_base.specs.declared.graph_names.Interp.TheVariants.{Speakers}
+use Rattle.wa_base.specs.declared.graph_names.Rate.{Rate}
+use Rattle.wa_base.specs.declared.graph_names.Rate.TheVariants.{A}
 use Rattle.script_ast.specs.Entries.{fallback_in}
 use Rattle.script_ast.specs.declared.clocks.Clock.{Clock}
 use Rattle.script_ast.specs.declared.entries.Row.{Row}
@@ -13,7 +15,7 @@ use Rattle.script_ast.specs.declared.entries.Fallback.{Fallback}
 use Rattle.script_ast.specs.declared.entries.Fallback.TheVariants.{Needed, Null, Number, Count, Flag, NoCalls}
 use Rattle.script_ast.specs.declared.fields.Field.{Field}
 use Rattle.script_ast.specs.Fields.{field_word}
-use Rattle.script_ast.specs.Words.{mode_named, interp_named}
+use Rattle.script_ast.specs.Words.{mode_named, interp_named, rate_named}
 use Rattle.script_json.specs.Values.{whole, wholes, frames, is_within, cause_of}
 use Rattle.script_json.specs.declared.faults.ScriptErr.{ScriptErr}
 use Rattle.script_json.specs.declared.faults.ScriptErr.TheVariants as fault
@@ -165,3 +167,7 @@ mode_in field d = unwrap_or (option_and_then mode_named (option_and_then as_str 
 -- the ChannelInterpretation of a field
 unfoldable pub interp_in : Field → Data → Interp
 interp_in field d = unwrap_or (option_and_then interp_named (option_and_then as_str (member_at field d))) Speakers
+
+-- the AutomationRate of a field
+unfoldable pub rate_in : Field → Data → Rate
+rate_in field d = unwrap_or (option_and_then rate_named (option_and_then as_str (member_at field d))) A

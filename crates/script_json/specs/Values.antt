@@ -8,7 +8,7 @@ use Rattle.script_ast.specs.declared.clocks.Clock.TheVariants.{Frames}
 use Rattle.script_ast.specs.declared.entries.Kind.{Kind}
 use Rattle.script_ast.specs.declared.entries.Kind.TheVariants as kind
 use Rattle.script_ast.specs.Ranges.{is_new_name, is_path}
-use Rattle.script_ast.specs.Words.{mode_named, interp_named}
+use Rattle.script_ast.specs.Words.{mode_named, interp_named, rate_named}
 use Rattle.script_json.specs.declared.values.Cause.{Cause}
 use Rattle.script_json.specs.declared.values.Cause.TheVariants.{WrongKind, OutOfRange}
 
@@ -73,5 +73,6 @@ cause_of clock kind.Fixes d = fixes_cause (option_map wholes (as_array d))
 cause_of clock kind.Path d = text_cause (option_map is_path (as_str d))
 cause_of clock kind.Mode d = word_cause (option_map mode_named (as_str d))
 cause_of clock kind.Interp d = word_cause (option_map interp_named (as_str d))
+cause_of clock kind.Rate d = word_cause (option_map rate_named (as_str d))
 cause_of clock kind.Calls d = kind_cause (is_some (as_array d))
 cause_of clock kind.Object d = kind_cause (is_some (as_object d))

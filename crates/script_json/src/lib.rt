@@ -5,7 +5,9 @@ mod calls;
 mod faults;
 mod members;
 mod ops;
+mod param_ops;
 mod scripts;
+mod texts;
 mod tree;
 mod values;
 

@@ -1,7 +1,7 @@
 ghost use Rattle.std.specs.Prelude.{◌≡◌, Some, IfOk, option_map};
 ghost use Rattle.serde_json.specs.View.{view, items_view};
 ghost use Rattle.script_ast.specs.Entries.{fallback_in};
-ghost use Rattle.script_json.specs.Fields.{member_at, member_faults, field_faults, fields_faults, default_number, default_flag, number_in, fix_in, time_in, time_or_null_in, count_in, flag_in, list_in, fix_of, fixes_of, fixes_in, text_in, count_or_null_in, text_or_null_in, mode_in, interp_in, is_there, lack_faults, is_needed, takes_null, given_number, number_within};
+ghost use Rattle.script_json.specs.Fields.{member_at, member_faults, field_faults, fields_faults, default_number, default_flag, number_in, fix_in, time_in, time_or_null_in, count_in, flag_in, list_in, fix_of, fixes_of, fixes_in, count_or_null_in, is_there, lack_faults, is_needed, takes_null, given_number, number_within};
 ghost use Rattle.script_json.specs.Outcome.{outcome};
 ghost use Rattle.script_json.specs.Values.{whole, frames};
 
@@ -9,10 +9,10 @@ use crate::faults::ScriptErr;
 use crate::values::{
     Cause, MAX_COUNT, MAX_FIX, MAX_TIME, MIN_FIX, MIN_TIME, cause_of, frames, whole,
 };
-use script_ast::{Clock, Fallback, Field, Path, Row, fallback_in, interp_named, mode_named};
+use script_ast::{Clock, Fallback, Field, Row, fallback_in};
 use serde_json::Value;
 use std::alloc::Global;
-use wa_base::{Fix, Interp, Mode, Name, NoMemory, Samples};
+use wa_base::{Fix, NoMemory, Samples};
 
 /// The member with the field's name.
 pub fn member<'a>(object: &'a Value, field: Field) -> Option<&'a Value>
@@ -228,59 +228,4 @@ fn fixes_of(alloc: Global, list: &[Value]) -> Result<Vec<Fix>, NoMemory>
         fixes.push_reserved(fix_of(whole(item)));
     }
     Ok(fixes)
-}
-
-/// The text of a field.
-#[tactic(auto, unfolding(crate::specs::Fields::text_in))]
-pub fn text(alloc: Global, object: &Value, field: Field) -> Result<Name, NoMemory>
-    ensures { IfOk result (λ name. name ≡ text_in field (view object.now)) }
-{
-    let text = member(object, field).and_then(Value::as_str).unwrap_or("");
-    let bytes = text.as_bytes().to_vec(alloc)?;
-    Ok(Name::from(bytes))
-}
-
-/// The text of a field that may be null or absent.
-#[tactic(auto, unfolding(crate::specs::Fields::text_or_null_in))]
-pub fn text_or_null(alloc: Global, object: &Value, field: Field) -> Result<Option<Name>, NoMemory>
-    ensures { IfOk result (λ name. name ≡ text_or_null_in field (view object.now)) }
-{
-    match member(object, field).and_then(Value::as_str) {
-        Some(text) => {
-            let bytes = text.as_bytes().to_vec(alloc)?;
-            Ok(Some(Name::from(bytes)))
-        }
-        None => Ok(None),
-    }
-}
-
-/// The path of a field.
-#[tactic(auto, unfolding(crate::specs::Fields::text_in))]
-pub fn path(alloc: Global, object: &Value, field: Field) -> Result<Path, NoMemory>
-    ensures { IfOk result (λ path. path ≡ text_in field (view object.now)) }
-{
-    let text = member(object, field).and_then(Value::as_str).unwrap_or("");
-    Path::new(alloc, text)
-}
-
-/// The ChannelCountMode of a field.
-#[tactic(auto, unfolding(crate::specs::Fields::mode_in))]
-pub fn mode(object: &Value, field: Field) -> Mode
-    ensures { result ≡ mode_in field (view object.now) }
-{
-    member(object, field)
-        .and_then(Value::as_str)
-        .and_then(|word| mode_named(word))
-        .unwrap_or(Mode::Max)
-}
-
-/// The ChannelInterpretation of a field.
-#[tactic(auto, unfolding(crate::specs::Fields::interp_in))]
-pub fn interp(object: &Value, field: Field) -> Interp
-    ensures { result ≡ interp_in field (view object.now) }
-{
-    member(object, field)
-        .and_then(Value::as_str)
-        .and_then(|word| interp_named(word))
-        .unwrap_or(Interp::Speakers)
 }

@@ -2,10 +2,9 @@ ghost use Rattle.std.specs.Prelude.{◌≡◌, IfOk};
 ghost use Rattle.serde_json.specs.View.{view};
 ghost use Rattle.script_json.specs.Calls.{op_in};
 
-use crate::members::{
-    count, count_or_null, fix, fixes, flag, interp, mode, path, text, text_or_null, time,
-    time_or_null,
-};
+use crate::members::{count, count_or_null, fix, fixes, flag, time, time_or_null};
+use crate::param_ops::build_param_op;
+use crate::texts::{interp, mode, path, text, text_or_null};
 use script_ast::{Clock, Field, Op, OpName, entries};
 use serde_json::Value;
 use std::alloc::Global;
@@ -23,7 +22,9 @@ pub fn build(alloc: Global, clock: Clock, name: OpName, call: &Value) -> Result<
         OpName::CreateBufferSource => create_buffer_source(alloc, clock, call),
         OpName::CreateBuffer => create_buffer(alloc, call),
         OpName::Connect => connect(alloc, call),
+        OpName::ConnectParam => connect_param(alloc, call),
         OpName::Disconnect => disconnect(alloc, call),
+        OpName::DisconnectParam => disconnect_param(alloc, call),
         OpName::SetChannelCount => set_channel_count(alloc, call),
         OpName::SetChannelCountMode => set_channel_count_mode(alloc, call),
         OpName::SetChannelInterpretation => set_channel_interpretation(alloc, call),
@@ -34,6 +35,7 @@ pub fn build(alloc: Global, clock: Clock, name: OpName, call: &Value) -> Result<
         OpName::CopyToChannel => copy_to_channel(alloc, call),
         OpName::Start => start(alloc, clock, call),
         OpName::Stop => stop(alloc, clock, call),
+        OpName::Param(name) => build_param_op(alloc, clock, name, call),
         OpName::StartRendering => Ok(Op::StartRendering),
         OpName::Resume => Ok(Op::Resume),
         OpName::DecodeAudioData => decode_audio_data(alloc, call),
@@ -127,6 +129,17 @@ fn connect(alloc: Global, call: &Value) -> Result<Op, NoMemory>
     })
 }
 
+fn connect_param(alloc: Global, call: &Value) -> Result<Op, NoMemory>
+    ensures { IfOk result (λ op. op ≡ op_in Clock.Frames OpName.ConnectParam (view call.now)) }
+{
+    Ok(Op::ConnectParam {
+        from: text(alloc, call, Field::From)?,
+        output: count(call, &entries::CONNECT_PARAM, Field::Output),
+        to: text(alloc, call, Field::To)?,
+        param: text(alloc, call, Field::Param)?,
+    })
+}
+
 fn disconnect(alloc: Global, call: &Value) -> Result<Op, NoMemory>
     ensures { IfOk result (λ op. op ≡ op_in Clock.Frames OpName.Disconnect (view call.now)) }
 {
@@ -135,6 +148,17 @@ fn disconnect(alloc: Global, call: &Value) -> Result<Op, NoMemory>
         output: count_or_null(call, Field::Output),
         to: text_or_null(alloc, call, Field::To)?,
         input: count_or_null(call, Field::Input),
+    })
+}
+
+fn disconnect_param(alloc: Global, call: &Value) -> Result<Op, NoMemory>
+    ensures { IfOk result (λ op. op ≡ op_in Clock.Frames OpName.DisconnectParam (view call.now)) }
+{
+    Ok(Op::DisconnectParam {
+        from: text(alloc, call, Field::From)?,
+        to: text(alloc, call, Field::To)?,
+        param: text(alloc, call, Field::Param)?,
+        output: count_or_null(call, Field::Output),
     })
 }
 

@@ -5,7 +5,7 @@ ghost use Rattle.serde_json.specs.View.{view, items_view};
 ghost use Rattle.script_ast.specs.Ranges.{is_name_byte, has_name_length, has_name_bytes, is_new_name, is_path};
 ghost use Rattle.script_json.specs.Values.{whole, wholes, is_fix, frames, cause_of, number_cause, fixes_cause, text_cause, word_cause, kind_cause};
 
-use script_ast::{Clock, Kind, interp_named, mode_named};
+use script_ast::{Clock, Kind, interp_named, mode_named, rate_named};
 use serde_json::{Number, Value};
 
 /// Why a value is not taken for a field.
@@ -63,6 +63,7 @@ pub fn cause_of(clock: Clock, kind: Kind, value: &Value) -> Option<Cause>
         Kind::Path => text_cause(value.as_str().map(|path| is_path(path))),
         Kind::Mode => word_cause(value.as_str().map(|word| mode_named(word))),
         Kind::Interp => word_cause(value.as_str().map(|word| interp_named(word))),
+        Kind::Rate => word_cause(value.as_str().map(|word| rate_named(word))),
         Kind::Calls => kind_cause(value.is_array()),
         Kind::Object => kind_cause(value.is_object()),
     }

@@ -10,6 +10,16 @@ mod channel_cases;
 #[cfg(test)]
 mod connection_cases;
 #[cfg(test)]
+mod event_cases;
+#[cfg(test)]
+mod field_texts;
+#[cfg(test)]
+mod op_texts;
+#[cfg(test)]
+mod param_cases;
+#[cfg(test)]
+mod param_texts;
+#[cfg(test)]
 mod parts;
 #[cfg(test)]
 mod port_cases;

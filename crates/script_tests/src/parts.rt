@@ -1,10 +1,10 @@
 use script_ast::{
-    Call, Calls, Fallback, Field, Kind, Op, OpName, Path, Row, Script, fallback_in, interp_named,
-    is_built, mode_named,
+    Call, Calls, Fallback, Field, Kind, Op, OpName, ParamOpName, Path, Row, Script, fallback_in,
+    interp_named, is_built, mode_named, rate_named,
 };
 use std::alloc::Global;
 use std::test::Fail;
-use wa_base::{ContextSpec, Interp, Mode, NoMemory};
+use wa_base::{ContextSpec, Interp, Mode, NoMemory, Rate};
 
 fn script(alloc: Global) -> Result<Script, NoMemory> {
     let mut calls = Calls::new(alloc);
@@ -47,7 +47,7 @@ fn finds_calls_by_their_ordinals(rt: HostRuntime) -> Result<(), Fail> {
     Ok(())
 }
 
-static BUILT: [&str; 18] = [
+static BUILT: [&str; 21] = [
     "createGain",
     "connect",
     "disconnect",
@@ -61,6 +61,9 @@ static BUILT: [&str; 18] = [
     "setLoopStart",
     "setLoopEnd",
     "copyToChannel",
+    "connectParam",
+    "linearRampToValueAtTime",
+    "readValue",
     "decodeAudioData",
     "readTime",
     "startRendering",
@@ -72,7 +75,7 @@ static NOT_BUILT: [&str; 7] = [
     "",
     "Connect",
     "creategain",
-    "disconnectParam",
+    "setOversample",
     "setCurve",
     "suspend",
     "then",
@@ -158,6 +161,40 @@ fn what_writes_samples_has_the_fields_of_the_format(rt: HostRuntime) {
 }
 
 #[test]
+fn a_connection_to_a_parameter_has_the_fields_of_the_format(rt: HostRuntime) {
+    let made = [
+        row(Field::From, Kind::Name, Fallback::Needed),
+        row(Field::Output, Kind::Count, Fallback::Count(0)),
+        row(Field::To, Kind::Name, Fallback::Needed),
+        row(Field::Param, Kind::Name, Fallback::Needed),
+    ];
+    let cut = [
+        row(Field::From, Kind::Name, Fallback::Needed),
+        row(Field::To, Kind::Name, Fallback::Needed),
+        row(Field::Param, Kind::Name, Fallback::Needed),
+        row(Field::Output, Kind::Count, Fallback::Null),
+    ];
+    assert_eq!(rt; OpName::ConnectParam.fields(), made.as_slice());
+    assert_eq!(rt; OpName::DisconnectParam.fields(), cut.as_slice());
+}
+
+#[test]
+fn a_curve_of_a_parameter_has_the_fields_of_the_format(rt: HostRuntime) {
+    let want = [
+        row(Field::Node, Kind::Name, Fallback::Needed),
+        row(Field::Param, Kind::Name, Fallback::Needed),
+        row(Field::Values, Kind::Fixes, Fallback::Needed),
+        row(Field::Time, Kind::Time, Fallback::Needed),
+        row(Field::Duration, Kind::Time, Fallback::Needed),
+    ];
+    assert_eq!(rt; ParamOpName::SetValueCurveAtTime.fields(), want.as_slice());
+    assert_eq!(rt;
+        ParamOpName::SetValueCurveAtTime.word(),
+        "setValueCurveAtTime"
+    );
+}
+
+#[test]
 fn a_field_has_the_default_of_its_row(rt: HostRuntime) {
     for (field, want) in [
         (Field::Node, Fallback::Needed),
@@ -197,6 +234,19 @@ fn an_interpretation_has_its_word(rt: HostRuntime) {
         ("max", None),
     ] {
         assert_eq!(rt; interp_named(word), want, "of {word}");
+    }
+}
+
+#[test]
+fn an_automation_rate_has_its_word(rt: HostRuntime) {
+    for (word, want) in [
+        ("a-rate", Some(Rate::A)),
+        ("k-rate", Some(Rate::K)),
+        ("K-rate", None),
+        ("", None),
+        ("max", None),
+    ] {
+        assert_eq!(rt; rate_named(word), want, "of {word}");
     }
 }
 

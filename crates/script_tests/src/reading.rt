@@ -2,6 +2,8 @@ use crate::buffer_cases::BUFFERS;
 use crate::call_cases::CALLS;
 use crate::channel_cases::CHANNEL_COUNTS;
 use crate::connection_cases::{DISCONNECTS, GAINS};
+use crate::event_cases::EVENTS;
+use crate::param_cases::{PARAM_CONNECTIONS, VALUES};
 use crate::port_cases::PORTS;
 use crate::script_cases::SCRIPTS;
 use crate::texts::reading;
@@ -97,6 +99,27 @@ fn reads_modes(rt: HostRuntime) -> Result<(), Fail> {
 #[test]
 fn reads_interpretations(rt: HostRuntime) -> Result<(), Fail> {
     let misread = first_misread(rt.alloc(), BEFORE, AFTER, &INTERPS)?;
+    assert_eq!(rt; misread, None);
+    Ok(())
+}
+
+#[test]
+fn reads_connections_to_parameters(rt: HostRuntime) -> Result<(), Fail> {
+    let misread = first_misread(rt.alloc(), BEFORE, AFTER, &PARAM_CONNECTIONS)?;
+    assert_eq!(rt; misread, None);
+    Ok(())
+}
+
+#[test]
+fn reads_values_of_parameters(rt: HostRuntime) -> Result<(), Fail> {
+    let misread = first_misread(rt.alloc(), BEFORE, AFTER, &VALUES)?;
+    assert_eq!(rt; misread, None);
+    Ok(())
+}
+
+#[test]
+fn reads_events_of_parameters(rt: HostRuntime) -> Result<(), Fail> {
+    let misread = first_misread(rt.alloc(), BEFORE, AFTER, &EVENTS)?;
     assert_eq!(rt; misread, None);
     Ok(())
 }

@@ -1,0 +1,54 @@
+use std::alloc::{AllocError, Global};
+use wa_base::{Fix, Interp, Mode, Name, Rate};
+
+pub fn text(name: &Name) -> &str {
+    str::from_utf8(name.as_slice()).unwrap_or("no text")
+}
+
+pub fn count_text(alloc: Global, count: Option<u32>) -> Result<String, AllocError> {
+    match count {
+        Some(count) => format!(in alloc; "{count}"),
+        None => String::from_str(alloc, "none"),
+    }
+}
+
+pub fn text_or_none(name: &Option<Name>) -> &str {
+    match name {
+        Some(name) => text(name),
+        None => "none",
+    }
+}
+
+pub fn values_text(alloc: Global, values: &[Fix]) -> Result<String, AllocError> {
+    let mut all = String::new(alloc);
+    for value in values {
+        if !all.is_empty() {
+            all.push_str(" ")?;
+        }
+        let value = format!(in alloc; "{value}")?;
+        all.push_str(value.as_str())?;
+    }
+    Ok(all)
+}
+
+pub fn mode_text(mode: Mode) -> &'static str {
+    match mode {
+        Mode::Max => "max",
+        Mode::ClampedMax => "clamped-max",
+        Mode::Explicit => "explicit",
+    }
+}
+
+pub fn interp_text(interp: Interp) -> &'static str {
+    match interp {
+        Interp::Speakers => "speakers",
+        Interp::Discrete => "discrete",
+    }
+}
+
+pub fn rate_text(rate: Rate) -> &'static str {
+    match rate {
+        Rate::A => "a-rate",
+        Rate::K => "k-rate",
+    }
+}

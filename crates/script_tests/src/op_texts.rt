@@ -1,0 +1,177 @@
+use crate::field_texts::{count_text, interp_text, mode_text, text, text_or_none, values_text};
+use crate::param_texts::param_op_text;
+use script_ast::Op;
+use std::alloc::{AllocError, Global};
+use wa_base::Name;
+
+// The functions below have the operations of one subject each. What is of another subject goes on to
+// the next one.
+
+/// The operation's word and its fields, in the order in which they are read.
+pub fn op_text(alloc: Global, op: &Op) -> Result<String, AllocError> {
+    match op {
+        Op::StartRendering => String::from_str(alloc, "startRendering"),
+        Op::Resume => String::from_str(alloc, "resume"),
+        Op::DecodeAudioData { name, path } => {
+            format!(in alloc; "decodeAudioData {} {}", text(name), path.as_str())
+        }
+        Op::ReadState => String::from_str(alloc, "readState"),
+        Op::ReadTime => String::from_str(alloc, "readTime"),
+        Op::LeftOut { feature } => format!(in alloc; "left out {}", feature.word()),
+        _ => creation_text(alloc, op),
+    }
+}
+
+fn creation_text(alloc: Global, op: &Op) -> Result<String, AllocError> {
+    match op {
+        Op::CreateConstantSource { name, offset } => {
+            format!(in alloc; "createConstantSource {} {offset}", text(name))
+        }
+        Op::CreateGain { name, gain } => format!(in alloc; "createGain {} {gain}", text(name)),
+        Op::CreateChannelSplitter {
+            name,
+            number_of_outputs,
+        } => { format!(in alloc; "createChannelSplitter {} {number_of_outputs}", text(name)) }
+        Op::CreateChannelMerger {
+            name,
+            number_of_inputs,
+        } => { format!(in alloc; "createChannelMerger {} {number_of_inputs}", text(name)) }
+        Op::CreateBuffer {
+            name,
+            channels,
+            length,
+            rate,
+        } => format!(in alloc; "createBuffer {} {channels} {length} {rate}", text(name)),
+        _ => connection_text(alloc, op),
+    }
+}
+
+fn connection_text(alloc: Global, op: &Op) -> Result<String, AllocError> {
+    match op {
+        Op::Connect {
+            from,
+            output,
+            to,
+            input,
+        } => format!(in alloc; "connect {} {output} {} {input}", text(from), text(to)),
+        Op::ConnectParam {
+            from,
+            output,
+            to,
+            param,
+        } => {
+            format!(in alloc;
+                "connectParam {} {output} {} {}",
+                text(from),
+                text(to),
+                text(param)
+            )
+        }
+        Op::Disconnect {
+            from,
+            output,
+            to,
+            input,
+        } => disconnect_text(alloc, text(from), *output, to, *input),
+        Op::DisconnectParam {
+            from,
+            to,
+            param,
+            output,
+        } => {
+            let output = count_text(alloc, *output)?;
+            let end = format!(in alloc; "{} {}", text(to), text(param))?;
+            format!(in alloc; "disconnectParam {} {end} {output}", text(from))
+        }
+        _ => attribute_text(alloc, op),
+    }
+}
+
+fn disconnect_text(
+    alloc: Global,
+    from: &str,
+    output: Option<u32>,
+    to: &Option<Name>,
+    input: Option<u32>,
+) -> Result<String, AllocError> {
+    let output = count_text(alloc, output)?;
+    let input = count_text(alloc, input)?;
+    let to = text_or_none(to);
+    format!(in alloc; "disconnect {from} {output} {to} {input}")
+}
+
+fn attribute_text(alloc: Global, op: &Op) -> Result<String, AllocError> {
+    match op {
+        Op::SetChannelCount { node, value } => {
+            format!(in alloc; "setChannelCount {} {value}", text(node))
+        }
+        Op::SetChannelCountMode { node, value } => {
+            format!(in alloc; "setChannelCountMode {} {}", text(node), mode_text(*value))
+        }
+        Op::SetChannelInterpretation { node, value } => {
+            format!(in alloc;
+                "setChannelInterpretation {} {}",
+                text(node),
+                interp_text(*value)
+            )
+        }
+        Op::CopyToChannel {
+            buffer,
+            channel,
+            samples,
+            at,
+        } => {
+            let values = values_text(alloc, samples.as_slice())?;
+            format!(in alloc; "copyToChannel {} {channel} [{values}] {at}", text(buffer))
+        }
+        _ => buffer_source_text(alloc, op),
+    }
+}
+
+fn buffer_source_text(alloc: Global, op: &Op) -> Result<String, AllocError> {
+    match op {
+        Op::CreateBufferSource {
+            name,
+            buffer,
+            looping,
+            loop_start,
+            loop_end,
+            playback_rate,
+        } => {
+            let parts = format!(in alloc; "{looping} {loop_start} {loop_end} {playback_rate}")?;
+            format!(in alloc;
+                "createBufferSource {} {} {parts}",
+                text(name),
+                text_or_none(buffer)
+            )
+        }
+        Op::SetBuffer { node, buffer } => {
+            format!(in alloc; "setBuffer {} {}", text(node), text_or_none(buffer))
+        }
+        Op::SetLoop { node, value } => format!(in alloc; "setLoop {} {value}", text(node)),
+        Op::SetLoopStart { node, value } => {
+            format!(in alloc; "setLoopStart {} {value}", text(node))
+        }
+        Op::SetLoopEnd { node, value } => format!(in alloc; "setLoopEnd {} {value}", text(node)),
+        _ => source_text(alloc, op),
+    }
+}
+
+fn source_text(alloc: Global, op: &Op) -> Result<String, AllocError> {
+    match op {
+        Op::Start {
+            node,
+            when,
+            offset,
+            duration: Some(duration),
+        } => format!(in alloc; "start {} {when} {offset} {duration}", text(node)),
+        Op::Start {
+            node,
+            when,
+            offset,
+            duration: None,
+        } => format!(in alloc; "start {} {when} {offset} none", text(node)),
+        Op::Stop { node, when } => format!(in alloc; "stop {} {when}", text(node)),
+        _ => param_op_text(alloc, op),
+    }
+}
