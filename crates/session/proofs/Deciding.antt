@@ -2,10 +2,14 @@
 use Rattle.std.proofs.Common.{ℕ, ◌≡◌, ◌<◌, length, List, true, false, Option, Some, None, Result, Ok, Err, IsSome, refl, sym, ◌∙◌, ap, subst, arith}
 use Rattle.std.specs.Prelude.{is_some, unwrap_or, IfSome, IfOk, OnErr}
 use Rattle.wa_base.specs.declared.exceptions.Exc.{Exc}
+use Rattle.wa_base.specs.declared.exceptions.Exc.TheVariants.{NotSupported}
+use Rattle.wa_base.specs.declared.features.Feature.TheVariants.{ExponentialRamp, SetTarget}
 use Rattle.wa_base.specs.declared.graph_names.BufId.{BufId}
+use Rattle.wa_base.specs.declared.graph_names.ParamId.{ParamId}
 use Rattle.wa_base.specs.declared.graph_names.NodeId.{NodeId}
 use Rattle.wa_base.specs.declared.memory.NoMemory.{NoMemory}
 use Rattle.transcript.specs.declared.lines.Answer.{Answer}
+use Rattle.transcript.specs.declared.lines.Answer.TheVariants as answer
 use Rattle.io_edge.specs.Paths.{Paths}
 use Rattle.script_ast.specs.Ranges.{IsInRange, IsNewName}
 use Rattle.script_ast.specs.declared.call_list.Call.{Call}
@@ -16,6 +20,8 @@ use Rattle.name_book.specs.declared.book.Object.{Object}
 use Rattle.name_book.specs.declared.book.Object.TheVariants as object
 use Rattle.node_table.specs.declared.kinds.Kind.TheVariants.{Constant, Gain, Splitter, Merger}
 use Rattle.conn_graph.specs.Edges.{form_node}
+use Rattle.meaning.specs.declared.automation.ParamEdit.{ParamEdit}
+use Rattle.meaning.specs.declared.automation.ParamEdit.TheVariants as line
 use Rattle.meaning.specs.declared.buffers.BufferEdit.TheVariants as buffer_edit
 use Rattle.meaning.specs.declared.change.AttributeEdit.TheVariants as attribute
 use Rattle.meaning.specs.declared.change.Edit.{Edit}
@@ -23,15 +29,18 @@ use Rattle.meaning.specs.declared.change.Edit.TheVariants as edit
 use Rattle.meaning.specs.declared.scheds.LoopPart.TheVariants as part
 use Rattle.meaning.specs.declared.sources.SourceEdit.TheVariants as source
 use Rattle.meaning.specs.declared.world.World.{World}
+use Rattle.meaning.specs.World.{slot_of}
 use Rattle.meaning.specs.Sources.{IsBufferOf}
 use Rattle.meaning.specs.Changes.{creates, edited, refusal, IsNamed, Grows}
 use Rattle.meaning.proofs.Changing.{grows_same, changed_grows}
 use Rattle.session.specs.declared.control.Decided.{Decided}
 use Rattle.session.specs.declared.control.Decided.TheVariants as comes_to
 use Rattle.session.specs.Machine.{Machine}
+use Rattle.session.specs.Params.{param_at, name_refusal, lead_refusal, unless_refused, on_param, edits_param, leads, edge_to_param, form_of_param, decided_on_line, decided_on_param}
 use Rattle.session.specs.Steady.{IsSteady}
-use Rattle.session.specs.Step.{decided_with, node_bound, node_named, buffer_bound, buffer_named, new_name, unless, edits, edits_node, edits_nodes, edits_buffer, edits_with_buffer, sets_buffer, rate_of, edge_of, form_to, form_from, starts, decided, with_edit, settled, is_start, KeepsTime, IsFor, Steps}
+use Rattle.session.specs.Step.{decided_with, node_bound, node_named, buffer_bound, buffer_named, new_name, refused, unless, edits, edits_node, edits_nodes, edits_buffer, edits_with_buffer, sets_buffer, rate_of, edge_of, form_to, form_from, starts, decided, with_edit, settled, is_start, KeepsTime, IsFor, Steps}
 use Rattle.session.proofs.Named.{named_there}
+use Rattle.session.proofs.Parameters.{param_there, param_low, lead_kept}
 
 -- ---- names that stand for what is there
 
@@ -55,9 +64,9 @@ buffer_there m steady name buffer is = named_there m.bindings name m.world (obje
 
 module _ (m : Machine) (steady : IsSteady m) (o : Op) where
   edits_for : (e : Edit) → IsNamed m.world e → creates e ≡ is_some (new_name o) → IsFor m o (edits m e)
-  edits_for e named new = by_refusal (refusal m.world e) refl
+  edits_for e named new = by_refusal (refusal m.world m.context.now e) refl
     where
-      by_refusal : (r : Option Exc) → refusal m.world e ≡ r → IsFor m o (unless r e)
+      by_refusal : (r : Option Exc) → refusal m.world m.context.now e ≡ r → IsFor m o (unless r e)
       by_refusal None fine = (record { time = let low = steady.time in omega arith; named = named; accepted = fine }, new)
       by_refusal (Some exc) thrown = tt
 
@@ -82,6 +91,28 @@ module _ (m : Machine) (steady : IsSteady m) (o : Op) where
   sets_buffer_for none None name = tt
   sets_buffer_for none (Some n) name = with_buffer_for name (λ b. edit.Source n (source.SetBuffer b)) (λ b there. (there, sym (ap is_some none)))
 
+-- ---- what is done on parameters
+
+module _ (m : Machine) (steady : IsSteady m) (o : Op) where
+  unless_for : (r : Option Exc) (d : Decided) → (r ≡ None → IsFor m o d) → IsFor m o (unless_refused r d)
+  unless_for None d kept = kept refl
+  unless_for (Some exc) d kept = tt
+
+  on_param_for : (id : Option ParamId) (what : ParamId → Decided) → ((i : ParamId) → id ≡ Some i → name_refusal i.name ≡ None → IsFor m o (what i)) → IsFor m o (on_param id what)
+  on_param_for None what kept = tt
+  on_param_for (Some i) what kept = unless_for (name_refusal i.name) (what i) (kept i refl)
+
+  edits_param_for : new_name o ≡ None → (node word : List ℕ) (e : ParamEdit) → IsFor m o (edits_param m node word e)
+  edits_param_for none node word e =
+      on_param_for (param_at m (node_named m node) word) (λ i. edits m (edit.Param i e))
+      (λ i is kept. edits_for m steady o (edit.Param i e) (param_there m steady (node_named m node) word (λ n found. node_there m steady node n found) i is kept) (sym (ap is_some none)))
+
+  lead_for : (from : Option NodeId) (to : Option ParamId) (what : NodeId → ParamId → Decided)
+      → ((n : NodeId) (i : ParamId) → from ≡ Some n → to ≡ Some i → lead_refusal n i ≡ None → IsFor m o (what n i)) → IsFor m o (leads from to what)
+  lead_for None to what kept = tt
+  lead_for (Some n) None what kept = tt
+  lead_for (Some n) (Some i) what kept = unless_for (lead_refusal n i) (what n i) (kept n i refl refl)
+
 form_from_names : (count : ℕ) (output : Option ℕ) → IfSome (form_node (form_from output)) (λ node. node < count)
 form_from_names count None = tt
 form_from_names count (Some output) = tt
@@ -94,6 +125,46 @@ form_to_names count (Some output) (Some input) to there = there
 start_for : (m : Machine) (s : Option ℕ) → m.context.started ≡ s → IsFor m op.StartRendering (starts s)
 start_for m None is = (refl, is)
 start_for m (Some ordinal) is = tt
+
+form_of_param_names : (count : ℕ) (output : Option ℕ) (to : ParamId) → to.node.0 < count → IfSome (form_node (form_of_param output to)) (λ node. node < count)
+form_of_param_names count None to there = there
+form_of_param_names count (Some output) to there = there
+
+on_line_for : (m : Machine) → IsSteady m → (o : Op) → new_name o ≡ None → IsFor m o (decided_on_line m o)
+unfolding decided_on_line
+on_line_for m steady (op.SetValue node param value) none = edits_param_for m steady (op.SetValue node param value) none node param (line.SetNow value)
+on_line_for m steady (op.SetValueAtTime node param value time) none = edits_param_for m steady (op.SetValueAtTime node param value time) none node param (line.Set value time)
+on_line_for m steady (op.LinearRampToValueAtTime node param value time) none = edits_param_for m steady (op.LinearRampToValueAtTime node param value time) none node param (line.Ramp value time)
+on_line_for m steady (op.SetValueCurveAtTime node param values time duration) none =
+    edits_param_for m steady (op.SetValueCurveAtTime node param values time duration) none node param (line.Curve values time duration)
+on_line_for m steady (op.CancelScheduledValues node param time) none = edits_param_for m steady (op.CancelScheduledValues node param time) none node param (line.Cancel time)
+on_line_for m steady (op.CancelAndHoldAtTime node param time) none = edits_param_for m steady (op.CancelAndHoldAtTime node param time) none node param (line.Hold time)
+on_line_for m steady other none = tt
+
+on_param_op_for : (m : Machine) → IsSteady m → (o : Op) → new_name o ≡ None → IsFor m o (decided_on_param m o)
+unfolding decided_on_param
+on_param_op_for m steady (op.ConnectParam from output to param) none =
+    lead_for m steady (op.ConnectParam from output to param) (node_named m from) (param_at m (node_named m to) param) (λ n i. edits m (edit.Connect (edge_to_param output n i)))
+    (λ n i from_is to_is kept.
+    edits_for m steady (op.ConnectParam from output to param) (edit.Connect (edge_to_param output n i))
+    (node_there m steady from n from_is, param_there m steady (node_named m to) param (λ k found. node_there m steady to k found) i to_is (lead_kept n i kept)) refl)
+on_param_op_for m steady (op.DisconnectParam from to param output) none =
+    lead_for m steady (op.DisconnectParam from to param output) (node_named m from) (param_at m (node_named m to) param) (λ n i. edits m (edit.Disconnect n (form_of_param output i)))
+    (λ n i from_is to_is kept.
+    edits_for m steady (op.DisconnectParam from to param output) (edit.Disconnect n (form_of_param output i))
+    (node_there m steady from n from_is, form_of_param_names (length m.world.nodes) output i (param_low m (node_named m to) param (λ k found. node_there m steady to k found) i to_is)) refl)
+on_param_op_for m steady (op.SetAutomationRate node param value) none = edits_param_for m steady (op.SetAutomationRate node param value) none node param (line.Rate value)
+on_param_op_for m steady (op.ExponentialRampToValueAtTime node param) none =
+    on_param_for m steady (op.ExponentialRampToValueAtTime node param) (param_at m (node_named m node) param) (λ i. refused (NotSupported (Some ExponentialRamp))) (λ i is kept. tt)
+on_param_op_for m steady (op.SetTargetAtTime node param) none =
+    on_param_for m steady (op.SetTargetAtTime node param) (param_at m (node_named m node) param) (λ i. refused (NotSupported (Some SetTarget))) (λ i is kept. tt)
+on_param_op_for m steady (op.ReadValue node param) none =
+    on_param_for m steady (op.ReadValue node param) (param_at m (node_named m node) param) (λ i. comes_to.Answer (answer.Value (slot_of m.world i))) (λ i is kept. tt)
+on_param_op_for m steady other none = on_line_for m steady other none
+
+decoding_for : (m : Machine) (name path : List ℕ) → IsFor m (op.DecodeAudioData name path) (decided_on_param m (op.DecodeAudioData name path))
+unfolding decided_on_param decided_on_line
+decoding_for m name path = tt
 
 pub decided_for : (m : Machine) → IsSteady m → (o : Op) → IsInRange o → IsFor m o (decided m o)
 unfolding decided
@@ -139,7 +210,8 @@ decided_for m steady op.StartRendering in_range = start_for m m.context.started 
 decided_for m steady op.Resume in_range = tt
 decided_for m steady op.ReadState in_range = tt
 decided_for m steady op.ReadTime in_range = tt
-decided_for m steady other in_range = tt
+decided_for m steady (op.DecodeAudioData name path) in_range = decoding_for m name path
+decided_for m steady other in_range = on_param_op_for m steady other refl
 
 -- a new name is one that may be given
 pub is_new : (o : Op) (name : List ℕ) → IsInRange o → new_name o ≡ Some name → IsNewName name

@@ -7,6 +7,7 @@ pub mod Interleaving
 mod Marks
 mod Named
 mod NewNames
+mod Parameters
 mod Quanta
 mod Replaying
 mod Samples

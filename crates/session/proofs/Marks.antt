@@ -1,24 +1,20 @@
--- Sources that are marked one after another, and current values that stay.
-use Rattle.std.proofs.Common.{◌≡◌, ◌<◌, ◌+◌, ◌++◌, ◌∷◌, [], ℕ, ℤ, List, length, map, take, drop, All, Bool, true, false, Some, inl, inr, refl, sym, ◌∙◌, ap, subst, arith}
+-- Sources that are marked one after another.
+use Rattle.std.proofs.Common.{◌≡◌, ◌<◌, ◌+◌, ◌++◌, ◌∷◌, [], ℕ, List, length, map, take, drop, All, Bool, true, false, Some, inl, inr, refl, sym, ◌∙◌, ap, subst, arith}
 use Rattle.std.specs.Prelude.{slice_get, slice_set, slice_index_or, if◌then◌else◌}
 use Rattle.std.proofs.lemmas.List.{get_or_default, set-get_or, get_or-map, length-map}
 use Rattle.std.proofs.lemmas.List.Edits.{map_over_more}
-use Rattle.std.proofs.lemmas.List.Elements.{All-head, All-tail}
 use Rattle.std.proofs.lemmas.Option.{get_or_from_slice_get}
 use Rattle.law_base.specs.Members.{IsIn}
-use Rattle.param_events.specs.Values.{value_at}
 use Rattle.wa_base.specs.declared.graph_names.NodeId.{NodeId}
 use Rattle.buffer_store.specs.declared.buffers.Buffer.{Buffer}
 use Rattle.node_table.specs.declared.kinds.Kind.{Kind}
 use Rattle.node_table.specs.declared.kinds.Kind.TheVariants as kinds
 use Rattle.node_table.specs.declared.kinds.Kind.TheVariants.{Destination, Constant, Gain, Splitter, Merger}
-use Rattle.meaning.specs.declared.params.Param.{Param}
 use Rattle.meaning.specs.declared.world.World.{World}
 use Rattle.meaning.specs.World.{kind_of}
 use Rattle.meaning.specs.Validity.{IsPlayOf}
 use Rattle.meaning.specs.declared.scheds.Play.{Play}
-use Rattle.session.specs.Quantum.{ends_by, marked, slot_set}
-use Rattle.session.specs.Steady.{IsUntouched}
+use Rattle.session.specs.Quantum.{ends_by, marked}
 
 -- f x was written over the element at i, which was read at some default
 pub map_over_next : {X : Type 0} (f : X → X) (xs ys : List X) (i : ℕ) (d : X) → i < length xs → length ys ≡ length xs → ys ≡ map f (take i xs) ++ drop i xs
@@ -44,28 +40,6 @@ pub not_marked : (now : ℕ) (xs ys : List Play) (i : ℕ) (old : Play) → i < 
     → slice_get ys i ≡ Some old → ends_by now old.sched ≡ false → ys ≡ map (marked now) (take (i + 1) xs) ++ drop (i + 1) xs
 not_marked now xs ys i old within same so_far is stays =
     sym (set-get_or ys i old) ∙ ap (λ p. slice_set ys i p) (get_or_from_slice_get ys i old old is ∙ sym (marks now old false stays)) ∙ one_marked now xs ys i old within same so_far is
-
--- without events a current value stays that of the creation
-value-none : (base : ℤ) (frame : ℕ) → value_at base [] frame ≡ base
-unfolding value_at
-value-none base frame = refl
-
-slot_stays : (first : ℕ) (p : Param) → IsUntouched p → slot_set first p ≡ p
-slot_stays first p untouched =
-    ap (λ slot. record p { line = record p.line { slot = slot } })
-    (ap (λ events. value_at p.line.base events first) untouched.events ∙ value-none p.line.base first ∙ sym untouched.slot)
-
-pub slots_stay : (first : ℕ) (ps : List Param) → All IsUntouched ps → map (slot_set first) ps ≡ ps
-slots_stay first [] untouched = refl
-slots_stay first (p ∷ ps) untouched =
-    let here = slot_stays first p (All-head IsUntouched p ps untouched) in
-    let rest = slots_stay first ps (All-tail IsUntouched p ps untouched) in
-    cc
-
-pub untouched_still : (ps : List Param) → All IsUntouched ps → (p : Param) → IsIn p ps → p.line.events ≡ []
-untouched_still [] untouched p is = absurd is
-untouched_still (q ∷ ps) untouched p (inl same) = rw same ((All-head IsUntouched q ps untouched).events)
-untouched_still (q ∷ ps) untouched p (inr is) = untouched_still ps (All-tail IsUntouched q ps untouched) p is
 
 -- what holds of each source's node holds at each place
 pub All-nodes : (P : ℕ → Type 0) (plays : List Play) → All P (map (λ (p : Play). p.id.0) plays) → All (λ (p : Play). P p.id.0) plays

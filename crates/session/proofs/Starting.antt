@@ -5,28 +5,35 @@ use Rattle.std.specs.List.{list_any}
 use Rattle.io_edge.specs.Paths.{Paths}
 use Rattle.wa_base.specs.declared.exceptions.Exc.{Exc}
 use Rattle.wa_base.specs.declared.exceptions.Exc.TheVariants.{NotSupported}
-use Rattle.wa_base.specs.declared.features.Feature.TheVariants.{Resampling, AssetSize}
+use Rattle.wa_base.specs.declared.features.Feature.TheVariants.{Resampling, AssetSize, ExponentialRamp, SetTarget}
 use Rattle.wav_io.specs.WavGrammar.{wav_of}
 use Rattle.wav_io.specs.declared.wav.Wav.{Wav}
 use Rattle.wav_io.specs.declared.wav.WavErr.{WavErr}
 use Rattle.wa_base.specs.declared.graph_names.BufId.{BufId}
 use Rattle.wa_base.specs.declared.graph_names.NodeId.{NodeId}
+use Rattle.wa_base.specs.declared.graph_names.ParamId.{ParamId}
+use Rattle.transcript.specs.declared.lines.Answer.TheVariants as answer
 use Rattle.script_ast.specs.declared.call_list.Call.{Call}
 use Rattle.script_ast.specs.declared.operations.Op.{Op}
 use Rattle.script_ast.specs.declared.operations.Op.TheVariants as op
 use Rattle.node_table.specs.declared.kinds.Kind.TheVariants.{Constant, Gain, Splitter, Merger}
+use Rattle.meaning.specs.declared.automation.ParamEdit.{ParamEdit}
+use Rattle.meaning.specs.declared.automation.ParamEdit.TheVariants as line
 use Rattle.meaning.specs.declared.buffers.BufferEdit.TheVariants as buffer_edit
 use Rattle.meaning.specs.declared.change.AttributeEdit.TheVariants as attribute
 use Rattle.meaning.specs.declared.change.Edit.{Edit}
 use Rattle.meaning.specs.declared.change.Edit.TheVariants as edit
 use Rattle.meaning.specs.declared.scheds.LoopPart.TheVariants as part
 use Rattle.meaning.specs.declared.sources.SourceEdit.TheVariants as source
+use Rattle.meaning.specs.World.{slot_of}
 use Rattle.meaning.specs.Changes.{refusal}
 use Rattle.session.specs.declared.control.Decided.{Decided}
+use Rattle.session.specs.declared.control.Decided.TheVariants as comes_to
 use Rattle.session.specs.Assets.{Folder, max_asset, rejected, unless_rejected, adopts, by_reading, decodes}
 use Rattle.session.specs.Machine.{Machine}
+use Rattle.session.specs.Params.{param_at, name_refusal, lead_refusal, unless_refused, on_param, edits_param, leads, edge_to_param, form_of_param, decided_on_line, decided_on_param}
 use Rattle.session.specs.Session.{Told, after_calls, after_call}
-use Rattle.session.specs.Step.{is_start, unless, edits, edits_node, edits_nodes, edits_buffer, edits_with_buffer, sets_buffer, rate_of, buffer_named, disconnects, starts, decided, decided_with, settled, with_edit, new_name, node_named, edge_of, form_from, form_to}
+use Rattle.session.specs.Step.{is_start, refused, unless, edits, edits_node, edits_nodes, edits_buffer, edits_with_buffer, sets_buffer, rate_of, buffer_named, disconnects, starts, decided, decided_with, settled, with_edit, new_name, node_named, edge_of, form_from, form_to}
 
 module _ (machine : Machine) (call : Call) (held : Paths) where
   -- what an operation comes to leaves alone whether rendering was started
@@ -42,7 +49,7 @@ module _ (machine : Machine) (call : Call) (held : Paths) where
   unless_leaves (Some exception) e = refl
 
   edits_leaves : (e : Edit) → Leaves (edits machine e)
-  edits_leaves e = unless_leaves (refusal machine.world e) e
+  edits_leaves e = unless_leaves (refusal machine.world machine.context.now e) e
 
   node_leaves : (node : Option NodeId) (e : NodeId → Edit) → Leaves (edits_node machine node e)
   node_leaves None e = refl
@@ -68,6 +75,22 @@ module _ (machine : Machine) (call : Call) (held : Paths) where
   disconnects_leaves from output None input = node_leaves from (λ node. edit.Disconnect node (form_from output))
   disconnects_leaves from output (Some to) input = nodes_leaves from (node_named machine to) (λ node target. edit.Disconnect node (form_to output input target))
 
+  unless_refused_leaves : (r : Option Exc) (d : Decided) → Leaves d → Leaves (unless_refused r d)
+  unless_refused_leaves None d leaves = leaves
+  unless_refused_leaves (Some exception) d leaves = refl
+
+  on_param_leaves : (id : Option ParamId) (what : ParamId → Decided) → ((i : ParamId) → Leaves (what i)) → Leaves (on_param id what)
+  on_param_leaves None what leaves = refl
+  on_param_leaves (Some i) what leaves = unless_refused_leaves (name_refusal i.name) (what i) (leaves i)
+
+  lead_leaves : (from : Option NodeId) (to : Option ParamId) (what : NodeId → ParamId → Decided) → ((n : NodeId) (i : ParamId) → Leaves (what n i)) → Leaves (leads from to what)
+  lead_leaves None to what leaves = refl
+  lead_leaves (Some n) None what leaves = refl
+  lead_leaves (Some n) (Some i) what leaves = unless_refused_leaves (lead_refusal n i) (what n i) (leaves n i)
+
+  edits_param_leaves : (node word : List ℕ) (e : ParamEdit) → Leaves (edits_param machine node word e)
+  edits_param_leaves node word e = on_param_leaves (param_at machine (node_named machine node) word) (λ i. edits machine (edit.Param i e)) (λ i. edits_leaves (edit.Param i e))
+
   unless_rejected_leaves : (r : Option Exc) (e : Edit) → Leaves (unless_rejected r e)
   unless_rejected_leaves None e = unless_leaves None e
   unless_rejected_leaves (Some exception) e = refl
@@ -78,8 +101,8 @@ module _ (machine : Machine) (call : Call) (held : Paths) where
       e : Edit
       e = edit.Buffers (buffer_edit.Adopt wav)
 
-      by_rate : (b : Bool) → Leaves (if b then unless_rejected (refusal machine.world e) e else rejected (NotSupported (Some Resampling)))
-      by_rate true = unless_rejected_leaves (refusal machine.world e) e
+      by_rate : (b : Bool) → Leaves (if b then unless_rejected (refusal machine.world machine.context.now e) e else rejected (NotSupported (Some Resampling)))
+      by_rate true = unless_rejected_leaves (refusal machine.world machine.context.now e) e
       by_rate false = refl
 
   reading_leaves : (read : Result Wav WavErr) → Leaves (by_reading machine read)
@@ -100,7 +123,7 @@ module _ (machine : Machine) (call : Call) (held : Paths) where
 
   -- after a call rendering was started where it was before, or where the call starts it
   op_starts : (o : Op) → is_some (settled machine call (decided_with machine held o)).machine.context.started ≡ (is_start o || is_some machine.context.started)
-  unfolding decided
+  unfolding decided decided_on_param decided_on_line
   op_starts (op.CreateConstantSource name offset) = ap (λ s. is_some s) (edits_leaves (edit.Create (Constant offset)))
   op_starts (op.CreateGain name gain) = ap (λ s. is_some s) (edits_leaves (edit.Create (Gain gain)))
   op_starts (op.CreateChannelSplitter name outputs) = ap (λ s. is_some s) (edits_leaves (edit.Create (Splitter outputs)))
@@ -127,6 +150,24 @@ module _ (machine : Machine) (call : Call) (held : Paths) where
   op_starts op.Resume = refl
   op_starts op.ReadState = refl
   op_starts op.ReadTime = refl
+  op_starts (op.ConnectParam from output to param) =
+      ap (λ s. is_some s) (lead_leaves (node_named machine from) (param_at machine (node_named machine to) param) (λ n i. edits machine (edit.Connect (edge_to_param output n i))) (λ n i. edits_leaves (edit.Connect (edge_to_param output n i))))
+  op_starts (op.DisconnectParam from to param output) =
+      ap (λ s. is_some s) (lead_leaves (node_named machine from) (param_at machine (node_named machine to) param) (λ n i. edits machine (edit.Disconnect n (form_of_param output i)))
+      (λ n i. edits_leaves (edit.Disconnect n (form_of_param output i))))
+  op_starts (op.SetValue node param value) = ap (λ s. is_some s) (edits_param_leaves node param (line.SetNow value))
+  op_starts (op.SetValueAtTime node param value time) = ap (λ s. is_some s) (edits_param_leaves node param (line.Set value time))
+  op_starts (op.LinearRampToValueAtTime node param value time) = ap (λ s. is_some s) (edits_param_leaves node param (line.Ramp value time))
+  op_starts (op.SetValueCurveAtTime node param values time duration) = ap (λ s. is_some s) (edits_param_leaves node param (line.Curve values time duration))
+  op_starts (op.CancelScheduledValues node param time) = ap (λ s. is_some s) (edits_param_leaves node param (line.Cancel time))
+  op_starts (op.CancelAndHoldAtTime node param time) = ap (λ s. is_some s) (edits_param_leaves node param (line.Hold time))
+  op_starts (op.SetAutomationRate node param value) = ap (λ s. is_some s) (edits_param_leaves node param (line.Rate value))
+  op_starts (op.ExponentialRampToValueAtTime node param) =
+      ap (λ s. is_some s) (on_param_leaves (param_at machine (node_named machine node) param) (λ i. refused (NotSupported (Some ExponentialRamp))) (λ i. refl))
+  op_starts (op.SetTargetAtTime node param) =
+      ap (λ s. is_some s) (on_param_leaves (param_at machine (node_named machine node) param) (λ i. refused (NotSupported (Some SetTarget))) (λ i. refl))
+  op_starts (op.ReadValue node param) =
+      ap (λ s. is_some s) (on_param_leaves (param_at machine (node_named machine node) param) (λ i. comes_to.Answer (answer.Value (slot_of machine.world i))) (λ i. refl))
   op_starts other = refl
 
 -- after a list of calls rendering was started where it was before, or where one of them starts it

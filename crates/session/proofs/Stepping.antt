@@ -1,10 +1,9 @@
 -- A machine stays steady through edits and quanta.
-use Rattle.std.proofs.Common.{ℕ, ℤ, ◌≡◌, ◌+◌, ◌<◌, ◌≤◌, length, List, [], ◌∷◌, map, All, true, false, Option, Some, None, Result, Ok, Err, IsSome, refl, sym, ◌∙◌, ap, subst, arith, length-append}
+use Rattle.std.proofs.Common.{ℕ, ◌≡◌, ◌+◌, ◌<◌, ◌≤◌, length, List, [], ◌∷◌, map, All, true, false, Option, Some, None, Result, Ok, Err, IsSome, refl, sym, ◌∙◌, ap, subst, arith, length-append}
 use Rattle.std.specs.Prelude.{OnOk, OnErr}
 use Rattle.std.proofs.lemmas.List.{map-append}
 use Rattle.std.proofs.lemmas.List.Elements.{All-append, All-cons}
 use Rattle.wa_base.specs.declared.contexts.State.{State}
-use Rattle.wa_base.specs.declared.graph_names.ParamName.{ParamName}
 use Rattle.wa_base.specs.declared.memory.NoMemory.{NoMemory}
 use Rattle.law_base.specs.Members.{IsIn}
 use Rattle.name_book.specs.Book.{BookView, bound, first_named, first_name_of}
@@ -26,7 +25,9 @@ use Rattle.meaning.specs.World.{plain, kind_of, find_play, frames_in}
 use Rattle.meaning.specs.Validity.{IsValid, IsPlayOf, play_nodes}
 use Rattle.meaning.specs.Plays.{new_source, play_edited}
 use Rattle.meaning.specs.Sources.{with_store, buffers_edited}
-use Rattle.meaning.specs.Changes.{creates, created, edited, attribute_set, param_of, new_param, new_params, new_play, plays_of}
+use Rattle.meaning.specs.Changes.{creates, created, edited, attribute_set, new_play, plays_of}
+use Rattle.meaning.specs.Automation.{with_params, slot_set}
+use Rattle.meaning.proofs.Automating.{slots_valid}
 use Rattle.meaning.proofs.Valid.{valid_of, changed_nodes}
 use Rattle.meaning.proofs.Creating.{IsOwn}
 use Rattle.meaning.proofs.Sourcing.{new_play_is, new_source_is, edited_id, acquired_keeps}
@@ -34,10 +35,10 @@ use Rattle.meaning.proofs.Buffering.{buffers_stay}
 use Rattle.meaning.proofs.Changing.{changed_grows}
 use Rattle.session.specs.Quantum.{marked}
 use Rattle.session.specs.Machine.{Machine, IsInState, IsAccepted, machine_of}
-use Rattle.session.specs.Steady.{IsSteady, IsThere, IsUntouched}
+use Rattle.session.specs.Steady.{IsSteady, IsThere}
 use Rattle.session.specs.Session.{machine_after}
 use Rattle.session.specs.Step.{with_world, with_edit, created_by}
-use Rattle.session.proofs.Marks.{marked_nodes, marked_kinds, slots_stay}
+use Rattle.session.proofs.Marks.{marked_nodes, marked_kinds}
 use Rattle.session.proofs.Named.{All-bound, there_still, named_still, named_new}
 
 -- ---- an edit
@@ -45,31 +46,31 @@ use Rattle.session.proofs.Named.{All-bound, there_still, named_still, named_new}
 edited_valid : (m : Machine) (e : Edit) → IsAccepted m e → IsSteady m → IsValid (edited m.world m.context.now e)
 edited_valid m e accepted steady = (changed_grows m.world (record { time = m.context.now; edit = e }) steady.valid accepted).valid steady.valid
 
--- a machine whose world changes, but for how many its nodes are, its parameters and whose its schedules are, and from which no buffer goes
-pub steady_world : (m : Machine) (w : World) → w.spec ≡ m.world.spec → length w.nodes ≡ length m.world.nodes → length m.world.store ≤ length w.store → w.params.items ≡ m.world.params.items
+-- a machine whose world changes, but for how many its nodes are and whose its schedules are, and from which no buffer goes
+pub steady_world : (m : Machine) (w : World) → w.spec ≡ m.world.spec → length w.nodes ≡ length m.world.nodes → length m.world.store ≤ length w.store
     → play_nodes w ≡ play_nodes m.world → IsValid w → IsSteady m → IsSteady (with_world m w)
-steady_world m w spec nodes buffers params plays valid steady = record {
+steady_world m w spec nodes buffers plays valid steady = record {
   valid = valid;
   in_state = rw spec steady.in_state;
   time = steady.time;
   bound = λ k d l. there_still m.world w (omega arith) buffers _ (steady.bound k d l);
   named = rw plays steady.named;
-  untouched = rw params steady.untouched;
 }
 
 -- an edit that creates nothing
 pub steady_edited : (m : Machine) (e : Edit) → creates e ≡ false → IsAccepted m e → IsSteady m → IsSteady (with_edit m e None)
 steady_edited m (edit.Create kind) none accepted steady = absurd cc
 steady_edited m (edit.CreateBufferSource rate buffer points) none accepted steady = absurd cc
-steady_edited m (edit.Connect edge) none accepted steady = steady_world m _ refl refl (omega arith) refl refl (edited_valid m (edit.Connect edge) accepted steady) steady
-steady_edited m (edit.Disconnect from form) none accepted steady = steady_world m _ refl refl (omega arith) refl refl (edited_valid m (edit.Disconnect from form) accepted steady) steady
+steady_edited m (edit.Connect edge) none accepted steady = steady_world m _ refl refl (omega arith) refl (edited_valid m (edit.Connect edge) accepted steady) steady
+steady_edited m (edit.Disconnect from form) none accepted steady = steady_world m _ refl refl (omega arith) refl (edited_valid m (edit.Disconnect from form) accepted steady) steady
 steady_edited m (edit.Source node e) none accepted steady =
-    steady_world m _ refl refl (acquired_keeps m.world.store e (find_play m.world.scheds.items node.0)).long refl
+    steady_world m _ refl refl (acquired_keeps m.world.store e (find_play m.world.scheds.items node.0)).long
     (changed_nodes node.0 (λ p. play_edited (frames_in m.world.store p.buffer) m.context.now e p) (λ p. edited_id (frames_in m.world.store p.buffer) m.context.now e p) m.world.scheds.items)
     (edited_valid m (edit.Source node e) accepted steady) steady
 steady_edited m (edit.Attribute node e) none accepted steady =
-    steady_world m _ refl (length-changed node.0 (attribute_set e) m.world.nodes) (omega arith) refl refl (edited_valid m (edit.Attribute node e) accepted steady) steady
-steady_edited m (edit.Buffers e) none accepted steady = steady_world m _ refl refl (buffers_stay m.world.store e) refl refl (edited_valid m (edit.Buffers e) accepted steady) steady
+    steady_world m _ refl (length-changed node.0 (attribute_set e) m.world.nodes) (omega arith) refl (edited_valid m (edit.Attribute node e) accepted steady) steady
+steady_edited m (edit.Param id e) none accepted steady = steady_world m _ refl refl (omega arith) refl (edited_valid m (edit.Param id e) accepted steady) steady
+steady_edited m (edit.Buffers e) none accepted steady = steady_world m _ refl refl (buffers_stay m.world.store e) refl (edited_valid m (edit.Buffers e) accepted steady) steady
 
 -- a world that was edited so, or was not for want of memory
 pub steady_either : (state : State) (now : ℕ) (started : Option ℕ) (w new : World) (book : BookView) (e : Edit) (r : Result (Unit {0}) NoMemory) → OnOk r (plain new ≡ edited (plain w) now e) → OnErr r (plain new ≡ plain w)
@@ -90,10 +91,6 @@ new_named names name node (Some p) own =
     (subst (λ i. IsSome (first_name_of (first_named names (Node (record { 0 = node })) name) i)) (sym (own p refl)) (named_new names node name)) (λ k d l. absurd (omega arith))
 new_named names name node None own = λ k d l. absurd (omega arith)
 
-new_untouched : (node : ℕ) (p : Option (ParamName × ℤ)) → All IsUntouched (new_params node p)
-new_untouched node None = λ k d l. absurd (omega arith)
-new_untouched node (Some (name, value)) = All-cons IsUntouched (new_param node name value) [] (record { slot = refl; events = refl }) (λ k d l. absurd (omega arith))
-
 -- with its schedule, if it is a source
 steady_created : (m : Machine) (name : List ℕ) (kind : Kind) (play : Option Play) → IsOwn (length m.world.nodes) play → IsValid (created m.world kind play m.context.now) → IsSteady m
     → IsSteady (record m {
@@ -113,7 +110,6 @@ steady_created m name kind play own valid steady =
       bound = All-bound (IsThere next) m.bindings name (Node (record { 0 = count })) (λ k d l. there_still m.world next (omega (arith, long)) (omega arith) _ (steady.bound k d l)) (omega (arith, long));
       named = rw (map-append (λ (p : Play). p.id.0) m.world.scheds.items (plays_of play))
           (All-append (λ i. IsSome (first_name_of first_names i)) _ _ (named_still m.first_names (Node (record { 0 = count })) name _ steady.named) (new_named m.first_names name count play own));
-      untouched = All-append IsUntouched _ _ steady.untouched (new_untouched count (param_of kind));
     }
 
 -- a new buffer
@@ -126,7 +122,6 @@ steady_buffer m name e more accepted steady =
       time = steady.time;
       bound = All-bound (IsThere next) m.bindings name (Buffer (record { 0 = length m.world.store })) (λ k d l. there_still m.world next (omega arith) (omega (arith, more)) _ (steady.bound k d l)) more;
       named = steady.named;
-      untouched = steady.untouched;
     }
 
 -- an edit that creates what is given a name
@@ -140,6 +135,7 @@ steady_named m (edit.Connect edge) name new accepted steady = absurd cc
 steady_named m (edit.Disconnect from form) name new accepted steady = absurd cc
 steady_named m (edit.Source node e) name new accepted steady = absurd cc
 steady_named m (edit.Attribute node e) name new accepted steady = absurd cc
+steady_named m (edit.Param id e) name new accepted steady = absurd cc
 steady_named m (edit.Buffers (buffer_edit.Create channels frames rate)) name new accepted steady =
     steady_buffer m name (buffer_edit.Create channels frames rate) (omega (arith, length-append m.world.store (silence channels frames rate ∷ []))) accepted steady
 steady_named m (edit.Buffers (buffer_edit.Adopt wav)) name new accepted steady =
@@ -161,7 +157,7 @@ scheds_valid w scheds same kinds valid = valid_of (plain w) (plain (record w { s
 pub steady_scheds : (state : State) (now : ℕ) (started : Option ℕ) (w : World) (scheds : Listed Play) (book : BookView) → map (λ (p : Play). p.id.0) scheds.items ≡ play_nodes w
     → ((p : Play) → IsIn p scheds.items → IsPlayOf w.store (kind_of w p.id.0) p) → IsSteady (machine_of state now started w book) → IsSteady (machine_of state now started (record w { scheds = scheds }) book)
 steady_scheds state now started w scheds book same kinds steady =
-    steady_world (machine_of state now started w book) (plain (record w { scheds = scheds })) refl refl (omega arith) refl same (scheds_valid w scheds same kinds steady.valid) steady
+    steady_world (machine_of state now started w book) (plain (record w { scheds = scheds })) refl refl (omega arith) same (scheds_valid w scheds same kinds steady.valid) steady
 
 pub steady_after : (old state : State) (now : ℕ) (started : Option ℕ) (w : World) (scheds : Listed Play) (book : BookView) → scheds.items ≡ map (marked (now + 128)) w.scheds.items
     → now < w.spec.length → IsInState state started (now + 128) w.spec.length → IsSteady (machine_of old now started w book) → IsSteady (machine_of state (now + 128) started (record w { scheds = scheds }) book)
@@ -176,11 +172,17 @@ steady_after old state now started w scheds book is left in_state steady =
       time = let high = steady.valid.spec.length_high in omega arith;
       bound = next.bound;
       named = next.named;
-      untouched = next.untouched;
     }
 
-pub after_is : (state : State) (now : ℕ) (started : Option ℕ) (w : World) (scheds : Listed Play) (book : BookView) → scheds.items ≡ map (marked (now + 128)) w.scheds.items
-    → IsSteady (machine_of state now started w book) → machine_of state (now + 128) started (record w { scheds = scheds }) book ≡ machine_after (machine_of state now started w book)
-after_is state now started w scheds book is steady =
-    let params = sym (slots_stay now w.params.items steady.untouched) in
-    λ i. record (machine_of state (now + 128) started w book) { world = record (plain w) { params = listed (params i); scheds = listed (is i) } }
+-- a world whose current values were set
+module _ (state : State) (now : ℕ) (started : Option ℕ) (w w' : World) (book : BookView) (set : plain w' ≡ with_params (plain w) (map (slot_set now) w.params.items)) where
+  pub steady_slots : IsSteady (machine_of state now started w book) → IsSteady (machine_of state now started w' book)
+  steady_slots steady =
+      steady_world (machine_of state now started w book) (plain w') (ap (λ (x : World). x.spec) set) (ap (λ (x : World). length x.nodes) set) (let same = ap (λ (x : World). length x.store) set in omega (arith, same))
+      (ap play_nodes set) (subst IsValid (sym set) (slots_valid (plain w) now steady.valid)) steady
+
+  pub after_is : (next : State) (scheds : Listed Play) → scheds.items ≡ map (marked (now + 128)) w'.scheds.items
+      → machine_of next (now + 128) started (record w' { scheds = scheds }) book ≡ machine_after (machine_of next now started w book)
+  after_is next scheds is =
+      let marks = is ∙ ap (λ (x : World). map (marked (now + 128)) x.scheds.items) set in
+      λ i. record (machine_of next (now + 128) started w book) { world = record (set i) { scheds = listed (marks i) } }

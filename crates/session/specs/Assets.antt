@@ -55,7 +55,7 @@ unless_rejected (Some exception) change = rejected exception
 -- a recording at the rate of the context becomes a buffer, unless all buffers would be too long
 abbrev pub adopts : Machine → Wav → Decided
 adopts machine wav =
-    if wav.rate == machine.world.spec.rate then unless_rejected (refusal machine.world (Buffers (Adopt wav))) (Buffers (Adopt wav))
+    if wav.rate == machine.world.spec.rate then unless_rejected (refusal machine.world machine.context.now (Buffers (Adopt wav))) (Buffers (Adopt wav))
     else rejected (NotSupported (Some Resampling))
 
 abbrev pub by_reading : Machine → Result Wav WavErr → Decided
@@ -81,4 +81,4 @@ found_of (TooLong n) = Some (replicate n 0)
 abbrev pub IsFit : Machine → Decided → Type 0
 IsFit machine (comes_to.Answer said) = Unit {0}
 IsFit machine comes_to.Start = ⊥
-IsFit machine (comes_to.Change change) = IsNamed machine.world change × (refusal machine.world change ≡ None) × (creates change ≡ true)
+IsFit machine (comes_to.Change change) = IsNamed machine.world change × (refusal machine.world machine.context.now change ≡ None) × (creates change ≡ true)

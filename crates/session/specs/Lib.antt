@@ -6,5 +6,7 @@ pub mod Rendering
 pub mod Rows
 pub mod Session
 pub mod Steady
+pub mod Deciding
+pub mod Params
 pub mod Step
 pub mod View

@@ -1,11 +1,10 @@
 -- What a quantum changes in a world.
 use Rattle.std.specs.Prelude.{ℕ, nat_le, map, Bool, true, false, not, ◌&&◌, if◌then◌else◌}
 use Rattle.std.specs.Option.{option_map_or}
-use Rattle.param_events.specs.Values.{value_at}
 use Rattle.sched_source.specs.Schedule.{Schedule, end_frame}
 use Rattle.meaning.specs.declared.world.World.{World}
-use Rattle.meaning.specs.declared.params.Param.{Param}
 use Rattle.meaning.specs.declared.scheds.Play.{Play}
+use Rattle.meaning.specs.Automation.{slot_set}
 use Rattle.meaning.specs.Lists.{listed}
 use Rattle.meaning.specs.Plays.{rescheduled}
 
@@ -16,11 +15,7 @@ ends_by now sched = not sched.ended && option_map_or (λ end. nat_le end now) (e
 abbrev pub marked : ℕ → Play → Play
 marked now play = if ends_by now play.sched then rescheduled play (record play.sched { ended = true }) else play
 
--- the current value slot is the intrinsic value at the quantum's first frame
-abbrev pub slot_set : ℕ → Param → Param
-slot_set first p = record p { line = record p.line { slot = value_at p.line.base p.line.events first } }
-
--- a world after the quantum that begins at a frame, with the first frame of the next one
+-- a world after the quantum that begins at a frame, with the first frame of the next one: the current value slots are the intrinsic values at its first frame
 abbrev pub after : ℕ → ℕ → World → World
 after first next w = record w {
   params = listed (map (slot_set first) w.params.items);

@@ -1,9 +1,8 @@
 -- What holds of the machine between two steps.
-use Rattle.std.specs.Prelude.{ℕ, ◌≡◌, ◌≤◌, ◌<◌, List, [], length, All, IsSome}
+use Rattle.std.specs.Prelude.{ℕ, ◌≤◌, ◌<◌, List, length, All, IsSome}
 use Rattle.name_book.specs.Book.{first_name_of}
 use Rattle.name_book.specs.declared.book.Object.{Object}
 use Rattle.name_book.specs.declared.book.Object.TheVariants.{Node, Buffer}
-use Rattle.meaning.specs.declared.params.Param.{Param}
 use Rattle.meaning.specs.declared.world.World.{World}
 use Rattle.meaning.specs.Validity.{IsValid, play_nodes}
 use Rattle.session.specs.Machine.{Machine, IsInState}
@@ -13,15 +12,9 @@ abbrev pub IsThere : World → Object → Type 0
 IsThere w (Node node) = node.0 < length w.nodes
 IsThere w (Buffer buffer) = buffer.0 < length w.store
 
--- a parameter that no call has changed: its current value is that of its creation
-pub record IsUntouched (p : Param) : Type 0 where
-  pub slot : p.line.slot ≡ p.line.base
-  pub events : p.line.events ≡ []
-
 pub record IsSteady (machine : Machine) : Type 0 where
   pub valid : IsValid machine.world
   pub in_state : IsInState machine.context.state machine.context.started machine.context.now machine.world.spec.length
   pub time : machine.context.now ≤ 33554560
   pub bound : All (λ (b : List ℕ × Object). IsThere machine.world b.1) machine.bindings
   pub named : All (λ node. IsSome (first_name_of machine.first_names node)) (play_nodes machine.world)
-  pub untouched : All IsUntouched machine.world.params.items

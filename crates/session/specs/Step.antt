@@ -2,9 +2,7 @@
 use Rattle.std.specs.Prelude.{ℕ, ◌≡◌, ◌/◌, ◌%◌, ◌==◌, ℤ, pos, negsuc, List, length, Bool, true, false, if◌then◌else◌, is_some, Option, Some, None}
 use Rattle.wa_base.specs.declared.contexts.State.{State}
 use Rattle.wa_base.specs.declared.contexts.State.TheVariants as state
-use Rattle.wa_base.specs.declared.exceptions.Exc.{Exc}
-use Rattle.wa_base.specs.declared.exceptions.Exc.TheVariants.{NotSupported, InvalidState, WrongType}
-use Rattle.wa_base.specs.declared.graph_names.BufId.{BufId}
+use Rattle.wa_base.specs.declared.exceptions.Exc.TheVariants.{NotSupported, InvalidState}
 use Rattle.wa_base.specs.declared.graph_names.NodeId.{NodeId}
 use Rattle.io_edge.specs.Paths.{Paths}
 use Rattle.script_ast.specs.declared.call_list.Call.{Call}
@@ -14,7 +12,7 @@ use Rattle.transcript.specs.declared.lines.Answer.{Answer}
 use Rattle.transcript.specs.declared.lines.Answer.TheVariants as answer
 use Rattle.name_book.specs.declared.book.Object.{Object}
 use Rattle.name_book.specs.declared.book.Object.TheVariants as object
-use Rattle.name_book.specs.Book.{bound, first_named, object_of}
+use Rattle.name_book.specs.Book.{bound, first_named}
 use Rattle.node_table.specs.declared.kinds.Kind.TheVariants.{Constant, Gain, Splitter, Merger}
 use Rattle.conn_graph.specs.declared.edges.Edge.{Edge}
 use Rattle.conn_graph.specs.declared.edges.Form.{Form}
@@ -27,31 +25,13 @@ use Rattle.meaning.specs.declared.change.Edit.TheVariants as edit
 use Rattle.meaning.specs.declared.scheds.LoopPart.TheVariants as part
 use Rattle.meaning.specs.declared.sources.SourceEdit.TheVariants as source
 use Rattle.meaning.specs.declared.world.World.{World}
-use Rattle.meaning.specs.Changes.{edited, refusal, creates}
+use Rattle.meaning.specs.Changes.{edited, creates}
 use Rattle.session.specs.declared.control.Decided.{Decided}
 use Rattle.session.specs.declared.control.Decided.TheVariants as comes_to
 use Rattle.session.specs.Assets.{decodes}
 use Rattle.session.specs.Machine.{Machine, IsAccepted}
-
--- ---- the objects that names stand for
-
-abbrev pub node_bound : Option Object → Option NodeId
-node_bound None = None
-node_bound (Some (object.Node node)) = Some node
-node_bound (Some (object.Buffer buffer)) = None
-
--- the node that a name is bound to
-abbrev pub node_named : Machine → List ℕ → Option NodeId
-node_named machine name = node_bound (object_of machine.bindings name)
-
-abbrev pub buffer_bound : Option Object → Option BufId
-buffer_bound None = None
-buffer_bound (Some (object.Node node)) = None
-buffer_bound (Some (object.Buffer buffer)) = Some buffer
-
--- the buffer that a name is bound to
-abbrev pub buffer_named : Machine → List ℕ → Option BufId
-buffer_named machine name = buffer_bound (object_of machine.bindings name)
+use Rattle.session.specs.Params.{decided_on_param}
+pub use Rattle.session.specs.Deciding.{node_bound, node_named, buffer_bound, buffer_named, refused, unless, edits, edits_node, edits_nodes, edits_buffer, edits_with_buffer, sets_buffer}
 
 -- the name that an operation gives to what it creates
 abbrev pub new_name : Op → Option (List ℕ)
@@ -65,43 +45,6 @@ new_name (op.DecodeAudioData name path) = Some name
 new_name other = None
 
 -- ---- what an operation comes to
-
--- it is refused
-abbrev pub refused : Exc → Decided
-refused exception = comes_to.Answer (answer.Throw exception)
-
-abbrev pub unless : Option Exc → Edit → Decided
-unless None change = comes_to.Change change
-unless (Some exception) change = refused exception
-
--- it edits the world, unless the world refuses the edit
-abbrev pub edits : Machine → Edit → Decided
-edits machine change = unless (refusal machine.world change) change
-
--- it edits what a name stands for, which is to be a node
-abbrev pub edits_node : Machine → Option NodeId → (NodeId → Edit) → Decided
-edits_node machine None change = refused WrongType
-edits_node machine (Some node) change = edits machine (change node)
-
--- two names are to stand for nodes
-abbrev pub edits_nodes : Machine → Option NodeId → Option NodeId → (NodeId → NodeId → Edit) → Decided
-edits_nodes machine None to change = refused WrongType
-edits_nodes machine (Some from) to change = edits_node machine to (change from)
-
--- it edits what a name stands for, which is to be a buffer
-abbrev pub edits_buffer : Machine → Option BufId → (BufId → Edit) → Decided
-edits_buffer machine None change = refused WrongType
-edits_buffer machine (Some buffer) change = edits machine (change buffer)
-
--- and where a name is given, that is to be one
-abbrev pub edits_with_buffer : Machine → Option (List ℕ) → (Option BufId → Edit) → Decided
-edits_with_buffer machine None change = edits machine (change None)
-edits_with_buffer machine (Some name) change = edits_buffer machine (buffer_named machine name) (λ buffer. change (Some buffer))
-
--- the buffer of a source is set
-abbrev pub sets_buffer : Machine → Option NodeId → Option (List ℕ) → Decided
-sets_buffer machine None name = refused WrongType
-sets_buffer machine (Some node) name = edits_with_buffer machine name (λ buffer. edit.Source node (source.SetBuffer buffer))
 
 -- the whole frames of a playbackRate, which has 24 bits behind the point: 0 stands for what is none
 abbrev pub rate_of : ℤ → ℕ
@@ -136,7 +79,7 @@ resumes state.Suspended = answer.Rejected InvalidState
 resumes state.Running = answer.Resolved
 resumes state.Closed = answer.Rejected InvalidState
 
--- an operation that is not built is in no script that was read
+-- what an operation comes to that looks at nothing outside
 unfoldable pub decided : Machine → Op → Decided
 decided machine (op.CreateConstantSource name offset) = edits machine (edit.Create (Constant offset))
 decided machine (op.CreateGain name gain) = edits machine (edit.Create (Gain gain))
@@ -163,7 +106,7 @@ decided machine op.StartRendering = starts machine.context.started
 decided machine op.Resume = comes_to.Answer (resumes machine.context.state)
 decided machine op.ReadState = comes_to.Answer (answer.State machine.context.state)
 decided machine op.ReadTime = comes_to.Answer (answer.Time machine.context.now)
-decided machine other = refused (NotSupported None)
+decided machine other = decided_on_param machine other
 
 -- and one that looks into the folder of assets, where the paths hold this
 abbrev pub decided_with : Machine → Paths → Op → Decided

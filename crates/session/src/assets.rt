@@ -75,7 +75,7 @@ impl Control {
         let edit = Edit::Buffers {
             edit: BufferEdit::Adopt { wav },
         };
-        match self.world().refusal(&edit) {
+        match self.world().refusal(self.now(), &edit) {
             Some(exc) => rejected(exc),
             None => Decided::Change(edit),
         }

@@ -5,7 +5,6 @@ ghost use Rattle.wa_base.specs.Contexts.{IsSupported, quantum_of};
 ghost use Rattle.script_ast.specs.Ranges.{IsInRange, IsNewName};
 ghost use Rattle.meaning.specs.World.{plain};
 ghost use Rattle.meaning.specs.Validity.{IsValid};
-ghost use Rattle.quantum_render.specs.Sites.{AreStill};
 ghost use Rattle.meaning.specs.Changes.{IsNamed, Grows, creates};
 ghost use Rattle.meaning.specs.Sources.{IsNamedBy};
 ghost use Rattle.session.specs.Assets.{IsHeld};
@@ -220,7 +219,7 @@ impl Control {
             Op::Resume => Ok(Decided::Answer(self.resume())),
             Op::ReadState => Ok(Decided::Answer(Answer::State(self.state))),
             Op::ReadTime => Ok(Decided::Answer(Answer::Time(self.time))),
-            _ => Ok(refused(Exc::NotSupported(None))),
+            _ => self.decide_on_param(op),
         }
     }
 }
@@ -228,7 +227,7 @@ impl Control {
 // What the single operations come to.
 impl Control {
     // The node that a name is bound to.
-    fn node_named(&self, name: &Name) -> Option<NodeId>
+    pub(crate) fn node_named(&self, name: &Name) -> Option<NodeId>
         ensures node { result ≡ spec.node_named self.now name.now }
         ensures there { IfSome result (λ node. node.0 < length self.now.world.nodes) }
     {
@@ -239,11 +238,11 @@ impl Control {
     }
 
     // An edit, unless the world refuses it.
-    fn edits(&self, edit: Edit) -> Decided
+    pub(crate) fn edits(&self, edit: Edit) -> Decided
         requires { IsNamed self.now.world edit }
         ensures { result ≡ spec.edits self.now edit }
     {
-        match self.world.refusal(&edit) {
+        match self.world.refusal(self.time, &edit) {
             Some(exc) => refused(exc),
             None => Decided::Change(edit),
         }
@@ -514,7 +513,6 @@ impl Control {
     pub fn world(&self) -> &World
         ensures world { plain result.now ≡ self.now.world }
         ensures valid { IsValid result.now }
-        ensures still { AreStill result.now }
     {
         &self.world
     }
@@ -550,15 +548,15 @@ impl Control {
     }
 
     /// Goes over one quantum: the time moves on, the sources that end in it are marked, and the
-    /// context closes where its length is reached. Says whether it closed.
-    ///
-    /// The current value of a parameter without events is its creation value in each quantum.
+    /// context closes where its length is reached. Says whether it closed. The current value of each
+    /// parameter becomes its intrinsic value at the quantum's first frame.
     pub fn end_quantum(&mut self) -> bool
         requires { self.old.context.state ≡ State.Running }
         ensures closes { result ≡ nat_le self.old.world.spec.length (self.old.context.now + quantum_of self.old.world.spec) }
         ensures machine { self.new ≡ (if result then closed_machine (machine_after self.old) else machine_after self.old) }
         ensures valid { IsValid self.new.world }
     {
+        self.world.set_slots(self.time);
         self.time += QUANTUM;
         mark_ended(&mut self.world.scheds, self.time);
         if self.time >= self.world.spec.length {
@@ -606,7 +604,7 @@ fn done(op: &Op) -> Answer
 }
 
 // A call that is refused.
-fn refused(exc: Exc) -> Decided
+pub(crate) fn refused(exc: Exc) -> Decided
     ensures { result ≡ spec.refused exc }
 {
     Decided::Answer(Answer::Throw(exc))

@@ -4,6 +4,7 @@
 mod assets;
 mod control;
 mod ends;
+mod params;
 mod quantum;
 mod rendered;
 mod replay;

@@ -4,7 +4,6 @@ ghost use Rattle.meaning.specs.declared.world.World.{World as a_world};
 ghost use Rattle.meaning.specs.World.{plain};
 ghost use Rattle.meaning.specs.Validity.{IsValid};
 ghost use Rattle.meaning.specs.Worlds.{IsRegular};
-ghost use Rattle.quantum_render.specs.Sites.{AreStill};
 ghost use Rattle.quantum_render.specs.Stands.{StandsFor, Shows};
 ghost use Rattle.session.specs.Frames.{WritesBelow};
 ghost use Rattle.session.specs.Rows.{samples_of};
@@ -29,7 +28,6 @@ pub(crate) fn render_audio(
     samples: &mut [Fix],
 ) -> Result<(), NoMemory>
     requires valid { IsValid world.now }
-    requires still { AreStill world.now }
     requires at { IfSome renderer.old (IsAt world.now.spec first) }
     requires running { first < world.now.spec.length }
     requires room { IfSome renderer.old (λ _. length samples.old ≡ world.now.spec.channels * world.now.spec.length) }
@@ -55,7 +53,6 @@ pub(crate) fn render_audio(
 // stands for the tapes for which it stood.
 fn render_quantum(renderer: &mut Renderer, world: &World, first: u64) -> Result<(), NoMemory>
     requires valid { IsValid world.now }
-    requires still { AreStill world.now }
     requires spec { world.now.spec ≡ renderer.old.spec }
     requires first { first ≡ quantum_of renderer.old.spec * renderer.old.quanta }
     requires time { first ≤ 33554560 }
@@ -79,7 +76,6 @@ fn render_counted<L: Ledger>(
     requires parts { blank.parts ≡ L.parts }
     requires some { 0 < L.parts }
     requires valid { IsValid world.now }
-    requires still { AreStill world.now }
     requires spec { world.now.spec ≡ renderer.old.spec }
     requires first { first ≡ quantum_of renderer.old.spec * renderer.old.quanta }
     requires time { first ≤ 33554560 }

@@ -1,9 +1,11 @@
-use Rattle.std.proofs.Common.{rules, w32, w64, SFits, ◌≡◌, None, refl, ◌∙◌}
+use Rattle.std.proofs.Common.{rules, w32, w64, SFits, ◌≡◌, refl, subst}
 use Rattle.std.proofs.lemmas.Int.{to_z-of_z}
-use Rattle.wa_base.specs.declared.exceptions.Exc.TheVariants.{NotSupported}
 use Rattle.script_ast.specs.declared.operations.Op.{Op}
 use Rattle.script_ast.specs.declared.operations.Op.TheVariants as op
-use Rattle.session.specs.Step.{refused, decided}
+use Rattle.std.specs.Prelude.{IfOk}
+use Rattle.session.specs.declared.control.Decided.{Decided}
+use Rattle.session.specs.Params.{decided_on_param}
+use Rattle.session.specs.Step.{decided}
 use Rattle.session.proofs.control.Control.decide.Goals as goal
 
 pub returns-in-Connect-clause-decided : goal.returns-in-Connect-clause-decided
@@ -71,8 +73,8 @@ pub returns-in-CopyToChannel-clause-decided : goal.returns-in-CopyToChannel-clau
 unfolding decided
 returns-in-CopyToChannel-clause-decided c = rw c.in-CopyToChannel.is c.write.ensures
 
--- no other operation is built
-default : (c : goal.After-refused-in_default) (o : Op) → c.args.op.now ≡ o → refused (NotSupported None) ≡ decided c.args.self.now o
+-- every other operation is one on a parameter, or not built
+default : (c : goal.After-decide_on_param) (o : Op) → c.args.op.now ≡ o → decided_on_param c.args.self.now o ≡ decided c.args.self.now o
 unfolding decided
 default c (op.CreateConstantSource name offset) is = absurd (c.in_default.not-CreateConstantSource name offset is)
 default c (op.CreateGain name gain) is = absurd (c.in_default.not-CreateGain name gain is)
@@ -100,4 +102,5 @@ default c op.ReadTime is = absurd (c.in_default.not-ReadTime is)
 default c other is = refl
 
 pub returns-in_default-clause-decided : goal.returns-in_default-clause-decided
-returns-in_default-clause-decided c = c.refused-in_default.ensures ∙ default c c.args.op.now refl
+returns-in_default-clause-decided c =
+    subst (λ (d : Decided). IfOk c.decide_on_param.result (λ x. x ≡ d)) (default c c.args.op.now refl) c.decide_on_param.ensures.decided

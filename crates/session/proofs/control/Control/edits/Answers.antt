@@ -1,0 +1,11 @@
+use Rattle.std.proofs.Common.{sym, ◌∙◌, ap}
+use Rattle.meaning.specs.Changes.{refusal}
+use Rattle.session.specs.Machine.{Machine}
+use Rattle.session.specs.Step.{unless}
+use Rattle.session.proofs.control.Control.edits.Goals as goal
+
+pub returns-in-Some : goal.returns-in-Some
+returns-in-Some c =
+    c.refused.ensures
+    ∙ ap (λ r. unless r c.args.edit) (sym c.in-Some.is ∙ c.refusal.ensures)
+    ∙ ap (λ (m : Machine). unless (refusal m.world m.context.now c.args.edit) c.args.edit) c.self.view_is
