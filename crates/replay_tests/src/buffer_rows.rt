@@ -8,10 +8,10 @@ use wa_base::NoMemory;
 
 // A session: its script, what its lines end with, and the samples that its file begins with, of three
 // bytes each, the lowest first.
-struct Row {
-    script: &'static str,
-    lines: &'static str,
-    samples: &'static [u8],
+pub(crate) struct Row {
+    pub script: &'static str,
+    pub lines: &'static str,
+    pub samples: &'static [u8],
 }
 
 // A loop whose points are past the buffer goes over the whole of it.
@@ -139,7 +139,7 @@ fn left_by(alloc: Global, row: &Row, file: &[u8], failing: Failing) -> Result<Le
 }
 
 // Whether a session comes out as its row says, where the file a.wav has these bytes.
-fn is_met(alloc: Global, row: &Row, file: &[u8]) -> Result<bool, NoMemory> {
+pub(crate) fn is_met(alloc: Global, row: &Row, file: &[u8]) -> Result<bool, NoMemory> {
     let left = left_by(alloc, row, file, NONE)?;
     let begins = match &left.file {
         Some(bytes) => begins_with(bytes.as_slice(), row.samples),

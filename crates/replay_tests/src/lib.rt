@@ -5,9 +5,13 @@
 #[cfg(test)]
 mod assets;
 #[cfg(test)]
+mod automation_rows;
+#[cfg(test)]
 mod buffer_rows;
 #[cfg(test)]
 mod graphs;
+#[cfg(test)]
+mod moving;
 #[cfg(test)]
 mod pieces;
 #[cfg(test)]
