@@ -31,10 +31,10 @@ A comparison prints a line for each difference, then how often each answer came 
 that can come up did not, and last how many scripts differ. The status is 0 where none does.
 
 A new operation gets a function in "The operations" and a row in OPERATIONS, or in KINDS where it
-makes a node: from then on other calls name nodes of the kind. One that sets an attribute needs its
-row in expected.ATTRIBUTES alone. Its refusals get a row in REFUSALS, and an answer that only it gives
-one in ANSWERS. A row names the operations that its calls are: where the program does not read them, no
-such call is made.
+makes a node: from then on other calls name nodes of the kind. One that sets an attribute needs its row
+in ATTRIBUTES of tools/expecting/sessions.py alone. Its refusals get a row in REFUSALS, and an answer
+that only it gives one in ANSWERS. A row names the operations that its calls are: where the program
+does not read them, no such call is made.
 """
 
 import argparse
@@ -51,14 +51,19 @@ import sys
 import tempfile
 
 sys.dont_write_bytecode = True
-import expected
 import wav_check
+import worked_rows
+from expecting.automation import EDITS, LEFT_OUT_EDITS
+from expecting.by_hand import write_asset
+from expecting.reading import LEFT_OUT, OPERATIONS as FIELDS, numbered
+from expecting.sessions import ATTRIBUTES, LOOPS, PROMISES, replayed, wav_bytes
 
 TOP = os.path.dirname(os.path.dirname(os.path.abspath(__file__)))
 FIX = (-(2**31), 2**31 - 1)
 TIME = 2**40
 ONE = 2**24
-BUFFERS = {"createBuffer", "copyToChannel", "createBufferSource", "setBuffer", *expected.LOOPS}
+AUTOMATED = [*EDITS, *LEFT_OUT_EDITS, "readValue"]  # the operations on one parameter
+BUFFERS = {"createBuffer", "copyToChannel", "createBufferSource", "setBuffer", *LOOPS}
 
 
 class Maker:
@@ -70,11 +75,14 @@ class Maker:
         self.read_ops = set(read)
         self.has_buffers = BUFFERS <= self.read_ops
         self.has_assets = self.has_buffers and "decodeAudioData" in read
-        self.attributes = [op for op in expected.ATTRIBUTES if op in read]  # the operations that set one
+        self.attributes = [op for op in ATTRIBUTES if op in read]  # the operations that set one
+        self.automated_by = [op for op in AUTOMATED if op in read]
         self.kinds = {op: kind for op, kind in KINDS.items()
                       if op in read and (self.has_buffers or op not in BUFFERS)}
         self.names = {}  # of a name, its kind, with the inputs and outputs that it was given
         self.assets = {}  # of a path, what stands there (see write_assets)
+        self.controls = []  # the connections to parameters that were made
+        self.instants = {}  # of a name, times that edits of its parameter had, and ends of curves
         self.made = 0
         self.depth = 0  # of the lists of calls
         self.length = self.channels = 1
@@ -108,6 +116,17 @@ class Maker:
     def buffer(self):
         return self.name(lambda kind: isinstance(kind, Sound))
 
+    def parameter(self, name=None):
+        """A node and a parameter, mostly such as fit. Those of buffer sources can't be changed."""
+        some = self.rng.randint(0, 99)
+        if name is None and some < 11:
+            return self.player(), self.rng.choice(["playbackRate", "detune"])
+        if name is None and some < 15:
+            names = ["offset", "gain", "delayTime", "playbackRate", "detune", "Gain", "", "gain "]
+            return self.name(), self.rng.choice(names)
+        name = name or self.name(lambda kind: kind.parameter)
+        return name, getattr(self.names.get(name), "parameter", None) or "gain"
+
     def target(self):
         return "destination" if self.may(0.25) else self.name(lambda kind: kind.inputs)
 
@@ -128,6 +147,48 @@ class Maker:
         if some < 8:
             return self.rng.choice([0, 1, 127, 128, 129, 256])
         return self.rng.choice([self.length + self.rng.randint(-1, 130), -1, TIME, -TIME])
+
+    def value(self):
+        """A value of a parameter. Most are such that what comes to the file is within its range."""
+        some = self.rng.randint(0, 19)
+        if some < 13:
+            return self.rng.randint(-ONE, ONE)
+        if some < 16:
+            return self.rng.choice([0, 0, 1, -1, ONE, -ONE, ONE // 2, 2 * ONE])
+        return self.rng.choice([*FIX, FIX[0] + 1, FIX[1] - 1, self.rng.randint(*FIX), self.rng.randint(-9, 9)])
+
+    def points(self):
+        """Those of a curve: two, three or some, now and then many or too few."""
+        some = self.rng.randint(0, 19)
+        count = self.rng.choice([2, 2, 3]) if some < 12 else self.rng.randint(4, 12) if some < 17 else self.rng.choice(
+            [0, 1, 1, 60, 200])
+        return [self.value() for _ in range(count)]
+
+    def span(self, name, time):
+        """The duration of a curve from this time on: mostly some frames or up to the time of another edit,
+        now and then one, very many, or none."""
+        some, later = self.rng.randint(0, 19), [known - time for known in self.instants[name] if known > time]
+        if later and some < 6:
+            return min(TIME, self.rng.choice(later) + self.rng.choice([0, 0, 1, -1]))
+        if some < 11:
+            return self.rng.randint(2, 40)
+        if some < 17:
+            return self.rng.choice([1, 1, 2, 3, 127, 128, 129, self.rng.randint(1, self.length + 1)])
+        return self.rng.choice([self.length + self.rng.randint(0, 300), TIME, TIME - 1, 2**39, 2**31, 0, -1, -TIME])
+
+    def instant(self, name):
+        """A time for an edit: often that of another one or a curve's end, or a frame beside it."""
+        some, known = self.rng.randint(0, 19), self.instants.setdefault(name, [0])
+        if some < 9:
+            time = self.rng.choice(known) + self.rng.choice([0, 0, 0, 1, -1])
+        elif some < 14:
+            time = self.rng.randint(0, self.length)
+        elif some < 18:
+            time = self.rng.choice([0, 0, 1, 2, 3]) + self.rng.choice([0, 0, 127, 128, 255, 256])
+        else:
+            far = [TIME, TIME - self.rng.randint(0, 300), self.length + self.rng.randint(-1, 300)]
+            time = self.rng.choice([-1, -TIME, *far])
+        return max(-TIME, min(TIME, time))
 
     def index(self, name, field, chance=0.9):
         """The number of an input or an output of a node, with this chance one that is there."""
@@ -232,6 +293,9 @@ class Maker:
 
     def disconnect(self):
         source, target = self.name(), self.target()
+        if self.controls and self.may(0.4):  # nodes that may have a connection to a parameter between them
+            control = self.rng.choice(self.controls)
+            source, target = control["from"], control["to"]
         call = {"op": "disconnect", "from": source}
         values = {"output": self.index(source, "outputs"), "to": target, "input": self.index(target, "inputs")}
         form = self.rng.choice([[], ["output"], ["to"], ["to", "output"], ["to", "output", "input"]])
@@ -249,7 +313,7 @@ class Maker:
 
     def attribute(self, op, name):
         """Mostly a count that has a layout, and often the one that is there where it is fixed."""
-        kind = dict(field[:2] for field in expected.OPERATIONS[op])["value"]
+        kind = dict(field[:2] for field in FIELDS[op])["value"]
         some = self.rng.randint(0, 9)
         if kind != "count":
             value = self.rng.choice(kind.split())
@@ -263,6 +327,74 @@ class Maker:
         else:
             value = self.rng.randint(1, 32) if some < 9 else self.rng.choice([0, 1, 32, 33, 2**32 - 1])
         return self.call(op, [("node", name), ("value", value)])
+
+    # Parameters.
+
+    def edit(self, op, name=None, time=None):
+        """A call of this operation on a parameter, that of this node and at this time where they are told."""
+        node, parameter = self.parameter(name)
+        needed = [("node", node), ("param", parameter)]
+        fields = [field for field, *_ in FIELDS[op][2:]]
+        if "time" in fields:
+            time = self.instant(node) if time is None else time
+            self.instants.setdefault(node, [0]).append(time)
+        for field in fields:
+            if field == "time":
+                needed.append((field, time))
+            elif field == "values":
+                needed.append((field, self.points()))
+            elif field == "duration":
+                needed.append((field, self.span(node, time)))
+                self.instants[node].append(time + needed[-1][1])
+            elif op == "setAutomationRate":
+                needed.append((field, self.rng.choice(["a-rate", "k-rate", "k-rate"])))
+            else:
+                needed.append((field, self.value()))
+        return self.call(op, needed)
+
+    def any_edit(self, name=None):
+        return self.edit(self.rng.choice(self.automated_by), name)
+
+    def timeline(self, name):
+        """Edits of a parameter that are mostly in order of time, so that few are refused, and some that are
+        not. Many have the time of the one before them or where its curve ends, or are a frame apart."""
+        edits = [self.edit("setAutomationRate", name)] if self.may(0.25) else []
+        if self.may(0.15):  # a value that is current and is cancelled
+            edits += [self.edit("setValue", name), self.edit("cancelScheduledValues", name, self.rng.choice([0, 0, 1]))]
+        time = self.rng.choice([0, 0, 0, 1, 120, self.rng.randint(0, self.length)])
+        if self.may(0.15):  # an event, and a ramp before it
+            after = time + self.rng.randint(1, 200)
+            edits.append(self.edit(self.rng.choice(["setValueAtTime", "setValueCurveAtTime"]), name, after))
+            edits.append(self.edit("linearRampToValueAtTime", name, time))
+        events = ["setValueAtTime", "linearRampToValueAtTime", "linearRampToValueAtTime", "setValueCurveAtTime"]
+        for _ in range(self.rng.choice([1, 2, 4, 4, 8, 20])):
+            if self.may(0.2):
+                edits.append(self.any_edit(name))
+            edits.append(self.edit(self.rng.choice(events), name, min(TIME, time)))
+            time += max(0, edits[-1].get("duration", 0))
+            to_quantum = -time % 128 + self.rng.randint(-1, 1)
+            time += self.rng.choice([0, 0, 1, 1, 2, self.rng.randint(1, 40), self.rng.randint(1, 40), to_quantum])
+            time = max(0, time)
+        if self.may(0.4):
+            ends = ["cancelScheduledValues", "cancelAndHoldAtTime", "cancelAndHoldAtTime"]
+            edits.append(self.edit(self.rng.choice(ends), name))
+            edits += [self.any_edit(name) for _ in range(self.rng.choice([0, 1, 3]))]
+        return edits
+
+    def connect_param(self, source=None, name=None):
+        source = source or ("destination" if self.may(0.03) else self.name(lambda kind: kind.outputs))
+        node, parameter = self.parameter(name)
+        call = self.call("connectParam", [("from", source), ("to", node), ("param", parameter)],
+                         output=self.index(source, "outputs", 0.97 if name else 0.9))
+        self.controls.append(call)
+        return call
+
+    def disconnect_param(self):
+        there = self.controls and self.may(0.7)
+        call = {**(self.rng.choice(self.controls) if there else self.connect_param()), "op": "disconnectParam"}
+        if self.may(0.3):
+            call["output"] = self.rng.choice([None, 0, 1])
+        return call
 
     # Buffers and assets.
 
@@ -299,7 +431,7 @@ class Maker:
         return self.call("setBuffer", [("node", self.player()), ("buffer", None if self.may(0.3) else self.buffer())])
 
     def set_loop(self):
-        op = self.rng.choice(list(expected.LOOPS))
+        op = self.rng.choice(list(LOOPS))
         value = self.may(0.7) if op == "setLoop" else self.loop_point(self.frames())
         return self.call(op, [("node", self.player()), ("value", value)])
 
@@ -391,7 +523,7 @@ class Maker:
         return call
 
     def left_out(self):
-        return {"op": self.rng.choice(list(expected.LEFT_OUT)), "as": self.new_name()}
+        return {"op": self.rng.choice(list(LEFT_OUT)), "as": self.new_name()}
 
     def any_call(self):
         rows = [row for row in OPERATIONS if self.read_ops.issuperset(row[2:])]
@@ -454,7 +586,7 @@ class Maker:
 
         def set_to(place, **values):
             return [{"op": op, "node": place, "value": values[attribute]}
-                    for op, attribute in expected.ATTRIBUTES.items()
+                    for op, attribute in ATTRIBUTES.items()
                     if op in self.attributes and attribute in values]
 
         surround = [(6, "speakers"), (4, "discrete"), (6, "speakers")]
@@ -557,6 +689,85 @@ class Maker:
         late += [self.rng.choice([*changes, Maker.any_call])(self) for _ in range(self.rng.choice([0, 0, 3]))]
         return calls + late + [self.start_rendering()]
 
+    def automated(self):
+        """Sources and gains behind one another, whose parameters have timelines and hear other nodes, some
+        of them at k-rate and some in cycles. In some the last gain brings the whole range of values into
+        the file. The list of startRendering reads the values and goes on with edits."""
+        calls = [self.create_constant()] + [self.create_source() for _ in range(self.rng.randint(0, 3))]
+        calls += [self.create_gain() if self.may(0.7) else self.create_place() for _ in range(self.rng.randint(0, 5))]
+        places = list(dict.fromkeys(call["as"] for call in calls))
+        if self.may(0.7):  # most sources and gains begin with what can be heard
+            for call in calls:
+                for field in {"offset", "gain"} & set(call):
+                    call[field] = self.rng.randint(-ONE, ONE)
+        last = "destination"
+        if self.may(0.4):
+            calls.append({"op": "createGain", "as": "quiet", "gain": self.rng.choice([2**16, 2**17, 2**15 + 1])})
+            calls.append({"op": "connect", "from": "quiet", "to": "destination"})
+            last = "quiet"
+        controlled = [name for name in places if self.names[name].parameter] or ["nobody"]
+        for name in places:
+            if self.names[name].plays and self.may(0.97):
+                calls.append(self.call("start", [("node", name)]))
+                if self.may(0.3):
+                    calls[-1]["when"] = max(0, self.time())
+        for at, name in enumerate(places):
+            after = [place for place in places[at + 1:] if self.names[place].inputs]
+            for _ in range(self.rng.choice([1, 1, 2])):
+                calls.append(self.joined(name, self.rng.choice(after) if after and self.may(0.7) else last))
+        backward = self.rng.choice([0, 0, 0, 0.3])
+        for _ in range(self.rng.choice([0, 0, 1, 2, 4, 8])):
+            a, b = self.rng.randrange(len(places)), self.rng.randrange(len(controlled))
+            if places[a] not in controlled[b:] or self.may(backward):
+                calls.append(self.connect_param(places[a], controlled[b]))
+        if self.may(0.3):  # several channels at parameters, of nodes that take their inputs as discrete
+            sides = [self.create_constant() for _ in range(self.rng.randint(2, 6))]
+            calls += sides + [{"op": "start", "node": call["as"]} for call in sides] + [self.create_merger()]
+            wide = calls[-1]["as"]
+            calls += [{**self.joined(call["as"], wide), "input": place} for place, call in enumerate(sides)]
+            calls += [self.connect_param(wide, self.rng.choice(controlled)) for _ in range(self.rng.randint(1, 3))]
+            calls += [{"op": "setChannelInterpretation", "node": name, "value": "discrete"}
+                      for name in controlled if "setChannelInterpretation" in self.attributes and self.may(0.7)]
+        if self.may(0.3):  # what is connected at k-rate
+            heard = [call["to"] for call in self.controls if call["to"] in controlled]
+            calls += [self.edit("setAutomationRate", name) for name in dict.fromkeys(heard)]
+        lines = [self.timeline(name) for name in controlled if self.may(0.7)]
+        if self.may(0.2):  # a sum past the range at a parameter, whose own value brings it back
+            heard, extreme = self.rng.choice(controlled), self.rng.choice(FIX)
+            for name in ("loud", "louder", "loudest")[:self.rng.randint(1, 3)]:
+                calls += [{"op": "createConstantSource", "as": name, "offset": extreme}, {"op": "start", "node": name},
+                          {"op": "connectParam", "from": name, "to": heard, "param": self.parameter(heard)[1]}]
+            values = [*FIX, -extreme - 1, -extreme // 2]
+            lines.append([{**self.edit("setValueAtTime", heard), "value": self.rng.choice(values)}
+                          for _ in range(self.rng.randint(1, 4))])
+        while lines:  # woven into one another, each in its order
+            line = self.rng.choice(lines)
+            calls.append(line.pop(0))
+            lines = [line for line in lines if line]
+        calls += [self.attribute(op, name) for name in places + ["destination"] for op in self.attributes
+                  if self.may(0.05)]
+        cuts = [self.disconnect_param, self.disconnect]
+        calls += [self.rng.choice(cuts)() for _ in range(self.rng.choice([0, 0, 0, 1, 3]))]
+        calls += [self.stop() for _ in range(self.rng.choice([0, 0, 0, 1]))]
+        calls += [self.any_call() for _ in range(self.rng.choice([0, 0, 0, 3]))]
+        reads = [self.edit("readValue", name) for name in controlled]
+        held = reads + [self.any_edit(self.rng.choice(controlled)) for _ in range(self.rng.choice([0, 3, 10]))] + reads
+        if self.may(0.3):
+            calls.insert(self.rng.randint(len(calls) // 2, len(calls)), {"op": "startRendering", "then": held})
+            return calls
+        return calls + [{"op": "startRendering", "then": held}]
+
+    def sprinkled(self, calls):
+        """The calls with some more between them that have to do with parameters."""
+        calls = list(calls)
+        for _ in range(self.rng.choice([1, 3, 10, 30])):
+            makes = [self.any_edit] if self.automated_by else []
+            others = (self.connect_param, "connectParam"), (self.disconnect_param, "disconnectParam")
+            makes += [make for make, op in others if op in self.read_ops and self.may(0.3)]
+            if makes:
+                calls.insert(len(calls) - self.rng.randint(0, len(calls) // 2), self.rng.choice(makes)())
+        return calls
+
     def store(self):
         """As many samples in buffers as there may be or nearly so, then more buffers, of assets too."""
         calls = [{"op": "createBuffer", "as": "most", "channels": 32, "length": 2**22 - self.rng.choice([0, 0, 1, 2]),
@@ -584,6 +795,7 @@ class Maker:
         self.length = min(self.length, 130)
         calls += [{**self.disconnect(), "from": splitter} for _ in range(self.rng.randint(0, 3))]
         calls.append(self.joined(mergers[0], "destination"))
+        calls += [self.connect_param() for _ in range(4) if "connectParam" in self.read_ops]
         return calls + [self.any_call() for _ in range(30)] + [self.start_rendering()]
 
     def crowd(self):
@@ -616,7 +828,7 @@ class Maker:
                     objects += [it for it in value if isinstance(it, dict)]
         for _ in range(self.rng.choice([1, 1, 2, 5])):
             object = self.rng.choice(objects if self.may(0.9) else objects[:2])
-            fields = expected.OPERATIONS.get(str(object.get("op")), [])
+            fields = FIELDS.get(str(object.get("op")), [])
             name = self.rng.choice([*object, "op", *(field for field, *_ in fields)])
             if self.may(0.2):
                 object.pop(name, None)
@@ -632,7 +844,8 @@ class Maker:
     def script(self):
         rng = self.rng
         shape = rng.choices([shape for _, shape in SHAPES], [often for often, _ in SHAPES])[0]
-        needed = {Maker.wide: expected.ATTRIBUTES, Maker.played: BUFFERS, Maker.store: BUFFERS,
+        needed = {Maker.wide: ATTRIBUTES, Maker.played: BUFFERS, Maker.store: BUFFERS,
+                  Maker.automated: [*AUTOMATED, "connectParam", "disconnectParam"],
                   **dict.fromkeys((Maker.woven, Maker.cables), ("createChannelSplitter", "createChannelMerger"))}
         if not self.read_ops.issuperset(needed.get(shape, ())):
             shape = Maker.graph
@@ -642,7 +855,9 @@ class Maker:
         self.channels, self.rate = channels, rate
         often = {Maker.played: 1, Maker.crowd: 0, Maker.tangle: 0, Maker.cables: 0, Maker.store: 0}.get(shape, 0.5)
         calls = self.some_buffers() if self.has_buffers and self.may(often) else []
-        calls += shape(self)
+        made = shape(self)
+        sprinkled = shape in (Maker.graph, Maker.wide, Maker.woven, Maker.played, Maker.cables, Maker.tangle)
+        calls += self.sprinkled(made) if sprinkled and self.may(0.3) else made
         if shape is Maker.unrendered:
             channels = rng.choice([0, 1, 2, 3, 32, 33, 2**32 - 1])
             self.length = rng.choice([0, 1, 2**21, 2**21 + 1, 2**25, 2**25 + 1, 2**32 - 1])
@@ -660,7 +875,7 @@ OPERATIONS = [
     (24, Maker.create_node),
     (30, Maker.connect),
     (10, Maker.disconnect),
-    (14, Maker.set_attribute, *expected.ATTRIBUTES),
+    (14, Maker.set_attribute, *ATTRIBUTES),
     (16, Maker.start),
     (8, Maker.stop),
     (2, Maker.start_rendering),
@@ -671,28 +886,31 @@ OPERATIONS = [
     (8, Maker.copy_to_channel, *BUFFERS),
     (6, Maker.set_buffer, *BUFFERS),
     (6, Maker.set_loop, *BUFFERS),
+    (8, Maker.connect_param, "connectParam"),
+    (4, Maker.disconnect_param, "disconnectParam"),
+    *[(3, lambda maker, op=op: maker.edit(op), op) for op in AUTOMATED],
 ]
 
 # The kinds of nodes, by the operation that makes them: how often one is made, and by what; how many
-# inputs and outputs it has, and whether it starts and stops.
-Kind = collections.namedtuple("Kind", "often make inputs outputs plays")
+# inputs and outputs it has, whether it starts and stops, and its parameter that calls can change.
+Kind = collections.namedtuple("Kind", "often make inputs outputs plays parameter")
 KINDS = {
-    "createConstantSource": Kind(10, Maker.create_constant, 0, 1, True),
-    "createBufferSource": Kind(10, Maker.create_buffer_source, 0, 1, True),
-    "createGain": Kind(14, Maker.create_gain, 1, 1, False),
-    "createChannelSplitter": Kind(5, Maker.create_splitter, 1, 6, False),
-    "createChannelMerger": Kind(5, Maker.create_merger, 6, 1, False),
+    "createConstantSource": Kind(10, Maker.create_constant, 0, 1, True, "offset"),
+    "createBufferSource": Kind(10, Maker.create_buffer_source, 0, 1, True, None),
+    "createGain": Kind(14, Maker.create_gain, 1, 1, False, "gain"),
+    "createChannelSplitter": Kind(5, Maker.create_splitter, 1, 6, False, None),
+    "createChannelMerger": Kind(5, Maker.create_merger, 6, 1, False, None),
 }
 
 # What is kept of a buffer: what a node has, so that a call can take it for one, and its size.
-Sound = collections.namedtuple("Sound", "inputs outputs plays channels length")
+Sound = collections.namedtuple("Sound", "inputs outputs plays channels length parameter", defaults=[None])
 
-# An asset that is a link to this path. Else an asset is what expected.write_asset takes.
+# An asset that is a link to this path. Else an asset is what write_asset takes.
 Link = collections.namedtuple("Link", "target")
 
 # What a member is spoiled with: much of it is of a wrong kind or out of range for most fields.
 SPOILED = [None, True, 0, 1, -1, 1.0, 1e2, 2**31, 2**32, 2**40 + 1, 2**63, 2**64, -(2**63) - 1, "", "n1", "x" * 65,
-           "a b", "destination", "\ud800", "max", "Explicit", "discrete", "connect", "createFoo", [], {}, [7], [{}],
+           "a b", "destination", "\ud800", "max", "k-rate", "Explicit", "discrete", "connect", "createFoo", [], {}, [7], [{}],
            False, [2**31], [0.5, 2**31], "x" * 256, "\u00e9" * 128, 2**24]
 
 # How often a script has each shape. The last four take long to work out, or much memory to run.
@@ -702,6 +920,7 @@ SHAPES = [
     (600, Maker.wide),
     (600, Maker.woven),
     (1200, Maker.played),
+    (2000, Maker.automated),
     (300, Maker.faulty),
     (100, Maker.unrendered),
     (2, Maker.cables),
@@ -735,6 +954,7 @@ ASSET_ANSWERS = ["decodeAudioData resolved", UNREAD]
 
 # The refusals that are to come up, of each operation.
 PROFILE = "NotSupportedError profile:"
+OF_PARAMETERS = ["TypeError", PROFILE + "playback-rate-automation", PROFILE + "detune"]
 REFUSALS = {
     "createConstantSource": [PROFILE + "node-limit"],
     "createGain": [PROFILE + "node-limit"],
@@ -742,6 +962,17 @@ REFUSALS = {
     "createChannelMerger": ["IndexSizeError", PROFILE + "node-limit"],
     "connect": ["TypeError", PROFILE + "destination-output", "IndexSizeError", PROFILE + "connection-limit"],
     "disconnect": ["TypeError", PROFILE + "destination-output", "IndexSizeError", "InvalidAccessError"],
+    "connectParam": [*OF_PARAMETERS, PROFILE + "destination-output", "IndexSizeError", PROFILE + "connection-limit"],
+    "disconnectParam": [*OF_PARAMETERS, PROFILE + "destination-output", "IndexSizeError", "InvalidAccessError"],
+    "setValue": [*OF_PARAMETERS, "NotSupportedError"],
+    "setValueAtTime": [*OF_PARAMETERS, "RangeError", "NotSupportedError"],
+    "linearRampToValueAtTime": [*OF_PARAMETERS, "RangeError", "NotSupportedError"],
+    "setValueCurveAtTime": [*OF_PARAMETERS, "InvalidStateError", "RangeError", "NotSupportedError"],
+    "cancelScheduledValues": [*OF_PARAMETERS, "RangeError"],
+    "cancelAndHoldAtTime": [*OF_PARAMETERS, "RangeError"],
+    "setAutomationRate": OF_PARAMETERS,
+    "readValue": OF_PARAMETERS,
+    **{op: [*OF_PARAMETERS, PROFILE + feature] for op, feature in LEFT_OUT_EDITS.items()},
     "setChannelCount": ["TypeError", "NotSupportedError", "InvalidStateError"],
     "setChannelCountMode": ["TypeError", "InvalidStateError"],
     "setChannelInterpretation": ["TypeError", "InvalidStateError"],
@@ -750,13 +981,13 @@ REFUSALS = {
     "createBufferSource": ["TypeError", PROFILE + "playback-rate", PROFILE + "resampling", PROFILE + "node-limit"],
     "createBuffer": ["NotSupportedError", PROFILE + "buffer-limit"],
     "setBuffer": ["TypeError", "InvalidStateError", PROFILE + "late-buffer", PROFILE + "resampling"],
-    **dict.fromkeys(expected.LOOPS, ["TypeError", PROFILE + "loop-change"]),
+    **dict.fromkeys(LOOPS, ["TypeError", PROFILE + "loop-change"]),
     "copyToChannel": ["TypeError", "IndexSizeError", PROFILE + "buffer-acquired"],
     "decodeAudioData": ["NotFoundError", PROFILE + "asset-size", "EncodingError", PROFILE + "resampling",
                         PROFILE + "buffer-limit"],
     "startRendering": ["InvalidStateError"],
     "resume": ["InvalidStateError"],
-    **{op: [PROFILE + feature] for op, feature in expected.LEFT_OUT.items()},
+    **{op: [PROFILE + feature] for op, feature in LEFT_OUT.items()},
 }
 
 
@@ -773,13 +1004,13 @@ def write_assets(folder, assets):
         if isinstance(it, Link):
             os.symlink(it.target.encode(), path)
         else:
-            expected.write_asset(path, it)
+            write_asset(path, it)
 
 
 def read_by(program):
     """The operations that are built, as far as the program reads them."""
     read = []
-    for op in expected.OPERATIONS:
+    for op in FIELDS:
         script = {"version": 1, "context": {"channels": 1, "length": 1, "rate": 8000}, "calls": [{"op": op}]}
         ran = subprocess.run([program, os.devnull], input=json.dumps(script).encode(), stdout=subprocess.PIPE)
         if ran.stdout != b"script: 1 op UnknownOp\n":
@@ -797,13 +1028,13 @@ def operations_of(numbered):
 
 def answers_of(script, text):
     """The answers of a transcript as ANSWERS has them, and refusals with their operations before them."""
-    operations = {} if text.startswith("script: ") else operations_of(expected.numbered(script["calls"], 1)[0])
+    operations = {} if text.startswith("script: ") else operations_of(numbered(script["calls"], 1)[0])
     if text == "":
         yield UNREAD
     for line in text.splitlines():
         if line.startswith("script: "):
             yield re.sub(r"^script: \d+ \S+ ", "script: ", line)
-        elif re.match(r"(ended|complete|\d+ time) ", line):
+        elif re.match(r"(ended|complete|\d+ time|\d+ value) ", line):
             yield re.sub(r"^(?:\d+ )?(\w+) .*", r"\1", line)
         elif re.match(r"\d+ (throw|rejected) ", line) or (
                 line.endswith(" resolved") and operations[int(line.split()[0])] == "decodeAudioData"):
@@ -906,6 +1137,55 @@ def largest_wav():
     return b"RIFF" + struct.pack("<I", 36 + size) + head + bytes(range(256)) * (size // 256) + bytes(size % 256)
 
 
+def voices_with_ramps():
+    """200 voices, whose numbers are drawn: a constant that starts and stops, and a gain that goes up or down."""
+    state, calls = 0, []
+
+    def draw(most):
+        nonlocal state
+        state = (1103515245 * state + 12345) % 2**31
+        return state // 2**16 % most
+
+    for i in range(200):
+        a, b, d, _ = draw(2048), draw(32768), draw(4096), draw(240)
+        source, fade = "c%d" % i, "g%d" % i
+        calls += [{"op": "createConstantSource", "as": source, "offset": (a - 1024) * 64}, *gain(fade, 0)]
+        calls += [edited("setValueAtTime", fade, 0, 0), edited("linearRampToValueAtTime", fade, 256 * b, 1 + 64 * d)]
+        calls += [joined(source, fade), joined(fade, "destination")]
+        calls += [{"op": "start", "node": source, "when": 128 * (i % 50)},
+                  {"op": "stop", "node": source, "when": 240000 + 128 * i}]
+    return script_with(2, 480000, calls)
+
+
+def edited(op, name, value, time):
+    return {"op": op, "node": name, "param": "gain", "value": value, "time": time}
+
+
+def timelines(count, events):
+    """So many gains of one constant, and in the timeline of each so many events, three sets and a ramp by
+    turns, from the first frame of 9,600 on. A script has no room for many more than 200,000 events."""
+    calls = sounding("c", ONE)
+    for i in range(count):
+        name = "g%d" % i
+        calls += gain(name, 0, "c") + [joined(name, "destination")]
+        for k in range(events):
+            op = "linearRampToValueAtTime" if k % 4 == 3 else "setValueAtTime"
+            calls.append(edited(op, name, 10 * k + i, 9600 * k // events))
+    return script_with(1, 9600, calls)
+
+
+def many_timelines():
+    return timelines(1000, 200)
+
+
+def long_timelines():
+    return timelines(200, 1000)
+
+
+def many_reads_of_the_state():
+    return script_with(1, 128, [{"op": "readState"}] * 100000)
+
+
 LOADS = {
     "a": pairs_of_constants_and_gains,      # 200 constants into 200 gains, 2 channels, 480,000 frames
     "b": chain_of_gains,                    # 400 gains one behind the other, 1 channel, 480,000 frames
@@ -915,6 +1195,10 @@ LOADS = {
     "f": stereo_mergers_into_six_channels,  # 200 mergers of two constants each into 5.1, 480,000 frames
     "g": stereo_loops,                      # 32 sources of a stereo buffer that loop, 480,000 frames
     "h": largest_asset,                     # a file of 64 MiB is decoded and played, 480,000 frames
+    "i": voices_with_ramps,                 # 200 constants into 200 gains with a ramp, 2 channels, 480,000 frames
+    "j": many_timelines,                    # 1,000 gains with 200 events each, 9,600 frames
+    "k": long_timelines,                    # 200 gains with 1,000 events each, 9,600 frames
+    "l": many_reads_of_the_state,           # 100,000 calls of readState, 128 frames
 }
 
 
@@ -923,9 +1207,12 @@ def write_loads(folder):
     os.makedirs(folder, exist_ok=True)
     for name, load in LOADS.items():
         script = load()
-        if all(call["op"] in expected.OPERATIONS for call in script["calls"]):
+        if all(call["op"] in FIELDS for call in script["calls"]):
             assets = {"largest.wav": largest_wav()} if load is largest_asset else {}
-            write_assets(folder, {name + ".json": json.dumps(script).encode(), **assets})
+            text = json.dumps(script)
+            if len(text) > 2**24:  # what a script may have
+                text = json.dumps(script, separators=(",", ":"))
+            write_assets(folder, {name + ".json": text.encode(), **assets})
 
 
 def measure(program, folder):
@@ -948,7 +1235,7 @@ def measure(program, folder):
 def enter(work):
     """Goes to a folder of its own, beside which is a file that no path may lead to."""
     with open(os.path.join(work, "beside.wav"), "wb") as file:
-        file.write(expected.worked_rows.TWO_FRAMES)
+        file.write(worked_rows.TWO_FRAMES)
     os.mkdir(os.path.join(work, str(os.getpid())))
     os.chdir(os.path.join(work, str(os.getpid())))
 
@@ -963,8 +1250,8 @@ def put_assets(assets):
 def differences(program, script):
     """What differs at a script whose assets are here, and its transcript."""
     data = json.dumps(script).encode()
-    status, text, session = expected.replayed(data)
-    wav = expected.wav_bytes(session) if status == 0 else None
+    status, text, session = replayed(data)
+    wav = wav_bytes(session) if status == 0 else None
     out = "out.wav"
     if os.path.exists(out):
         os.remove(out)
@@ -1022,12 +1309,12 @@ def compare(program, seed, count, jobs):
                     print("script %d of seed %d: %s" % (number, seed, ", ".join(different)), flush=True)
     for answer, often in answers.most_common():
         print("%9d %s" % (often, answer))
-    for answer in ANSWERS + (ASSET_ANSWERS if "decodeAudioData" in read else []) + [
-            "%s %s %s" % (op, "rejected" if op in expected.PROMISES else "throw", refusal)
-            for op, refusals in REFUSALS.items() if op in read or op in expected.LEFT_OUT for refusal in refusals]:
+    for answer in ANSWERS + (ASSET_ANSWERS if "decodeAudioData" in read else []) + ["value"] * ("readValue" in read) + [
+            "%s %s %s" % (op, "rejected" if op in PROMISES else "throw", refusal)
+            for op, refusals in REFUSALS.items() if op in read or op in LEFT_OUT for refusal in refusals]:
         if answer not in answers:
             print("     none %s" % answer)
-    for op in expected.OPERATIONS:
+    for op in FIELDS:
         if op not in read:
             print("%s is not read by this program, and is in no script" % op)
     print("%d scripts, %d differences" % (count, wrong))
@@ -1057,7 +1344,7 @@ def main():
     words = words.parse_args()
     program = os.path.abspath(words.program)
     if words.print is not None:
-        read = read_by(program) if os.access(program, os.X_OK) else list(expected.OPERATIONS)
+        read = read_by(program) if os.access(program, os.X_OK) else list(FIELDS)
         give(words.folder, *script_of(words.seed, words.print, read))
     elif words.loads:
         write_loads(words.loads)

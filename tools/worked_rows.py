@@ -356,3 +356,339 @@ BUFFER_SESSIONS = [
     ("decodeAudioData as=b path=" + 128 * "\u00e9", (1, 1, 48000), "1 path OutOfRange", [], None),
     ("decodeAudioData as=b path=" + 255 * "x", (1, 1, 48000), {1: "rejected NotFoundError"}, [], mono(0)),
 ]
+
+# Sessions of parameters that were worked out by hand, by a name of what they show. They are written as
+# those of buffers; the last, where there are six things, is the list that startRendering holds.
+CONSTANT = "createConstantSource as=c"
+HEARD = "; connect from=c to=destination; start node=c"
+CURVE = "; setValueCurveAtTime node=c param=offset values=%s time=%d duration=%d"
+SET = "; setValueAtTime node=c param=offset value=%d time=%d"
+RAMP = "; linearRampToValueAtTime node=c param=offset value=%d time=%d"
+CANCEL = "; cancelScheduledValues node=c param=offset time=%d"
+HOLD = "; cancelAndHoldAtTime node=c param=offset time=%d"
+NOW = "; setValue node=c param=offset value=%d"
+READ = "; readValue node=c param=offset"
+FIRST = (1, 128, 48000)
+CONTROLLED = """createConstantSource as=m offset=8388608; createConstantSource as=c offset=16
+    createGain as=g gain=8388608; connect from=c to=g; connect from=g to=destination; start node=c; start node=m
+    connectParam from=m to=g param=gain"""
+PLAYER = "createBufferSource as=s; createConstantSource as=c; createGain as=g"
+OUT_OF_PLACE = "throw NotSupportedError"
+NO_RATE = "throw NotSupportedError profile:playback-rate-automation"
+NO_DETUNE = "throw NotSupportedError profile:detune"
+
+
+def held(samples, length=128):
+    """Samples, the last of which stays."""
+    return mono(*samples) + mono(samples[-1]) * (length - len(samples))
+
+
+AUTOMATION_SESSIONS = {
+    # Values of thirds: 5592405.33 and 11184810.67.
+    "a ramp of three frames": (
+        CONSTANT + " offset=0" + SET % (0, 0) + RAMP % (16777216, 3) + HEARD, FIRST, {}, [],
+        held([0, 2796203, 5592406, 8388607])),
+    # The curve has 2/5 and 4/5 of the way to its second point, and then 1/5 and 3/5 of that to its third.
+    "a curve of three points and a ramp behind it": (
+        CONSTANT + CURVE % ("[0,16777216,8388608]", 0, 5) + RAMP % (0, 9) + HEARD, FIRST, {}, [],
+        held([0, 3355443, 6710887, 7549747, 5872026, 4194304, 3145728, 2097152, 1048576, 0])),
+    # The frames 10 to 29 are in the curve, which is as before, and 30 is not.
+    "nothing is put into a curve": (
+        CONSTANT + CURVE % ("[0,40]", 10, 20) + SET % (0, 29) + SET % (0, 10) + RAMP % (0, 29) + RAMP % (0, 10)
+        + CURVE % ("[0,0]", 29, 1) + CURVE % ("[0,0]", 10, 20) + SET % (100, 30) + HEARD, FIRST,
+        dict.fromkeys(range(3, 9), OUT_OF_PLACE), [], mono(8388607) * 10 + held([*range(20), 50], 118)),
+    "no curve is put over an event": (
+        CONSTANT + SET % (40, 12) + CURVE % ("[0,10]", 10, 5) + CURVE % ("[0,10]", 12, 5) + HEARD, FIRST,
+        {3: OUT_OF_PLACE}, [], mono(8388607) * 12 + held([0, 1, 2, 3, 4, 5], 116)),
+    "a ramp that is cut": (
+        CONSTANT + SET % (0, 0) + RAMP % (16777216, 8) + HOLD % 3 + HEARD, FIRST, {}, [],
+        held([0, 1048576, 2097152, 3145728])),
+    "a curve that is cut, and a ramp behind it": (
+        CONSTANT + CURVE % ("[0,16777216,0]", 0, 8) + HOLD % 3 + RAMP % (0, 5) + HEARD, FIRST, {}, [],
+        held([0, 2097152, 4194304, 6291456, 3145728, 0])),
+    # The buffer's values at the frames 0 and 128 count, that at frame 1 does not.
+    "a gain at k-rate whose parameter hears a buffer": (
+        """createConstantSource as=c; createGain as=g gain=0; setAutomationRate node=g param=gain value=k-rate
+        createBuffer as=b channels=1 length=256 rate=48000
+        copyToChannel buffer=b channel=0 samples=[8388608,16777216]
+        copyToChannel buffer=b channel=0 samples=[4194304] at=128; createBufferSource as=s buffer=b
+        connectParam from=s to=g param=gain; connect from=c to=g; connect from=g to=destination
+        start node=c; start node=s""", (1, 256, 48000), {}, ["3 s"], mono(4194304) * 128 + mono(2097152) * 128),
+    "a value that is set and read": (
+        CONSTANT + NOW % 8388608 + READ + CANCEL % -1 + HEARD, FIRST, {3: "value 8388608", 4: "throw RangeError"},
+        [], held([4194304])),
+
+    # Ties. An event at a curve's end counts there, whether it was put in before the curve or behind it.
+    "an event at a curve's end": (
+        CONSTANT + CURVE % ("[0,40]", 0, 4) + SET % (100, 4) + HEARD, FIRST, {}, [], held([0, 5, 10, 15, 50])),
+    "a curve that ends at an event": (
+        CONSTANT + SET % (100, 4) + CURVE % ("[0,40]", 0, 4) + HEARD, FIRST, {}, [], held([0, 5, 10, 15, 50])),
+    "a ramp at a curve's end": (
+        CONSTANT + CURVE % ("[0,40]", 0, 4) + RAMP % (100, 4) + HEARD, FIRST, {}, [], held([0, 5, 10, 15, 50])),
+    "curves behind one another": (
+        CONSTANT + CURVE % ("[0,40]", 4, 4) + CURVE % ("[8,16]", 0, 4) + CURVE % ("[2,4]", 8, 1) + HEARD, FIRST, {}, [],
+        held([4, 5, 6, 7, 0, 5, 10, 15, 1, 2])),
+    "the last of equal times counts": (
+        CONSTANT + SET % (6, 3) + SET % (8, 3) + NOW % 2 + NOW % 4 + SET % (10, 0) + HEARD, FIRST, {}, [],
+        held([5, 5, 5, 4])),
+    # A ramp behind an event of the same time has no way left. Before it, it goes its way, and its last value is not heard.
+    "a ramp to the time of another event": (
+        CONSTANT + NOW % 8 + SET % (16, 4) + RAMP % (0, 4) + HEARD, FIRST, {}, [], held([4, 4, 4, 4, 0])),
+    "another event at a ramp's time": (
+        CONSTANT + NOW % 8 + RAMP % (0, 4) + SET % (16, 4) + HEARD, FIRST, {}, [], held([4, 3, 2, 1, 8])),
+    "a ramp to now": (CONSTANT + NOW % 8 + RAMP % (16, 0) + RAMP % (32, 4) + HEARD, FIRST, {}, [], held([8, 10, 12, 14, 16])),
+    # A curve that is held at its first frame has its first point from there on, and no frame that is in it.
+    "a curve that is cut at its first frame": (
+        CONSTANT + CURVE % ("[4,8]", 10, 4) + HOLD % 10 + SET % (12, 10) + CANCEL % 11 + HEARD, FIRST, {}, [],
+        mono(8388607) * 10 + held([6], 118)),
+    "a curve that is cut at its first frame keeps its first point": (
+        CONSTANT + CURVE % ("[4,8]", 10, 4) + HOLD % 10 + HEARD, FIRST, {}, [], mono(8388607) * 10 + held([2], 118)),
+    "a curve that is cut before it, at its end and behind it": (
+        CONSTANT + CURVE % ("[4,8]", 10, 4) + HOLD % 9 + CURVE % ("[4,8]", 0, 4) + HOLD % 4 + HOLD % 5 + SET % (2, 4) + HEARD,
+        FIRST, {}, [], held([2, 3, 3, 4, 1])),  # 4, 5, 6, 7, of which halves go up
+    # Its value at 2 is 20.
+    "a curve that is cut twice": (
+        CONSTANT + CURVE % ("[0,40]", 0, 4) + HOLD % 3 + HOLD % 2 + SET % (6, 3) + HEARD, FIRST, {}, [],
+        held([0, 5, 10, 3])),
+    "a ramp that is cut where it ends, and behind that": (
+        CONSTANT + NOW % 0 + RAMP % (8, 4) + RAMP % (0, 8) + HOLD % 4 + HOLD % 9 + HEARD, FIRST, {}, [], held([0, 1, 2, 3, 4])),
+    "a ramp that is cut before the events behind it": (
+        CONSTANT + NOW % 0 + RAMP % (8, 4) + SET % (40, 5) + RAMP % (0, 8) + HOLD % 2 + HEARD, FIRST, {}, [], held([0, 1, 2])),
+
+    # Cancelling. Where nothing is left at or before now, the base is the current value.
+    "what is cancelled": (
+        CONSTANT + " offset=6" + SET % (20, 3) + SET % (30, 4) + CANCEL % 4 + HEARD, FIRST, {}, [], held([3, 3, 3, 10])),
+    "all events are cancelled": (
+        CONSTANT + " offset=6" + SET % (20, 0) + CANCEL % 0 + READ + HEARD, FIRST, {4: "value 6"}, [], held([3])),
+    "all events are cancelled after a value was set": (
+        CONSTANT + " offset=6" + NOW % 20 + CANCEL % 0 + READ + HEARD, FIRST, {4: "value 20"}, [], held([10])),
+    "the base becomes the current value where nothing was cancelled": (
+        CONSTANT + " offset=6" + NOW % 20 + CANCEL % 0 + NOW % 2 + CANCEL % 0 + SET % (4, 2) + CANCEL % 3 + HEARD, FIRST,
+        {}, [], held([1, 1, 2])),
+    "a curve is cancelled at its end": (
+        CONSTANT + " offset=6" + CURVE % ("[0,8]", 2, 4) + CANCEL % 6 + HEARD, FIRST, {}, [], held([3])),
+    "a curve is not cancelled behind its end": (
+        CONSTANT + " offset=6" + CURVE % ("[0,8]", 2, 4) + CANCEL % 7 + HEARD, FIRST, {}, [], held([3, 3, 0, 1, 2, 3, 4])),
+    "a cut curve is not cancelled behind its new end": (
+        CONSTANT + " offset=6" + CURVE % ("[0,8]", 2, 4) + HOLD % 4 + CANCEL % 5 + HEARD, FIRST, {}, [], held([3, 3, 0, 1, 2])),
+
+    # A ramp before all events begins now, with the current value.
+    "a ramp without an event before it": (
+        CONSTANT + " offset=0" + SET % (100, 10) + RAMP % (8, 4) + HEARD, FIRST, {}, [],
+        mono(0, 1, 2, 3, 4, 4, 4, 4, 4, 4) + held([50], 118)),
+    "a ramp after a value was set": (CONSTANT + NOW % 16 + RAMP % (0, 4) + HEARD, FIRST, {}, [], held([8, 6, 4, 2, 0])),
+    "a ramp after its event was cancelled": (
+        CONSTANT + " offset=2" + NOW % 16 + CANCEL % 0 + RAMP % (0, 4) + HEARD, FIRST, {}, [], held([8, 6, 4, 2, 0])),
+    "a ramp that is refused puts nothing in": (
+        CONSTANT + CURVE % ("[0,40]", 0, 4) + RAMP % (0, 3) + SET % (7, -1) + RAMP % (7, -1) + HEARD, FIRST,
+        {3: OUT_OF_PLACE, 4: "throw RangeError", 5: "throw RangeError"}, [], held([0, 5, 10, 15, 20])),
+
+    # Rounding: a half goes up, and the whole range is passed.
+    "ramps over the whole range": (
+        CONSTANT + NOW % -(2**31) + RAMP % (2**31 - 1, 2) + RAMP % (-(2**31), 3) + RAMP % (0, 5) + HEARD, FIRST, {}, [],
+        held([-8388608, 0, 8388607, -8388608, -8388608, 0])),
+    # 0, -1/2 that is 0, -1, -1/2 that is 0, and 0, 1/2 that is 1, 1, 1/2 that is 1, 0; all of them doubled.
+    "halves go up": (
+        CONSTANT + CURVE % ("[0,-1,0,1,0]", 0, 8) + "; createGain as=g gain=33554432; connect from=c to=g"
+        "; connect from=g to=destination; start node=c", FIRST, {}, [], held([0, 0, -1, 0, 0, 1, 1, 1, 0])),
+    # At 256 of 2^40 frames a value up to 2^31 - 1 is less than 1/2, at 257 it is more.
+    "a curve of 2^40 frames": (
+        CONSTANT + CURVE % ("[0,2147483647]", 0, 2**40) + CURVE % ("[0,0]", 2**40 - 1, 1) + CURVE % ("[1,2]", 2**40, 2**40)
+        + SET % (5, 2**40) + HEARD, (1, 258, 48000), {3: OUT_OF_PLACE, 5: OUT_OF_PLACE}, [], mono(0) * 257 + mono(1)),
+    "more points than frames": (
+        CONSTANT + CURVE % ("[0,2,4,6,8,10,12]", 0, 2) + CURVE % ("[2,4,6]", 2, 1) + HEARD, FIRST, {}, [], held([0, 3, 1, 3])),
+
+    # Quanta: events at the ends of one, and what a parameter reads after it.
+    "events at the end of a quantum": (
+        CONSTANT + " offset=0" + SET % (2, 127) + SET % (4, 128) + SET % (6, 129) + HEARD, (1, 130, 48000), {}, [],
+        mono(0) * 127 + mono(1, 2, 3)),
+    "a ramp at k-rate": (
+        CONSTANT + NOW % 0 + RAMP % (256, 256) + "; setAutomationRate node=c param=offset value=k-rate" + HEARD,
+        (1, 300, 48000), {}, [], mono(0) * 128 + mono(64) * 128 + mono(128) * 44),
+    "the rate that was set last counts": (
+        CONSTANT + NOW % 0 + RAMP % (256, 256) + "; setAutomationRate node=c param=offset value=k-rate; "
+        "setAutomationRate node=c param=offset value=a-rate" + HEARD, (1, 3, 48000), {}, [], mono(0, 1, 1)),
+    # After the second quantum the current value is that of frame 128. What comes later is at 256.
+    "values that are read after rendering": (
+        CONSTANT + NOW % 0 + RAMP % (256, 256) + READ + HEARD, (1, 130, 48000),
+        {4: "value 0", 8: "value 128", 10: "value 5", 12: "value 5", 14: "throw RangeError", 16: OUT_OF_PLACE,
+         17: OUT_OF_PLACE, 18: OUT_OF_PLACE, 20: OUT_OF_PLACE, 22: "value 5", 24: "value 9"}, [],
+        [[sample] for frame in range(130) for sample in [(frame + 1) // 2]],
+        "readValue node=c param=offset" + NOW % 5 + READ + CANCEL % 0 + READ + CURVE % ("[1,3]", 256, 2) + CURVE % ("[1,3]", -1, 2)
+        + RAMP % (7, 258) + SET % (7, 0) + RAMP % (7, 100) + NOW % 7 + HOLD % 257 + SET % (7, 256) + CANCEL % 100
+        + READ + NOW % 9 + READ),
+    # The current value has neither what is connected nor a range.
+    "what is connected is not read": (
+        CONTROLLED + "; readValue node=g param=gain", (1, 2, 48000), {9: "value 8388608", 11: "value 8388608"}, [],
+        mono(8, 8), "readValue node=g param=gain"),
+
+    # Connections to parameters.
+    "a gain of two halves": (CONTROLLED, FIRST, {}, [], held([8])),
+    "connections to parameters are taken away": (
+        CONTROLLED + """; disconnect from=m to=g; disconnect from=m to=g output=0; disconnect from=m to=g output=0 input=0
+        disconnectParam from=c to=g param=gain; disconnectParam from=m to=g param=gain output=0
+        disconnectParam from=m to=g param=gain; connectParam from=m to=g param=gain; connectParam from=m to=g param=gain
+        disconnectParam from=m to=g param=gain; disconnectParam from=m to=g param=gain output=null
+        connectParam from=m to=g param=gain; disconnect from=m; disconnectParam from=m to=g param=gain
+        connectParam from=m to=g param=gain; disconnect from=m output=0; disconnectParam from=m to=g param=gain
+        connectParam from=c to=g param=gain; disconnect from=c to=g; connect from=c to=g; disconnectParam from=c to=g param=gain""",
+        FIRST, dict.fromkeys((9, 10, 11, 12, 14, 18, 21, 24), "throw InvalidAccessError"), [], held([4])),
+    # 2 and 5 are mixed to 7/2, which is 4, and two such connections are 8. It is so for discrete nodes too.
+    "two channels at a parameter": (
+        """createConstantSource as=a offset=2; createConstantSource as=b offset=5; createConstantSource as=c offset=0
+        createChannelMerger as=m numberOfInputs=2; connect from=a to=m input=0; connect from=b to=m input=1
+        createGain as=g; connect from=m to=g; setChannelInterpretation node=m value=discrete
+        setChannelInterpretation node=g value=discrete; setChannelInterpretation node=c value=discrete
+        connectParam from=m to=c param=offset; connectParam from=g to=c param=offset
+        connect from=c to=destination; start node=a; start node=b; start node=c""", FIRST, {}, [], held([4])),
+    # 2^31 - 1 twice is saturated, and only then -2^31 is added: -1, by 4. Were it added before, it would be 2^31 - 2.
+    "a sum that is saturated before the value is added": (
+        """createConstantSource as=a offset=2147483647; createGain as=b; connect from=a to=b
+        createConstantSource as=c offset=-2147483648; connectParam from=a to=c param=offset
+        connectParam from=b to=c param=offset; createGain as=g gain=67108864; connect from=c to=g
+        connect from=g to=destination; start node=a; start node=c""", FIRST, {}, [], held([-2])),
+    # 2^31 - 1 twice and -2^31 twice are -2, in whatever order they are added.
+    "a sum that is exact": (
+        """createConstantSource as=a offset=2147483647; createGain as=b; connect from=a to=b
+        createConstantSource as=d offset=-2147483648; createGain as=e; connect from=d to=e
+        createConstantSource as=c offset=8; connectParam from=a to=c param=offset; connectParam from=b to=c param=offset
+        connectParam from=d to=c param=offset; connectParam from=e to=c param=offset
+        connect from=c to=destination; start node=a; start node=c; start node=d""", FIRST, {}, [], held([3])),
+    "a value that is clamped": (
+        """createConstantSource as=a offset=2147483647; createConstantSource as=c offset=2147483647
+        connectParam from=a to=c param=offset; createGain as=g gain=2; connect from=c to=g
+        connect from=g to=destination; start node=a; start node=c""", FIRST, {}, [], held([128])),
+    # A parameter that hears a source which starts later, at a-rate and at k-rate.
+    "a source that starts within a quantum": (
+        CONTROLLED.replace("start node=m", "start node=m when=130") + "; stop node=m when=257", (1, 260, 48000), {}, ["1 m"],
+        mono(4) * 130 + mono(8) * 127 + mono(4) * 3),
+    "a source that starts within a quantum, at k-rate": (
+        CONTROLLED.replace("start node=m", "start node=m when=100")
+        + "; stop node=m when=257; setAutomationRate node=g param=gain value=k-rate", (1, 390, 48000), {}, ["1 m"],
+        mono(4) * 128 + mono(8) * 256 + mono(4) * 6),
+
+    # Cycles. Nodes that reach themselves are silent, by parameters too, and what is beside them is not.
+    "a source that hears itself": (
+        "createConstantSource as=c offset=8; createConstantSource as=d offset=4; connectParam from=c to=c param=offset; "
+        "connect from=c to=destination; connect from=d to=destination; start node=c; start node=d; stop node=c", FIRST, {},
+        ["1 c"], held([2])),
+    "a cycle through a gain and the offset of its source": (
+        "createConstantSource as=c offset=8; createGain as=g; connect from=c to=g; connectParam from=g to=c param=offset; "
+        "connect from=g to=destination; createConstantSource as=d offset=4; connect from=d to=g; connect from=d to=destination; "
+        "start node=c; start node=d", FIRST, {}, [], held([2])),
+    "a gain that controls itself": (
+        "createConstantSource as=c offset=8; createGain as=g; connect from=c to=g; connectParam from=g to=g param=gain; "
+        "connect from=g to=destination; start node=c", FIRST, {}, [], held([0])),
+    # b is behind the cycle: what it hears from there is 0, and its gain stays.
+    "a parameter that hears a cycle": (
+        "createConstantSource as=c offset=8; createGain as=g; createGain as=b gain=8388608; connect from=c to=b; "
+        "connect from=g to=g; connectParam from=g to=b param=gain; connect from=b to=destination; start node=c",
+        FIRST, {}, [], held([2])),
+    "a cycle that was cut": (
+        "createConstantSource as=c offset=8; createGain as=g gain=8388608; connect from=c to=g; "
+        "connectParam from=g to=c param=offset; connect from=g to=destination; start node=c; "
+        "disconnectParam from=g to=c param=offset", FIRST, {}, [], held([2])),
+
+    # Refusals. Names come first, then the destination's output, then what is left out of a buffer source.
+    "parameters that are not there": (
+        PLAYER + """; createChannelSplitter as=p; createBuffer as=b channels=1 length=1 rate=8000
+        setValue node=c param=gain value=1; setValue node=g param=offset value=1; setValue node=s param=offset value=1
+        setValue node=g param=delayTime value=1; setValue node=destination param=gain value=1
+        setValue node=p param=gain value=1; setValue node=b param=gain value=1; setValue node=nobody param=gain value=1
+        setValue node=c param= value=1; setValueAtTime node=c param=detune value=1 time=-1
+        linearRampToValueAtTime node=g param=playbackRate value=1 time=-1
+        setValueCurveAtTime node=c param=Offset values=[] time=-1 duration=0
+        cancelScheduledValues node=c param=x time=-1; cancelAndHoldAtTime node=g param=x time=-1
+        setAutomationRate node=g param=x value=k-rate; exponentialRampToValueAtTime node=g param=x
+        setTargetAtTime node=nobody param=gain; readValue node=g param=x
+        connectParam from=destination to=g param=x; connectParam from=nobody to=g param=gain
+        connectParam from=c to=b param=gain; connectParam from=c to=p param=gain
+        connectParam from=b to=g param=gain output=9; disconnectParam from=destination to=c param=gain
+        disconnectParam from=c to=nobody param=gain""", FIRST, dict.fromkeys(range(6, 31), "throw TypeError"), [], mono(0) * 128),
+    "parameters that stay as they are": (
+        "; ".join([PLAYER] + [call.replace("PARAM", param) for param in ("playbackRate", "detune") for call in (
+            "setValue node=s param=PARAM value=1", "setValueAtTime node=s param=PARAM value=1 time=-1",
+            "linearRampToValueAtTime node=s param=PARAM value=1 time=-1",
+            "setValueCurveAtTime node=s param=PARAM values=[] time=-1 duration=0",
+            "cancelScheduledValues node=s param=PARAM time=-1", "cancelAndHoldAtTime node=s param=PARAM time=-1",
+            "setAutomationRate node=s param=PARAM value=k-rate", "exponentialRampToValueAtTime node=s param=PARAM",
+            "setTargetAtTime node=s param=PARAM", "readValue node=s param=PARAM",
+            "connectParam from=c to=s param=PARAM output=1", "disconnectParam from=c to=s param=PARAM output=1",
+            "connectParam from=destination to=s param=PARAM", "disconnectParam from=destination to=s param=PARAM")]),
+        FIRST, {**dict.fromkeys(range(4, 16), NO_RATE), **dict.fromkeys(range(18, 30), NO_DETUNE),
+                **dict.fromkeys((16, 17, 30, 31), "throw NotSupportedError profile:destination-output")}, [], mono(0) * 128),
+    "what edits are refused with": (
+        PLAYER + """; setValueAtTime node=g param=gain value=1 time=-1; linearRampToValueAtTime node=g param=gain value=1 time=-1
+        setValueCurveAtTime node=g param=gain values=[1] time=-1 duration=0
+        setValueCurveAtTime node=g param=gain values=[] time=0 duration=1
+        setValueCurveAtTime node=g param=gain values=[1,2] time=-1 duration=0
+        setValueCurveAtTime node=g param=gain values=[1,2] time=0 duration=0
+        setValueCurveAtTime node=g param=gain values=[1,2] time=0 duration=-1
+        cancelScheduledValues node=g param=gain time=-1; cancelAndHoldAtTime node=g param=gain time=-1099511627776
+        exponentialRampToValueAtTime node=g param=gain; setTargetAtTime node=c param=offset
+        setValueCurveAtTime node=g param=gain values=[1,2] time=0 duration=3; setValue node=g param=gain value=5
+        readValue node=g param=gain; setValueCurveAtTime node=g param=gain values=[1] time=1 duration=0
+        setValueCurveAtTime node=g param=gain values=[1,2] time=-1 duration=0
+        setValueCurveAtTime node=g param=gain values=[1,2] time=2 duration=0""", FIRST,
+        {**dict.fromkeys((4, 5, 8, 9, 10, 11, 12, 19, 20), "throw RangeError"),
+         **dict.fromkeys((6, 7, 18), "throw InvalidStateError"), 13: "throw NotSupportedError profile:exponential-ramp",
+         14: "throw NotSupportedError profile:set-target", 16: OUT_OF_PLACE, 17: "value 16777216"}, [], mono(0) * 128),
+    "what connections to parameters are refused with": (
+        """createConstantSource as=c; createGain as=g; createChannelSplitter as=p numberOfOutputs=2
+        connectParam from=destination to=g param=gain output=9; connectParam from=c to=g param=gain output=1
+        connectParam from=p to=g param=gain output=2; connectParam from=p to=g param=gain output=1
+        disconnectParam from=destination to=g param=gain; disconnectParam from=p to=g param=gain output=2
+        disconnectParam from=p to=g param=gain output=0; disconnectParam from=p to=g param=gain output=1
+        disconnectParam from=p to=g param=gain""", FIRST,
+        {**dict.fromkeys((4, 8), "throw NotSupportedError profile:destination-output"),
+         **dict.fromkeys((5, 6, 9), "throw IndexSizeError"), **dict.fromkeys((10, 12), "throw InvalidAccessError")}, [],
+        mono(0) * 128),
+    # Connections to parameters count among the connections that there may be.
+    "as many connections as there may be": (
+        "; ".join(["createChannelSplitter as=p numberOfOutputs=32", "createGain as=g"]
+                  + ["createChannelMerger as=m%d numberOfInputs=32" % m for m in range(8)]
+                  + ["connectParam from=p output=%d to=g param=gain" % o for o in range(32)]
+                  + ["connect from=p output=%d to=m%d input=%d" % (o, m, i)
+                     for o in range(31) for m in range(8) for i in range(32)]
+                  + ["connect from=p output=31 to=m%d input=%d" % (m, i) for m in range(7) for i in range(32)]
+                  + ["connectParam from=g to=g param=gain", "connectParam from=p output=31 to=g param=gain",
+                     "connect from=g to=destination"]), FIRST,
+        {8203: "throw NotSupportedError profile:connection-limit", 8205: "throw NotSupportedError profile:connection-limit"}, [],
+        mono(0) * 128),
+
+    # Faults of reading.
+    **{calls: (calls, FIRST, fault, [], None) for calls, fault in {
+        "setValue node=c value=x": "1 param MissingField",
+        "setValue node=c param=null": "1 param WrongKind",
+        "setValue node=c param=1 value=x": "1 param WrongKind",
+        "setValue node=c param=x": "1 value MissingField",
+        "setValue node=c param=x value=2147483648": "1 value OutOfRange",
+        "setValueAtTime node=c param=x value=1": "1 time MissingField",
+        "setValueAtTime node=c param=x time=1.5": "1 value MissingField",
+        "setValueAtTime node=c param=x value=1 time=1.5": "1 time WrongKind",
+        "linearRampToValueAtTime node=c param=x value=1 time=1099511627777": "1 time OutOfRange",
+        "linearRampToValueAtTime node=c param=x value=null time=x": "1 value WrongKind",
+        "setValueCurveAtTime node=c param=x values=0 time=x": "1 values WrongKind",
+        "setValueCurveAtTime node=c param=x values=[2147483648,null] time=x": "1 values WrongKind",
+        "setValueCurveAtTime node=c param=x values=[2147483648] time=x": "1 values OutOfRange",
+        "setValueCurveAtTime node=c param=x values=[] time=x": "1 time WrongKind",
+        "setValueCurveAtTime node=c param=x values=[] time=0": "1 duration MissingField",
+        "setValueCurveAtTime node=c param=x values=[] time=0 duration=null": "1 duration WrongKind",
+        "cancelScheduledValues node=c param=x": "1 time MissingField",
+        "cancelAndHoldAtTime param=x time=0": "1 node MissingField",
+        "cancelAndHoldAtTime node=c param=x time=-1099511627777": "1 time OutOfRange",
+        "setAutomationRate node=c param=x": "1 value MissingField",
+        "setAutomationRate node=c param=x value=1": "1 value WrongKind",
+        "setAutomationRate node=c param=x value=K-rate": "1 value OutOfRange",
+        "exponentialRampToValueAtTime node=c": "1 param MissingField",
+        "setTargetAtTime param=x": "1 node MissingField",
+        "readValue node=null param=null": "1 node WrongKind",
+        "connectParam from=a output=-1 to=c": "1 output OutOfRange",
+        "connectParam from=a output=null to=c": "1 output WrongKind",
+        "connectParam from=a to=c": "1 param MissingField",
+        "disconnectParam from=a to=null output=x": "1 to WrongKind",
+        "disconnectParam from=a to=c output=x": "1 param MissingField",
+        "disconnectParam from=a to=c param=x output=x": "1 output WrongKind",
+        "disconnectParam from=a to=c param=x output=4294967296": "1 output OutOfRange",
+    }.items()},
+}

@@ -1,0 +1,131 @@
+"""Compares tools/expected.py with what was worked out by hand, which stands in tools/worked_rows.py."""
+
+import json
+import os
+import re
+import tempfile
+
+import worked_rows
+from expecting.nodes import QUANTUM
+from expecting.numbers import mixed
+from expecting.sessions import replayed
+
+
+def rows_that_differ():
+    """The rows, with one more for each pair of counts that has no equation; and those that mixing
+    gives otherwise."""
+    rows = list(worked_rows.ROWS)
+    for several in range(1, 33):
+        channels = [100 + c for c in range(several)]
+        for count in range(1, 33):
+            kept = [100 + c if c < several else 0 for c in range(count)]
+            rows.append((channels, "discrete", kept))
+            if several == count or not {several, count} <= {1, 2, 4, 6}:
+                rows.append((channels, "speakers", kept))
+    return rows, [row for row in rows if mixed(row[0], len(row[2]), row[1]) != row[2]]
+
+
+def calls_of(text):
+    """The calls that are written OP FIELD=VALUE, one behind the other."""
+    calls = []
+    for call in re.split("[;\n]", text) if text else []:
+        op, *fields = call.split()
+        calls.append({"op": op})
+        for field in fields:
+            key, value = field.split("=")
+            is_json = re.fullmatch(r"null|true|false|-?[0-9.]+|\[.*\]", value) and value.strip(".")
+            calls[-1][key] = json.loads(value) if is_json else value
+    return calls
+
+
+def script_with(calls, context, held):
+    """The bytes of the script of these calls, with startRendering behind them, which holds the others."""
+    context = dict(zip(("channels", "length", "rate"), context))
+    calls = calls + [{"op": "startRendering", "then": held}]
+    return json.dumps({"version": 1, "context": context, "calls": calls}).encode()
+
+
+def transcript_of(calls, held, length, answers, ended):
+    """The text of a session that completes, where answers that are not told are the usual ones."""
+    usual = {"decodeAudioData": "resolved"}
+    last = len(calls) + 1
+
+    def lines(calls, first):
+        return ["%d %s" % (n, answers.get(n, usual.get(call["op"], "ok"))) for n, call in enumerate(calls, first)]
+
+    text = lines(calls, 1) + ["%d pending" % last, *("ended " + it for it in ended), "%d resolved" % last]
+    return "\n".join(text + lines(held, last + 1) + ["complete %d" % length, "end completed"]) + "\n"
+
+
+def write_asset(path, data):
+    """Makes a file of these bytes, or of so many zero bytes, or a folder for None."""
+    if data is None:
+        os.mkdir(path)
+        return
+    with open(path, "wb") as file:
+        file.truncate(data) if isinstance(data, int) else file.write(data)
+
+
+def sessions():
+    """The sessions, by what they are of."""
+    routed = [(calls, (channels, QUANTUM, 48000), answers, [], samples and [samples] * QUANTUM)
+              for calls, channels, answers, samples in worked_rows.SESSIONS]
+    return {"splitters and mergers": routed, "buffers": worked_rows.BUFFER_SESSIONS,
+            "parameters": list(worked_rows.AUTOMATION_SESSIONS.values())}
+
+
+def worked(session):
+    """The script of a session, its text and its samples."""
+    calls, context, answers, ended, samples, *held = session
+    calls, held, text = calls_of(calls), calls_of(*held or [""]), ""
+    if isinstance(answers, str):
+        text = "script: %s\n" % answers
+    elif answers is not None:
+        text = transcript_of(calls, held, context[1], answers, ended)
+    return script_with(calls, context, held), text, samples
+
+
+def write_assets(folder):
+    for path, data in worked_rows.ASSETS.items():
+        write_asset(os.path.join(folder, path), data)
+
+
+def write_sessions(folder):
+    """Writes the scripts of the sessions into a new folder, each with its text beside it, and their assets."""
+    os.makedirs(folder)
+    write_assets(folder)
+    for what, them in sessions().items():
+        for number, session in enumerate(them):
+            path = os.path.join(folder, "%s-%d" % (what.replace(" ", "-"), number))
+            script, text, _ = worked(session)
+            write_asset(path + ".json", script)
+            write_asset(path + ".txt", text.encode())
+
+
+def sessions_that_differ(them):
+    """The sessions that replaying gives otherwise, with what it gives."""
+    wrong = []
+    with tempfile.TemporaryDirectory() as folder:
+        write_assets(folder)
+        for session in them:
+            script, wanted, samples = worked(session)
+            _, text, replay = replayed(script, folder)
+            found = replay and replay.samples
+            if text != wanted or found != samples:
+                wrong.append((session[0], text, found and found[:10]))
+    return wrong
+
+
+def rows_are_met():
+    """Whether what was worked out by hand comes out, with lines that tell what does not."""
+    rows, wrong = rows_that_differ()
+    for row in wrong:
+        print("%s, %s: not %s" % row)
+    print("%d rows of mixing, %d differences" % (len(rows), len(wrong)))
+    for what, them in sessions().items():
+        differ = sessions_that_differ(them)
+        for session in differ:
+            print("%s\n%s%s" % session)
+        print("%d sessions of %s, %d differences" % (len(them), what, len(differ)))
+        wrong += differ
+    return not wrong

@@ -1,0 +1,170 @@
+"""Nodes, buffers and the assets that become buffers, by the rules of docs/PROFILE.md."""
+
+import os
+
+from expecting.automation import Timeline
+from expecting.numbers import ONE
+
+QUANTUM = 128
+ASSET_LIMIT = 2**26  # bytes of a file
+
+# The attributes of each kind of node that cannot change.
+FIXED = {
+    "destination": ("count", "mode"),
+    "constant": (),
+    "buffer source": (),
+    "gain": (),
+    "splitter": ("count", "mode", "interpretation"),
+    "merger": ("count", "mode"),
+}
+
+SOURCES = ("constant", "buffer source")
+
+# The parameters of each kind of node that has any, with the feature where no call may change them.
+PARAMETERS = {
+    "constant": {"offset": None},
+    "buffer source": {"playbackRate": "playback-rate-automation", "detune": "detune"},
+    "gain": {"gain": None},
+}
+
+
+class Node:
+    """A node. The value is the first one of a constant's offset or a gain's gain, the number of a
+    splitter's outputs or of a merger's inputs, and the number of the destination's channels."""
+
+    def __init__(self, kind, name, value=None):
+        self.kind, self.name = kind, name
+        self.timelines = {parameter: Timeline(value) for parameter, feature in PARAMETERS.get(kind, {}).items()
+                          if feature is None}
+        self.inputs = {"constant": 0, "buffer source": 0, "merger": value}.get(kind, 1)
+        self.outputs = value if kind == "splitter" else 1
+        self.count, self.mode, self.interpretation = {
+            "destination": (value, "explicit", "speakers"),
+            "splitter": (value, "explicit", "discrete"),
+            "merger": (1, "explicit", "speakers"),
+        }.get(kind, (2, "max", "speakers"))
+        self.start = self.stop = None
+        self.ended = False
+
+    def end(self):
+        return None if self.stop is None else max(self.start, self.stop)
+
+    def plays_at(self, frame):
+        if self.start is None or frame < self.start:
+            return False
+        return self.end() is None or frame < self.end()
+
+    def plays_from(self, first):
+        """Whether it plays in some frame of the quantum that begins here."""
+        return any(self.plays_at(frame) for frame in range(first, first + QUANTUM))
+
+    def times(self, call):
+        """The times of a call that starts or stops it."""
+        return [call.get("when", 0)]
+
+    def started(self, frame, call):
+        self.start = frame
+
+    def sound(self, frame, is_playing):
+        """The channels that a source has at a frame, which is in a quantum in which it plays or not. Of a
+        constant it tells whether it plays."""
+        return [self.plays_at(frame)]
+
+
+class BufferSource(Node):
+    """A source that plays a buffer. Its times are frames of the session, and its offset, its duration
+    and the ends of its loop are frames of the buffer."""
+
+    def __init__(self, call, buffer):
+        super().__init__("buffer source", call["as"])
+        self.buffer, self.was_set = buffer, buffer is not None
+        self.is_looping = call.get("loop", False)
+        self.loop_start, self.loop_end = call.get("loopStart", 0), call.get("loopEnd", 0)
+        self.rate = call.get("playbackRate", ONE) // ONE
+        self.offset, self.duration = 0, None
+
+    def length(self):
+        return self.buffer.length if self.buffer else 0
+
+    def loop(self):
+        """The first frame of the buffer that is in the loop, and the first one behind the loop."""
+        first, last = self.loop_start, self.loop_end
+        if first >= 0 and last > 0 and first < last and first < self.length():
+            return first, min(last, self.length())
+        return 0, self.length()
+
+    def times(self, call):
+        if call["op"] == "stop":
+            return super().times(call)
+        return super().times(call) + [call.get("offset", 0), call.get("duration") or 0]
+
+    def started(self, frame, call):
+        super().started(frame, call)
+        self.offset, self.duration = call.get("offset", 0), call.get("duration")
+        if self.buffer:
+            self.buffer.is_acquired = True
+
+    def first(self):
+        """The frame of the buffer that it begins with."""
+        return min(self.offset, self.loop()[1] if self.is_looping else self.length())
+
+    def played(self):
+        """How many frames it plays, where that has a bound. The duration counts through the loop too."""
+        if self.length() == 0:
+            content = 0
+        elif self.is_looping:
+            content = self.duration
+        else:
+            content = self.length() - self.first()
+            content = content if self.duration is None else min(content, self.duration)
+        return None if content is None else -(-content // self.rate)  # rounded up
+
+    def end(self):
+        if self.start is None:
+            return None
+        played = self.played()
+        ends = [None if played is None else self.start + played, super().end()]
+        return min((end for end in ends if end is not None), default=None)
+
+    def position(self, frame):
+        """The frame of the buffer that is heard at a frame."""
+        place = self.first() + (frame - self.start) * self.rate
+        first, last = self.loop()
+        return first + (place - first) % (last - first) if self.is_looping and place >= last else place
+
+    def sound(self, frame, is_playing):
+        channels = range(self.buffer.channels if is_playing else 1)
+        if not self.plays_at(frame):
+            return [0 for _ in channels]
+        return [self.buffer.sample(channel, self.position(frame)) for channel in channels]
+
+
+class Buffer:
+    """A buffer: a recording, or else zeros, and what was written over it."""
+
+    def __init__(self, channels, length, rate, recording=None):
+        self.channels, self.length, self.rate, self.recording = channels, length, rate, recording
+        self.written = {}  # of channels and frames
+        self.is_acquired = False
+
+    def sample(self, channel, frame):
+        there = self.recording.sample(channel, frame) if self.recording else 0
+        return self.written.get((channel, frame), there)
+
+
+class AssetFault(Exception):
+    """An asset that is there and could not be read."""
+
+
+def asset(folder, path):
+    """The bytes of a file of the folder, so many of them that they tell whether there are too many; None
+    where the system finds no file, and where the path could name one that is not in the folder."""
+    if path.startswith("/") or ".." in path.split("/") or "\0" in path:
+        return None
+    try:
+        with open(os.path.join(os.fsencode(folder), path.encode()), "rb") as file:
+            return file.read(ASSET_LIMIT + 1)
+    except (FileNotFoundError, NotADirectoryError):
+        return None
+    except OSError:
+        raise AssetFault
