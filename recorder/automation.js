@@ -1,0 +1,108 @@
+// Automation: the events of one parameter as the page made them, with real places and real values.
+//
+// A place is a time in frames and may lie between two frames. Values are those of the standard's formulas.
+// The rewriting of calls asks here what a parameter does, and puts it into words that a script has.
+
+class Timeline {
+  constructor(startValue) {
+    this.startValue = startValue; // before the first event
+    this.events = [];             // {kind: set, ramp, exponential, target or curve, place, value, ...}, in order of places
+  }
+
+  // The number of the last event at or before a place, or -1.
+  indexAt(place) {
+    let index = this.events.length - 1;
+    while (index >= 0 && this.events[index].place > place) index--;
+    return index;
+  }
+
+  put(event) {
+    this.events.splice(this.indexAt(event.place) + 1, 0, event);
+  }
+
+  // Where an event lets the next ramp begin.
+  static endOf(event) {
+    return event.kind === 'curve' ? event.place + event.duration : event.place;
+  }
+
+  // The value at a place at or after event `index`, if no other event came after it.
+  valueAfter(index, place) {
+    if (index < 0) return this.startValue;
+    const event = this.events[index];
+    if (event.kind === 'curve') return curveValue(event, place);
+    if (event.kind === 'target') return targetValue(event, this.valueAfter(index - 1, event.place), place);
+    return event.value;
+  }
+
+  // The value at a place, on a ramp too. A ramp that nothing comes before begins at `now`.
+  valueAt(place, now) {
+    const index = this.indexAt(place), next = this.events[index + 1];
+    if (!next || (next.kind !== 'ramp' && next.kind !== 'exponential')) return this.valueAfter(index, place);
+    const begin = index < 0 ? Math.min(now, place) : Timeline.endOf(this.events[index]);
+    return place <= begin ? this.valueAfter(index, place) : rampValue(next, begin, this.valueAfter(index, begin), place);
+  }
+
+  // Whether a cancel at a place takes an event away: those from the place on, and a curve that it lies in.
+  isCancelled(event, place) {
+    return event.place >= place || (event.kind === 'curve' && place <= Timeline.endOf(event));
+  }
+
+  cancel(place) {
+    this.events = this.events.filter(event => !this.isCancelled(event, place));
+  }
+
+  // Whether the value is on its way at a place: on a ramp, to a target, or in a curve.
+  isMovingAt(place) {
+    const index = this.indexAt(place), event = this.events[index], next = this.events[index + 1];
+    return Boolean(next && (next.kind === 'ramp' || next.kind === 'exponential')) ||
+           Boolean(event && (event.kind === 'target' || (event.kind === 'curve' && place < Timeline.endOf(event))));
+  }
+
+  // After a hold the value that was reached stays, and a next ramp begins there. Where nothing moves, later
+  // events are gone and that is all.
+  hold(place, now) {
+    const isMoving = this.isMovingAt(place), value = this.valueAt(place, now);
+    this.events = this.events.slice(0, this.indexAt(place) + 1);
+    if (isMoving) this.put({kind: 'set', place, value});
+  }
+}
+
+function curveValue({place: begin, duration, values}, place) {
+  if (place >= begin + duration) return values[values.length - 1];
+  const position = (place - begin) / duration * (values.length - 1);
+  const before = Math.min(Math.floor(position), values.length - 2);
+  return values[before] + (values[before + 1] - values[before]) * (position - before);
+}
+
+function targetValue({place: begin, value, timeConstant}, startValue, place) {
+  return timeConstant > 0 ? value + (startValue - value) * Math.exp(-(place - begin) / timeConstant) : value;
+}
+
+// A value on a ramp to `event` that began at `begin` with `startValue`.
+function rampValue(event, begin, startValue, place) {
+  if (place >= event.place) return event.value;
+  const part = (place - begin) / (event.place - begin);
+  if (event.kind === 'ramp') return startValue + (event.value - startValue) * part;
+  return startValue * event.value > 0 ? startValue * (event.value / startValue) ** part : startValue;
+}
+
+// The event of a page's call. Places before now stand for now.
+function eventOf(parameter, method, args) {
+  const recording = parameter.recording;
+  const placeOf = seconds => Math.max(framePlace(recording, +seconds), recording.now);
+  const value = Math.fround(+args[0]);
+  switch (method) {
+    case 'value': return {kind: 'set', place: recording.now, value};
+    case 'setValueAtTime': return {kind: 'set', place: placeOf(args[1]), value};
+    case 'linearRampToValueAtTime': return {kind: 'ramp', place: placeOf(args[1]), value};
+    case 'exponentialRampToValueAtTime': return {kind: 'exponential', place: placeOf(args[1]), value};
+    case 'setTargetAtTime': return {kind: 'target', place: placeOf(args[1]), value, timeConstant: +args[2] * recording.rate};
+    case 'setValueCurveAtTime': {
+      const values = Float32Array.from(args[0]);
+      return {kind: 'curve', place: placeOf(args[1]), values, duration: framePlace(recording, +args[2])};
+    }
+    case 'cancelScheduledValues': return {kind: 'cancel', place: placeOf(args[0])};
+    case 'cancelAndHoldAtTime': return {kind: 'hold', place: placeOf(args[0])};
+  }
+  return null;
+}

@@ -1,0 +1,93 @@
+// Losses: what a script cannot keep of a page as it is, kind by kind.
+//
+// The grade says what became of the sound:
+//   exact     nothing is lost; the script says the same in other words
+//   rounded   a number or a time is the nearest one that a script can hold
+//   lowered   a call was rewritten into others that sound the same (with the option `lower`)
+//   refused   waplay refuses the call, or the script stands for something else than the page did
+//
+// `heard` marks what is rounded so far that it may be heard. Such lines come before the other rounded ones.
+
+const GRADES = ['refused', 'lowered', 'rounded', 'exact'];
+
+const LOSS_KINDS = {
+  // Numbers and times.
+  'value-rounded': {grade: 'rounded', says: 'values that are no multiple of 2^-24'},
+  'sample-rounded': {grade: 'rounded', says: 'samples that are no multiple of 2^-24'},
+  'value-range': {grade: 'refused', says: 'a value of 128 or more, or below -128; the nearest one stands in the script'},
+  'sample-range': {grade: 'refused', says: 'samples of 128 or more, or below -128; the nearest ones stand in the script'},
+  'not-finite': {grade: 'refused', says: 'a number that is not finite; 0 stands in the script'},
+  'time-next-frame': {grade: 'exact', says: 'times between two frames; the next frame means the same'},
+  'time-near-frame': {grade: 'exact', says: 'times within a millionth of a frame; that frame is taken'},
+  'time-rounded': {grade: 'rounded', says: 'times between two frames; the nearest frame is taken'},
+  'delay-fraction': {grade: 'rounded', heard: true,
+    says: 'A DELAY OF A FRACTION OF A FRAME OR ONE THAT MOVES: chorus, flanger and tuned strings change'},
+
+  // Calls in another place or another form.
+  'creation-option': {grade: 'exact', says: 'playbackRate set before start; an option of the creation'},
+  'reordered': {grade: 'exact', says: 'buffer or loop set after start at the same time; set before it'},
+  'asset-decoded': {grade: 'exact', says: 'decodeAudioData; the decoded samples are kept'},
+  'buffer-written': {grade: 'exact',
+    says: 'buffers written after a source acquired them; it keeps what it acquired, where Chromium may play what is written'},
+  'call-left-out': {grade: 'exact',
+    says: 'calls that the browser refused for their arguments, or that concern another context; left out'},
+  'coefficients-scaled': {grade: 'exact', says: 'filter coefficients times one power of two on both sides'},
+  'coefficients-rounded': {grade: 'rounded', says: 'filter coefficients that are no multiple of 2^-24'},
+
+  // Rewritten calls.
+  'lowered-ramp': {grade: 'lowered', says: 'linear ramps between frames; curves and values'},
+  'lowered-curve': {grade: 'lowered', says: 'curves between frames; curves with one point for each frame'},
+  'lowered-exponential': {grade: 'lowered', says: 'exponential ramps; curves that are within 2^-25'},
+  'lowered-target': {grade: 'lowered', says: 'setTargetAtTime; curves that are within 2^-25, up to the next event'},
+  'lowered-hold': {grade: 'lowered', says: 'cancels and holds between frames or over a rewritten event; written out'},
+  'lowering-failed': {grade: 'refused', says: 'an event next to a rewritten one in a way that is not rewritten'},
+  'baked-source': {grade: 'lowered', says: 'sources rendered alone by the browser; their samples are kept'},
+  'lowered-biquad': {grade: 'lowered', says: 'biquads with steady parameters; IIR filters by the standard\'s formulas'},
+  'lowered-sections': {grade: 'lowered', says: 'filters of an order above 2; split into sections of order 2'},
+  'guarded-filter': {grade: 'lowered', says: 'filters run 32 times louder inside, with a gain behind them'},
+  'lowered-analyser': {grade: 'lowered', says: 'analysers; gains of 1, as they pass their input on'},
+
+  // What a script cannot say.
+  'call-while-rendering': {grade: 'refused', says: 'calls made while rendering runs, outside a suspension; no frame is known for them'},
+  'context-rate': {grade: 'refused', says: 'a rate that is no whole number'},
+  'context-limit': {grade: 'refused',
+    says: 'a context that waplay refuses: 1 to 32 channels, 8,000 to 96,000 frames a second, quanta of 128 frames'},
+  'script-length': {grade: 'refused', says: 'the script has more than 16,777,216 bytes'},
+  'not-finished': {grade: 'refused', says: 'rendering was started and did not come to its end'},
+  'real-time-pause': {grade: 'refused', says: 'suspend or close of a real-time context; the script goes on'},
+  'real-time-second': {grade: 'refused', says: 'a second real-time context; only the first one with calls is rendered'},
+  'timer-late': {grade: 'exact', says: 'timers run at the next quantum of the audio clock, up to 128 frames late'},
+  'recorder-fault': {grade: 'refused', says: 'a fault of the recorder; calls may be missing'},
+
+  // Refused with the page and in the script alike.
+  'destination-output': {grade: 'exact', says: 'an output of the destination is used; both the browser and waplay refuse it'},
+};
+
+// What waplay refuses by a feature word. The word is the kind of the loss.
+const FEATURES = {
+  'oscillator': 'OscillatorNode; the option lower bakes it',
+  'periodic-wave': 'PeriodicWave; baked with its oscillators by the option lower',
+  'biquad': 'BiquadFilterNode; the option lower rewrites one with steady parameters',
+  'stereo-panner': 'StereoPannerNode', 'panner': 'PannerNode', 'listener': 'parameters of the listener',
+  'compressor': 'DynamicsCompressorNode', 'analyser': 'AnalyserNode; the option lower makes it a gain',
+  'convolver': 'ConvolverNode', 'script-processor': 'ScriptProcessorNode', 'audio-worklet': 'AudioWorkletNode',
+  'media-element-source': 'MediaElementAudioSourceNode', 'media-stream-source': 'MediaStreamAudioSourceNode',
+  'media-stream-track-source': 'MediaStreamTrackAudioSourceNode',
+  'media-stream-destination': 'MediaStreamAudioDestinationNode',
+  'exponential-ramp': 'exponentialRampToValueAtTime; the option lower rewrites it',
+  'set-target': 'setTargetAtTime; the option lower rewrites it',
+  'oversample': 'oversampling of a WaveShaperNode',
+  'resampling': 'a buffer of another rate than the context\'s; the option lower bakes its source',
+  'playback-rate': 'a playback rate that is no whole number from 1 on; the option lower bakes the source',
+  'playback-rate-automation':
+    'a playbackRate that is automated, set late or connected to; the option lower bakes the source, but for the latter',
+  'detune': 'detune of a buffer source; the option lower bakes the source if nothing is connected to it',
+  'loop-change': 'a loop changed after the start', 'late-buffer': 'a buffer set after the start',
+  'long-delay': 'a delay of more than 16 seconds',
+  'asset-size': 'a buffer of more than 67,108,864 bytes; silence stands for it',
+  'node-limit': 'more than 1,024 nodes', 'connection-limit': 'more than 8,192 connections',
+  'buffer-limit': 'more than 134,217,728 samples in all buffers', 'delay-limit': 'more than 4,194,304 frames in all delays',
+};
+
+for (const word of Object.keys(FEATURES))
+  LOSS_KINDS[word] = {grade: 'refused', feature: true, says: FEATURES[word]};

@@ -1,0 +1,208 @@
+// Nodes: their creation by factories and constructors, and their attributes.
+
+// Of each interface its operation, what its names in a script begin with, and the feature word where waplay
+// leaves it out.
+const NODE_KINDS = {
+  ConstantSourceNode: {op: 'createConstantSource', prefix: 'constant'},
+  GainNode: {op: 'createGain', prefix: 'gain'},
+  DelayNode: {op: 'createDelay', prefix: 'delay'},
+  ChannelSplitterNode: {op: 'createChannelSplitter', prefix: 'splitter'},
+  ChannelMergerNode: {op: 'createChannelMerger', prefix: 'merger'},
+  WaveShaperNode: {op: 'createWaveShaper', prefix: 'shaper'},
+  IIRFilterNode: {op: 'createIIRFilter', prefix: 'filter'},
+  AudioBufferSourceNode: {op: 'createBufferSource', prefix: 'source'},
+  OscillatorNode: {op: 'createOscillator', prefix: 'oscillator', feature: 'oscillator'},
+  BiquadFilterNode: {op: 'createBiquadFilter', prefix: 'biquad', feature: 'biquad'},
+  ConvolverNode: {op: 'createConvolver', prefix: 'convolver', feature: 'convolver'},
+  StereoPannerNode: {op: 'createStereoPanner', prefix: 'panner', feature: 'stereo-panner'},
+  PannerNode: {op: 'createPanner', prefix: 'panner', feature: 'panner'},
+  DynamicsCompressorNode: {op: 'createDynamicsCompressor', prefix: 'compressor', feature: 'compressor'},
+  AnalyserNode: {op: 'createAnalyser', prefix: 'analyser', feature: 'analyser'},
+  MediaElementAudioSourceNode: {op: 'createMediaElementSource', prefix: 'media', feature: 'media-element-source'},
+  MediaStreamAudioSourceNode: {op: 'createMediaStreamSource', prefix: 'media', feature: 'media-stream-source'},
+  MediaStreamTrackAudioSourceNode: {op: 'createMediaStreamTrackSource', prefix: 'media', feature: 'media-stream-track-source'},
+  MediaStreamAudioDestinationNode: {op: 'createMediaStreamDestination', prefix: 'media', feature: 'media-stream-destination'},
+  ScriptProcessorNode: {op: 'createScriptProcessor', prefix: 'processor', feature: 'script-processor'},
+  AudioWorkletNode: {op: 'createAudioWorkletNode', prefix: 'worklet', feature: 'audio-worklet'},
+};
+
+const MODES = ['max', 'clamped-max', 'explicit'];
+const INTERPRETATIONS = ['speakers', 'discrete'];
+const OVERSAMPLES = ['none', '2x', '4x'];
+
+// What the options of each kind put into the call of its creation.
+const CREATION = {
+  ConstantSourceNode(recording, call, options) {
+    if (isGiven(options.offset)) call.offset = fixedValue(recording, +options.offset, call);
+  },
+  GainNode(recording, call, options) {
+    if (isGiven(options.gain)) call.gain = fixedValue(recording, +options.gain, call);
+  },
+  DelayNode(recording, call, options) {
+    if (isGiven(options.maxDelayTime)) call.maxDelayTime = nearestFixed(+options.maxDelayTime).whole;
+    if (isGiven(options.delayTime)) call.delayTime = fixedSeconds(recording, +options.delayTime, call);
+    if (call.maxDelayTime > 16 * ONE) recording.lose('long-delay', call);
+  },
+  ChannelSplitterNode(recording, call, options) {
+    if (isGiven(options.numberOfOutputs)) call.numberOfOutputs = options.numberOfOutputs >>> 0;
+  },
+  ChannelMergerNode(recording, call, options) {
+    if (isGiven(options.numberOfInputs)) call.numberOfInputs = options.numberOfInputs >>> 0;
+  },
+  WaveShaperNode(recording, call, options) {
+    if (isGiven(options.curve)) call.curve = fixedList(recording, Float32Array.from(options.curve), call);
+    if (OVERSAMPLES.includes(String(options.oversample))) call.oversample = String(options.oversample);
+    if (call.oversample && call.oversample !== 'none') recording.lose('oversample', call);
+  },
+  IIRFilterNode(recording, call, options) {
+    putCoefficients(recording, call, options.feedforward || [], options.feedback || []);
+  },
+  AudioBufferSourceNode(recording, call, options) {
+    if (isGiven(options.loop)) call.loop = Boolean(options.loop);
+    if (isGiven(options.loopStart)) call.loopStart = frameOf(recording, +options.loopStart, call, 'nearest');
+    if (isGiven(options.loopEnd)) call.loopEnd = frameOf(recording, +options.loopEnd, call, 'nearest');
+    if (isGiven(options.playbackRate)) putPlaybackRate(recording, call, +options.playbackRate);
+    if (isGiven(options.detune) && +options.detune !== 0) recording.lose('detune', call);
+  },
+};
+
+function putPlaybackRate(recording, call, rate) {
+  call.playbackRate = nearestFixed(Math.fround(rate)).whole;
+  if (!(rate >= 1 && Number.isInteger(rate))) recording.lose('playback-rate', call);
+}
+
+// The calls that create a node. The creation is `creation`; what must come before and after stands around it.
+function creationCalls(recording, kind, options) {
+  const {op, prefix, feature} = NODE_KINDS[kind];
+  const creation = {op, as: recording.newName(prefix)};
+  const calls = [creation];
+  if (kind === 'AudioBufferSourceNode' && isGiven(options.buffer)) {
+    const before = [];
+    creation.buffer = bufferName(recording, options.buffer, before);
+    if (options.buffer.sampleRate !== recording.rate) recording.lose('resampling', creation);
+    calls.unshift(...before);
+  }
+  if (CREATION[kind]) CREATION[kind](recording, creation, options);
+  if (feature) recording.lose(feature, creation);
+  const {channelCount, channelCountMode, channelInterpretation} = options;
+  const set = (attribute, value) => calls.push({op: attribute, node: creation.as, value});
+  if (isGiven(channelCount)) set('setChannelCount', channelCount >>> 0);
+  if (MODES.includes(channelCountMode)) set('setChannelCountMode', channelCountMode);
+  if (INTERPRETATIONS.includes(channelInterpretation)) set('setChannelInterpretation', channelInterpretation);
+  return {calls, creation};
+}
+
+// Every AudioParam of a node or of the listener, by its name.
+function parametersOf(object) {
+  const found = new Map();
+  let prototype = Object.getPrototypeOf(object);
+  while (prototype && prototype !== Object.prototype) {
+    for (const name of Object.getOwnPropertyNames(prototype)) {
+      const getter = Object.getOwnPropertyDescriptor(prototype, name).get;
+      const value = getter && name !== 'context' ? getter.call(object) : null;
+      if (value instanceof AudioParam) found.set(name, value);
+    }
+    prototype = Object.getPrototypeOf(prototype);
+  }
+  const isWorklet = globalThis.AudioWorkletNode && object instanceof globalThis.AudioWorkletNode; // in secure contexts alone
+  if (isWorklet) object.parameters.forEach((parameter, name) => found.set(name, parameter));
+  return found;
+}
+
+function registerParameters(entry, object) {
+  for (const [name, parameter] of parametersOf(object)) {
+    const timeline = new Timeline(native.value.call(parameter));
+    entryOfParameter.set(parameter, {recording: entry.recording, node: entry, name, events: 0, timeline});
+  }
+}
+
+function registerNode(recording, node, entry) {
+  Object.assign(entry, {recording, node, list: recording.current, startCall: null, journal: [], isBakeable: true, isSteady: true});
+  entryOfNode.set(node, entry);
+  registerParameters(entry, node);
+  if (recording.isRealTime && node instanceof AudioScheduledSourceNode) keepEndingBack(entry);
+  if (entry.kind === 'OscillatorNode' || entry.kind === 'AudioBufferSourceNode') recording.sources.push(entry);
+  if (entry.kind === 'BiquadFilterNode' || entry.kind === 'IIRFilterNode') recording.filters.push(entry);
+  if (entry.kind === 'AnalyserNode') recording.analysers.push(entry);
+}
+
+// A page created a node, or was refused one.
+function nodeCreated(kind, context, options, node, exception) {
+  const recording = recordingOfContext.get(context);
+  if (!recording || recording.leavesOut(exception)) return;
+  const {calls, creation} = creationCalls(recording, kind, options);
+  if (NODE_KINDS[kind].feature) recording.refusedNames.add(creation.as);
+  recording.emit(calls, exception);
+  if (!node) return;
+  registerNode(recording, node, {name: creation.as, kind, creation, options: {...options}});
+  const entry = entryOfNode.get(node);
+  if (kind === 'AudioBufferSourceNode' && isGiven(options.buffer))
+    Object.assign(entry, {buffer: options.buffer, bufferCall: creation, bufferList: recording.current});
+}
+
+// The arguments of a factory as the options of its constructor.
+const FACTORY_OPTIONS = {
+  createDelay: ([maxDelayTime]) => ({maxDelayTime}),
+  createChannelSplitter: ([numberOfOutputs]) => ({numberOfOutputs}),
+  createChannelMerger: ([numberOfInputs]) => ({numberOfInputs}),
+  createIIRFilter: ([feedforward, feedback]) => ({feedforward, feedback}),
+};
+
+// Attributes that become one call each: of a prototype, a name, an operation, and the value as the script has it.
+function wrapAttributeAsCall(prototype, name, op, valueOf) {
+  wrapAttribute(prototype, name, (node, value, exception) => {
+    const entry = entryOfNode.get(node);
+    if (!entry || entry.recording.leavesOut(exception)) return;
+    const written = valueOf(value);
+    if (written === undefined) return; // a word that is none of the enumeration: the browser ignores it
+    const call = {op, node: entry.name, value: written};
+    entry.recording.emit([call], exception);
+    if (op === 'setOversample' && written !== 'none') entry.recording.lose('oversample', call);
+  });
+}
+
+function wrapNodes() {
+  for (const [kind, {op}] of Object.entries(NODE_KINDS)) {
+    wrapConstructor(kind, ([context, options], node, exception) => nodeCreated(kind, context, Object(options), node, exception));
+    wrapMethod(BaseAudioContext.prototype, op, (context, args, node, exception) =>
+      nodeCreated(kind, context, FACTORY_OPTIONS[op] ? FACTORY_OPTIONS[op](args) : {}, node, exception));
+  }
+  const waveCreated = (context, exception) => {
+    const recording = recordingOfContext.get(context);
+    if (!recording || recording.leavesOut(exception)) return;
+    const call = {op: 'createPeriodicWave', as: recording.newName('wave')};
+    recording.emit([call], exception);
+    recording.lose('periodic-wave', call);
+  };
+  wrapConstructor('PeriodicWave', ([context], wave, exception) => waveCreated(context, exception));
+  wrapMethod(BaseAudioContext.prototype, 'createPeriodicWave', (context, args, wave, exception) => waveCreated(context, exception));
+
+  const wordOf = words => value => words.includes(String(value)) ? String(value) : undefined;
+  wrapAttributeAsCall(AudioNode.prototype, 'channelCount', 'setChannelCount', value => value >>> 0);
+  wrapAttributeAsCall(AudioNode.prototype, 'channelCountMode', 'setChannelCountMode', wordOf(MODES));
+  wrapAttributeAsCall(AudioNode.prototype, 'channelInterpretation', 'setChannelInterpretation', wordOf(INTERPRETATIONS));
+  wrapAttributeAsCall(WaveShaperNode.prototype, 'oversample', 'setOversample', wordOf(OVERSAMPLES));
+  wrapAttribute(WaveShaperNode.prototype, 'curve', (node, curve, exception) => {
+    const entry = entryOfNode.get(node);
+    if (!entry || entry.recording.leavesOut(exception)) return;
+    const call = {op: 'setCurve', node: entry.name, curve: null};
+    if (isGiven(curve)) call.curve = fixedList(entry.recording, Float32Array.from(curve), call);
+    entry.recording.emit([call], exception);
+  });
+  // What counts for baking and for the rewriting of biquads.
+  wrapAttribute(globalThis.OscillatorNode.prototype, 'type', (node, type, exception) => {
+    if (!exception) journal(entryOfNode.get(node), copy => { copy.type = type; });
+  });
+  wrapMethod(globalThis.OscillatorNode.prototype, 'setPeriodicWave', (node, [wave], result, exception) => {
+    if (!exception) journal(entryOfNode.get(node), copy => copy.setPeriodicWave(wave));
+  });
+  wrapAttribute(globalThis.BiquadFilterNode.prototype, 'type', node => {
+    const entry = entryOfNode.get(node);
+    if (entry && entry.recording.current !== entry.list) entry.isSteady = false;
+  });
+}
+
+// Notes what was done to a source, to be done again to a copy of it, see baking.js.
+function journal(entry, repeat) {
+  if (entry && options.lower) entry.journal.push(repeat);
+}

@@ -1,0 +1,175 @@
+// Parameters: the attribute value and the methods of AudioParam.
+
+const SCRIPT_PARAMETERS = {ConstantSourceNode: ['offset'], GainNode: ['gain'], DelayNode: ['delayTime']};
+
+// Whether a script can say what happens to a parameter.
+const isInScript = parameter => (SCRIPT_PARAMETERS[parameter.node.kind] || []).includes(parameter.name);
+
+const isOfBufferSource = parameter => parameter.node.kind === 'AudioBufferSourceNode';
+
+function fixedParameterValue(parameter, value, call) {
+  if (!isInScript(parameter)) {
+    call.valueOfPage = value; // waplay reads no such member; it is for people
+    return 0;
+  }
+  return parameter.name === 'delayTime' ? fixedSeconds(parameter.recording, value, call)
+                                        : fixedValue(parameter.recording, value, call);
+}
+
+// What waplay refuses of a parameter, whatever the call.
+function loseOfParameter(recording, parameter, call) {
+  if (!isOfBufferSource(parameter)) return;
+  recording.lose(parameter.name === 'detune' ? 'detune' : 'playback-rate-automation', call);
+}
+
+const loseOfMoving = (parameter, call) => {
+  if (parameter.name === 'delayTime') parameter.recording.lose('delay-fraction', call, 0.5);
+};
+
+// What each method puts into its call besides the node and the parameter.
+const AUTOMATION = {
+  setValueAtTime(recording, parameter, call, [value, seconds]) {
+    call.value = fixedParameterValue(parameter, +value, call);
+    call.time = frameOf(recording, +seconds, call, 'next');
+  },
+  linearRampToValueAtTime(recording, parameter, call, [value, seconds]) {
+    call.value = fixedParameterValue(parameter, +value, call);
+    call.time = frameOf(recording, +seconds, call, 'nearest');
+    loseOfMoving(parameter, call);
+    const previous = parameter.timeline.events[parameter.timeline.indexAt(seconds * recording.rate)];
+    const begin = previous ? Timeline.endOf(previous) : 0; // where this lies between frames, so does the whole ramp
+    if (!Number.isInteger(begin)) recording.lose('time-rounded', call, Math.ceil(begin) - begin);
+  },
+  setValueCurveAtTime(recording, parameter, call, [values, seconds, duration]) {
+    call.values = isInScript(parameter) ? fixedList(recording, Float32Array.from(values), call) : Array.from(values, () => 0);
+    call.time = frameOf(recording, +seconds, call, 'nearest');
+    call.duration = +duration > 0 ? Math.max(1, frameOf(recording, +duration, call, 'nearest')) : Math.min(0, Math.floor(+duration));
+    loseOfMoving(parameter, call);
+  },
+  exponentialRampToValueAtTime(recording, parameter, call, [value, seconds]) {
+    Object.assign(call, {valueOfPage: +value, secondsOfPage: +seconds});
+    if (isInScript(parameter)) recording.lose('exponential-ramp', call);
+  },
+  setTargetAtTime(recording, parameter, call, [value, seconds, timeConstant]) {
+    Object.assign(call, {valueOfPage: +value, secondsOfPage: +seconds, timeConstantOfPage: +timeConstant});
+    if (isInScript(parameter)) recording.lose('set-target', call);
+  },
+  cancelScheduledValues(recording, parameter, call, [seconds]) {
+    call.time = frameOf(recording, +seconds, call, 'next');
+  },
+  cancelAndHoldAtTime(recording, parameter, call, [seconds]) {
+    call.time = frameOf(recording, +seconds, call, parameter.timeline.isMovingAt(seconds * recording.rate) ? 'nearest' : 'next');
+  },
+};
+
+// A playback rate that is set before the start, in the list that creates the source, is an option of the creation.
+function becomesCreationOption(parameter, value, isNow) {
+  const {node, recording} = parameter;
+  if (!isOfBufferSource(parameter) || !isNow || parameter.events) return false;
+  if (parameter.name === 'detune') return value === 0;
+  if (node.list !== recording.current) return false;
+  recording.losses = recording.losses.filter(loss => loss.call !== node.creation || loss.kind !== 'playback-rate');
+  putPlaybackRate(recording, node.creation, value);
+  recording.lose('creation-option', node.creation);
+  return true;
+}
+
+// Keeps the page's events in the parameter's timeline.
+function keepEvent(parameter, event, call) {
+  const {timeline, recording} = parameter;
+  if (event.kind === 'cancel') timeline.cancel(event.place);
+  else if (event.kind === 'hold') timeline.hold(event.place, recording.now);
+  else {
+    // An event that is put in front of a ramp says where that begins.
+    const next = timeline.events[timeline.indexAt(event.place) + 1], begin = Timeline.endOf(event);
+    const isPlainRamp = next && next.kind === 'ramp' && !next.isLowered;
+    if (isPlainRamp && !Number.isInteger(begin)) recording.lose('time-rounded', call, Math.ceil(begin) - begin);
+    timeline.put(event);
+  }
+}
+
+// The calls for a page's call on a parameter, rewritten where the option `lower` asks for it.
+function automationCalls(parameter, call, event, fill) {
+  const {recording} = parameter;
+  const lowered = event && options.lower && isInScript(parameter) ? LOWERING[event.kind](parameter, event) : CALL_ALONE;
+  const calls = lowered ? lowered.calls : [];
+  if (lowered && lowered.kind) {
+    if (calls.length) for (const made of calls) recording.lose(lowered.kind, made);
+    else recording.lose(lowered.kind);
+  }
+  if (!lowered || lowered.keepsCall) {
+    fill(call);
+    calls.push(call);
+  }
+  if (lowered && lowered.failed) recording.lose('lowering-failed', calls[calls.length - 1]);
+  if (event) keepEvent(parameter, event, calls[calls.length - 1]);
+  return calls;
+}
+
+function emitOfListener(recording, exception) {
+  const call = {op: 'setListener'};
+  recording.emit([call], exception);
+  recording.lose('listener', call);
+}
+
+function automated(method, object, args, result, exception) {
+  const parameter = entryOfParameter.get(object);
+  if (!parameter || parameter.recording.leavesOut(exception)) return;
+  const {recording, node} = parameter;
+  if (exception && (method === 'exponentialRampToValueAtTime' || method === 'setTargetAtTime')) {
+    recording.lose('call-left-out'); // waplay would name its own reason
+    return;
+  }
+  if (!exception) {
+    node.isSteady = false;
+    journal(node, copy => copy[parameter.name][method](...args));
+    const isNow = method === 'setValueAtTime' && +args[1] <= 0 && recording.phase === 'before';
+    if (becomesCreationOption(parameter, Math.fround(+args[0]), isNow)) return;
+  }
+  if (node.kind === 'listener') return emitOfListener(recording, exception);
+  parameter.events++;
+  const call = {op: method, node: node.name, param: parameter.name};
+  const event = exception ? null : eventOf(parameter, method, args);
+  const calls = automationCalls(parameter, call, event, made => AUTOMATION[method](recording, parameter, made, args));
+  loseOfParameter(recording, parameter, call);
+  recording.emit(calls, exception);
+}
+
+function valueSet(object, value, exception) {
+  const parameter = entryOfParameter.get(object);
+  if (!parameter || parameter.recording.leavesOut(exception)) return;
+  const {recording, node} = parameter, number = Math.fround(+value);
+  if (!exception) {
+    if (recording.current !== node.list) node.isSteady = false;
+    const seconds = recording.now / recording.rate;
+    journal(node, copy => {
+      if (seconds > 0) copy[parameter.name].setValueAtTime(number, seconds);
+      else copy[parameter.name].value = number;
+    });
+    if (becomesCreationOption(parameter, number, true)) return;
+  }
+  if (node.kind === 'listener') return emitOfListener(recording, exception);
+  parameter.events++;
+  const call = {op: 'setValue', node: node.name, param: parameter.name};
+  const event = exception ? null : eventOf(parameter, 'value', [number]);
+  const calls = automationCalls(parameter, call, event, made => { made.value = fixedParameterValue(parameter, number, made); });
+  loseOfParameter(recording, parameter, call);
+  recording.emit(calls, exception);
+}
+
+function rateSet(object, rate, exception) {
+  const parameter = entryOfParameter.get(object);
+  if (!parameter || !['a-rate', 'k-rate'].includes(rate) || parameter.recording.leavesOut(exception)) return;
+  const {recording, node} = parameter;
+  if (!exception) journal(node, copy => { copy[parameter.name].automationRate = rate; });
+  if (node.kind === 'listener') return emitOfListener(recording, exception);
+  if (isOfBufferSource(parameter)) return; // k-rate is all that they have
+  recording.emit([{op: 'setAutomationRate', node: node.name, param: parameter.name, value: rate}], exception);
+}
+
+function wrapParameters() {
+  for (const method of Object.keys(AUTOMATION))
+    wrapMethod(AudioParam.prototype, method, (object, args, result, exception) => automated(method, object, args, result, exception));
+  wrapAttribute(AudioParam.prototype, 'value', valueSet);
+  wrapAttribute(AudioParam.prototype, 'automationRate', rateSet);
+}

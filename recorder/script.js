@@ -1,0 +1,104 @@
+// Scripts: the recorded calls as the JSON text that waplay reads, and the buffers as assets.
+
+// Suspensions that changed nothing, as those at which a timer found nothing to do.
+function dropIdleSuspensions(recording) {
+  recording.removeCalls(call => call.op === 'suspend' && call.then.length && call.then.every(inner => inner.op === 'resume'));
+}
+
+function depthOf(list) {
+  return list.reduce((most, call) => call.then ? Math.max(most, 1 + depthOf(call.then)) : most, 0);
+}
+
+// Suspensions that were asked for within others come to the main list: lists nest only so deep, and the frames
+// alone say in which order suspensions come.
+function flattenSuspensions(recording) {
+  const found = [];
+  recording.eachCall((call, list) => {
+    if (call.op !== 'suspend' || list === recording.main || recording.outcomes.has(call)) return;
+    list.splice(list.indexOf(call), 1);
+    found.push(call);
+  });
+  found.sort((one, other) => one.time - other.time);
+  const start = recording.main.indexOf(recording.start);
+  recording.main.splice(start < 0 ? recording.main.length : start, 0, ...found);
+}
+
+// What is done once before a recording is written.
+async function finish(recording) {
+  if (recording.isFinished) return;
+  recording.isFinished = true;
+  if (recording.phase !== 'complete') recording.lose('not-finished');
+  else if (options.lower) await bake(recording).catch(fault => {
+    faults.push(String(fault && fault.stack || fault));
+    recording.lose('recorder-fault');
+  });
+  if (recording.isRealTime || depthOf(recording.main) > 40) flattenSuspensions(recording);
+  if (recording.isRealTime) dropIdleSuspensions(recording);
+  loseOfContext(recording);
+  loseOfSizes(recording);
+}
+
+// Runs of samples that a 32-bit WAV file cannot hold, which are those outside -1 to below 1.
+function runsOutside(samples) {
+  const runs = [];
+  let run = null;
+  samples.forEach((sample, place) => {
+    if (sample >= -ONE && sample < ONE) return;
+    if (run && place - run.end < 16) run.end = place + 1;
+    else runs.push(run = {first: place, end: place + 1});
+  });
+  return runs;
+}
+
+const copyCall = (version, channel, samples, first) =>
+  ({op: 'copyToChannel', buffer: version.name, channel, samples: Array.from(samples), ...(first ? {at: first} : {})});
+
+// The bytes of an asset: its channels interleaved. A whole number v of 2^-24 is 128 v in 32 bits.
+function interleaved(channels, length) {
+  const words = new Int32Array(channels.length * length);
+  channels.forEach((samples, channel) => samples.forEach((sample, frame) => {
+    words[frame * channels.length + channel] = Math.min(ONE - 1, Math.max(-ONE, sample)) * 128;
+  }));
+  return words;
+}
+
+// The calls that make a buffer with its samples. With `assets` its samples are a file, and what that cannot
+// hold is written over it; else all samples are in the script.
+function bufferCalls(recording, version, assets) {
+  const {call, samples} = version;
+  if (!samples || isSilent(samples) || call.rate !== recording.rate) return [call]; // another rate is refused in any case
+  if (!assets) return [call, ...samples.map((channel, number) => copyCall(version, number, channel, 0))];
+  if (44 + samples.length * call.length * 4 > ASSET_LIMIT) {
+    recording.lose('asset-size', call);
+    return [call];
+  }
+  const known = assets.find(asset => equalSamples(asset.samples, samples));
+  const path = known ? known.path : `${recording.number}-b${assets.length + 1}.wav`;
+  if (!known) assets.push({path, samples, channels: samples.length, length: call.length, rate: call.rate});
+  const patches = samples.flatMap((channel, number) =>
+    runsOutside(channel).map(({first, end}) => copyCall(version, number, channel.subarray(first, end), first)));
+  return [{op: 'decodeAudioData', as: version.name, path}, ...patches];
+}
+
+// The script of a finished recording: {text, assets, numbers}. `numbers` has the ordinal of each call.
+function writeScript(recording, withAssets) {
+  const assets = withAssets ? [] : null, numbers = new Map();
+  const versionOfCall = new Map(recording.versions.map(version => [version.call, version]));
+  let count = 0;
+  const write = list => list.flatMap(call => {
+    const version = versionOfCall.get(call);
+    const parts = version ? bufferCalls(recording, version, assets) : [call];
+    numbers.set(call, count + 1);
+    return parts.map(part => {
+      count++;
+      return part.then ? {...part, then: write(part.then)} : part;
+    });
+  });
+  const calls = write(recording.main);
+  const {channels, length, rate} = recording;
+  const head = JSON.stringify({channels, length, rate: Math.max(0, Math.round(rate))});
+  const lines = calls.map(call => '  ' + JSON.stringify(call)).join(',\n');
+  const text = `{"version": 1, "context": ${head}, "calls": [\n${lines}\n]}\n`;
+  if (new TextEncoder().encode(text).length > SCRIPT_LIMIT) recording.lose('script-length');
+  return {text, assets: assets || [], numbers, count};
+}

@@ -1,0 +1,94 @@
+// Start: the recorder steps in, and what people and tools call is put under the name waplayRecorder.
+
+wrapContexts();
+wrapNodes();
+wrapConnections();
+wrapBuffers();
+wrapSources();
+wrapParameters();
+if (options.realtime) {
+  replaceAudioContext();
+  replaceTimers();
+} else wrapConstructor('AudioContext', () => { realTime.unrecorded++; });
+
+const CHUNK = 2 ** 21; // words of samples that are handed over at once
+
+function base64Of(words) {
+  const bytes = new Uint8Array(words.buffer, words.byteOffset, words.byteLength);
+  let text = '';
+  for (let place = 0; place < bytes.length; place += 32768) text += String.fromCharCode(...bytes.subarray(place, place + 32768));
+  return btoa(text);
+}
+
+// The script and the report of a context, written once for each form.
+async function finished(number, withAssets) {
+  const recording = recordings[number - 1], form = withAssets ? 'files' : 'text';
+  if (!recording) throw new RangeError(`there is no context ${number}; ${recordings.length} were recorded`);
+  if (!recording.written[form]) {
+    await finish(recording);
+    const script = writeScript(recording, withAssets);
+    recording.written[form] = {recording, script, report: writeReport(recording, script)};
+  }
+  return recording.written[form];
+}
+
+// The same for people, who may ask too early.
+async function finishedText(number) {
+  const recording = recordings[number - 1];
+  if (recording && recording.phase !== 'complete') throw new Error(`context ${number} has not been rendered yet`);
+  return finished(number, false);
+}
+
+globalThis.waplayRecorder = {
+  // The script of a context as one text, with all samples in it. Contexts are numbered from 1.
+  async text(number = 1) {
+    return (await finishedText(number)).script.text;
+  },
+
+  // Its report.
+  async report(number = 1) {
+    const {report} = await finishedText(number);
+    return [...report.lines, `verdict: ${report.verdict}`].join('\n') + '\n';
+  },
+
+  // Says that the piece begins with what comes next, as a click. Only with the options realtime and click.
+  hold: holdClock,
+
+  // Records a real-time piece, once it was started. Only with the option realtime.
+  go: () => options.realtime ? goRealTime() : Promise.resolve(false),
+
+  // For tools/record: what has happened so far.
+  progress: () => ({
+    contexts: recordings.length,
+    realTime: realTime.contexts.length,
+    unrecorded: realTime.unrecorded,
+    waiting: realTime.waiting,
+    started: recordings.filter(recording => recording.start).length,
+    complete: recordings.filter(recording => recording.phase === 'complete').length,
+    faults: faults.slice(0, 20),
+  }),
+
+  // For tools/record: the context's script, report and assets. Samples are base64, see `chunk`.
+  async result(number) {
+    const {recording, script, report} = await finished(number, true);
+    this.kept = {assets: script.assets, rendered: recording.rendered, place: null, words: null};
+    return {
+      started: Boolean(recording.start), script: script.text, ...report,
+      outcomes: [...recording.outcomes].map(([call, name]) => [script.numbers.get(call), name]).filter(([number]) => number),
+      assets: script.assets.map(({path, channels, length, rate}) => ({path, channels, length, rate})),
+      rendered: recording.rendered && {channels: recording.channels, length: recording.length, rate: recording.rate},
+    };
+  },
+
+  // The 32-bit words of an asset, from a first one on.
+  assetChunk(place, first) {
+    const {kept} = this, {samples, length} = kept.assets[place];
+    if (kept.place !== place) Object.assign(kept, {place, words: interleaved(samples, length)});
+    return base64Of(kept.words.subarray(first, first + CHUNK));
+  },
+
+  // The floats of a rendered channel, from a first one on.
+  renderedChunk(channel, first) {
+    return base64Of(this.kept.rendered[channel].subarray(first, first + CHUNK));
+  },
+};
