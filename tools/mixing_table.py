@@ -24,7 +24,7 @@ import argparse
 import sys
 
 sys.dont_write_bytecode = True
-import expected
+from expecting.numbers import mixed
 
 MOST = 32
 LAYOUTS = (1, 2, 4, 6)
@@ -54,7 +54,7 @@ def pairs(counts=range(1, MOST + 1)):
         for interpretation in INTERPRETATIONS:
             for several in counts:
                 for count in counts:
-                    yield name, interpretation, several, count, expected.mixed(frame[:several], count, interpretation)
+                    yield name, interpretation, several, count, mixed(frame[:several], count, interpretation)
 
 
 def print_frames():

@@ -1,0 +1,1 @@
+"""What tools/report, tools/difftranscript and tools/makeschema are made of."""

@@ -1,0 +1,133 @@
+"""The operations of the script format, version 1: of each its fields, their kinds and their defaults.
+
+These are all operations of the format, also those that the program does not read yet. A field is its
+name, its kind, and its default where it has one. A kind that is none of KINDS is a list of words. Null is
+a value of a field whose default is null, and of one whose kind ends with "or null".
+"""
+
+ONE = 2**24
+QUANTUM = 128
+
+# The ranges of the kinds that are whole numbers.
+RANGES = {"fix": (-(2**31), 2**31 - 1), "time": (-(2**40), 2**40), "count": (0, 2**32 - 1)}
+KINDS = (*RANGES, "bool", "list", "name", "param", "new name", "path", "calls", "object")
+
+PARAMETERS = ("offset", "gain", "delayTime", "playbackRate", "detune")
+
+NEW_NAME = "^[A-Za-z0-9_-]{1,64}$"
+
+_NEW = ("as", "new name")
+_NODE = ("node", "name")
+_PARAM = ("param", "param")
+_THEN = ("then", "calls", [])
+
+CREATIONS = {
+    "createConstantSource": [_NEW, ("offset", "fix", ONE)],
+    "createGain": [_NEW, ("gain", "fix", ONE)],
+    "createDelay": [_NEW, ("maxDelayTime", "fix", ONE), ("delayTime", "fix", 0)],
+    "createChannelSplitter": [_NEW, ("numberOfOutputs", "count", 6)],
+    "createChannelMerger": [_NEW, ("numberOfInputs", "count", 6)],
+    "createWaveShaper": [_NEW, ("curve", "list", None), ("oversample", "none 2x 4x", "none")],
+    "createIIRFilter": [_NEW, ("feedforward", "list"), ("feedback", "list")],
+    "createBufferSource": [_NEW, ("buffer", "name", None), ("loop", "bool", False), ("loopStart", "time", 0),
+                           ("loopEnd", "time", 0), ("playbackRate", "fix", ONE)],
+    "createBuffer": [_NEW, ("channels", "count"), ("length", "count"), ("rate", "count")],
+}
+
+# The node that a creation makes, as it is called in words.
+NODES = {
+    "createConstantSource": "constant source",
+    "createGain": "gain",
+    "createDelay": "delay",
+    "createChannelSplitter": "channel splitter",
+    "createChannelMerger": "channel merger",
+    "createWaveShaper": "wave shaper",
+    "createIIRFilter": "IIR filter",
+    "createBufferSource": "buffer source",
+}
+
+CONNECTIONS = {
+    "connect": [("from", "name"), ("output", "count", 0), ("to", "name"), ("input", "count", 0)],
+    "connectParam": [("from", "name"), ("output", "count", 0), ("to", "name"), _PARAM],
+    "disconnect": [("from", "name"), ("output", "count", None), ("to", "name", None), ("input", "count", None)],
+    "disconnectParam": [("from", "name"), ("to", "name"), _PARAM, ("output", "count", None)],
+}
+
+ATTRIBUTES = {
+    "setChannelCount": [_NODE, ("value", "count")],
+    "setChannelCountMode": [_NODE, ("value", "max clamped-max explicit")],
+    "setChannelInterpretation": [_NODE, ("value", "speakers discrete")],
+    "setCurve": [_NODE, ("curve", "list or null")],
+    "setOversample": [_NODE, ("value", "none 2x 4x")],
+    "setBuffer": [_NODE, ("buffer", "name or null")],
+    "setLoop": [_NODE, ("value", "bool")],
+    "setLoopStart": [_NODE, ("value", "time")],
+    "setLoopEnd": [_NODE, ("value", "time")],
+    "copyToChannel": [("buffer", "name"), ("channel", "count"), ("samples", "list"), ("at", "count", 0)],
+}
+
+SOURCES = {
+    "start": [_NODE, ("when", "time", 0), ("offset", "time", 0), ("duration", "time", None)],
+    "stop": [_NODE, ("when", "time", 0)],
+}
+
+PARAMETER_CALLS = {
+    "setValue": [_NODE, _PARAM, ("value", "fix")],
+    "setValueAtTime": [_NODE, _PARAM, ("value", "fix"), ("time", "time")],
+    "linearRampToValueAtTime": [_NODE, _PARAM, ("value", "fix"), ("time", "time")],
+    "setValueCurveAtTime": [_NODE, _PARAM, ("values", "list"), ("time", "time"), ("duration", "time")],
+    "cancelScheduledValues": [_NODE, _PARAM, ("time", "time")],
+    "cancelAndHoldAtTime": [_NODE, _PARAM, ("time", "time")],
+    "setAutomationRate": [_NODE, _PARAM, ("value", "a-rate k-rate")],
+    "exponentialRampToValueAtTime": [_NODE, _PARAM],
+    "setTargetAtTime": [_NODE, _PARAM],
+    "readValue": [_NODE, _PARAM],
+}
+
+CONTEXT_CALLS = {
+    "suspend": [("time", "time"), _THEN],
+    "startRendering": [_THEN],
+    "resume": [],
+    "decodeAudioData": [_NEW, ("path", "path")],
+    "readState": [],
+    "readTime": [],
+}
+
+# The operations that are left out of the profile: none of their fields is read. Each has its feature.
+LEFT_OUT = {
+    "createOscillator": "oscillator",
+    "createPeriodicWave": "periodic-wave",
+    "createBiquadFilter": "biquad",
+    "createStereoPanner": "stereo-panner",
+    "createPanner": "panner",
+    "createDynamicsCompressor": "compressor",
+    "createAnalyser": "analyser",
+    "setListener": "listener",
+    "createMediaElementSource": "media-element-source",
+    "createMediaStreamSource": "media-stream-source",
+    "createMediaStreamTrackSource": "media-stream-track-source",
+    "createMediaStreamDestination": "media-stream-destination",
+    "createScriptProcessor": "script-processor",
+    "createAudioWorkletNode": "audio-worklet",
+    "createConvolver": "convolver",
+}
+
+GROUPS = {"creations": CREATIONS, "connections": CONNECTIONS, "attributes": ATTRIBUTES, "sources": SOURCES,
+          "parameters": PARAMETER_CALLS, "contextCalls": CONTEXT_CALLS, "leftOut": {op: [] for op in LEFT_OUT}}
+OPERATIONS = {op: fields for group in GROUPS.values() for op, fields in group.items()}
+
+# The calls that answer with a promise, those whose promise stays pending, and those that answer with a
+# value.
+PROMISES = ("suspend", "startRendering", "resume", "decodeAudioData")
+PENDING = ("suspend", "startRendering")
+READS = {"readValue": "value", "readState": "state", "readTime": "time"}
+
+
+def fields_of(op):
+    """The fields of an operation; none of one that the format does not have."""
+    return OPERATIONS.get(op, [])
+
+
+def holds_calls(op):
+    """Whether an operation has a list of calls."""
+    return isinstance(op, str) and _THEN in fields_of(op)

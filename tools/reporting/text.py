@@ -1,0 +1,104 @@
+"""Text for people: what is shown of values, names and numbers, and what HTML makes of them."""
+
+import html
+import json
+import unicodedata
+
+MANY = 12       # items of a list that are shown whole
+LONG = 200      # letters of a string that are shown whole
+
+
+class BadInput(Exception):
+    """Input that a tool can do nothing with, with a sentence that says so."""
+
+
+class Written:
+    """A number that is not whole, as it is written."""
+
+    def __init__(self, text):
+        self.text = text
+
+
+def is_seen(letter):
+    """Whether a letter shows as itself: no control, no mark of direction, and no other invisible one."""
+    return letter == " " or unicodedata.category(letter) not in ("Cc", "Cf", "Cs", "Co", "Cn", "Zl", "Zp", "Zs")
+
+
+def visible(text):
+    """The text with every letter that cannot be seen in the form that JSON has for it."""
+    shown = []
+    for letter in text:
+        if is_seen(letter):
+            shown.append(letter)
+        else:
+            units = letter.encode("utf-16-be", "surrogatepass")
+            shown += ["\\u%02x%02x" % tuple(units[at:at + 2]) for at in range(0, len(units), 2)]
+    return "".join(shown)
+
+
+def quoted(text):
+    """A string as JSON writes it, cut where it is long."""
+    if len(text) > LONG:
+        return "%s\u2026 (%s letters)" % (quoted(text[:LONG])[:-1], grouped(len(text)))
+    return visible(json.dumps(text, ensure_ascii=False))
+
+
+def shown(value):
+    """A value of a script in one line: JSON, but for long lists, which say how much they leave out."""
+    if isinstance(value, Written):
+        return value.text if len(value.text) <= 40 else value.text[:40] + "\u2026"
+    if isinstance(value, str):
+        return quoted(value)
+    if isinstance(value, list):
+        some = [shown(item) for item in (value if len(value) <= MANY else value[:MANY - 4])]
+        more = "" if len(value) <= MANY else ", \u2026 %s more" % grouped(len(value) - (MANY - 4))
+        return "[%s%s]" % (", ".join(some), more)
+    if isinstance(value, dict):
+        return "an object of %s" % counted(len(value), "member")
+    return json.dumps(value)
+
+
+def grouped(number):
+    """A whole number with its digits in groups of three, and a true minus."""
+    return "{:,}".format(number).replace("-", "\u2212")
+
+
+def counted(number, what, several=None):
+    """So many of a thing."""
+    return "%s %s" % (grouped(number), what if number == 1 else several or what + "s")
+
+
+def seconds(frame, rate):
+    """The time of a frame."""
+    if rate <= 0:
+        return "\u2013"
+    return "{:,.6f}".format(frame / rate).rstrip("0").rstrip(".") + "\u00a0s"
+
+
+def decimal(numerator, denominator):
+    """A quotient, with six digits after its point."""
+    return "{:.6f}".format(numerator / denominator).replace("-", "\u2212")
+
+
+def escaped(text):
+    """Text for HTML: nothing of it is markup, and nothing of it is unseen."""
+    return html.escape(visible(text), quote=True)
+
+
+def isolated(text):
+    """Text for HTML that someone else chose: its direction does not spread."""
+    return "<bdi>%s</bdi>" % escaped(text)
+
+
+_BACKQUOTE = "\ue000"  # what stands for a backquote that makes no code; visible text does not have it
+
+
+def as_it_is(text):
+    """Visible text that someone else chose, for a place in a sentence: its backquotes make no code."""
+    return text.replace("`", _BACKQUOTE)
+
+
+def sentence(text):
+    """A plain text for HTML, whose parts between backquotes are code."""
+    parts = [escaped(part.replace(_BACKQUOTE, "`")) for part in text.split("`")]
+    return "".join("<code>%s</code>" % part if at % 2 else part for at, part in enumerate(parts))

@@ -1,0 +1,238 @@
+"""Tests of reports in a headless Chromium: how they are laid out, in the light and the dark, at 390 and at
+1,280 pixels; zooming by mouse and by keys; names for screen readers; and that nothing of a script runs.
+
+The variable REPORT_PICTURES may name a folder, which then gets a picture of each page.
+"""
+
+import os
+import re
+import struct
+import tempfile
+import unittest
+
+import fixtures
+import browser
+from reporting import waveform
+from reporting.wav_samples import sound_of, spans
+
+HERE = os.path.dirname(os.path.abspath(__file__))
+GROUNDS = {"light": "rgb(255, 255, 255)", "dark": "rgb(15, 20, 25)"}
+NAMED = {"button", "textbox", "spinbutton", "radio", "image", "img", "region", "table", "Audio", "columnheader"}
+
+
+def pages():
+    """Of each page its name, and its script, transcript, file and other file."""
+    data, text, sound = fixtures.resumed()
+    other = bytearray(sound[:-600])  # 200 frames fewer
+    other[44 + 3 * 700] ^= 0x55
+    other[44 + 3 * 900 + 1] ^= 0x33
+    wide = fixtures.script([{"op": "startRendering"}], 32, 33554)
+    quiet = fixtures.wav([[(frame * channel) % 999 for frame in range(33554)] for channel in range(32)])
+    yield "resumed", data, text, sound, bytes(other)
+    yield "stalled", *fixtures.suspended(), None, None
+    yield "hostile", *fixtures.hostile(), None
+    yield "ended", *fixtures.example("hi_hat_choked"), None
+    yield "decoded", *fixtures.example("drum_loop"), None
+    yield "refused", *fixtures.example("refused_calls"), None
+    yield "wide", wide, "1 pending\n1 resolved\ncomplete 33554\nend completed\n", quiet, None
+    yield "x" * 120, b'{"version": 1, "context": [}', "script: BadJson\n", None, None
+    yield "fault", fixtures.script([{"op": "<b>" * 100}]), "script: 1 op UnknownOp\n", None, None
+    yield "idle", fixtures.script([{"op": "createGain", "as": "g" * 64}]), "1 ok\nend idle\n", None, None
+
+
+@unittest.skipUnless(browser.PROGRAM, "chromium is not installed")
+class Pages(unittest.TestCase):
+    @classmethod
+    def setUpClass(cls):
+        folder = tempfile.TemporaryDirectory()
+        cls.addClassCleanup(folder.cleanup)
+        cls.paths, cls.sounds = {}, {}
+        for name, data, text, sound, other in pages():
+            paths = fixtures.written(folder.name, name, data, text, sound)
+            more = ["--against", fixtures.write(folder.name, "other.wav", other)] if other else []
+            ran = fixtures.run("report", *paths, *more)
+            assert ran.returncode == 0, ran.stderr
+            cls.paths[name], cls.sounds[name] = fixtures.write(folder.name, name[:20] + ".html", ran.stdout), sound
+        cls.browser = browser.Browser().__enter__()
+        cls.addClassCleanup(cls.browser.__exit__)
+
+    def show(self, name, width=1280, scheme="light", scripts=True):
+        """Shows a page, which must not have an error of a script or of its policy."""
+        self.browser.show(self.paths[name], width, scheme, scripts)
+        if scripts:
+            self.browser.value("new Promise(done => setTimeout(done, 50))")
+        errors = [event["params"] for event in self.browser.events
+                  if event.get("method") in ("Runtime.exceptionThrown", "Log.entryAdded")]
+        self.assertEqual(errors, [], name)
+
+    def text(self, selector):
+        return self.browser.value("document.querySelector(%r).textContent" % selector)
+
+    def test_nothing_overlaps_or_is_cut_off_and_texts_have_contrast(self):
+        with open(os.path.join(HERE, "probe.js"), encoding="utf-8") as file:
+            probe = file.read()
+        pictures = os.environ.get("REPORT_PICTURES")
+        for name in self.paths:
+            for width in (390, 1280):
+                for scheme, ground in GROUNDS.items():
+                    self.show(name, width, scheme)
+                    found = self.browser.value(probe)
+                    self.assertEqual(found["wrong"], [], (name, width, scheme))
+                    self.assertEqual(found["ground"], ground)
+                    self.assertGreater(found["boxes"], 10)
+                    if pictures:
+                        self.browser.picture(os.path.join(pictures, "%s-%d-%s.png" % (name[:20], width, scheme)))
+
+    def test_the_probe_sees_what_is_wrong(self):
+        with open(os.path.join(HERE, "probe.js"), encoding="utf-8") as file:
+            probe = file.read()
+        for change, wanted in [("it.style.width = '5000px'", "reaches out of the window"),
+                               ("it.style.position = 'absolute'", "overlap"),
+                               ("it.style.color = '#999999'", "has a contrast of"),
+                               ("it.style.cssText = 'width: 40px; overflow: hidden; white-space: nowrap'", "is cut off")]:
+            self.show("ended", 390)
+            self.browser.value("(it => { %s; })(document.querySelector('.outcome'))" % change)
+            self.assertIn(wanted, " ".join(self.browser.value(probe)["wrong"]))
+
+    def test_pictures_are_light_and_dark_at_both_widths(self):
+        for width in (390, 1280):
+            pictures = []
+            for scheme in GROUNDS:
+                self.show("ended", width, scheme)
+                path = self.paths["ended"] + ".png"
+                self.browser.picture(path)
+                with open(path, "rb") as file:
+                    pictures.append(file.read())
+                self.assertEqual(struct.unpack(">I", pictures[-1][16:20]), (width,))
+            self.assertNotEqual(*pictures)
+
+    def test_a_page_is_whole_without_scripts(self):
+        with open(os.path.join(HERE, "probe.js"), encoding="utf-8") as file:
+            probe = file.read()
+        for width in (390, 1280):
+            self.show("resumed", width, scripts=False)
+            self.assertEqual(self.browser.value(probe)["wrong"], [])
+            self.assertFalse(self.browser.value("document.querySelector('.tools').checkVisibility()"))
+            box = self.browser.value("(({width, height}) => [width, height])"
+                                     "(document.querySelector('.envelope').getBoundingClientRect())")
+            self.assertGreater(min(box), 40)
+
+    def test_nothing_of_a_script_runs(self):
+        for scripts in (True, False):
+            self.show("hostile", scripts=scripts)
+            self.assertEqual(self.browser.value("typeof window.hurt"), "undefined")
+            self.assertEqual(self.browser.value("document.querySelectorAll('img, iframe, a').length"), 0)
+            self.assertEqual(self.browser.value("document.scripts.length"), 1)
+        requests = [event["params"]["request"]["url"][:5] for event in self.browser.events
+                    if event.get("method") == "Network.requestWillBeSent"]
+        self.assertTrue(set(requests) <= {"file:", "data:"}, requests)
+
+    def test_the_policy_stops_what_is_put_in(self):
+        self.show("hostile")
+        self.browser.value("""document.body.insertAdjacentHTML('beforeend',
+                '<img src="x" onerror="window.hurt = 1"><p onclick="window.hurt = 1">x</p>');
+            document.querySelector('p[onclick]').click(); new Promise(done => setTimeout(done, 50))""")
+        self.assertEqual(self.browser.value("typeof window.hurt"), "undefined")
+
+    def numbers(self, path):
+        return [float(it) for it in re.findall(r"-?[\d.]+", path)]
+
+    def assert_drawn(self, name, first, last):
+        """That the first channel's drawing is that of these frames, as Python draws them."""
+        sound = sound_of(self.sounds[name], "it")
+        full = sound.full * float(self.browser.value("document.querySelector('.drawing').dataset.scale"))
+        wanted = self.numbers(waveform.path_of(spans(sound.channels[0][first:last], waveform.COLUMNS), full))
+        found = self.numbers(self.browser.value("document.querySelector('.envelope').getAttribute('d')"))
+        self.assertEqual(len(found), len(wanted))
+        self.assertLess(max(abs(a - b) for a, b in zip(found, wanted)), 0.11)
+
+    def test_drawings_are_the_same_with_and_without_scripts(self):
+        for name in ("resumed", "wide", "decoded"):
+            drawings = []
+            for scripts in (True, False):
+                self.show(name, scripts=scripts)
+                drawings.append(self.browser.value("""[...document.querySelectorAll('.drawing')].map(it =>
+                    it.getAttribute('viewBox') + ' ' + it.querySelector('.envelope').getAttribute('d'))"""))
+            for one, two in zip(*(map(self.numbers, it) for it in drawings)):
+                self.assertEqual(len(one), len(two))
+                self.assertLess(max(abs(a - b) for a, b in zip(one, two)), 0.11)
+
+    def test_zooming_by_keys(self):
+        self.show("resumed")
+        self.assertEqual(self.text(".status"), "Shown: frames 0 to 2,048 of 2,048, the whole")
+        self.assert_drawn("resumed", 0, 2048)
+        for _ in range(40):
+            if self.browser.value("document.activeElement.className") == "wave":
+                break
+            self.browser.key("Tab")
+        self.assertEqual(self.browser.value("getComputedStyle(document.activeElement).outlineStyle"), "solid")
+        for key, first, last in [("+", 512, 1536), ("+", 768, 1280), ("ArrowRight", 896, 1408), ("ArrowLeft", 768, 1280),
+                                 ("End", 1536, 2048), ("Home", 0, 512), ("-", 0, 1024), ("0", 0, 2048)]:
+            self.browser.key(key)
+            self.assertEqual(self.text(".status").replace(", the whole", ""), "Shown: frames %s to %s of 2,048" % tuple(
+                "{:,}".format(it) for it in (first, last)))
+            self.assert_drawn("resumed", first, last)
+
+    def test_zooming_by_dragging_and_by_numbers(self):
+        self.show("resumed", 1000)
+        self.browser.value("document.querySelector('.lane').scrollIntoView()")
+        left, top, width = self.browser.value(
+            "(box => [box.left, box.top, box.width])(document.querySelector('.lane').getBoundingClientRect())")
+        self.browser.drag((left + width * 0.25, top + 20), (left + width * 0.5, top + 30))
+        first, last = (int(it.replace(",", "")) for it in re.findall(r"[\d,]+", self.text(".status"))[:2])
+        self.assertAlmostEqual(first, 512, delta=4)
+        self.assertAlmostEqual(last, 1024, delta=4)
+        self.assert_drawn("resumed", first, last)
+        marks = self.browser.value("[...document.querySelectorAll('use.placed')]"
+                                   ".filter(it => it.style.display !== 'none').map(it => it.dataset.low)")
+        self.assertEqual(sorted(map(int, marks)), [it for it in (512, 700, 900, 1000) if first <= it <= last])
+        self.browser.value("(form => { form.elements.first.value = 690; form.elements.last.value = 710; "
+                           "form.requestSubmit(); })(document.querySelector('.range'))")
+        self.assertEqual(self.text(".status"), "Shown: frames 690 to 710 of 2,048")
+        self.assert_drawn("resumed", 690, 710)
+        self.browser.value("document.querySelector('button.frame').click()")
+        self.assertIn("Shown: frames ", self.text(".status"))
+        for button in ("in", "out", "earlier", "later", "whole"):
+            self.browser.value("document.querySelector('[data-do=%s]').click()" % button)
+        self.assert_drawn("resumed", 0, 2048)
+
+    def test_the_sound_can_be_played(self):
+        for name in ("resumed", "ended", "wide"):
+            self.show(name)
+            state = self.browser.value("""new Promise(done => {
+                const it = document.querySelector('audio');
+                it.oncanplaythrough = () => done('plays ' + it.duration.toFixed(3));
+                it.onerror = () => done(it.error.message);
+                it.preload = 'auto';
+                it.load();
+            })""")
+            frames = sound_of(self.sounds[name], "it").frames
+            self.assertEqual(state, "plays %.3f" % (frames / 48000), name)
+
+    def test_rows_can_be_chosen_without_scripts(self):
+        self.show("refused", scripts=False)
+        count = "[...document.querySelectorAll('.transcript tbody tr:not(.part)')].filter(it => it.checkVisibility()).length"
+        self.assertEqual(self.browser.value(count), 39)
+        for choice, rows in ("refusals", 18), ("events", 3), ("all", 39):
+            self.browser.value("document.querySelector('#only-%s').click()" % choice)
+            self.assertEqual(self.browser.value(count), rows)
+
+    def test_names_for_screen_readers(self):
+        for name in ("resumed", "ended", "fault"):
+            for width in (390, 1280):
+                self.show(name, width)
+                nodes = self.browser.ask("Accessibility.getFullAXTree")["nodes"]
+                roles = {}
+                for node in nodes:
+                    role, title = node.get("role", {}).get("value"), node.get("name", {}).get("value", "")
+                    if not node["ignored"]:
+                        roles.setdefault(role, []).append(title)
+                for role in NAMED & set(roles):
+                    self.assertTrue(all(title.strip() for title in roles[role]), (name, width, role, roles[role]))
+                self.assertIn("Transcript and calls", roles["heading"])
+                self.assertTrue({"table", "cell", "columnheader", "rowheader"} <= set(roles), roles.keys())
+                self.assertIn("Answer", roles["columnheader"], width)
+
+
+if __name__ == "__main__":
+    unittest.main()

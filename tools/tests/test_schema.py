@@ -1,0 +1,202 @@
+"""Holds docs/script.schema.json against the reader of tools/expecting/reading.py, over random good and faulty scripts.
+
+A schema can't say everything that the reader asks for. These differences have names here, are counted apart,
+and are only allowed where nothing else differs:
+
+    no JSON        a text that has no JSON reading has no value that a schema could be held against: bytes that
+                   are not UTF-8, lone surrogates, numbers that are too large, and what nests deeper than 127
+    whole numbers  1.0, 1e2 and -0 are whole to a schema, and not to the reader
+    bytes          a path has at most 255 bytes, and a schema counts characters
+    not built      the schema has all operations of the format, of which the reader reads those that are built
+"""
+
+import collections
+import json
+import os
+import random
+import unittest
+
+import fixtures
+from expecting import reading
+import test_reading
+from reporting import entries, schema
+
+try:
+    import jsonschema
+except ImportError:
+    jsonschema = None
+
+PATH = os.path.join(fixtures.TOP, "docs", "script.schema.json")
+COUNT = 1000
+READ = {*reading.OPERATIONS, *reading.LEFT_OUT}  # the operations that the reader reads
+
+# A value of each kind.
+VALUES = {"new name": "n", "name": "n", "param": "gain", "list": [1, 2], "calls": [], "bool": True, "path": "p",
+          **dict.fromkeys(entries.RANGES, 1)}
+
+
+def some_value(kind):
+    """A value of a kind, which is the first of the words where it is a list of them."""
+    kind = kind.replace(" or null", "")
+    return VALUES.get(kind, kind.split()[0])
+
+
+def value_of(data):
+    """The value of a JSON text. Numbers that are whole to the reader are integers, and no others."""
+    return json.loads(data.decode(), parse_int=reading.whole, parse_float=reading.fraction,
+                      parse_constant=reading.bad_json)
+
+
+def stricter(value, key=None):
+    """The value with a fraction in place of each number that is whole to a schema alone, and with a path that is
+    too long in place of one of too many bytes."""
+    if isinstance(value, dict):
+        return {name: stricter(item, name) for name, item in value.items()}
+    if isinstance(value, list):
+        return [stricter(item) for item in value]
+    if isinstance(value, float):
+        return 0.5
+    if key == "path" and isinstance(value, str) and len(value.encode()) > 255:
+        return "x" * 256
+    return value
+
+
+def unbuilt(value):
+    """Whether an operation of the format stands somewhere that the reader does not read."""
+    if isinstance(value, dict):
+        op = value.get("op")
+        is_one = isinstance(op, str) and op in entries.OPERATIONS and op not in READ
+        return is_one or any(map(unbuilt, value.values()))
+    return isinstance(value, list) and any(map(unbuilt, value))
+
+
+def spelled(rng, text):
+    """A script's text with some numbers or members spelled in another way."""
+    some = rng.randrange(8)
+    if some == 0:
+        return text.replace(": 0", ": -0", 1)
+    if some == 1:
+        return text.replace(": 48000", ": 48000.0", 1).replace(": 1,", ": 1e0,", 1)
+    if some == 2:
+        return text.replace('"op":', '"op": 7, "op":', 3)
+    if some == 3:
+        depth = rng.choice([120, 124, 125, 126, 127, 500])
+        return text.replace('"version"', '"deep": %s%s, "version"' % ("[" * depth, "]" * depth), 1)
+    if some == 4:
+        return text.replace("}", ', "note": [1.5, {"then": 7}]}', 2)
+    return text
+
+
+def unbuilt_call(rng):
+    """A call of an operation that the reader may not read yet."""
+    op = rng.choice([op for op in entries.OPERATIONS if op not in entries.LEFT_OUT])
+    call = {"op": op}
+    for name, kind, *default in entries.fields_of(op):
+        if not default or rng.random() < 0.3:
+            call[name] = some_value(kind)
+    return call
+
+
+def random_text(number):
+    """The bytes of a random script: a good one, one with spoiled members, or one that is spelled in another way."""
+    rng = random.Random("schema %d" % number)
+    value = test_reading.random_script(number, number % 2 == 1, 30)
+    if number % 50 == 7 and isinstance(value.get("calls"), list):
+        value["calls"] = value["calls"][:5] + [unbuilt_call(rng)]
+    if number % 20 == 3 and isinstance(value.get("calls"), list):
+        path = rng.choice(["\u00e9" * rng.choice([127, 128, 255]), "x" * rng.choice([255, 256]), ""])
+        value["calls"] = value["calls"][:5] + [{"op": "decodeAudioData", "as": "b", "path": path}]
+    text = json.dumps(value)
+    return (spelled(rng, text) if number % 3 == 0 else text).encode()
+
+
+class Schema(unittest.TestCase):
+    def setUp(self):
+        with open(PATH, encoding="utf-8") as file:
+            self.text = file.read()
+
+    def test_the_file_is_what_the_tool_writes(self):
+        self.assertEqual(fixtures.run("makeschema").stdout.decode(), self.text,
+                         "tools/makeschema > docs/script.schema.json is wanted")
+
+    def test_every_operation_and_field_has_its_kind_and_default(self):
+        definitions = json.loads(self.text)["$defs"]
+        self.assertEqual(definitions["call"]["properties"]["op"]["enum"], list(entries.OPERATIONS))
+        self.assertEqual(set(schema.DOES) | set(entries.LEFT_OUT), set(entries.OPERATIONS))
+        for op, fields in entries.OPERATIONS.items():
+            found = definitions[op]["properties"]
+            self.assertEqual(list(found), ["op"] + [name for name, *_ in fields])
+            self.assertEqual({name: it["default"] for name, it in found.items() if "default" in it},
+                             {name: default[0] for name, _, *default in fields if default})
+            self.assertEqual("does not read it" in definitions[op]["description"], op not in READ, op)
+
+    @unittest.skipUnless(jsonschema, "the module jsonschema is not installed")
+    def test_the_schema_is_one(self):
+        jsonschema.Draft202012Validator.check_schema(json.loads(self.text))
+
+    @unittest.skipUnless(jsonschema, "the module jsonschema is not installed")
+    def test_random_scripts_are_good_where_the_reader_finds_no_fault(self):
+        validator = jsonschema.Draft202012Validator(json.loads(self.text))
+        counts = collections.Counter()
+        for number in range(COUNT):
+            data = random_text(number)
+            fault = test_reading.fault_of(data)
+            if fault == "BadJson":
+                counts["no JSON"] += 1
+                continue
+            value = value_of(data)
+            is_good = validator.is_valid(stricter(value))
+            if fault and is_good and fault.endswith("UnknownOp") and unbuilt(value):
+                counts["not built"] += 1
+                continue
+            self.assertEqual(is_good, fault is None, (fault, data))
+            counts["faulty" if fault else "good"] += 1
+            if fault and validator.is_valid(value):
+                paths = [str(call.get("path", "")) for call in value["calls"] if isinstance(call, dict)]
+                is_long = any(len(path.encode()) > 255 for path in paths)
+                counts["bytes" if is_long else "whole numbers"] += 1
+        print("\nschema: %d scripts: %s" % (COUNT, ", ".join("%d %s" % (counts[it], it) for it in sorted(counts))))
+        for name, least in [("good", 300), ("faulty", 200), ("no JSON", 10), ("whole numbers", 10), ("bytes", 3)]:
+            self.assertGreaterEqual(counts[name], least, name)
+
+    @unittest.skipUnless(jsonschema, "the module jsonschema is not installed")
+    def test_each_field_by_itself(self):
+        validator = jsonschema.Draft202012Validator(json.loads(self.text))
+        values = [None, True, False, 0, 1, -1, 31, 2**31 - 1, 2**31, -(2**31), -(2**31) - 1, 2**32 - 1, 2**32, 2**40,
+                  2**40 + 1, -(2**40), -(2**40) - 1, 2**63, 0.5, "", "a", "destination", "a b", "x" * 64, "x" * 65,
+                  "x" * 256, "max", "speakers", "none", "a\n", [], [1], [2**31], [0.5], [None], [{}], {}, [{"op": "resume"}],
+                  [{"op": "x"}]]
+        compared = 0
+        for op, fields in reading.OPERATIONS.items():
+            whole = {"op": op, **{name: some_value(kind) for name, kind, *default in fields if not default}}
+            for name in [name for name, *_ in fields] + ["op", "other"]:
+                for value in [*values, "absent"]:
+                    call = {**whole, name: value}
+                    if value == "absent":
+                        del call[name]
+                    data = fixtures.script([call])
+                    self.assertEqual(validator.is_valid(json.loads(data)), test_reading.fault_of(data) is None, call)
+                    compared += 1
+        self.assertGreater(compared, 2000)
+
+    @unittest.skipUnless(jsonschema, "the module jsonschema is not installed")
+    def test_the_forms_of_disconnect(self):
+        validator = jsonschema.Draft202012Validator(json.loads(self.text))
+        for output in ("absent", None, 0):
+            for to in ("absent", None, "a"):
+                for place in ("absent", None, 0):
+                    call = {"op": "disconnect", "from": "a", "output": output, "to": to, "input": place}
+                    data = fixtures.script([{name: value for name, value in call.items() if value != "absent"}])
+                    self.assertEqual(validator.is_valid(json.loads(data)), test_reading.fault_of(data) is None, call)
+
+    @unittest.skipUnless(jsonschema, "the module jsonschema is not installed")
+    def test_the_examples_are_good(self):
+        validator = jsonschema.Draft202012Validator(json.loads(self.text))
+        for name in os.listdir(fixtures.EXAMPLES):
+            if name.endswith(".json"):
+                with open(os.path.join(fixtures.EXAMPLES, name), encoding="utf-8") as file:
+                    self.assertTrue(validator.is_valid(json.load(file)), name)
+
+
+if __name__ == "__main__":
+    unittest.main()
