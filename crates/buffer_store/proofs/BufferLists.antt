@@ -1,11 +1,13 @@
 -- What holds of every list of buffers.
 use Rattle.std.proofs.Common.{◌≡◌, ◌≤◌, ◌+◌, ◌∷◌, ◌++◌, [], ℕ, zero, suc, List, length, slice_index_or, All, refl, ap, arith}
-use Rattle.std.specs.Prelude.{slice_get, slice_set, Some}
+use Rattle.std.specs.Prelude.{slice_get, slice_set, Option, Some, None, Bool, true, false, not, if◌then◌else◌}
 use Rattle.std.proofs.lemmas.List.Sums.{sum_by-cons, sum_by-append}
 use Rattle.std.proofs.Math.Nat.{mul-le-mul_left}
 use Rattle.std.proofs.lemmas.List.Elements.{All-append, All-cons, All-nil, All-head, All-tail}
 use Rattle.buffer_store.specs.declared.buffers.Buffer.{Buffer}
-use Rattle.buffer_store.specs.Buffers.{total_of, changed_at, IsBuffer, AreBuffers}
+use Rattle.wa_base.specs.declared.exceptions.Exc.{Exc}
+use Rattle.wa_base.specs.declared.exceptions.Exc.TheVariants.{NotSupported}
+use Rattle.buffer_store.specs.Buffers.{total_of, changed_at, IsBuffer, AreBuffers, is_supported, limit_refusal, creation_refusal}
 
 -- a buffer has at least one sample
 some_samples : (buffer : Buffer) → IsBuffer buffer → 1 ≤ length buffer.samples
@@ -72,3 +74,17 @@ are_buffers_changed i change bs keeps are = record {
   each = each_changed i change bs keeps are.each;
   limit = omega (arith, same_total i change bs keeps are, are.limit);
 }
+
+-- ---- what may be created
+
+-- where a buffer may be created it has room
+pub has_room : (buffers : List Buffer) (channels frames rate : ℕ) → creation_refusal buffers channels frames rate ≡ None → limit_refusal buffers channels frames ≡ None
+has_room buffers channels frames rate accepted = by_support (is_supported channels frames rate) accepted
+  where
+    by_support : (b : Bool) → (if not b then Some (NotSupported None) else limit_refusal buffers channels frames) ≡ None → limit_refusal buffers channels frames ≡ None
+    by_support true is = is
+    by_support false is = absurd cc
+
+pub not_both : (refusal : Option Exc) (exc : Exc) → refusal ≡ None → refusal ≡ Some exc → ⊥
+not_both None exc is other = absurd cc
+not_both (Some e) exc is other = absurd cc

@@ -6,6 +6,7 @@ ghost use Rattle.buffer_store.specs.Buffers as spec;
 use crate::buffers::{Buffer, Shape};
 use std::alloc::Global;
 use std::marker::Model;
+use std::mem;
 use wa_base::{BufId, Exc, Feature, Fix, NoMemory, Refusal, Samples};
 use wav_io::Wav;
 
@@ -71,13 +72,10 @@ impl Store {
             *self.buffers.allocator(),
             channels as usize * frames as usize,
         )?;
-        self.add(Buffer {
-            shape: Shape {
-                channels,
-                frames,
-                rate,
-                frozen: false,
-            },
+        self.adopt(&mut Wav {
+            rate,
+            channels,
+            frames,
             samples,
         })
     }
@@ -109,31 +107,38 @@ impl Store {
         None
     }
 
-    /// Takes over the samples of a recording (decodeAudioData) without a copy.
+    /// Moves the samples of a recording (decodeAudioData) into a new buffer without a copy, as
+    /// `Vec::append` moves items, and leaves the recording without samples.
     ///
     /// It is refused with NotSupportedError and the feature `buffer-limit` where all buffers would have
-    /// more than 134,217,728 samples. After a refusal, and after `NoMemory`, the buffers are as before,
-    /// and the recording is dropped.
-    pub fn adopt(&mut self, wav: Wav) -> Result<BufId, Refusal>
-        requires { IsRecording wav }
+    /// more than 134,217,728 samples. After a refusal, and after `NoMemory`, the buffers and the
+    /// recording are as before.
+    pub fn adopt(&mut self, wav: &mut Wav) -> Result<BufId, Refusal>
+        requires { IsRecording wav.old }
         ensures id { IfOk result (λ id. id.0 ≡ length self.old) }
-        ensures buffers { OnOk result (self.new ≡ self.old ++ spec.recorded wav ∷ []) }
-        ensures accepted { OnOk result (spec.adoption_refusal self.old wav ≡ None) }
-        ensures refused { (exc : Exc) → IsErrOf result (Refusal.Exc exc) ↔ (spec.adoption_refusal self.old wav ≡ Some exc) }
-        ensures err { OnErr result (self.new ≡ self.old) }
+        ensures buffers { OnOk result (self.new ≡ self.old ++ spec.recorded wav.old ∷ []) }
+        ensures accepted { OnOk result (spec.adoption_refusal self.old wav.old ≡ None) }
+        ensures refused { (exc : Exc) → IsErrOf result (Refusal.Exc exc) ↔ (spec.adoption_refusal self.old wav.old ≡ Some exc) }
+        ensures err { OnErr result ((self.new ≡ self.old) × (wav.new ≡ wav.old)) }
     {
-        if let Some(exc) = self.adoption_refusal(&wav) {
+        if let Some(exc) = self.adoption_refusal(wav) {
             return Err(Refusal::Exc(exc));
         }
-        self.add(Buffer {
+        self.buffers.reserve(1).map_err(NoMemory::from)?;
+        let id = BufId(self.buffers.len() as u32);
+        let none = Samples::new(*self.buffers.allocator());
+        let samples = mem::replace(&mut wav.samples, none);
+        self.total += samples.len() as u64;
+        self.buffers.push_reserved(Buffer {
             shape: Shape {
                 channels: wav.channels,
                 frames: wav.frames,
                 rate: wav.rate,
                 frozen: false,
             },
-            samples: wav.samples,
-        })
+            samples,
+        });
+        Ok(id)
     }
 
     /// The exception with which `adopt` would refuse a recording now.
@@ -142,22 +147,6 @@ impl Store {
         ensures { result ≡ spec.adoption_refusal self.now wav.now }
     {
         self.limit_refusal(wav.channels, wav.frames)
-    }
-
-    // Adds a buffer that has room.
-    fn add(&mut self, buffer: Buffer) -> Result<BufId, Refusal>
-        requires buffer { spec.IsBuffer buffer }
-        requires room { spec.total_of self.old + length buffer.samples ≤ 134217728 }
-        ensures id { IfOk result (λ id. id.0 ≡ length self.old) }
-        ensures buffers { OnOk result (self.new ≡ self.old ++ buffer ∷ []) }
-        ensures cause { (exc : Exc) → IsErrOf result (Refusal.Exc exc) → ⊥ }
-        ensures err { OnErr result (self.new ≡ self.old) }
-    {
-        let id = BufId(self.buffers.len() as u32);
-        let total = self.total + buffer.samples.len() as u64;
-        self.buffers.push(buffer).map_err(NoMemory::from)?;
-        self.total = total;
-        Ok(id)
     }
 
     /// Writes samples of a channel from the frame `at` on (copyToChannel). What would lie past the end

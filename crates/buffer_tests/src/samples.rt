@@ -57,10 +57,10 @@ fn a_frozen_buffer_stays(rt: HostRuntime) {
 
 // Whether a recording becomes the store's second buffer, and a copy of the store is as it was.
 fn adopts(alloc: Global, store: &mut Store) -> bool {
-    let Ok(wav) = decode(alloc, FILE) else {
+    let Ok(mut wav) = decode(alloc, FILE) else {
         return false;
     };
-    store.adopt(wav) == Ok(BufId(1))
+    store.adopt(&mut wav) == Ok(BufId(1))
 }
 
 #[test]

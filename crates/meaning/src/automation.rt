@@ -82,12 +82,12 @@ impl World {
         &mut self,
         now: u64,
         id: ParamId,
-        edit: ParamEdit,
+        edit: &ParamEdit,
     ) -> Result<(), NoMemory>
         requires time { now ≤ 2 ^ 62 }
         requires valid { IsValid self.old }
-        requires accepted { spec.automation_refusal (plain self.old) now id edit ≡ None }
-        ensures ok { OnOk result (plain self.new ≡ spec.automated (plain self.old) now id edit) }
+        requires accepted { spec.automation_refusal (plain self.old) now id edit.now ≡ None }
+        ensures ok { OnOk result (plain self.new ≡ spec.automated (plain self.old) now id edit.now) }
         ensures err { OnErr result (plain self.new ≡ plain self.old) }
     {
         let Some(place) = self.params.find(id) else {
@@ -108,25 +108,25 @@ impl Param {
     }
 
     // Makes an edit that is accepted.
-    fn edit(&mut self, now: u64, edit: ParamEdit) -> Result<(), NoMemory>
+    fn edit(&mut self, now: u64, edit: &ParamEdit) -> Result<(), NoMemory>
         requires time { now ≤ 2 ^ 62 }
-        requires accepted { spec.line_refusal now edit self.old.line.events ≡ None }
-        ensures ok { OnOk result (self.new ≡ spec.param_edited now edit self.old) }
+        requires accepted { spec.line_refusal now edit.now self.old.line.events ≡ None }
+        ensures ok { OnOk result (self.new ≡ spec.param_edited now edit.now self.old) }
         ensures err { OnErr result (self.new ≡ self.old) }
     {
         match edit {
-            ParamEdit::SetNow { value } => made(self.line.set_now(now, value)),
-            ParamEdit::Set { value, time } => made(self.line.set_value(now, value, time)),
-            ParamEdit::Ramp { value, time } => made(self.line.ramp(now, value, time)),
+            ParamEdit::SetNow { value } => made(self.line.set_now(now, *value)),
+            ParamEdit::Set { value, time } => made(self.line.set_value(now, *value, *time)),
+            ParamEdit::Ramp { value, time } => made(self.line.ramp(now, *value, *time)),
             ParamEdit::Curve {
                 points,
                 time,
                 duration,
-            } => made(self.line.curve(now, points.as_slice(), time, duration)),
-            ParamEdit::Cancel { time } => made(self.line.cancel(now, time)),
-            ParamEdit::Hold { time } => made(self.line.hold(now, time)),
+            } => made(self.line.curve(now, points.as_slice(), *time, *duration)),
+            ParamEdit::Cancel { time } => made(self.line.cancel(now, *time)),
+            ParamEdit::Hold { time } => made(self.line.hold(now, *time)),
             ParamEdit::Rate(rate) => {
-                self.rate = rate;
+                self.rate = *rate;
                 Ok(())
             }
         }

@@ -1,4 +1,6 @@
-ghost use Rattle.std.specs.Prelude.{◌≡◌, None, IsOk, IsErr, OnOk, OnErr};
+ghost use Rattle.std.specs.Prelude.{◌≡◌, ◌∷◌, ◌++◌, [], None, IsOk, IsErr, IfOk, OnOk, OnErr};
+ghost use Rattle.wav_io.specs.WavGrammar.{IsRecording};
+ghost use Rattle.buffer_store.specs.Buffers.{adoption_refusal, recorded};
 ghost use Rattle.meaning.specs.Sources as spec;
 ghost use Rattle.meaning.specs.World.{plain};
 
@@ -50,10 +52,10 @@ impl World {
     }
 
     // Makes an edit of the buffers that is accepted.
-    pub(crate) fn edit_buffers(&mut self, edit: BufferEdit) -> Result<(), NoMemory>
-        requires named { spec.IsEditOf self.old.store edit }
-        requires accepted { spec.buffers_refusal self.old.store edit ≡ None }
-        ensures ok { OnOk result (plain self.new ≡ spec.with_store (plain self.old) (spec.buffers_edited self.old.store edit)) }
+    pub(crate) fn edit_buffers(&mut self, edit: &BufferEdit) -> Result<(), NoMemory>
+        requires named { spec.IsEditOf self.old.store edit.now }
+        requires accepted { spec.buffers_refusal self.old.store edit.now ≡ None }
+        ensures ok { OnOk result (plain self.new ≡ spec.with_store (plain self.old) (spec.buffers_edited self.old.store edit.now)) }
         ensures err { OnErr result (plain self.new ≡ plain self.old) }
     {
         match edit {
@@ -61,8 +63,8 @@ impl World {
                 channels,
                 frames,
                 rate,
-            } => made(self.store.create(channels, frames, rate)),
-            BufferEdit::Adopt { wav } => made(self.store.adopt(wav)),
+            } => made(self.store.create(*channels, *frames, *rate)),
+            BufferEdit::Adopt { wav } => self.adopt(&mut copy_of(wav)?),
             BufferEdit::Write {
                 buffer,
                 channel,
@@ -71,11 +73,33 @@ impl World {
             } => {
                 let _accepted = self
                     .store
-                    .write_channel(buffer, channel, samples.as_slice(), first);
+                    .write_channel(*buffer, *channel, samples.as_slice(), *first);
                 Ok(())
             }
         }
     }
+
+    // Moves a recording that is accepted into a new buffer.
+    pub(crate) fn adopt(&mut self, wav: &mut Wav) -> Result<(), NoMemory>
+        requires named { IsRecording wav.old }
+        requires accepted { adoption_refusal self.old.store wav.old ≡ None }
+        ensures ok { OnOk result (plain self.new ≡ spec.with_store (plain self.old) (self.old.store ++ recorded wav.old ∷ [])) }
+        ensures err { OnErr result ((plain self.new ≡ plain self.old) × (wav.new ≡ wav.old)) }
+    {
+        made(self.store.adopt(wav))
+    }
+}
+
+// A recording with memory of its own.
+fn copy_of(wav: &Wav) -> Result<Wav, NoMemory>
+    ensures { IfOk result (λ copy. copy ≡ wav.now) }
+{
+    Ok(Wav {
+        rate: wav.rate,
+        channels: wav.channels,
+        frames: wav.frames,
+        samples: wav.samples.copy()?,
+    })
 }
 
 // A buffer that is accepted is refused only for want of memory.

@@ -101,44 +101,64 @@ impl World {
         }
     }
 
-    /// Makes a change that the world accepts. After `NoMemory` the world is as before.
-    pub fn apply(&mut self, change: Change) -> Result<(), NoMemory>
+    /// Makes a change that the world accepts. What the change holds is copied. After `NoMemory` the
+    /// world is as before.
+    pub fn apply(&mut self, change: &Change) -> Result<(), NoMemory>
         requires valid { IsValid self.old }
-        requires accepted { changes.Accepts (plain self.old) change }
-        ensures ok { OnOk result (plain self.new ≡ changes.changed (plain self.old) change) }
+        requires accepted { changes.Accepts (plain self.old) change.now }
+        ensures ok { OnOk result (plain self.new ≡ changes.changed (plain self.old) change.now) }
         ensures err { OnErr result (plain self.new ≡ plain self.old) }
-        ensures grows { changes.Grows change.time (plain self.old) (plain self.new) }
+        ensures grows { changes.Grows change.now.time (plain self.old) (plain self.new) }
     {
-        self.edit(change.time, change.edit)
+        self.edit(change.time, &change.edit)
+    }
+
+    /// Makes a change that the world accepts. A recording that the change holds is moved into the world
+    /// without a copy, as `Vec::append` moves items. After `NoMemory` the world and the change are as
+    /// before.
+    pub fn absorb(&mut self, change: &mut Change) -> Result<(), NoMemory>
+        requires valid { IsValid self.old }
+        requires accepted { changes.Accepts (plain self.old) change.old }
+        ensures ok { OnOk result (plain self.new ≡ changes.changed (plain self.old) change.old) }
+        ensures err { OnErr result ((plain self.new ≡ plain self.old) × (change.new ≡ change.old)) }
+        ensures grows { changes.Grows change.old.time (plain self.old) (plain self.new) }
+    {
+        if let Edit::Buffers {
+            edit: BufferEdit::Adopt { wav },
+        } = &mut change.edit
+        {
+            return self.adopt(wav);
+        }
+        self.apply(change)
     }
 
     // Makes an edit that the world accepts.
-    fn edit(&mut self, now: u64, edit: Edit) -> Result<(), NoMemory>
+    fn edit(&mut self, now: u64, edit: &Edit) -> Result<(), NoMemory>
         requires valid { IsValid self.old }
         requires time { now ≤ 2 ^ 62 }
-        requires named { changes.IsNamed (plain self.old) edit }
-        requires accepted { changes.refusal (plain self.old) now edit ≡ None }
-        ensures ok { OnOk result (plain self.new ≡ changes.edited (plain self.old) now edit) }
+        requires named { changes.IsNamed (plain self.old) edit.now }
+        requires accepted { changes.refusal (plain self.old) now edit.now ≡ None }
+        ensures ok { OnOk result (plain self.new ≡ changes.edited (plain self.old) now edit.now) }
         ensures err { OnErr result (plain self.new ≡ plain self.old) }
     {
         match edit {
-            Edit::Create { kind } => self.create(kind, now),
+            Edit::Create { kind } => self.create(kind.copy()?, now),
             Edit::CreateBufferSource {
                 rate,
                 buffer,
                 points,
-            } => self.create_source(rate, buffer, points, now),
-            Edit::Connect { edge } => self.connect(edge),
+            } => self.create_source(*rate, *buffer, *points, now),
+            Edit::Connect { edge } => self.connect(*edge),
             Edit::Disconnect { from, form } => {
-                self.disconnect(from, form);
+                self.disconnect(*from, *form);
                 Ok(())
             }
             Edit::Source { node, edit } => {
-                self.edit_source(now, node, edit);
+                self.edit_source(now, *node, *edit);
                 Ok(())
             }
-            Edit::Param { id, edit } => self.edit_param(now, id, edit),
-            Edit::Attribute { node, edit } => done(self.set_attribute(node, edit)),
+            Edit::Param { id, edit } => self.edit_param(now, *id, edit),
+            Edit::Attribute { node, edit } => done(self.set_attribute(*node, *edit)),
             Edit::Buffers { edit } => self.edit_buffers(edit),
         }
     }

@@ -12,7 +12,7 @@ pub returns-clause-ok : goal.returns-clause-ok
 returns-clause-ok c =
     if_made c.edit.result c.edit.ensures.ok
     (λ is. ap (λ (ps : List Param). with_params (plain c.args.self.now) ps)
-    (rewritten_is c.args.self.now c.args.id c.in-Some.place c.at_mut.result.now c.edit.new.self (param_edited c.args.now c.args.edit) c.requires.valid (sym c.find.ensures.place ∙ c.in-Some.is) c.at_mut.ensures.value is))
+    (rewritten_is c.args.self.now c.args.id c.in-Some.place c.at_mut.result.now c.edit.new.self (param_edited c.args.now c.args.edit.now) c.requires.valid (sym c.find.ensures.place ∙ c.in-Some.is) c.at_mut.ensures.value is))
 
 pub returns-clause-err : goal.returns-clause-err
 returns-clause-err c =
@@ -23,4 +23,4 @@ returns-clause-err c =
 pub returns-in_default-clause-ok : goal.returns-in_default-clause-ok
 returns-in_default-clause-ok c =
     ap (λ (ps : List Param). with_params (plain c.args.self.now) ps)
-    (sym (none_changed (λ (p : Param). same_param p.id c.args.id) (param_edited c.args.now c.args.edit) c.args.self.now.params.items (sym c.find.ensures.place ∙ c.in_default.is)))
+    (sym (none_changed (λ (p : Param). same_param p.id c.args.id) (param_edited c.args.now c.args.edit.now) c.args.self.now.params.items (sym c.find.ensures.place ∙ c.in_default.is)))
