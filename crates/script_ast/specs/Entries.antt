@@ -245,6 +245,12 @@ read_value =
     row field.Node kind.Name Needed ∷
     row field.Param kind.Name Needed ∷ []
 
+-- `suspend`
+abbrev pub suspend : List Row
+suspend =
+    row field.Time kind.Time Needed ∷
+    row field.Then kind.Calls NoCalls ∷ []
+
 -- `startRendering`
 abbrev pub start_rendering : List Row
 start_rendering =

@@ -10,7 +10,7 @@ use Rattle.script_ast.specs.declared.entries.Row.{Row}
 use Rattle.script_ast.specs.declared.op_names.LeftOutName.{LeftOutName}
 use Rattle.script_ast.specs.declared.op_names.LeftOutName.TheVariants as left_out
 use Rattle.script_ast.specs.declared.op_names.OpName.{OpName}
-use Rattle.script_ast.specs.declared.op_names.OpName.TheVariants.{CreateConstantSource, CreateGain, CreateChannelSplitter, CreateChannelMerger, CreateBufferSource, CreateBuffer, Connect, ConnectParam, Disconnect, DisconnectParam, SetChannelCount, SetChannelCountMode, SetChannelInterpretation, SetBuffer, SetLoop, SetLoopStart, SetLoopEnd, CopyToChannel, Start, Stop, Param, StartRendering, Resume, DecodeAudioData, ReadState, ReadTime, LeftOut}
+use Rattle.script_ast.specs.declared.op_names.OpName.TheVariants.{CreateConstantSource, CreateGain, CreateChannelSplitter, CreateChannelMerger, CreateBufferSource, CreateBuffer, Connect, ConnectParam, Disconnect, DisconnectParam, SetChannelCount, SetChannelCountMode, SetChannelInterpretation, SetBuffer, SetLoop, SetLoopStart, SetLoopEnd, CopyToChannel, Start, Stop, Param, Suspend, StartRendering, Resume, DecodeAudioData, ReadState, ReadTime, LeftOut}
 use Rattle.script_ast.specs.declared.param_ops.ParamOpName.{ParamOpName}
 use Rattle.script_ast.specs.declared.param_ops.ParamOpName.TheVariants as param
 
@@ -86,6 +86,7 @@ op_word CopyToChannel = codes "copyToChannel"
 op_word Start = codes "start"
 op_word Stop = codes "stop"
 op_word (Param name) = param_op_word name
+op_word Suspend = codes "suspend"
 op_word StartRendering = codes "startRendering"
 op_word Resume = codes "resume"
 op_word DecodeAudioData = codes "decodeAudioData"
@@ -126,6 +127,7 @@ operations =
     Param param.ExponentialRampToValueAtTime ∷
     Param param.SetTargetAtTime ∷
     Param param.ReadValue ∷
+    Suspend ∷
     StartRendering ∷
     Resume ∷
     DecodeAudioData ∷
@@ -191,6 +193,7 @@ fields_of CopyToChannel = entry.copy_to_channel
 fields_of Start = entry.start
 fields_of Stop = entry.stop
 fields_of (Param name) = param_op_fields name
+fields_of Suspend = entry.suspend
 fields_of StartRendering = entry.start_rendering
 fields_of Resume = []
 fields_of DecodeAudioData = entry.decode_audio_data

@@ -243,6 +243,8 @@ pub const SET_TARGET_AT_TIME: [Row; 2] = [row!(Node, Name, Needed), row!(Param, 
 
 pub const READ_VALUE: [Row; 2] = [row!(Node, Name, Needed), row!(Param, Name, Needed)];
 
+pub const SUSPEND: [Row; 2] = [row!(Time, Time, Needed), row!(Then, Calls, NoCalls)];
+
 pub const START_RENDERING: [Row; 1] = [row!(Then, Calls, NoCalls)];
 
 pub const DECODE_AUDIO_DATA: [Row; 2] = [row!(As, NewName, Needed), row!(Path, Path, Needed)];

@@ -6,7 +6,7 @@ use crate::entries::{
     CREATE_CHANNEL_MERGER, CREATE_CHANNEL_SPLITTER, CREATE_CONSTANT_SOURCE, CREATE_GAIN,
     DECODE_AUDIO_DATA, DISCONNECT, DISCONNECT_PARAM, Kind, Row, SET_BUFFER, SET_CHANNEL_COUNT,
     SET_CHANNEL_COUNT_MODE, SET_CHANNEL_INTERPRETATION, SET_LOOP, SET_LOOP_END, SET_LOOP_START,
-    START, START_RENDERING, STOP,
+    START, START_RENDERING, STOP, SUSPEND,
 };
 use crate::param_ops::ParamOpName;
 use wa_base::Feature;
@@ -105,6 +105,7 @@ pub enum OpName {
     Start,
     Stop,
     Param(ParamOpName),
+    Suspend,
     StartRendering,
     Resume,
     DecodeAudioData,
@@ -114,7 +115,7 @@ pub enum OpName {
 }
 
 /// Every operation.
-pub const OP_NAMES: [OpName; 50] = [
+pub const OP_NAMES: [OpName; 51] = [
     OpName::CreateConstantSource,
     OpName::CreateGain,
     OpName::CreateChannelSplitter,
@@ -145,6 +146,7 @@ pub const OP_NAMES: [OpName; 50] = [
     OpName::Param(ParamOpName::ExponentialRampToValueAtTime),
     OpName::Param(ParamOpName::SetTargetAtTime),
     OpName::Param(ParamOpName::ReadValue),
+    OpName::Suspend,
     OpName::StartRendering,
     OpName::Resume,
     OpName::DecodeAudioData,
@@ -196,6 +198,7 @@ impl OpName {
             OpName::Start => "start",
             OpName::Stop => "stop",
             OpName::Param(name) => name.word(),
+            OpName::Suspend => "suspend",
             OpName::StartRendering => "startRendering",
             OpName::Resume => "resume",
             OpName::DecodeAudioData => "decodeAudioData",
@@ -245,6 +248,7 @@ impl OpName {
             OpName::Start => &START,
             OpName::Stop => &STOP,
             OpName::Param(name) => name.fields(),
+            OpName::Suspend => &SUSPEND,
             OpName::StartRendering => &START_RENDERING,
             OpName::DecodeAudioData => &DECODE_AUDIO_DATA,
             OpName::Resume | OpName::ReadState | OpName::ReadTime | OpName::LeftOut(_) => &[],

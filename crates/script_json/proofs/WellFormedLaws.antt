@@ -23,7 +23,7 @@ use Rattle.script_ast.specs.declared.entries.Row.{Row}
 use Rattle.script_ast.specs.declared.fields.Field.{Field}
 use Rattle.script_ast.specs.declared.fields.Field.TheVariants as field
 use Rattle.script_ast.specs.declared.op_names.OpName.{OpName}
-use Rattle.script_ast.specs.declared.op_names.OpName.TheVariants.{CreateConstantSource, CreateGain, CreateChannelSplitter, CreateChannelMerger, CreateBufferSource, CreateBuffer, Connect, ConnectParam, Disconnect, DisconnectParam, SetChannelCount, SetChannelCountMode, SetChannelInterpretation, SetBuffer, SetLoop, SetLoopStart, SetLoopEnd, CopyToChannel, Start, Stop, Param, StartRendering, Resume, DecodeAudioData, ReadState, ReadTime, LeftOut}
+use Rattle.script_ast.specs.declared.op_names.OpName.TheVariants.{CreateConstantSource, CreateGain, CreateChannelSplitter, CreateChannelMerger, CreateBufferSource, CreateBuffer, Connect, ConnectParam, Disconnect, DisconnectParam, SetChannelCount, SetChannelCountMode, SetChannelInterpretation, SetBuffer, SetLoop, SetLoopStart, SetLoopEnd, CopyToChannel, Start, Stop, Param, Suspend, StartRendering, Resume, DecodeAudioData, ReadState, ReadTime, LeftOut}
 use Rattle.script_ast.specs.declared.param_ops.ParamOpName.{ParamOpName}
 use Rattle.script_ast.specs.declared.param_ops.ParamOpName.TheVariants as param
 use Rattle.script_json.proofs.CallSteps.{both_none, length-calls, outcome_ok}
@@ -180,6 +180,7 @@ op_in-range clock n d CopyToChannel h = (count_in-range _ _ d, fixes_in-range fi
 op_in-range clock n d Start h = (time_in-range clock _ _ d, time_in-range clock _ _ d, time_or_null_in-range clock _ d)
 op_in-range clock n d Stop h = time_in-range clock _ _ d
 op_in-range clock n d (Param name) h = param_op_in-range clock d name
+op_in-range clock n d Suspend h = time_in-range clock _ _ d
 op_in-range clock n d StartRendering h = tt
 op_in-range clock n d Resume h = tt
 op_in-range clock n d DecodeAudioData h =

@@ -9,7 +9,7 @@ use Rattle.script_ast.specs.declared.call_list.Call.{Call}
 use Rattle.script_ast.specs.declared.clocks.Clock.{Clock}
 use Rattle.script_ast.specs.declared.fields.Field.TheVariants as field
 use Rattle.script_ast.specs.declared.op_names.OpName.{OpName}
-use Rattle.script_ast.specs.declared.op_names.OpName.TheVariants.{CreateConstantSource, CreateGain, CreateChannelSplitter, CreateChannelMerger, CreateBufferSource, CreateBuffer, Connect, ConnectParam, Disconnect, DisconnectParam, SetChannelCount, SetChannelCountMode, SetChannelInterpretation, SetBuffer, SetLoop, SetLoopStart, SetLoopEnd, CopyToChannel, Start, Stop, Param, StartRendering, Resume, DecodeAudioData, ReadState, ReadTime, LeftOut}
+use Rattle.script_ast.specs.declared.op_names.OpName.TheVariants.{CreateConstantSource, CreateGain, CreateChannelSplitter, CreateChannelMerger, CreateBufferSource, CreateBuffer, Connect, ConnectParam, Disconnect, DisconnectParam, SetChannelCount, SetChannelCountMode, SetChannelInterpretation, SetBuffer, SetLoop, SetLoopStart, SetLoopEnd, CopyToChannel, Start, Stop, Param, Suspend, StartRendering, Resume, DecodeAudioData, ReadState, ReadTime, LeftOut}
 use Rattle.script_ast.specs.declared.operations.Op.{Op}
 use Rattle.script_ast.specs.declared.operations.Op.TheVariants as op
 use Rattle.script_ast.specs.declared.param_ops.ParamOpName.{ParamOpName}
@@ -122,6 +122,7 @@ op_in clock CopyToChannel d = op.CopyToChannel (text_in field.Buffer d) (count_i
 op_in clock Start d = op.Start (text_in field.Node d) (time_in clock entry.start field.When d) (time_in clock entry.start field.Offset d) (time_or_null_in clock field.Duration d)
 op_in clock Stop d = op.Stop (text_in field.Node d) (time_in clock entry.stop field.When d)
 op_in clock (Param name) d = param_op_in clock name d
+op_in clock Suspend d = op.Suspend (time_in clock entry.suspend field.Time d)
 op_in clock StartRendering d = op.StartRendering
 op_in clock Resume d = op.Resume
 op_in clock DecodeAudioData d = op.DecodeAudioData (text_in field.As d) (text_in field.Path d)

@@ -36,6 +36,9 @@ pub fn build(alloc: Global, clock: Clock, name: OpName, call: &Value) -> Result<
         OpName::Start => start(alloc, clock, call),
         OpName::Stop => stop(alloc, clock, call),
         OpName::Param(name) => build_param_op(alloc, clock, name, call),
+        OpName::Suspend => Ok(Op::Suspend {
+            time: time(clock, call, &entries::SUSPEND, Field::Time),
+        }),
         OpName::StartRendering => Ok(Op::StartRendering),
         OpName::Resume => Ok(Op::Resume),
         OpName::DecodeAudioData => decode_audio_data(alloc, call),

@@ -10,6 +10,7 @@ use wa_base::Name;
 /// The operation's word and its fields, in the order in which they are read.
 pub fn op_text(alloc: Global, op: &Op) -> Result<String, AllocError> {
     match op {
+        Op::Suspend { time } => format!(in alloc; "suspend {time}"),
         Op::StartRendering => String::from_str(alloc, "startRendering"),
         Op::Resume => String::from_str(alloc, "resume"),
         Op::DecodeAudioData { name, path } => {

@@ -47,7 +47,7 @@ fn finds_calls_by_their_ordinals(rt: HostRuntime) -> Result<(), Fail> {
     Ok(())
 }
 
-static BUILT: [&str; 21] = [
+static BUILT: [&str; 22] = [
     "createGain",
     "connect",
     "disconnect",
@@ -66,6 +66,7 @@ static BUILT: [&str; 21] = [
     "readValue",
     "decodeAudioData",
     "readTime",
+    "suspend",
     "startRendering",
     "createConvolver",
     "setListener",
@@ -77,7 +78,7 @@ static NOT_BUILT: [&str; 7] = [
     "creategain",
     "setOversample",
     "setCurve",
-    "suspend",
+    "createDelay",
     "then",
 ];
 
