@@ -1,0 +1,9 @@
+pub mod Channels
+pub mod DelayRows
+pub mod Ends
+pub mod Heard
+pub mod Keeping
+pub mod Picks
+pub mod Places
+pub mod Steady
+pub mod Writing

@@ -1,0 +1,64 @@
+use Rattle.std.proofs.Common.{rules, ℕ, ◌≡◌, ◌+◌, ◌-◌, ◌*◌, ◌<◌, ◌≤◌, length, take, drop, ap, ap₂, sym, ◌∙◌, arith, inl, inr}
+use Rattle.std.proofs.lemmas.List.{places}
+use Rattle.std.proofs.lemmas.Nat.{mul-le}
+use Rattle.lane_kern.specs.Blocks.{at}
+use Rattle.channel_mix.specs.Blocks.{sample}
+use Rattle.delay_line.specs.Delays.{delayed}
+use Rattle.delay_line.specs.Lines.{Line, frame_at}
+use Rattle.delay_line.specs.Sources.{picked}
+use Rattle.delay_line.specs.Spans.{delay_at}
+use Rattle.delay_line.proofs.Channels.{put, part_delay, put_here, put_below, put_before}
+use Rattle.delay_line.proofs.Ends.{order}
+use Rattle.delay_line.proofs.Heard.{picked_delayed}
+use Rattle.delay_line.proofs.line.DelayLine.read_span.Goals as goal
+
+pub loop-c-preserved : goal.loop-c-preserved
+loop-c-preserved c =
+    let line = c.args.self.now in
+    let block = c.self.inside.block in
+    let is : block ≡ line.block = ap (λ (l : Line). l.block) c.self.view_is in
+    let this = c.loop-c.c in
+    let start = c.args.span.start in
+    let end = c.args.span.end in
+    let old = c.loop-c.out in
+    let part = c.read_channel.new.out in
+    let span = c.requires.span in
+    let inv = c.loop-c.invariant in
+    let delays = c.args.delays.now in
+    let within : end ≤ block = omega (arith, span.within, c.requires.delays, is) in
+    let next : (this + 1) * block ≤ c.args.request.channels * block = mul-le _ _ _ _ (let more : this + 1 ≤ c.args.request.channels = omega (arith, c.loop-c-test.true) in more) (omega arith) in
+    let all : length old ≡ c.args.request.channels * block = c.loop-c.auto.out ∙ c.requires.out ∙ ap (λ n. c.args.request.channels * n) (sym is) in
+    let there : this * block + start ≤ length old = omega (arith, next, all, within, span.some) in
+    let i = this * block + start in
+    let m = this * block + end - i in
+    let size : m ≡ end - start = omega arith in
+    let fits : i + m ≤ length old = omega (arith, next, all, within, span.some) in
+    let taken : length (take m (drop i old)) ≡ m = search (rules, places) in
+    let long : length part ≡ end - start = c.read_channel.auto.out ∙ taken ∙ size in
+    let first = c.args.request.first in
+    let source = c.source_of-source.result in
+    let read : (k : ℕ) → start ≤ k → k < end → at part (k - start) ≡ picked (frame_at line (first + k - delay_at delays k)) source = λ k low high.
+    let few : k - start < length (take m (drop i old)) = omega (arith, taken, size, low, high) in
+    let place : first + start + (k - start) ≡ first + k = omega (arith, low) in
+    c.read_channel.ensures (k - start) few
+    ∙ ap₂ (λ (f d : ℕ). picked (frame_at line (f - d)) source) place (part_delay start end delays k low high) in
+    record {
+      done = λ writer b k keeps less low high.
+          let inside : k < block = omega (arith, high, within) in
+          ap (λ n. sample n (put block this start end old part) b k) (sym is) ∙ elim (order this b) [
+            | inl here ↦
+                let e : b ≡ this = omega (arith, here, less) in
+                let to = c.args.request.channels in
+                let reached = c.requires.frames k (omega (arith, inside, is)) in
+                ap (λ n. sample block (put block this start end old part) n k) e ∙ put_here block this start end old part k low high long there ∙ read k low high
+                ∙ picked_delayed line writer c.args.request.interp c.args.span.count to (first + k) (delay_at delays k) this source keeps reached (span.alike k low high)
+                c.source_of-source.ensures.value c.source_of-source.ensures.needed
+                ∙ ap (λ n. delayed line.block writer c.args.request.interp to (first + k) (delay_at delays k) n) (sym e)
+            | inr below ↦
+                put_below block this start end old part b k below inside there ∙ ap (λ n. sample n old b k) is ∙ inv.done writer b k keeps below low high
+          ];
+      before = λ b k less early.
+          ap (λ n. sample n (put block this start end old part) b k) (sym is)
+          ∙ put_before block this start end old part b k early (omega (arith, span.some)) within long there
+          ∙ ap (λ n. sample n old b k) is ∙ inv.before b k less early;
+    }

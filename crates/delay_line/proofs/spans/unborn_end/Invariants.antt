@@ -1,0 +1,13 @@
+use Rattle.std.proofs.Common.{ℕ, ◌+◌, ◌-◌, ◌<◌, ◌≤◌, length}
+use Rattle.delay_line.specs.Spans.{delay_at}
+use Rattle.delay_line.proofs.spans.unborn_end.Given as goal
+
+pub record Going (within all : Type 0) : Type 0 where
+  pub order : within
+  pub unborn : all
+
+abbrev pub invariant-loop-end : goal.invariant-loop-end
+invariant-loop-end l = Going ((l.start < l.end) × (l.end ≤ length l.delays)) ((k : ℕ) → l.start ≤ k → k < l.end → l.first + k < delay_at l.delays k)
+
+abbrev pub decreases-loop-end : goal.decreases-loop-end
+decreases-loop-end l = length l.delays - l.end

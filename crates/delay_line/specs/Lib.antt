@@ -1,0 +1,6 @@
+pub mod Delays
+pub mod Inside
+pub mod Lines
+pub mod Rings
+pub mod Sources
+pub mod Spans

@@ -1,0 +1,86 @@
+ghost use Rattle.std.specs.Prelude.{◌≡◌, ◌<◌, ◌≤◌, ◌+◌, ◌-◌, ◌^◌, ℕ, true, length};
+ghost use Rattle.delay_line.specs.Spans.{IsBetween, delay_at};
+
+use crate::rings::{distance, is_steady};
+
+// Frames of a block that all lie before birth, or that were all written with as many channels.
+#[derive(Clone, Copy)]
+pub(crate) struct Span {
+    pub(crate) start: usize,
+    pub(crate) end: usize,
+    pub(crate) count: u32,
+}
+
+// Where what frames read stops to lie before birth, from a frame on that reads what lies there.
+pub(crate) fn unborn_end(first: u64, delays: &[u64], start: usize) -> usize
+    requires start { start < length delays.now }
+    requires short { (first ≤ 2 ^ 62) × (length delays.now ≤ 1024) }
+    requires unborn { first + start < delay_at delays.now start }
+    ensures order { (start < result) × (result ≤ length delays.now) }
+    ensures unborn { (k : ℕ) → start ≤ k → k < result → first + k < delay_at delays.now k }
+{
+    let mut end = start + 1;
+    while end < delays.len() && first + (end as u64) < delays[end] {
+        end += 1;
+    }
+    end
+}
+
+// Where fewer frames than `near`, or `far` and more, follow what frames read, from a frame on where it
+// is not so. With one delay each frame is followed by one less than the one before it.
+pub(crate) fn born_end(
+    written: u64,
+    first: u64,
+    delays: &[u64],
+    start: usize,
+    near: usize,
+    far: usize,
+) -> usize
+    requires start { start < length delays.now }
+    requires short { (first ≤ 2 ^ 62) × (length delays.now ≤ 1024) }
+    requires written { (k : ℕ) → k < length delays.now → delay_at delays.now k ≤ first + k → first + k - delay_at delays.now k < written }
+    requires between { IsBetween written (first + start) (delay_at delays.now start) near far }
+    ensures order { (start < result) × (result ≤ length delays.now) }
+    ensures between { (k : ℕ) → start ≤ k → k < result → IsBetween written (first + k) (delay_at delays.now k) near far }
+{
+    let rest = &delays[start..delays.len()];
+    if is_steady(rest) {
+        let back = distance(written, first + start as u64, delays[start]);
+        return start + (back + 1 - near).min(rest.len());
+    }
+    moving_end(written, first, delays, start, near, far)
+}
+
+// The same where each frame has a delay of its own.
+fn moving_end(
+    written: u64,
+    first: u64,
+    delays: &[u64],
+    start: usize,
+    near: usize,
+    far: usize,
+) -> usize
+    requires start { start < length delays.now }
+    requires short { (first ≤ 2 ^ 62) × (length delays.now ≤ 1024) }
+    requires written { (k : ℕ) → k < length delays.now → delay_at delays.now k ≤ first + k → first + k - delay_at delays.now k < written }
+    requires between { IsBetween written (first + start) (delay_at delays.now start) near far }
+    ensures order { (start < result) × (result ≤ length delays.now) }
+    ensures between { (k : ℕ) → start ≤ k → k < result → IsBetween written (first + k) (delay_at delays.now k) near far }
+{
+    let mut end = start + 1;
+    while end < delays.len() && is_between(written, first + end as u64, delays[end], near, far) {
+        end += 1;
+    }
+    end
+}
+
+fn is_between(written: u64, f: u64, delay: u64, near: usize, far: usize) -> bool
+    requires { delay ≤ f → f - delay < written }
+    ensures { result ≡ true → IsBetween written f delay near far }
+{
+    if f < delay {
+        return false;
+    }
+    let back = distance(written, f, delay);
+    near <= back && back < far
+}
