@@ -1,31 +1,50 @@
 -- What is said of the answer of the program.
-use Rattle.std.specs.Prelude.{ℕ, ◌≡◌, ◌≤◌, ◌↔◌, List, length, true, Some, Ok}
+use Rattle.std.specs.Prelude.{ℕ, zero, suc, ◌≡◌, ◌≤◌, ◌↔◌, List, length, Bool, true, Some, Ok}
 use Rattle.std.specs.List.{list_any}
 use Rattle.wa_base.specs.Contexts.{is_supported}
 use Rattle.script_ast.specs.declared.call_list.Call.{Call}
 use Rattle.script_ast.specs.declared.call_list.Script.{Script}
 use Rattle.script_json.specs.Script.{script_of}
 use Rattle.session.specs.Assets.{Folder}
-use Rattle.session.specs.Session.{held_by}
-use Rattle.session.specs.Step.{is_start}
+use Rattle.ctx_state.specs.Context.{turn_of}
+use Rattle.session.specs.Session.{Told, first_told, held_by, main_list, after_turn, after_list, quanta_left, has_closed, ByTurn}
+use Rattle.session.specs.Step.{is_start, is_resume}
 use Rattle.replay_top.specs.Answer.{answer, max_script}
 use Rattle.replay_top.specs.Words.{Reading, reading}
 use Rattle.replay_top.specs.declared.status.Status.TheVariants.{Rendered}
 
--- a script whose context can be rendered, and whose main list starts the rendering
-pub record Renders (script : Script) : Type 0 where
+-- whether a list has a resume
+abbrev pub has_resume : List Call → Bool
+has_resume calls = list_any (λ (call : Call). is_resume call.op) calls
+
+-- Turn by turn, the list of each suspension that becomes due has a resume, until the length is reached; with no quantum left, the context is closed.
+abbrev pub EachResumes : ℕ → Folder → List Call → Told → Type 0
+EachResumes zero folder calls told = has_closed told.machine.context.state ≡ true
+EachResumes (suc left) folder calls told =
+    ByTurn (turn_of told.machine.context)
+    (EachResumes left folder calls (after_turn told))
+    (λ ordinal. (has_resume (held_by ordinal calls) ≡ true) × EachResumes left folder calls (after_list folder calls (after_turn told) ordinal))
+    (λ ordinal. Unit {0})
+
+-- once its main list ran
+abbrev pub started : Folder → Script → Told
+started folder script = main_list folder script.calls (first_told script.context)
+
+-- a script whose context can be rendered, whose main list starts the rendering, and whose suspensions resume
+pub record Renders (folder : Folder) (script : Script) : Type 0 where
   pub context : is_supported script.context ≡ true
   pub starts : list_any (λ (call : Call). is_start call.op) (held_by 0 script.calls) ≡ true
+  pub resumes : EachResumes (quanta_left (started folder script).machine) folder script.calls (started folder script)
 
 -- words that have a reading, and no more bytes than a script may have, which are a script that renders
-pub record IsRendered (words : List (List ℕ)) (bytes : List ℕ) : Type 0 where
+pub record IsRendered (words : List (List ℕ)) (bytes : List ℕ) (folder : Folder) : Type 0 where
   pub asked : Reading
   pub reads : reading words ≡ Some asked
   pub short : length bytes ≤ max_script
   pub script : Script
   pub read : script_of bytes ≡ Ok script
-  pub renders : Renders script
+  pub renders : Renders folder script
 
--- The answer is Rendered exactly there, whatever the folder of assets holds.
+-- The answer is Rendered exactly there.
 abbrev pub CompletenessLaw : Type 0
-CompletenessLaw = (words : List (List ℕ)) (bytes : List ℕ) (folder : Folder) → ((answer words bytes folder).status ≡ Rendered) ↔ IsRendered words bytes
+CompletenessLaw = (words : List (List ℕ)) (bytes : List ℕ) (folder : Folder) → ((answer words bytes folder).status ≡ Rendered) ↔ IsRendered words bytes folder

@@ -1,8 +1,10 @@
 -- What an operation comes to, and what that leaves of a machine.
-use Rattle.std.proofs.Common.{ℕ, ◌≡◌, ◌<◌, length, List, true, false, Option, Some, None, Result, Ok, Err, IsSome, refl, sym, ◌∙◌, ap, subst, arith}
-use Rattle.std.specs.Prelude.{is_some, unwrap_or, IfSome, IfOk, OnErr}
+use Rattle.std.proofs.Common.{ℕ, ℤ, Bool, ◌≡◌, ◌<◌, length, List, true, false, Option, Some, None, Result, Ok, Err, IsSome, refl, sym, ◌∙◌, ap, subst, arith}
+use Rattle.std.specs.Prelude.{is_some, unwrap_or, if◌then◌else◌, IfSome, IfOk, OnErr}
 use Rattle.wa_base.specs.declared.exceptions.Exc.{Exc}
-use Rattle.wa_base.specs.declared.exceptions.Exc.TheVariants.{NotSupported}
+use Rattle.wa_base.specs.Contexts.{quantum_of}
+use Rattle.wa_base.specs.declared.exceptions.Exc.TheVariants.{NotSupported, InvalidState}
+use Rattle.ctx_state.specs.Context.{ContextView, start_refusal, resume_refusal, quantised, frame_refusal, suspend_refusal, suspend_frame, may_suspend}
 use Rattle.wa_base.specs.declared.features.Feature.TheVariants.{ExponentialRamp, SetTarget}
 use Rattle.wa_base.specs.declared.graph_names.BufId.{BufId}
 use Rattle.wa_base.specs.declared.graph_names.ParamId.{ParamId}
@@ -33,12 +35,13 @@ use Rattle.meaning.specs.World.{slot_of}
 use Rattle.meaning.specs.Sources.{IsBufferOf}
 use Rattle.meaning.specs.Changes.{creates, edited, refusal, IsNamed, Grows}
 use Rattle.meaning.proofs.Changing.{grows_same, changed_grows}
-use Rattle.session.specs.declared.control.Decided.{Decided}
-use Rattle.session.specs.declared.control.Decided.TheVariants as comes_to
+use Rattle.session.specs.declared.control.Stepped.{Stepped}
+use Rattle.session.specs.declared.decide.Decided.{Decided}
+use Rattle.session.specs.declared.decide.Decided.TheVariants as comes_to
 use Rattle.session.specs.Machine.{Machine}
 use Rattle.session.specs.Params.{param_at, name_refusal, lead_refusal, unless_refused, on_param, edits_param, leads, edge_to_param, form_of_param, decided_on_line, decided_on_param}
 use Rattle.session.specs.Steady.{IsSteady}
-use Rattle.session.specs.Step.{decided_with, node_bound, node_named, buffer_bound, buffer_named, new_name, refused, unless, edits, edits_node, edits_nodes, edits_buffer, edits_with_buffer, sets_buffer, rate_of, edge_of, form_to, form_from, starts, decided, with_edit, settled, is_start, KeepsTime, IsFor, Steps}
+use Rattle.session.specs.Step.{decided_with, node_bound, node_named, buffer_bound, buffer_named, new_name, refused, unless, edits, edits_node, edits_nodes, edits_buffer, edits_with_buffer, sets_buffer, rate_of, edge_of, form_to, form_from, promises, decided, with_edit, settled, is_start, KeepsTime, RunsOnceStarted, IsFor, Steps}
 use Rattle.session.proofs.Named.{named_there}
 use Rattle.session.proofs.Parameters.{param_there, param_low, lead_kept}
 
@@ -64,9 +67,9 @@ buffer_there m steady name buffer is = named_there m.bindings name m.world (obje
 
 module _ (m : Machine) (steady : IsSteady m) (o : Op) where
   edits_for : (e : Edit) → IsNamed m.world e → creates e ≡ is_some (new_name o) → IsFor m o (edits m e)
-  edits_for e named new = by_refusal (refusal m.world m.context.now e) refl
+  edits_for e named new = by_refusal (refusal m.world m.context.time e) refl
     where
-      by_refusal : (r : Option Exc) → refusal m.world m.context.now e ≡ r → IsFor m o (unless r e)
+      by_refusal : (r : Option Exc) → refusal m.world m.context.time e ≡ r → IsFor m o (unless r e)
       by_refusal None fine = (record { time = let low = steady.time in omega arith; named = named; accepted = fine }, new)
       by_refusal (Some exc) thrown = tt
 
@@ -122,9 +125,21 @@ form_to_names count None input to there = there
 form_to_names count (Some output) None to there = there
 form_to_names count (Some output) (Some input) to there = there
 
-start_for : (m : Machine) (s : Option ℕ) → m.context.started ≡ s → IsFor m op.StartRendering (starts s)
-start_for m None is = (refl, is)
-start_for m (Some ordinal) is = tt
+promise_for : (m : Machine) (o : Op) (r : Option Exc) (d : Decided) → (r ≡ None → IsFor m o d) → IsFor m o (promises r d)
+promise_for m o None d kept = kept refl
+promise_for m o (Some exc) d kept = tt
+
+-- a suspend that is not refused may be scheduled
+may_be : (c : ContextView) (time : ℤ) → suspend_refusal c time ≡ None → may_suspend c (suspend_frame c time) ≡ true
+may_be c time fine = by_frame (quantised (quantum_of c.spec) time) fine
+  where
+    by_frame : (f : Option ℕ) → frame_refusal c f ≡ None → may_suspend c (unwrap_or f 0) ≡ true
+    by_frame None fine = absurd cc
+    by_frame (Some frame) fine = by_test (may_suspend c frame) fine
+      where
+        by_test : (b : Bool) → (if b then None else Some InvalidState) ≡ None → b ≡ true
+        by_test true fine = refl
+        by_test false fine = absurd cc
 
 form_of_param_names : (count : ℕ) (output : Option ℕ) (to : ParamId) → to.node.0 < count → IfSome (form_node (form_of_param output to)) (λ node. node < count)
 form_of_param_names count None to there = there
@@ -206,8 +221,10 @@ decided_for m steady (op.SetLoopEnd node value) in_range =
 decided_for m steady (op.CopyToChannel buffer channel samples first) in_range =
     buffer_for m steady (op.CopyToChannel buffer channel samples first) (buffer_named m buffer) (λ b. edit.Buffers (buffer_edit.Write b channel samples first))
     (λ b is. (buffer_there m steady buffer b is, refl))
-decided_for m steady op.StartRendering in_range = start_for m m.context.started refl
-decided_for m steady op.Resume in_range = tt
+decided_for m steady op.StartRendering in_range = promise_for m op.StartRendering (start_refusal m.context) comes_to.Start (λ fine. (refl, fine))
+decided_for m steady (op.Suspend time) in_range =
+    promise_for m (op.Suspend time) (suspend_refusal m.context time) (comes_to.Suspend (suspend_frame m.context time)) (may_be m.context time)
+decided_for m steady op.Resume in_range = promise_for m op.Resume (resume_refusal m.context) comes_to.Resume (λ fine. fine)
 decided_for m steady op.ReadState in_range = tt
 decided_for m steady op.ReadTime in_range = tt
 decided_for m steady (op.DecodeAudioData name path) in_range = decoding_for m name path
@@ -226,11 +243,11 @@ is_new other name in_range is = absurd cc
 
 -- ---- what a call leaves
 
-edit_world : (m : Machine) (e : Edit) (name : Option (List ℕ)) → (with_edit m e name).world ≡ edited m.world m.context.now e
+edit_world : (m : Machine) (e : Edit) (name : Option (List ℕ)) → (with_edit m e name).world ≡ edited m.world m.context.time e
 edit_world m e None = refl
 edit_world m e (Some name) = refl
 
-edit_time : (m : Machine) (e : Edit) (name : Option (List ℕ)) → (with_edit m e name).context.now ≡ m.context.now
+edit_time : (m : Machine) (e : Edit) (name : Option (List ℕ)) → (with_edit m e name).context.time ≡ m.context.time
 edit_time m e None = refl
 edit_time m e (Some name) = refl
 
@@ -238,32 +255,52 @@ edit_started : (m : Machine) (e : Edit) (name : Option (List ℕ)) → (with_edi
 edit_started m e None = refl
 edit_started m e (Some name) = refl
 
+edit_runs : (m : Machine) (e : Edit) (name : Option (List ℕ)) → RunsOnceStarted m → RunsOnceStarted (with_edit m e name)
+edit_runs m e None runs = runs
+edit_runs m e (Some name) runs = runs
+
 pub record Leaves (m next : Machine) (o : Op) : Type 0 where
-  pub grows : Grows m.context.now m.world next.world
+  pub grows : Grows m.context.time m.world next.world
   pub kept : KeepsTime m next
   pub kept_start : is_start o ≡ false → next.context.started ≡ m.context.started
+  pub runs : RunsOnceStarted m → RunsOnceStarted next
 
 pub leaves_all : (m : Machine) (o : Op) → Leaves m m o
-leaves_all m o = record { grows = grows_same m.context.now m.world; kept = record { spec = refl; now = refl }; kept_start = λ other. refl }
+leaves_all m o = record { grows = grows_same m.context.time m.world; kept = record { spec = refl; now = refl }; kept_start = λ other. refl; runs = λ runs. runs }
 
 settled_leaves : (m : Machine) → IsSteady m → (call : Call) (d : Decided) → IsFor m call.op d → Leaves m (settled m call d).machine call.op
 settled_leaves m steady call (comes_to.Answer said) fits = leaves_all m call.op
 settled_leaves m steady call comes_to.Start fits = record {
-  grows = grows_same m.context.now m.world;
+  grows = grows_same m.context.time m.world;
   kept = record { spec = refl; now = refl };
   kept_start = λ other. absurd (let both = sym fits.0 ∙ other in cc);
+  runs = λ runs started. refl;
+}
+settled_leaves m steady call (comes_to.Suspend frame) fits = record {
+  grows = grows_same m.context.time m.world;
+  kept = record { spec = refl; now = refl };
+  kept_start = λ other. refl;
+  runs = λ runs. runs;
+}
+settled_leaves m steady call comes_to.Resume fits = record {
+  grows = grows_same m.context.time m.world;
+  kept = record { spec = refl; now = refl };
+  kept_start = λ other. refl;
+  runs = λ runs started. refl;
 }
 settled_leaves m steady call (comes_to.Change e) fits =
-    let grows = changed_grows m.world (record { time = m.context.now; edit = e }) steady.valid fits.0 in
+    let grows = changed_grows m.world (record { time = m.context.time; edit = e }) steady.valid fits.0 in
     let world = edit_world m e (new_name call.op) in
     record {
-      grows = subst (λ (w : World). Grows m.context.now m.world w) (sym world) grows;
+      grows = subst (λ (w : World). Grows m.context.time m.world w) (sym world) grows;
       kept = record { spec = ap (λ (w : World). w.spec) world ∙ grows.spec; now = edit_time m e (new_name call.op) };
       kept_start = λ other. edit_started m e (new_name call.op);
+      runs = λ runs. edit_runs m e (new_name call.op) runs;
     }
 
 -- after the call that starts rendering, it was started
-then_started : (m : Machine) (call : Call) (s : Option ℕ) → m.context.started ≡ s → IsSome (settled m call (starts s)).machine.context.started
+then_started : (m : Machine) (call : Call) (s : Option ℕ) → m.context.started ≡ s
+    → IsSome (settled m call (promises (if is_some s then Some InvalidState else None) comes_to.Start)).machine.context.started
 then_started m call None is = refl
 then_started m call (Some ordinal) is = rw is refl
 
@@ -273,7 +310,7 @@ op_starts m call held op.StartRendering is = then_started m call m.context.start
 op_starts m call held other is = absurd cc
 
 -- a machine after a call, or as it was for want of memory
-pub stepped_leaves : (old new : Machine) (call : Call) (d : Decided) (r : Result Answer NoMemory) → IfOk r (Steps new (settled old call d)) → OnErr r (new ≡ old) → IsSteady old → IsFor old call.op d
+pub stepped_leaves : (old new : Machine) (call : Call) (d : Decided) (r : Result Stepped NoMemory) → IfOk r (λ s. Steps new (settled old call d) s.answer) → OnErr r (new ≡ old) → IsSteady old → IsFor old call.op d
     → Leaves old new call.op
 stepped_leaves old new call d (Ok said) done failed steady fits = subst (λ (m : Machine). Leaves old m call.op) (sym done.0) (settled_leaves old steady call d fits)
 stepped_leaves old new call d (Err e) done failed steady fits = subst (λ (m : Machine). Leaves old m call.op) (sym failed) (leaves_all old call.op)

@@ -1,30 +1,52 @@
--- What a session leaves that was rendered to its end.
-use Rattle.std.proofs.Common.{ℤ, ◌≡◌, List, Bool, true, false, Option, Some, None, refl, ◌∙◌, ap}
-use Rattle.std.specs.Prelude.{IsSome, IfSome, if◌then◌else◌}
+-- What a session leaves at its end.
+use Rattle.std.proofs.Common.{ℕ, ℤ, ◌≡◌, List, Bool, true, false, ◌&&◌, Option, Some, None, refl, ◌∙◌, ap}
+use Rattle.std.specs.Prelude.{IsSome, IfSome, is_some, if◌then◌else◌}
 use Rattle.wa_base.specs.Contexts.{IsSupported}
 use Rattle.wa_base.specs.declared.contexts.ContextSpec.{ContextSpec}
+use Rattle.transcript.specs.declared.lines.EndWord.TheVariants.{Completed, Stalled, Idle}
 use Rattle.meaning.specs.declared.world.World.{World}
 use Rattle.session.specs.declared.rendered.Rendered.{Rendered}
-use Rattle.session.specs.Rendering.{rendering_of}
+use Rattle.session.specs.declared.replay.Outcome.{Outcome}
+use Rattle.session.specs.Rendering.{IsOutcomeOf, completes, rendering_of}
 use Rattle.session.specs.Rows.{samples_of}
-use Rattle.session.specs.Session.{Told, finished}
+use Rattle.session.specs.Session.{has_closed, end_of, lines_at_end, finished}
 use Rattle.session.specs.View.{SessionView, Stands}
 
--- with audio, the samples of a context
+-- samples of a context, if there are any
 abbrev left_if : Bool → ContextSpec → List ℤ → Option Rendered
-left_if audio spec samples = if audio then Some (record { spec = spec; samples = samples }) else None
+left_if some spec samples = if some then Some (record { spec = spec; samples = samples }) else None
 
--- what is left of a session that stands for a tape are the samples of the tape
-pub rendered_is : (view : SessionView) (tape : List World) (audio : Bool) (spec : ContextSpec) (told : Told) (r : Option Rendered) → view.audio ≡ audio → view.told.machine.world.spec ≡ spec
-    → Stands view tape → IsSome view.told.machine.context.started → r ≡ left_if view.audio view.told.machine.world.spec view.samples → r ≡ rendering_of audio spec (finished told tape)
-unfolding rendering_of
-rendered_is view tape audio spec told r same context stands begun is = is ∙ by_test view.audio refl ∙ ap (λ b. rendering_of b spec (finished told tape)) same
-  where
-    by_test : (b : Bool) → view.audio ≡ b → left_if b view.told.machine.world.spec view.samples ≡ rendering_of b spec (finished told tape)
-    by_test true on = ap (λ samples. left_if true view.told.machine.world.spec samples) (stands.samples on begun) ∙ ap (λ (s : ContextSpec). left_if true s (samples_of tape s)) context
-    by_test false off = refl
+-- a session that stalled or was not started did not complete
+not_complete : (started : Bool) (frame : ℕ) → completes (if started then Stalled frame else Idle) ≡ false
+not_complete true frame = refl
+not_complete false frame = refl
 
-pub rendered_supported : (audio : Bool) (spec : ContextSpec) (samples : List ℤ) (r : Option Rendered) → IsSupported spec → r ≡ left_if audio spec samples
-    → IfSome r (λ rendered. IsSupported rendered.spec)
-rendered_supported true spec samples r supported is = rw is supported
-rendered_supported false spec samples r supported is = rw is tt
+-- what is left of a session that stands for a tape are the samples of the tape, if its context is closed
+module _ (view : SessionView) (tape : List World) (stands : Stands view tape) (begun : has_closed view.told.machine.context.state ≡ true → IsSome view.told.machine.context.started) where
+  left_is : (audio closed : Bool) → view.audio ≡ audio → has_closed view.told.machine.context.state ≡ closed
+      → left_if (audio && closed) view.told.machine.world.spec view.samples
+      ≡ left_if (audio && completes (if closed then Completed else if is_some view.told.machine.context.started then Stalled view.told.machine.context.time else Idle)) view.told.machine.world.spec (samples_of tape view.told.machine.world.spec)
+  left_is true true on is = ap (left_if true view.told.machine.world.spec) (stands.samples on (begun is))
+  left_is true false on is = rw (not_complete (is_some view.told.machine.context.started) view.told.machine.context.time) refl
+  left_is false true on is = refl
+  left_is false false on is = refl
+
+  pub rendered_is : (r : Option Rendered) → r ≡ left_if (view.audio && has_closed view.told.machine.context.state) view.told.machine.world.spec view.samples → r ≡ rendering_of view.audio view.told.machine.world.spec (finished view.told tape)
+  unfolding rendering_of
+  rendered_is r is = is ∙ left_is view.audio (has_closed view.told.machine.context.state) refl refl
+
+-- those of a supported context
+left_supported : (some : Bool) (spec : ContextSpec) (samples : List ℤ) → IsSupported spec → IfSome (left_if some spec samples) (λ rendered. IsSupported rendered.spec)
+left_supported true spec samples supported = supported
+left_supported false spec samples supported = tt
+
+pub outcome_is : (view : SessionView) (tape : List World) (outcome : Outcome) → IsSupported view.told.machine.world.spec → Stands view tape → (has_closed view.told.machine.context.state ≡ true → IsSome view.told.machine.context.started)
+    → outcome.lines.items ≡ lines_at_end view.told → outcome.end ≡ end_of view.told.machine.context
+    → outcome.rendered ≡ left_if (view.audio && has_closed view.told.machine.context.state) view.told.machine.world.spec view.samples
+    → IsOutcomeOf view.audio view.told.machine.world.spec (finished view.told tape) outcome
+outcome_is view tape outcome supported stands begun lines end rendered = record {
+  lines = lines;
+  end = end;
+  rendered = rendered_is view tape stands begun outcome.rendered rendered;
+  supported = rw rendered (left_supported (view.audio && has_closed view.told.machine.context.state) view.told.machine.world.spec view.samples supported);
+}

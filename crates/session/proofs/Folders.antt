@@ -6,7 +6,7 @@ use Rattle.std.specs.Prelude.{◌==◌, nat_lt, if◌then◌else◌, slice_index
 use Rattle.io_edge.specs.Paths.{Paths}
 use Rattle.script_ast.specs.declared.call_list.Call.{Call}
 use Rattle.session.specs.Assets.{Folder, IsHeld, IsFolderOf, AgreeBetween}
-use Rattle.session.specs.Session.{Told, after_call, after_calls, held_by, has_decode}
+use Rattle.session.specs.Session.{Told, after_call, after_calls, held_by, HasDecode}
 use Rattle.session.specs.Step.{is_decode}
 
 -- one folder up to a moment, and another from then on
@@ -67,16 +67,15 @@ found_past tells paths low told call calls holder whole other_one (folder, of, c
     (folder, of, λ other agree. ap (λ b. after_calls other told (if b then call ∷ held_by holder calls else held_by holder calls)) (sym test) ∙ come other agree)
 
 -- a decodeAudioData that is in a list
-pub decode_at : (calls : List Call) (holder i : ℕ) (d : Call) → i < length calls → (slice_index_or calls i d).holder ≡ holder → is_decode (slice_index_or calls i d).op ≡ true
-    → has_decode (held_by holder calls) ≡ true
+pub decode_at : (calls : List Call) (holder i : ℕ) (d : Call) → i < length calls → (slice_index_or calls i d).holder ≡ holder → is_decode (slice_index_or calls i d).op ≡ true → HasDecode (held_by holder calls)
 decode_at [] holder i d inside mine decodes = absurd (omega arith)
 decode_at (call ∷ calls) holder zero d inside mine decodes =
     let test : (call.holder == holder) ≡ true = grind (arith, nat_tests) in
     rw (test, decodes) refl
 decode_at (call ∷ calls) holder (suc i) d inside mine decodes = by_test (call.holder == holder) (decode_at calls holder i d (omega arith) mine decodes)
   where
-    by_test : (b : Bool) → has_decode (held_by holder calls) ≡ true → has_decode (if b then call ∷ held_by holder calls else held_by holder calls) ≡ true
-    by_test true later = or_later (is_decode call.op) (has_decode (held_by holder calls)) later
+    by_test : (b : Bool) → HasDecode (held_by holder calls) → HasDecode (if b then call ∷ held_by holder calls else held_by holder calls)
+    by_test true later = or_later (is_decode call.op) _ later
       where
         or_later : (a b : Bool) → b ≡ true → (a || b) ≡ true
         or_later true b is = refl

@@ -3,7 +3,9 @@ mod Deciding
 mod Finding
 mod Finishing
 mod Folders
+mod Going
 pub mod Interleaving
+mod Lists
 mod Marks
 mod Named
 mod NewNames
@@ -11,7 +13,9 @@ mod Parameters
 mod Quanta
 mod Replaying
 mod Samples
+mod Sides
 mod Standing
 pub mod Starting
-mod Stepping
+pub mod Stepping
 mod Tapes
+mod Turning

@@ -1,44 +1,101 @@
 -- How many quanta are left, and what each turn leads to.
-use Rattle.std.proofs.Common.{◌≡◌, ◌<◌, ◌≤◌, ◌+◌, ◌∷◌, ◌++◌, [], List, ℕ, suc, length, refl, ap, ◌∙◌, arith}
+use Rattle.std.proofs.Common.{◌≡◌, ◌<◌, ◌≤◌, ◌+◌, ◌∷◌, ◌++◌, [], ◌⊎◌, List, ℕ, zero, suc, length, true, false, inl, inr, refl, ap, ◌∙◌, sym, subst, arith}
+use Rattle.std.specs.Prelude.{if◌then◌else◌, IsTrue}
 use Rattle.std.proofs.lemmas.List.{length-append}
 use Rattle.script_ast.specs.declared.call_list.Call.{Call}
+use Rattle.ctx_state.specs.Context.{turn_of}
+use Rattle.ctx_state.specs.declared.context.Turn.{Turn}
+use Rattle.ctx_state.specs.declared.context.Turn.TheVariants.{Went, Due, Done}
 use Rattle.meaning.specs.declared.world.World.{World}
-use Rattle.session.specs.declared.session.Turn.TheVariants.{Went, Done}
 use Rattle.session.specs.Assets.{Folder}
-use Rattle.session.specs.Session.{Told, lines_after, machine_after, after_quantum, turn_of, closing, quanta_left, finished, ends, turns}
+use Rattle.session.specs.Machine.{Machine}
+use Rattle.session.specs.Session.{Told, Played, lines_after, after_turn, after_list, held_by, is_running, quanta_left, finished, by_turn, turns, HasDecode, ByTurn, TurnsDecode}
+use Rattle.session.proofs.Stepping.{turned_time}
 
--- the last one
-pub one_left : (old new : Told) (ordinal : ℕ) → old.machine.context.now < old.machine.world.spec.length → new ≡ closing (after_quantum old) ordinal
-    → old.machine.world.spec.length ≤ new.machine.context.now → quanta_left old.machine ≡ 1
-one_left old new ordinal left is reached =
-    let time : new.machine.context.now ≡ old.machine.context.now + 128 = ap (λ told. told.machine.context.now) is in
+pub time_after : (old new : Told) → new ≡ after_turn old → new.machine.context.time ≡ old.machine.context.time + 128
+time_after old new is = ap (λ told. told.machine.context.time) is ∙ turned_time old.machine.context
+
+pub spec_after : (old new : Told) → new ≡ after_turn old → new.machine.world.spec ≡ old.machine.world.spec
+spec_after old new is = ap (λ told. told.machine.world.spec) is
+
+-- the last quantum
+pub one_left : (old new : Told) → old.machine.context.time < old.machine.world.spec.length → new ≡ after_turn old → old.machine.world.spec.length ≤ new.machine.context.time → quanta_left old.machine ≡ 1
+one_left old new left is reached =
+    let time = time_after old new is in
     omega arith
 
 -- one of more
-pub more_left : (old new : Told) → new ≡ after_quantum old → new.machine.context.now < new.machine.world.spec.length → quanta_left old.machine ≡ suc (quanta_left new.machine)
+pub more_left : (old new : Told) → new ≡ after_turn old → new.machine.context.time < new.machine.world.spec.length → quanta_left old.machine ≡ suc (quanta_left new.machine)
 more_left old new is left =
-    let time : new.machine.context.now ≡ old.machine.context.now + 128 = ap (λ told. told.machine.context.now) is in
+    let time = time_after old new is in
     let long : new.machine.world.spec.length ≡ old.machine.world.spec.length = ap (λ told. told.machine.world.spec.length) is in
     omega arith
 
--- a turn after which rendering goes on
-pub turns_went : (folder : Folder) (calls : List Call) (old new : Told) (tape : List World) → turn_of (machine_after old.machine) ≡ Went → new ≡ after_quantum old → quanta_left old.machine ≡ suc (quanta_left new.machine)
-    → turns (quanta_left old.machine) folder calls old tape ≡ turns (quanta_left new.machine) folder calls new (tape ++ old.machine.world ∷ [])
-turns_went folder calls old new tape went is more = rw (more, is, went) refl
+-- a call list leaves as many
+pub as_many_left : (old new : Machine) → new.world.spec ≡ old.world.spec → new.context.time ≡ old.context.time → quanta_left new ≡ quanta_left old
+as_many_left old new spec time = rw (spec, time) refl
 
--- the last turn
-pub turns_done : (folder : Folder) (calls : List Call) (old : Told) (tape : List World) (ordinal : ℕ) → turn_of (machine_after old.machine) ≡ Done ordinal → quanta_left old.machine ≡ 1
-    → turns (quanta_left old.machine) folder calls old tape ≡ finished (ends folder calls (after_quantum old) ordinal) (tape ++ old.machine.world ∷ [])
-turns_done folder calls old tape ordinal done last = rw (last, done) refl
+module _ (folder : Folder) (calls : List Call) (old : Told) (tape : List World) where
+  abbrev longer : List World
+  longer = tape ++ old.machine.world ∷ []
 
--- a quantum takes no line away, and the line of the end is one more
-pub longer_went : (old new : Told) → new ≡ after_quantum old → length old.lines ≤ length new.lines
-longer_went old new is =
+  -- after the list of the call that the turn led to
+  abbrev listed : ℕ → Told
+  listed ordinal = after_list folder calls (after_turn old) ordinal
+
+  abbrev due_case : ℕ → ℕ → Played
+  due_case left ordinal = if is_running (listed ordinal).machine.context.state then turns left folder calls (listed ordinal) longer else finished (listed ordinal) longer
+
+  abbrev by_case : ℕ → Turn → Played
+  by_case left turn = by_turn turn (turns left folder calls (after_turn old) longer) (due_case left) (λ ordinal. finished (listed ordinal) longer)
+
+  turn_is : (left : ℕ) (turn : Turn) → turn_of old.machine.context ≡ turn → quanta_left old.machine ≡ suc left → turns (quanta_left old.machine) folder calls old tape ≡ by_case left turn
+  turn_is left turn is more = ap (λ n. turns n folder calls old tape) more ∙ ap (by_case left) is
+
+  -- a turn after which rendering goes on
+  pub turns_went : (left : ℕ) → turn_of old.machine.context ≡ Went → quanta_left old.machine ≡ suc left → turns (quanta_left old.machine) folder calls old tape ≡ turns left folder calls (after_turn old) longer
+  turns_went left went more = turn_is left Went went more
+
+  -- a suspension that was resumed
+  pub turns_due : (left ordinal : ℕ) → turn_of old.machine.context ≡ Due ordinal → quanta_left old.machine ≡ suc left → is_running (listed ordinal).machine.context.state ≡ true
+      → turns (quanta_left old.machine) folder calls old tape ≡ turns left folder calls (listed ordinal) longer
+  turns_due left ordinal due more runs = turn_is left (Due ordinal) due more ∙ ap (λ b. if b then turns left folder calls (listed ordinal) longer else finished (listed ordinal) longer) runs
+
+  -- one that was not
+  pub turns_stalled : (left ordinal : ℕ) → turn_of old.machine.context ≡ Due ordinal → quanta_left old.machine ≡ suc left → is_running (listed ordinal).machine.context.state ≡ false
+      → turns (quanta_left old.machine) folder calls old tape ≡ finished (listed ordinal) longer
+  turns_stalled left ordinal due more stands = turn_is left (Due ordinal) due more ∙ ap (λ b. if b then turns left folder calls (listed ordinal) longer else finished (listed ordinal) longer) stands
+
+  -- the last turn
+  pub turns_done : (ordinal : ℕ) → turn_of old.machine.context ≡ Done ordinal → quanta_left old.machine ≡ 1 → turns (quanta_left old.machine) folder calls old tape ≡ finished (listed ordinal) longer
+  turns_done ordinal done last = turn_is zero (Done ordinal) done last
+
+  -- ---- decodeAudioData
+
+  abbrev DecodesIn : ℕ → Turn → Type 0
+  DecodesIn left turn =
+      ByTurn turn (TurnsDecode left folder calls (after_turn old))
+      (λ ordinal. HasDecode (held_by ordinal calls) ⊎ (IsTrue (is_running (listed ordinal).machine.context.state) × TurnsDecode left folder calls (listed ordinal)))
+      (λ ordinal. HasDecode (held_by ordinal calls))
+
+  decodes_in : (left : ℕ) (turn : Turn) → turn_of old.machine.context ≡ turn → quanta_left old.machine ≡ suc left → DecodesIn left turn → TurnsDecode (quanta_left old.machine) folder calls old
+  decodes_in left turn is more here = subst (λ n. TurnsDecode n folder calls old) (sym more) (subst (DecodesIn left) (sym is) here)
+
+  pub decode_went : (left : ℕ) → turn_of old.machine.context ≡ Went → quanta_left old.machine ≡ suc left → TurnsDecode left folder calls (after_turn old) → TurnsDecode (quanta_left old.machine) folder calls old
+  decode_went left went more later = decodes_in left Went went more later
+
+  pub decode_due : (left ordinal : ℕ) → turn_of old.machine.context ≡ Due ordinal → quanta_left old.machine ≡ suc left → HasDecode (held_by ordinal calls) → TurnsDecode (quanta_left old.machine) folder calls old
+  decode_due left ordinal due more here = decodes_in left (Due ordinal) due more (inl here)
+
+  pub decode_later : (left ordinal : ℕ) → turn_of old.machine.context ≡ Due ordinal → quanta_left old.machine ≡ suc left → is_running (listed ordinal).machine.context.state ≡ true
+      → TurnsDecode left folder calls (listed ordinal) → TurnsDecode (quanta_left old.machine) folder calls old
+  decode_later left ordinal due more runs later = decodes_in left (Due ordinal) due more (inr (runs, later))
+
+  pub decode_done : (ordinal : ℕ) → turn_of old.machine.context ≡ Done ordinal → quanta_left old.machine ≡ 1 → HasDecode (held_by ordinal calls) → TurnsDecode (quanta_left old.machine) folder calls old
+  decode_done ordinal done last here = decodes_in zero (Done ordinal) done last here
+
+-- a turn takes no line away
+pub longer_after : (old new : Told) → new ≡ after_turn old → length old.lines ≤ length new.lines
+longer_after old new is =
     let long : length new.lines ≡ length old.lines + length (lines_after old.machine) = ap (λ told. length told.lines) is ∙ length-append old.lines (lines_after old.machine) in
-    omega arith
-
-pub longer_done : (old new : Told) (ordinal : ℕ) → new ≡ closing (after_quantum old) ordinal → length old.lines ≤ length new.lines
-longer_done old new ordinal is =
-    let quantum = longer_went old (after_quantum old) refl in
-    let long : length new.lines ≡ length (after_quantum old).lines + 1 = ap (λ told. length told.lines) is ∙ length-append (after_quantum old).lines _ in
     omega arith

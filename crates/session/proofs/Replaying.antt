@@ -1,67 +1,116 @@
 -- What a session comes to once its main list ran.
-use Rattle.std.proofs.Common.{ℕ, ◌≡◌, List, [], length, Bool, true, false, Option, Some, None, refl, sym, ◌∙◌, ap}
-use Rattle.std.specs.Prelude.{is_some}
-use Rattle.io_edge.specs.Paths.{Paths}
-use Rattle.wa_base.specs.Contexts.{is_supported}
+use Rattle.std.proofs.Common.{ℕ, ◌≡◌, List, [], length, Bool, true, false, ◌&&◌, Option, Some, None, inr, refl, sym, ◌∙◌, ap, subst}
+use Rattle.std.specs.Prelude.{is_some, IsSome, IsTrue, OnOk, if◌then◌else◌, Result, Ok, Err}
+use Rattle.io_edge.specs.Paths.{Paths, SamePaths}
+use Rattle.wa_base.specs.Contexts.{is_supported, IsSupported}
+use Rattle.wa_base.specs.declared.contexts.State.{State}
+use Rattle.wa_base.specs.declared.contexts.State.TheVariants as state
+use Rattle.ctx_state.specs.Context.{IsInState}
 use Rattle.wa_base.specs.declared.contexts.ContextSpec.{ContextSpec}
 use Rattle.wa_base.specs.declared.exceptions.Exc.TheVariants.{NotSupported}
 use Rattle.script_ast.specs.declared.call_list.Call.{Call}
 use Rattle.script_ast.specs.declared.call_list.Script.{Script}
-use Rattle.transcript.specs.declared.lines.EndWord.TheVariants.{Idle, Refused}
+use Rattle.transcript.specs.declared.lines.EndWord.TheVariants.{Refused}
 use Rattle.session.specs.declared.replay.Outcome.{Outcome}
-use Rattle.session.specs.Assets.{Folder, IsFolderOf, AgreeBetween, AgreeFrom}
+use Rattle.session.specs.declared.session.Stop.{Stop}
+use Rattle.session.specs.Assets.{Folder, IsFolderOf, AgreeBetween}
 use Rattle.session.specs.Rendering.{IsOutcomeOf, rendering_of}
-use Rattle.session.specs.Session.{Told, Played, main_list, rendered, replayed, quanta_left, session_of, turns}
+use Rattle.session.specs.Session.{Told, Played, first_told, main_list, rendered, replayed, quanta_left, session_of, finished, turns, has_closed, end_of, lines_at_end, TurnsDecode, Decodes}
+use Rattle.session.specs.View.{SessionView, IsFirst, IsPlayed, IsReplayed, ComesToDecode}
+use Rattle.session.proofs.Finishing.{outcome_is}
 use Rattle.session.proofs.Folders.{spliced, spliced_before, spliced_from, splice_of}
 
--- a session that was not started
-abbrev idle_played : Told → Played
-idle_played told = record { lines = told.lines; end = Idle; tape = [] }
+-- by whether rendering was started
+abbrev by_start : Folder → List Call → Told → Bool → Played
+by_start folder calls now started = if started then turns (quanta_left now.machine) folder calls now [] else finished now []
 
-not_started : (folder : Folder) (calls : List Call) (first now : Told) → now ≡ main_list folder calls first → now.machine.context.started ≡ None → replayed folder calls first ≡ idle_played now
-not_started folder calls first now is none = sym (ap (λ told. rendered folder calls told told.machine.context.started) is) ∙ ap (λ started. rendered folder calls now started) none
+is_by_start : (folder : Folder) (calls : List Call) (first now : Told) (started : Bool) → now ≡ main_list folder calls first → is_some now.machine.context.started ≡ started
+    → replayed folder calls first ≡ by_start folder calls now started
+is_by_start folder calls first now started is test = ap (rendered folder calls) (sym is) ∙ ap (by_start folder calls now) test
 
-was_started : (folder : Folder) (calls : List Call) (first now : Told) (ordinal : ℕ) → now ≡ main_list folder calls first → now.machine.context.started ≡ Some ordinal
-    → replayed folder calls first ≡ turns (quanta_left now.machine) folder calls now []
-was_started folder calls first now ordinal is some = sym (ap (λ told. rendered folder calls told told.machine.context.started) is) ∙ ap (λ started. rendered folder calls now started) some
+-- a closed context was started
+pub closed_begun : (s : State) (started : Option ℕ) (time frames : ℕ) → IsInState s started time frames → has_closed s ≡ true → IsSome started
+closed_begun state.Suspended started time frames is closed = absurd cc
+closed_begun state.Running started time frames is closed = absurd cc
+closed_begun state.Closed started time frames is closed = is.0
 
-no_rendering : (audio : Bool) (spec : ContextSpec) (told : Told) → rendering_of audio spec (idle_played told) ≡ None
-unfolding rendering_of
-no_rendering true spec told = refl
-no_rendering false spec told = refl
+-- what was not started ends after its main list
+pub not_started : (folder : Folder) (calls : List Call) (first now : Told) → now ≡ main_list folder calls first → is_some now.machine.context.started ≡ false → replayed folder calls first ≡ finished now []
+not_started folder calls first now is none = is_by_start folder calls first now false is none
 
--- what is handed over of a session that was not started
-pub idle_outcome : (folder : Folder) (calls : List Call) (first now : Told) (audio : Bool) (spec : ContextSpec) (outcome : Outcome) → now ≡ main_list folder calls first → now.machine.context.started ≡ None
-    → outcome.lines.items ≡ now.lines → outcome.end ≡ Idle → outcome.rendered ≡ None → IsOutcomeOf audio spec (replayed folder calls first) outcome
-idle_outcome folder calls first now audio spec outcome is none lines end nothing =
-    rw (not_started folder calls first now is none) record {
-      lines = lines;
-      end = end;
-      rendered = nothing ∙ sym (no_rendering audio spec now);
-      supported = rw nothing tt;
-    }
+module _ (tells : Bool) (paths : Paths) (calls : List Call) (first now : SessionView) (one : Folder) (of_one : IsFolderOf tells paths one)
+    (main : (other : Folder) → AgreeBetween (length first.told.lines) (length now.told.lines) one other → now.told ≡ main_list other calls first.told) (begun : is_some now.told.machine.context.started ≡ true) where
+  -- the folder of the main list and that of what came after it make the folder of the session
+  abbrev both : Folder → Folder
+  both two = spliced (length now.told.lines) one two
 
-pub started_some : (o : Option ℕ) → is_some o ≡ true → (ordinal : ℕ) × (o ≡ Some ordinal)
-started_some None is = absurd cc
-started_some (Some ordinal) is = (ordinal, refl)
+  main_of : (two : Folder) → now.told ≡ main_list (both two) calls first.told
+  main_of two = main (both two) (λ n from early. spliced_before (length now.told.lines) one two n early)
 
-pub started_none : (o : Option ℕ) → is_some o ≡ false → o ≡ None
-started_none None is = refl
-started_none (Some ordinal) is = absurd cc
+  pub was_started : (last : SessionView) → IsPlayed tells paths calls now last → last.told.machine.world.spec ≡ first.told.machine.world.spec → IsSupported last.told.machine.world.spec → IsSome last.told.machine.context.started
+      → IsReplayed tells paths calls first last
+  was_started last played spec supported started = record {
+    folder = both played.folder;
+    of = splice_of tells paths (length now.told.lines) one played.folder of_one played.of;
+    tape = played.tape;
+    stands = played.stands;
+    played =
+        is_by_start (both played.folder) calls first.told now.told true (main_of played.folder) begun
+        ∙ played.played (both played.folder) (λ n from early. spliced_from (length now.told.lines) one played.folder n from);
+    begun = λ closed. started;
+    spec = spec;
+    supported = supported;
+  }
 
--- the folder of the main list and that of what came after it make the folder of the session
-pub splits : (tells : Bool) (paths : Paths) (calls : List Call) (first now : Told) (ordinal : ℕ) (audio : Bool) (spec : ContextSpec) (outcome : Outcome) (one two : Folder) → now.machine.context.started ≡ Some ordinal
-    → IsFolderOf tells paths one → IsFolderOf tells paths two → ((other : Folder) → AgreeBetween (length first.lines) (length now.lines) one other → now ≡ main_list other calls first)
-    → ((other : Folder) → AgreeFrom (length now.lines) two other → IsOutcomeOf audio spec (turns (quanta_left now.machine) other calls now []) outcome)
-    → (folder : Folder) × IsFolderOf tells paths folder × IsOutcomeOf audio spec (replayed folder calls first) outcome
-splits tells paths calls first now ordinal audio spec outcome one two some of_one of_two main rest =
-    let folder = spliced (length now.lines) one two in
-    let is : now ≡ main_list folder calls first = main folder (λ n from before. spliced_before (length now.lines) one two n before) in
-    let left = rest folder (λ n from. spliced_from (length now.lines) one two n from) in (
-      folder,
-      splice_of tells paths (length now.lines) one two of_one of_two,
-      rw (was_started folder calls first now ordinal is some) left,
-    )
+  pub decodes_later : (last : SessionView) → ComesToDecode tells paths calls now last → (folder : Folder) × IsFolderOf tells paths folder × Decodes folder calls first.told
+  decodes_later last comes =
+      let folder : Folder = both comes.folder in
+      let is = main_of comes.folder in (
+        folder,
+        splice_of tells paths (length now.told.lines) one comes.folder of_one comes.of,
+        inr (
+          subst (λ t. IsSome t.machine.context.started) is begun,
+          subst (λ t. TurnsDecode (quanta_left t.machine) folder calls t) is (comes.decodes folder (λ n from early. spliced_from (length now.told.lines) one comes.folder n from)),
+        ),
+      )
+
+-- the same of another name for the store's paths
+pub played_of : (tells told : Bool) (paths now : Paths) (calls : List Call) (a b : SessionView) → told ≡ tells → (IsTrue tells → SamePaths paths now) → IsPlayed told now calls a b → IsPlayed tells paths calls a b
+played_of tells told paths now calls a b same_tells same_paths is = record {
+  folder = is.folder;
+  of = λ n tell q. is.of n (subst IsTrue (sym same_tells) tell) q ∙ same_paths tell q;
+  tape = is.tape;
+  stands = is.stands;
+  played = is.played;
+}
+
+pub comes_of : (tells told : Bool) (paths now : Paths) (calls : List Call) (a b : SessionView) → told ≡ tells → (IsTrue tells → SamePaths paths now) → ComesToDecode told now calls a b → ComesToDecode tells paths calls a b
+comes_of tells told paths now calls a b same_tells same_paths is = record {
+  folder = is.folder;
+  of = λ n tell q. is.of n (subst IsTrue (sym same_tells) tell) q ∙ same_paths tell q;
+  decodes = is.decodes;
+}
+
+pub both_ok : (P Q R : Type 0) (r : Result (Unit {0}) Stop) → (P → Q → R) → OnOk r P → OnOk r Q → OnOk r R
+both_ok P Q R (Ok v) f p q = f p q
+both_ok P Q R (Err e) f p q = tt
+
+-- what is handed over of a session that was replayed
+pub replayed_outcome : (tells : Bool) (paths : Paths) (script : Script) (audio : Bool) (first last : SessionView) (outcome : Outcome) (is : IsReplayed tells paths script.calls first last) → is_supported script.context ≡ true
+    → IsFirst script.context audio first → last.audio ≡ first.audio → outcome.lines.items ≡ lines_at_end last.told → outcome.end ≡ end_of last.told.machine.context
+    → outcome.rendered ≡ (if last.audio && has_closed last.told.machine.context.state then Some (record { spec = last.told.machine.world.spec; samples = last.samples }) else None)
+    → IsOutcomeOf audio script.context (session_of is.folder script) outcome
+unfolding session_of
+replayed_outcome tells paths script audio first last outcome is supported fresh heard lines end rendered =
+    let here = outcome_is last is.tape outcome is.supported is.stands is.begun lines end rendered in
+    let spec : last.told.machine.world.spec ≡ script.context = is.spec ∙ ap (λ t. t.machine.world.spec) fresh.told in
+    let told : finished last.told is.tape ≡ replayed is.folder script.calls (first_told script.context) = sym is.played ∙ ap (replayed is.folder script.calls) fresh.told in
+    rw supported (subst (λ p. IsOutcomeOf audio script.context p outcome) told (subst (λ (s : ContextSpec). IsOutcomeOf audio s (finished last.told is.tape) outcome) spec
+    (subst (λ a. IsOutcomeOf a last.told.machine.world.spec (finished last.told is.tape) outcome) (heard ∙ fresh.heard) here)))
+
+pub not_off : (b : Bool) → (b ≡ false → ⊥) → b ≡ true
+not_off true on = refl
+not_off false on = absurd (on refl)
 
 -- what is handed over of a context that was refused
 pub refused_outcome : (folder : Folder) (script : Script) (audio : Bool) (outcome : Outcome) → is_supported script.context ≡ false → outcome.lines.items ≡ [] → outcome.end ≡ Refused (NotSupported None) → outcome.rendered ≡ None

@@ -1,6 +1,6 @@
 -- A session that stands for a tape, through calls and quanta.
-use Rattle.std.proofs.Common.{◌≡◌, ◌≤◌, ◌+◌, ◌*◌, ◌++◌, ◌∷◌, [], ℕ, ℤ, pos, Bool, true, false, List, length, map, replicate, Option, Some, None, refl, sym, ap, ◌∙◌, subst, arith, length-append}
-use Rattle.std.specs.Prelude.{IsTrue, IsSome, IsNone, IfSome, is_some, if◌then◌else◌}
+use Rattle.std.proofs.Common.{◌≡◌, ◌≤◌, ◌+◌, ◌*◌, ◌++◌, ◌∷◌, [], ℕ, ℤ, pos, Bool, List, length, map, replicate, Option, Some, None, refl, sym, ap, ◌∙◌, subst, arith, length-append}
+use Rattle.std.specs.Prelude.{IsTrue, IsSome, IsNone, IfSome, is_some, option_map}
 use Rattle.std.proofs.lemmas.List.{length-map, map-append}
 use Rattle.wa_base.specs.declared.contexts.ContextSpec.{ContextSpec}
 use Rattle.meaning.specs.declared.world.World.{World}
@@ -8,14 +8,16 @@ use Rattle.meaning.specs.World.{plain}
 use Rattle.meaning.specs.Validity.{IsValid}
 use Rattle.meaning.specs.Worlds.{IsRegular, first_world}
 use Rattle.quantum_render.specs.Stands.{RendererView, StandsFor}
-use Rattle.session.specs.Quantum.{after}
+use Rattle.control_msgs.specs.Messages.{after}
 use Rattle.meaning.specs.Changes.{Grows}
 use Rattle.session.specs.Frames.{WritesBelow}
 use Rattle.session.specs.Machine.{Machine}
 use Rattle.session.specs.Rows.{samples_of}
-use Rattle.session.specs.Session.{first_told, closed_machine, machine_after}
+use Rattle.session.specs.Session.{first_told, machine_after}
 use Rattle.session.specs.Step.{KeepsTime}
-use Rattle.session.specs.View.{SessionView, Stands, IsFirst, Renders}
+use Rattle.session.specs.View.{SessionView, SideView, Stands, IsFirst, Renders, KeepsUp, Follows}
+use Rattle.session.proofs.Sides.{Turned, carried, same_audio, on_renderer, of_renderer}
+use Rattle.session.proofs.Stepping.{turned_time, turned_started}
 use Rattle.session.proofs.Samples.{samples_of-empty, samples_of-plain, quantum_written}
 use Rattle.session.proofs.Tapes.{regular_first, regular_grown, regular_after, regular_of_plain}
 
@@ -31,7 +33,7 @@ first_session spec audio view told heard samples valid renders = record {
   heard = heard;
   samples = samples;
   stands = record {
-    time = ap (λ t. t.machine.context.now) told;
+    time = ap (λ t. t.machine.context.time) told;
     regular = subst (λ (w : World). IsRegular 128 (w ∷ [])) (sym (ap (λ t. t.machine.world) told)) (regular_first 128 spec valid);
     samples = λ on begun. let none = subst IsSome (ap (λ t. t.machine.context.started) told) begun in absurd cc;
     renders = renders;
@@ -44,11 +46,11 @@ empty_tape : (tape : List World) → 0 ≡ 128 * length tape → tape ≡ []
 empty_tape [] none = refl
 empty_tape (w ∷ ws) none = absurd (omega arith)
 
-grown : (old new : Machine) (tape : List World) → Grows old.context.now old.world new.world → old.context.now ≡ 128 * length tape → IsRegular 128 (tape ++ old.world ∷ []) → IsRegular 128 (tape ++ new.world ∷ [])
+grown : (old new : Machine) (tape : List World) → Grows old.context.time old.world new.world → old.context.time ≡ 128 * length tape → IsRegular 128 (tape ++ old.world ∷ []) → IsRegular 128 (tape ++ new.world ∷ [])
 grown old new tape grows time regular = regular_grown 128 tape old.world new.world regular (subst (λ n. Grows n old.world new.world) time grows)
 
 -- a call that starts no rendering
-pub Stands-kept : (old new : SessionView) (tape : List World) → new.audio ≡ old.audio → KeepsTime old.told.machine new.told.machine → Grows old.told.machine.context.now old.told.machine.world new.told.machine.world
+pub Stands-kept : (old new : SessionView) (tape : List World) → new.audio ≡ old.audio → KeepsTime old.told.machine new.told.machine → Grows old.told.machine.context.time old.told.machine.world new.told.machine.world
     → new.samples ≡ old.samples → new.renderer ≡ old.renderer
     → (IsTrue old.audio → IsSome new.told.machine.context.started → IsSome old.told.machine.context.started) → Stands old tape → Stands new tape
 Stands-kept old new tape audio kept grows samples renderer started stands = record {
@@ -59,8 +61,8 @@ Stands-kept old new tape audio kept grows samples renderer started stands = reco
 }
 
 -- the call that starts the rendering
-pub Stands-begun : (old new : SessionView) (tape : List World) → KeepsTime old.told.machine new.told.machine → Grows old.told.machine.context.now old.told.machine.world new.told.machine.world
-    → old.told.machine.context.now ≡ 0 → new.samples ≡ replicate (old.told.machine.world.spec.channels * old.told.machine.world.spec.length) (pos 0) → new.renderer ≡ old.renderer → Stands old tape → Stands new tape
+pub Stands-begun : (old new : SessionView) (tape : List World) → KeepsTime old.told.machine new.told.machine → Grows old.told.machine.context.time old.told.machine.world new.told.machine.world
+    → old.told.machine.context.time ≡ 0 → new.samples ≡ replicate (old.told.machine.world.spec.channels * old.told.machine.world.spec.length) (pos 0) → new.renderer ≡ old.renderer → Stands old tape → Stands new tape
 Stands-begun old new tape kept grows first samples renderer stands =
     let none : tape ≡ [] = empty_tape tape (sym first ∙ stands.time) in
     record {
@@ -100,7 +102,7 @@ samples_more tape worlds w spec old new first same first_is old_is writes some l
     ∙ ap (λ (ws : List World). samples_of ws spec) (longer tape worlds w same)
 
 -- a quantum
-pub Stands-after : (old new : SessionView) (tape : List World) → new.audio ≡ old.audio → new.told.machine.context.now ≡ old.told.machine.context.now + 128 → new.told.machine.context.started ≡ old.told.machine.context.started
+pub Stands-after : (old new : SessionView) (tape : List World) → new.audio ≡ old.audio → new.told.machine.context.time ≡ old.told.machine.context.time + 128 → new.told.machine.context.started ≡ old.told.machine.context.started
     → IsValid new.told.machine.world → new.told.machine.world.spec ≡ old.told.machine.world.spec → new.told.machine.world.nodes ≡ old.told.machine.world.nodes
     → (IsTrue old.audio → IsSome old.told.machine.context.started → new.samples ≡ samples_of (tape ++ old.told.machine.world ∷ []) old.told.machine.world.spec)
     → IfSome new.renderer (Renders (tape ++ old.told.machine.world ∷ [])) → Stands old tape → Stands new (tape ++ old.told.machine.world ∷ [])
@@ -111,31 +113,33 @@ Stands-after old new tape audio now started valid spec nodes samples renders sta
   renders = renders;
 }
 
-machine_parts : (old new : Machine) (closed : Bool) → new ≡ (if closed then closed_machine (machine_after old) else machine_after old)
-    → (new.context.now ≡ old.context.now + 128) × (new.context.started ≡ old.context.started) × (new.world ≡ after old.context.now (old.context.now + 128) old.world)
-machine_parts old new true is = (ap (λ (m : Machine). m.context.now) is, ap (λ (m : Machine). m.context.started) is, ap (λ (m : Machine). m.world) is)
-machine_parts old new false is = (ap (λ (m : Machine). m.context.now) is, ap (λ (m : Machine). m.context.started) is, ap (λ (m : Machine). m.world) is)
-
-where_some : {A : Type 0} (o : Option A) (X : Type 0) → IsTrue (is_some o) → IfSome o (λ _. X) → X
-where_some None X on x = absurd cc
-where_some (Some a) X on x = x
-
--- from what rendering gives for the world in force
-pub quantum_stands : (old new : SessionView) (tape : List World) (w : World) (closed : Bool) → plain w ≡ old.told.machine.world → old.audio ≡ is_some old.renderer → new.audio ≡ is_some new.renderer → is_some new.renderer ≡ is_some old.renderer
-    → new.told.machine ≡ (if closed then closed_machine (machine_after old.told.machine) else machine_after old.told.machine) → IsValid new.told.machine.world
-    → (IfSome old.renderer (Renders tape) → IsRegular 128 (tape ++ plain w ∷ []) → IfSome new.renderer (Renders (tape ++ plain w ∷ [])))
-    → (IfSome old.renderer (Renders tape) → IsRegular 128 (tape ++ plain w ∷ []) → old.told.machine.context.now ≡ 128 * length tape → old.samples ≡ samples_of tape w.spec
-    → IfSome new.renderer (λ _. new.samples ≡ samples_of (tape ++ plain w ∷ []) w.spec))
-    → Stands old tape → Stands new (tape ++ old.told.machine.world ∷ [])
-quantum_stands old new tape w closed world old_audio new_audio audio machine valid renders samples stands =
-    let parts = machine_parts old.told.machine new.told.machine closed machine in
-    let regular = subst (λ (x : World). IsRegular 128 (tape ++ x ∷ [])) (sym world) stands.regular in
-    let spec : w.spec ≡ old.told.machine.world.spec = ap (λ (x : World). x.spec) world in
-    Stands-after old new tape (new_audio ∙ audio ∙ sym old_audio) parts.0 parts.1 valid (ap (λ (x : World). x.spec) parts.2) (ap (λ (x : World). x.nodes) parts.2)
-    (λ on begun.
-    let here = samples stands.renders regular stands.time (stands.samples on begun ∙ ap (samples_of tape) (sym spec)) in
-    let on_new = subst IsTrue (old_audio ∙ sym audio) on in
-    let is = where_some new.renderer (new.samples ≡ samples_of (tape ++ plain w ∷ []) w.spec) on_new here in
-    is ∙ ap (λ (x : World). samples_of (tape ++ x ∷ []) x.spec) world)
-    (subst (λ (x : World). IfSome new.renderer (Renders (tape ++ x ∷ []))) world (renders stands.renders regular))
+-- from what a turn does to the side that renders
+pub turn_stands : (old new : SessionView) (tape : List World) (a e : Option SideView) → old.renderer ≡ option_map (λ (x : SideView). x.renderer) a → new.renderer ≡ option_map (λ (x : SideView). x.renderer) e
+    → old.audio ≡ is_some a → new.audio ≡ is_some e → IfSome a (KeepsUp old.told.machine)
+    → Follows (Turned old.told.machine.context.time (old.told.machine.context.time + 128) old.samples new.samples) a e
+    → new.told.machine ≡ machine_after old.told.machine → IsValid new.told.machine.world → Stands old tape → Stands new (tape ++ old.told.machine.world ∷ [])
+turn_stands old new tape a e old_renderer new_renderer old_audio new_audio keeps turned machine valid stands =
+    let m : Machine = old.told.machine in
+    let world : new.told.machine.world ≡ after m.context.time (m.context.time + 128) m.world = ap (λ (x : Machine). x.world) machine in
+    Stands-after old new tape (new_audio ∙ same_audio _ a e turned ∙ sym old_audio) (ap (λ (x : Machine). x.context.time) machine ∙ turned_time m.context) (ap (λ (x : Machine). x.context.started) machine ∙ turned_started m.context) valid
+    (ap (λ (x : World). x.spec) world) (ap (λ (x : World). x.nodes) world)
+    (λ on begun. samples_at a e (subst IsTrue old_audio on) (subst (λ r. IfSome r (Renders tape)) old_renderer stands.renders) (stands.samples on begun) keeps turned)
+    (subst (λ r. IfSome r (Renders (tape ++ m.world ∷ []))) (sym new_renderer)
+    (of_renderer (Renders (tape ++ m.world ∷ [])) e
+    (carried (Turned m.context.time (m.context.time + 128) old.samples new.samples) (λ x. KeepsUp m x × Renders tape x.renderer) (λ y. Renders (tape ++ m.world ∷ []) y.renderer) a e
+    (λ x y t p. subst (λ (w : World). Renders (tape ++ w ∷ []) y.renderer) p.0.world (t.renders tape p.1 (subst (λ (w : World). IsRegular 128 (tape ++ w ∷ [])) (sym p.0.world) stands.regular)))
+    turned (both (KeepsUp m) (λ x. Renders tape x.renderer) a keeps (on_renderer (Renders tape) a (subst (λ r. IfSome r (Renders tape)) old_renderer stands.renders))))))
     stands
+  where
+    both : (P Q : SideView → Type 0) (o : Option SideView) → IfSome o P → IfSome o Q → IfSome o (λ x. P x × Q x)
+    both P Q None p q = tt
+    both P Q (Some x) p q = (p, q)
+
+    samples_at : (a e : Option SideView) → IsTrue (is_some a) → IfSome (option_map (λ (x : SideView). x.renderer) a) (Renders tape) → old.samples ≡ samples_of tape old.told.machine.world.spec → IfSome a (KeepsUp old.told.machine)
+        → Follows (Turned old.told.machine.context.time (old.told.machine.context.time + 128) old.samples new.samples) a e
+        → new.samples ≡ samples_of (tape ++ old.told.machine.world ∷ []) old.told.machine.world.spec
+    samples_at None e on renders so_far keeps turned = absurd cc
+    samples_at (Some x) None on renders so_far keeps turned = absurd turned
+    samples_at (Some x) (Some y) on renders so_far keeps turned =
+        turned.samples tape renders (subst (λ (w : World). IsRegular 128 (tape ++ w ∷ [])) (sym keeps.world) stands.regular) stands.time (so_far ∙ ap (λ (w : World). samples_of tape w.spec) (sym keeps.world))
+        ∙ ap (λ (w : World). samples_of (tape ++ w ∷ []) w.spec) keeps.world

@@ -1,11 +1,9 @@
 -- A machine stays steady through edits and quanta.
-use Rattle.std.proofs.Common.{ℕ, ◌≡◌, ◌+◌, ◌<◌, ◌≤◌, length, List, [], ◌∷◌, map, All, true, false, Option, Some, None, Result, Ok, Err, IsSome, refl, sym, ◌∙◌, ap, subst, arith, length-append}
+use Rattle.std.proofs.Common.{ℕ, ◌≡◌, ◌<◌, ◌≤◌, length, List, [], ◌∷◌, map, All, true, false, Option, Some, None, Result, Ok, Err, IsSome, refl, sym, ◌∙◌, ap, subst, arith, length-append}
 use Rattle.std.specs.Prelude.{OnOk, OnErr}
 use Rattle.std.proofs.lemmas.List.{map-append}
 use Rattle.std.proofs.lemmas.List.Elements.{All-append, All-cons}
-use Rattle.wa_base.specs.declared.contexts.State.{State}
 use Rattle.wa_base.specs.declared.memory.NoMemory.{NoMemory}
-use Rattle.law_base.specs.Members.{IsIn}
 use Rattle.name_book.specs.Book.{BookView, bound, first_named, first_name_of}
 use Rattle.name_book.specs.declared.book.Object.{Object}
 use Rattle.name_book.specs.declared.book.Object.TheVariants.{Node, Buffer}
@@ -20,38 +18,40 @@ use Rattle.meaning.specs.declared.change.Edit.{Edit}
 use Rattle.meaning.specs.declared.change.Edit.TheVariants as edit
 use Rattle.meaning.specs.declared.world.World.{World}
 use Rattle.meaning.specs.declared.scheds.Play.{Play}
-use Rattle.meaning.specs.Lists.{Listed, listed}
-use Rattle.meaning.specs.World.{plain, kind_of, find_play, frames_in}
-use Rattle.meaning.specs.Validity.{IsValid, IsPlayOf, play_nodes}
+use Rattle.meaning.specs.World.{plain, find_play, frames_in}
+use Rattle.meaning.specs.Validity.{IsValid, play_nodes}
 use Rattle.meaning.specs.Plays.{new_source, play_edited}
 use Rattle.meaning.specs.Sources.{with_store, buffers_edited}
 use Rattle.meaning.specs.Changes.{creates, created, edited, attribute_set, new_play, plays_of}
-use Rattle.meaning.specs.Automation.{with_params, slot_set}
-use Rattle.meaning.proofs.Automating.{slots_valid}
-use Rattle.meaning.proofs.Valid.{valid_of, changed_nodes}
+use Rattle.meaning.proofs.Valid.{changed_nodes}
 use Rattle.meaning.proofs.Creating.{IsOwn}
 use Rattle.meaning.proofs.Sourcing.{new_play_is, new_source_is, edited_id, acquired_keeps}
 use Rattle.meaning.proofs.Buffering.{buffers_stay}
 use Rattle.meaning.proofs.Changing.{changed_grows}
-use Rattle.session.specs.Quantum.{marked}
-use Rattle.session.specs.Machine.{Machine, IsInState, IsAccepted, machine_of}
+use Rattle.control_msgs.specs.Messages.{after}
+use Rattle.wa_base.specs.declared.contexts.ContextSpec.{ContextSpec}
+use Rattle.wa_base.specs.declared.contexts.State.TheVariants.{Suspended, Closed}
+use Rattle.ctx_state.specs.Context.{ContextView, next, turn_of, turned_by, after_turn, IsTurned as context_turned}
+use Rattle.ctx_state.specs.declared.context.Turn.{Turn}
+use Rattle.ctx_state.specs.declared.context.Turn.TheVariants.{Went, Due, Done}
+use Rattle.session.specs.Machine.{Machine, IsAccepted, machine_of}
 use Rattle.session.specs.Steady.{IsSteady, IsThere}
-use Rattle.session.specs.Session.{machine_after}
+use Rattle.session.specs.View.{IsTurned}
 use Rattle.session.specs.Step.{with_world, with_edit, created_by}
-use Rattle.session.proofs.Marks.{marked_nodes, marked_kinds}
+use Rattle.control_msgs.proofs.Marks.{marked_nodes}
 use Rattle.session.proofs.Named.{All-bound, there_still, named_still, named_new}
 
 -- ---- an edit
 
-edited_valid : (m : Machine) (e : Edit) → IsAccepted m e → IsSteady m → IsValid (edited m.world m.context.now e)
-edited_valid m e accepted steady = (changed_grows m.world (record { time = m.context.now; edit = e }) steady.valid accepted).valid steady.valid
+edited_valid : (m : Machine) (e : Edit) → IsAccepted m e → IsSteady m → IsValid (edited m.world m.context.time e)
+edited_valid m e accepted steady = (changed_grows m.world (record { time = m.context.time; edit = e }) steady.valid accepted).valid steady.valid
 
 -- a machine whose world changes, but for how many its nodes are and whose its schedules are, and from which no buffer goes
 pub steady_world : (m : Machine) (w : World) → w.spec ≡ m.world.spec → length w.nodes ≡ length m.world.nodes → length m.world.store ≤ length w.store
     → play_nodes w ≡ play_nodes m.world → IsValid w → IsSteady m → IsSteady (with_world m w)
 steady_world m w spec nodes buffers plays valid steady = record {
   valid = valid;
-  in_state = rw spec steady.in_state;
+  spec = steady.spec ∙ sym spec;
   time = steady.time;
   bound = λ k d l. there_still m.world w (omega arith) buffers _ (steady.bound k d l);
   named = rw plays steady.named;
@@ -65,7 +65,7 @@ steady_edited m (edit.Connect edge) none accepted steady = steady_world m _ refl
 steady_edited m (edit.Disconnect from form) none accepted steady = steady_world m _ refl refl (omega arith) refl (edited_valid m (edit.Disconnect from form) accepted steady) steady
 steady_edited m (edit.Source node e) none accepted steady =
     steady_world m _ refl refl (acquired_keeps m.world.store e (find_play m.world.scheds.items node.0)).long
-    (changed_nodes node.0 (λ p. play_edited (frames_in m.world.store p.buffer) m.context.now e p) (λ p. edited_id (frames_in m.world.store p.buffer) m.context.now e p) m.world.scheds.items)
+    (changed_nodes node.0 (λ p. play_edited (frames_in m.world.store p.buffer) m.context.time e p) (λ p. edited_id (frames_in m.world.store p.buffer) m.context.time e p) m.world.scheds.items)
     (edited_valid m (edit.Source node e) accepted steady) steady
 steady_edited m (edit.Attribute node e) none accepted steady =
     steady_world m _ refl (length-changed node.0 (attribute_set e) m.world.nodes) (omega arith) refl (edited_valid m (edit.Attribute node e) accepted steady) steady
@@ -73,13 +73,13 @@ steady_edited m (edit.Param id e) none accepted steady = steady_world m _ refl r
 steady_edited m (edit.Buffers e) none accepted steady = steady_world m _ refl refl (buffers_stay m.world.store e) refl (edited_valid m (edit.Buffers e) accepted steady) steady
 
 -- a world that was edited so, or was not for want of memory
-pub steady_either : (state : State) (now : ℕ) (started : Option ℕ) (w new : World) (book : BookView) (e : Edit) (r : Result (Unit {0}) NoMemory) → OnOk r (plain new ≡ edited (plain w) now e) → OnErr r (plain new ≡ plain w)
-    → creates e ≡ false → IsAccepted (machine_of state now started w book) e → IsSteady (machine_of state now started w book) → IsSteady (machine_of state now started new book)
-steady_either state now started w new book e (Ok v) done failed none accepted steady =
-    let m : Machine = machine_of state now started w book in
+pub steady_either : (context : ContextView) (w new : World) (book : BookView) (e : Edit) (r : Result (Unit {0}) NoMemory) → OnOk r (plain new ≡ edited (plain w) context.time e) → OnErr r (plain new ≡ plain w)
+    → creates e ≡ false → IsAccepted (machine_of context w book) e → IsSteady (machine_of context w book) → IsSteady (machine_of context new book)
+steady_either context w new book e (Ok v) done failed none accepted steady =
+    let m : Machine = machine_of context w book in
     subst (λ (x : World). IsSteady (with_world m x)) (sym done) (steady_edited m e none accepted steady)
-steady_either state now started w new book e (Err r) done failed none accepted steady =
-    let m : Machine = machine_of state now started w book in
+steady_either context w new book e (Err r) done failed none accepted steady =
+    let m : Machine = machine_of context w book in
     subst (λ (x : World). IsSteady (with_world m x)) (sym failed) steady
 
 -- ---- a new node
@@ -92,20 +92,20 @@ new_named names name node (Some p) own =
 new_named names name node None own = λ k d l. absurd (omega arith)
 
 -- with its schedule, if it is a source
-steady_created : (m : Machine) (name : List ℕ) (kind : Kind) (play : Option Play) → IsOwn (length m.world.nodes) play → IsValid (created m.world kind play m.context.now) → IsSteady m
+steady_created : (m : Machine) (name : List ℕ) (kind : Kind) (play : Option Play) → IsOwn (length m.world.nodes) play → IsValid (created m.world kind play m.context.time) → IsSteady m
     → IsSteady (record m {
-      world = created m.world kind play m.context.now;
+      world = created m.world kind play m.context.time;
       bindings = bound m.bindings name (Node (record { 0 = length m.world.nodes }));
       first_names = first_named m.first_names (Node (record { 0 = length m.world.nodes })) name;
     })
 steady_created m name kind play own valid steady =
     let count = length m.world.nodes in
-    let long = length-append m.world.nodes (node_of kind m.context.now ∷ []) in
-    let next : World = created m.world kind play m.context.now in
+    let long = length-append m.world.nodes (node_of kind m.context.time ∷ []) in
+    let next : World = created m.world kind play m.context.time in
     let first_names = first_named m.first_names (Node (record { 0 = count })) name in
     record {
       valid = valid;
-      in_state = steady.in_state;
+      spec = steady.spec;
       time = steady.time;
       bound = All-bound (IsThere next) m.bindings name (Node (record { 0 = count })) (λ k d l. there_still m.world next (omega (arith, long)) (omega arith) _ (steady.bound k d l)) (omega (arith, long));
       named = rw (map-append (λ (p : Play). p.id.0) m.world.scheds.items (plays_of play))
@@ -118,7 +118,7 @@ steady_buffer m name e more accepted steady =
     let next : World = with_store m.world (buffers_edited m.world.store e) in
     record {
       valid = edited_valid m (edit.Buffers e) accepted steady;
-      in_state = steady.in_state;
+      spec = steady.spec;
       time = steady.time;
       bound = All-bound (IsThere next) m.bindings name (Buffer (record { 0 = length m.world.store })) (λ k d l. there_still m.world next (omega arith) (omega (arith, more)) _ (steady.bound k d l)) more;
       named = steady.named;
@@ -143,46 +143,70 @@ steady_named m (edit.Buffers (buffer_edit.Adopt wav)) name new accepted steady =
 steady_named m (edit.Buffers (buffer_edit.Write buffer channel samples first)) name new accepted steady = absurd cc
 
 pub named_machine : (m : Machine) (name : List ℕ) (e : Edit) (world : World) (bindings : List (List ℕ × Object)) (first_names : List (ℕ × List ℕ))
-    → world ≡ edited m.world m.context.now e → bindings ≡ bound m.bindings name (created_by m e) → first_names ≡ first_named m.first_names (created_by m e) name
+    → world ≡ edited m.world m.context.time e → bindings ≡ bound m.bindings name (created_by m e) → first_names ≡ first_named m.first_names (created_by m e) name
     → record m { world = world; bindings = bindings; first_names = first_names } ≡ with_edit m e (Some name)
 named_machine m name e world bindings first_names world_is bindings_are names_are =
     λ i. record m { world = world_is i; bindings = bindings_are i; first_names = names_are i }
 
+-- ---- the context
+
+-- a context with the same numbers
+pub steady_context : (context new : ContextView) (w : World) (book : BookView) → new.spec ≡ context.spec → new.time ≤ 33554560 → IsSteady (machine_of context w book) → IsSteady (machine_of new w book)
+steady_context context new w book spec time steady = record { valid = steady.valid; spec = spec ∙ steady.spec; time = time; bound = steady.bound; named = steady.named }
+
 -- ---- a quantum
 
-pub scheds_valid : (w : World) (scheds : Listed Play) → map (λ (p : Play). p.id.0) scheds.items ≡ play_nodes w → ((p : Play) → IsIn p scheds.items → IsPlayOf w.store (kind_of w p.id.0) p)
-    → IsValid (plain w) → IsValid (plain (record w { scheds = scheds }))
-scheds_valid w scheds same kinds valid = valid_of (plain w) (plain (record w { scheds = scheds })) refl refl refl refl same kinds valid.store valid
-
-pub steady_scheds : (state : State) (now : ℕ) (started : Option ℕ) (w : World) (scheds : Listed Play) (book : BookView) → map (λ (p : Play). p.id.0) scheds.items ≡ play_nodes w
-    → ((p : Play) → IsIn p scheds.items → IsPlayOf w.store (kind_of w p.id.0) p) → IsSteady (machine_of state now started w book) → IsSteady (machine_of state now started (record w { scheds = scheds }) book)
-steady_scheds state now started w scheds book same kinds steady =
-    steady_world (machine_of state now started w book) (plain (record w { scheds = scheds })) refl refl (omega arith) same (scheds_valid w scheds same kinds steady.valid) steady
-
-pub steady_after : (old state : State) (now : ℕ) (started : Option ℕ) (w : World) (scheds : Listed Play) (book : BookView) → scheds.items ≡ map (marked (now + 128)) w.scheds.items
-    → now < w.spec.length → IsInState state started (now + 128) w.spec.length → IsSteady (machine_of old now started w book) → IsSteady (machine_of state (now + 128) started (record w { scheds = scheds }) book)
-steady_after old state now started w scheds book is left in_state steady =
-    let same : map (λ (p : Play). p.id.0) scheds.items ≡ play_nodes w = ap (map (λ (p : Play). p.id.0)) is ∙ marked_nodes (now + 128) w.scheds.items in
-    let kinds : (p : Play) → IsIn p scheds.items → IsPlayOf w.store (kind_of w p.id.0) p =
-    subst (λ (ps : List Play). (p : Play) → IsIn p ps → IsPlayOf w.store (kind_of w p.id.0) p) (sym is) (marked_kinds w (now + 128) w.scheds.items steady.valid.scheds.kinds) in
-    let next = steady_scheds old now started w scheds book same kinds steady in
+pub steady_turned : (context new : ContextView) (w next : World) (book : BookView) (first last : ℕ) → plain next ≡ after first last (plain w) → IsValid (plain next) → new.spec ≡ context.spec → new.time ≤ 33554560
+    → IsSteady (machine_of context w book) → IsSteady (machine_of new next book)
+steady_turned context new w next book first last is valid spec time steady =
+    let same : play_nodes (plain next) ≡ play_nodes (plain w) = ap play_nodes is ∙ marked_nodes last w.scheds.items in
     record {
-      valid = next.valid;
-      in_state = in_state;
-      time = let high = steady.valid.spec.length_high in omega arith;
-      bound = next.bound;
-      named = next.named;
+      valid = valid;
+      spec = spec ∙ steady.spec ∙ sym (ap (λ (x : World). x.spec) is);
+      time = time;
+      bound = λ k d l.
+          there_still (plain w) (plain next) (let nodes = ap (λ (x : World). length x.nodes) is in omega (arith, nodes)) (let buffers = ap (λ (x : World). length x.store) is in omega (arith, buffers)) _ (steady.bound k d l);
+      named = rw same steady.named;
     }
 
--- a world whose current values were set
-module _ (state : State) (now : ℕ) (started : Option ℕ) (w w' : World) (book : BookView) (set : plain w' ≡ with_params (plain w) (map (slot_set now) w.params.items)) where
-  pub steady_slots : IsSteady (machine_of state now started w book) → IsSteady (machine_of state now started w' book)
-  steady_slots steady =
-      steady_world (machine_of state now started w book) (plain w') (ap (λ (x : World). x.spec) set) (ap (λ (x : World). length x.nodes) set) (let same = ap (λ (x : World). length x.store) set in omega (arith, same))
-      (ap play_nodes set) (subst IsValid (sym set) (slots_valid (plain w) now steady.valid)) steady
+-- a context after its next quantum, whatever that leads to
+pub turned_spec : (c : ContextView) → (after_turn c).spec ≡ c.spec
+unfolding after_turn
+turned_spec c = by_turn (turn_of c)
+  where
+    by_turn : (t : Turn) → (turned_by t (record c { time = next c })).spec ≡ c.spec
+    by_turn Went = refl
+    by_turn (Due ordinal) = refl
+    by_turn (Done ordinal) = refl
 
-  pub after_is : (next : State) (scheds : Listed Play) → scheds.items ≡ map (marked (now + 128)) w'.scheds.items
-      → machine_of next (now + 128) started (record w' { scheds = scheds }) book ≡ machine_after (machine_of next now started w book)
-  after_is next scheds is =
-      let marks = is ∙ ap (λ (x : World). map (marked (now + 128)) x.scheds.items) set in
-      λ i. record (machine_of next (now + 128) started w book) { world = record (set i) { scheds = listed (marks i) } }
+pub turned_time : (c : ContextView) → (after_turn c).time ≡ next c
+unfolding after_turn
+turned_time c = by_turn (turn_of c)
+  where
+    by_turn : (t : Turn) → (turned_by t (record c { time = next c })).time ≡ next c
+    by_turn Went = refl
+    by_turn (Due ordinal) = refl
+    by_turn (Done ordinal) = refl
+
+pub turned_started : (c : ContextView) → (after_turn c).started ≡ c.started
+unfolding after_turn
+turned_started c = by_turn (turn_of c)
+  where
+    by_turn : (t : Turn) → (turned_by t (record c { time = next c })).started ≡ c.started
+    by_turn Went = refl
+    by_turn (Due ordinal) = refl
+    by_turn (Done ordinal) = refl
+
+pub due_suspends : (c : ContextView) (ordinal : ℕ) → turn_of c ≡ Due ordinal → (after_turn c).state ≡ Suspended
+unfolding after_turn
+due_suspends c ordinal is = ap (λ t. (turned_by t (record c { time = next c })).state) is
+
+pub done_closes : (c : ContextView) (ordinal : ℕ) → turn_of c ≡ Done ordinal → (after_turn c).state ≡ Closed
+unfolding after_turn
+done_closes c ordinal is = ap (λ t. (turned_by t (record c { time = next c })).state) is
+
+-- what a turn led to, by the numbers of the world
+pub turned_machine : (turn : Turn) (old new : Machine) → old.context.spec ≡ old.world.spec → new.context.spec ≡ new.world.spec → context_turned turn old.context new.context → IsTurned turn old new
+turned_machine Went old new old_spec new_spec is = (is.0, subst (λ (s : ContextSpec). new.context.time < s.length) new_spec is.1)
+turned_machine (Due ordinal) old new old_spec new_spec is = subst (λ (s : ContextSpec). new.context.time < s.length) new_spec is.1
+turned_machine (Done ordinal) old new old_spec new_spec is = (is.0, subst (λ (s : ContextSpec). s.length ≤ new.context.time) old_spec is.1)

@@ -14,8 +14,8 @@ use Rattle.meaning.specs.declared.buffers.BufferEdit.TheVariants.{Adopt}
 use Rattle.meaning.specs.declared.change.Edit.{Edit}
 use Rattle.meaning.specs.declared.change.Edit.TheVariants.{Buffers}
 use Rattle.meaning.specs.Changes.{IsNamed, refusal, creates}
-use Rattle.session.specs.declared.control.Decided.{Decided}
-use Rattle.session.specs.declared.control.Decided.TheVariants as comes_to
+use Rattle.session.specs.declared.decide.Decided.{Decided}
+use Rattle.session.specs.declared.decide.Decided.TheVariants as comes_to
 use Rattle.session.specs.Machine.{Machine}
 
 -- what each path of the folder holds at each moment of a session; a moment is the number of the lines that the session has by then
@@ -55,7 +55,7 @@ unless_rejected (Some exception) change = rejected exception
 -- a recording at the rate of the context becomes a buffer, unless all buffers would be too long
 abbrev pub adopts : Machine → Wav → Decided
 adopts machine wav =
-    if wav.rate == machine.world.spec.rate then unless_rejected (refusal machine.world machine.context.now (Buffers (Adopt wav))) (Buffers (Adopt wav))
+    if wav.rate == machine.world.spec.rate then unless_rejected (refusal machine.world machine.context.time (Buffers (Adopt wav))) (Buffers (Adopt wav))
     else rejected (NotSupported (Some Resampling))
 
 abbrev pub by_reading : Machine → Result Wav WavErr → Decided
@@ -81,4 +81,6 @@ found_of (TooLong n) = Some (replicate n 0)
 abbrev pub IsFit : Machine → Decided → Type 0
 IsFit machine (comes_to.Answer said) = Unit {0}
 IsFit machine comes_to.Start = ⊥
-IsFit machine (comes_to.Change change) = IsNamed machine.world change × (refusal machine.world machine.context.now change ≡ None) × (creates change ≡ true)
+IsFit machine (comes_to.Suspend frame) = ⊥
+IsFit machine comes_to.Resume = ⊥
+IsFit machine (comes_to.Change change) = IsNamed machine.world change × (refusal machine.world machine.context.time change ≡ None) × (creates change ≡ true)

@@ -12,8 +12,8 @@ use Rattle.meaning.specs.declared.change.Edit.{Edit}
 use Rattle.meaning.specs.declared.change.Edit.TheVariants as edit
 use Rattle.meaning.specs.declared.sources.SourceEdit.TheVariants as source
 use Rattle.meaning.specs.Changes.{refusal}
-use Rattle.session.specs.declared.control.Decided.{Decided}
-use Rattle.session.specs.declared.control.Decided.TheVariants as comes_to
+use Rattle.session.specs.declared.decide.Decided.{Decided}
+use Rattle.session.specs.declared.decide.Decided.TheVariants as comes_to
 use Rattle.session.specs.Machine.{Machine}
 
 -- ---- the objects that names stand for
@@ -48,7 +48,7 @@ unless (Some exception) change = refused exception
 
 -- it edits the world, unless the world refuses the edit
 abbrev pub edits : Machine → Edit → Decided
-edits machine change = unless (refusal machine.world machine.context.now change) change
+edits machine change = unless (refusal machine.world machine.context.time change) change
 
 -- it edits what a name stands for, which is to be a node
 abbrev pub edits_node : Machine → Option NodeId → (NodeId → Edit) → Decided

@@ -1,7 +1,7 @@
 pub mod Assets
 pub mod Frames
+pub mod Lists
 pub mod Machine
-pub mod Quantum
 pub mod Rendering
 pub mod Rows
 pub mod Session

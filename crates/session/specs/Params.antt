@@ -23,8 +23,8 @@ use Rattle.meaning.specs.World.{kind_of, param_id, slot_of}
 use Rattle.meaning.specs.declared.automation.ParamEdit.{ParamEdit}
 use Rattle.meaning.specs.declared.automation.ParamEdit.TheVariants as line
 use Rattle.meaning.specs.declared.change.Edit.TheVariants as edit
-use Rattle.session.specs.declared.control.Decided.{Decided}
-use Rattle.session.specs.declared.control.Decided.TheVariants as comes_to
+use Rattle.session.specs.declared.decide.Decided.{Decided}
+use Rattle.session.specs.declared.decide.Decided.TheVariants as comes_to
 use Rattle.session.specs.Deciding.{refused, edits, node_named}
 use Rattle.session.specs.Machine.{Machine}
 

@@ -1,5 +1,5 @@
 -- A whole session, without a sample in it.
-use Rattle.std.specs.Prelude.{ℕ, zero, suc, ◌≡◌, ◌⊎◌, ◌+◌, ◌-◌, ◌/◌, ◌==◌, nat_le, List, [], ◌∷◌, ◌++◌, length, filter, if◌then◌else◌, unwrap_or, Bool, true, false, Option, Some, None}
+use Rattle.std.specs.Prelude.{ℕ, zero, suc, ◌≡◌, ◌⊎◌, ◌+◌, ◌-◌, ◌/◌, ◌==◌, List, [], ◌∷◌, ◌++◌, length, filter, if◌then◌else◌, unwrap_or, Bool, true, false, None, is_some, IsTrue, IsSome}
 use Rattle.std.specs.List.{list_any}
 use Rattle.wa_base.specs.declared.contexts.ContextSpec.{ContextSpec}
 use Rattle.wa_base.specs.Contexts.{quantum_of, is_supported}
@@ -7,20 +7,21 @@ use Rattle.wa_base.specs.declared.contexts.State.{State}
 use Rattle.wa_base.specs.declared.contexts.State.TheVariants as state
 use Rattle.wa_base.specs.declared.exceptions.Exc.TheVariants.{NotSupported}
 use Rattle.io_edge.specs.Paths.{Paths}
+use Rattle.ctx_state.specs.Context.{ContextView, first_context, next, turn_of, after_turn as context_after}
+use Rattle.ctx_state.specs.declared.context.Turn.{Turn}
+use Rattle.ctx_state.specs.declared.context.Turn.TheVariants.{Went, Due, Done}
+use Rattle.control_msgs.specs.Messages.{ends_by, after}
 use Rattle.script_ast.specs.declared.call_list.Call.{Call}
 use Rattle.script_ast.specs.declared.call_list.Script.{Script}
 use Rattle.transcript.specs.declared.lines.Answer.TheVariants.{Resolved}
 use Rattle.transcript.specs.declared.lines.Line.{Line}
 use Rattle.transcript.specs.declared.lines.Line.TheVariants as line
 use Rattle.transcript.specs.declared.lines.EndWord.{EndWord}
-use Rattle.transcript.specs.declared.lines.EndWord.TheVariants.{Completed, Idle, Refused}
+use Rattle.transcript.specs.declared.lines.EndWord.TheVariants.{Completed, Stalled, Idle, Refused}
 use Rattle.name_book.specs.Book.{first_name_of}
-use Rattle.session.specs.declared.session.Turn.{Turn}
-use Rattle.session.specs.declared.session.Turn.TheVariants.{Went, Done}
 use Rattle.meaning.specs.declared.world.World.{World}
 use Rattle.meaning.specs.declared.scheds.Play.{Play}
 use Rattle.meaning.specs.Worlds.{first_world}
-use Rattle.session.specs.Quantum.{ends_by, after}
 use Rattle.session.specs.Assets.{Folder}
 use Rattle.session.specs.Machine.{Machine}
 use Rattle.session.specs.Step.{step, is_decode}
@@ -48,7 +49,11 @@ after_calls folder told (call ∷ calls) = after_calls folder (after_call told (
 abbrev pub held_by : ℕ → List Call → List Call
 held_by holder calls = filter (λ call. call.holder == holder) calls
 
--- ---- quanta
+-- after the list that a call holds
+abbrev pub after_list : Folder → List Call → Told → ℕ → Told
+after_list folder calls told ordinal = after_calls folder told (held_by ordinal calls)
+
+-- ---- a turn
 
 -- a line for each source that ends, in the order of the schedules, which is that of the node numbers, with the name under which the node was created
 abbrev pub ended_lines : List (ℕ × List ℕ) → ℕ → List Play → List Line
@@ -58,21 +63,27 @@ ended_lines names now (play ∷ plays) =
     then line.Ended play.id (unwrap_or (first_name_of names play.id.0) []) ∷ ended_lines names now plays
     else ended_lines names now plays
 
--- the lines that a quantum adds
-abbrev pub lines_after : Machine → List Line
-lines_after machine = ended_lines machine.first_names (machine.context.now + quantum_of machine.world.spec) machine.world.scheds.items
+-- a promise resolves where a suspension is due, and at the length
+abbrev pub promise_lines : Turn → List Line
+promise_lines Went = []
+promise_lines (Due ordinal) = line.Call ordinal Resolved ∷ []
+promise_lines (Done ordinal) = line.Call ordinal Resolved ∷ []
 
--- the machine after one render quantum
+-- the lines that a turn adds
+abbrev pub lines_after : Machine → List Line
+lines_after machine = ended_lines machine.first_names (next machine.context) machine.world.scheds.items ++ promise_lines (turn_of machine.context)
+
+-- the machine after a turn: one render quantum, and what it leads to
 abbrev pub machine_after : Machine → Machine
 machine_after machine = record machine {
-  context = record machine.context { now = machine.context.now + quantum_of machine.world.spec };
-  world = after machine.context.now (machine.context.now + quantum_of machine.world.spec) machine.world;
+  context = context_after machine.context;
+  world = after machine.context.time (next machine.context) machine.world;
 }
 
-abbrev pub after_quantum : Told → Told
-after_quantum told = record { machine = machine_after told.machine; lines = told.lines ++ lines_after told.machine }
+abbrev pub after_turn : Told → Told
+after_turn told = record { machine = machine_after told.machine; lines = told.lines ++ lines_after told.machine }
 
--- ---- the session
+-- ---- the end
 
 -- a session's lines, its end, and the world of each of its quanta
 pub record Played : Type 0 where
@@ -80,34 +91,22 @@ pub record Played : Type 0 where
   pub end : EndWord
   pub tape : List World
 
--- the context closes, and the promise of startRendering resolves
-abbrev pub closed_machine : Machine → Machine
-closed_machine machine = record machine { context = record machine.context { state = state.Closed } }
-
-abbrev pub closing : Told → ℕ → Told
-closing told ordinal = record { machine = closed_machine told.machine; lines = told.lines ++ line.Call ordinal Resolved ∷ [] }
-
--- what a quantum led to: the length is reached, or rendering goes on
-abbrev pub turn_of : Machine → Turn
-turn_of machine = if nat_le machine.world.spec.length machine.context.now then Done (unwrap_or machine.context.started 0) else Went
-
--- ---- the end
-
 -- whether the context is closed
 abbrev pub has_closed : State → Bool
 has_closed state.Suspended = false
 has_closed state.Running = false
 has_closed state.Closed = true
 
--- how a session ends whose context is in a state: it completed, or rendering was never started
-abbrev pub end_of : State → EndWord
-end_of state.Suspended = Idle
-end_of state.Running = Idle
-end_of state.Closed = Completed
+-- how a session ends: it completed; it stalled, where a suspension was not resumed; or rendering was never started
+abbrev pub end_of : ContextView → EndWord
+end_of c = if has_closed c.state then Completed else if is_some c.started then Stalled c.time else Idle
 
 -- the complete event comes last
 abbrev pub lines_at_end : Told → List Line
 lines_at_end told = if has_closed told.machine.context.state then told.lines ++ line.Complete told.machine.world.spec.length ∷ [] else told.lines
+
+abbrev pub finished : Told → List World → Played
+finished told tape = record { lines = lines_at_end told; end = end_of told.machine.context; tape = tape }
 
 -- ---- turn by turn
 
@@ -117,37 +116,43 @@ quanta_from frame spec = (spec.length - frame + (quantum_of spec - 1)) / quantum
 
 -- as many quanta as are left
 abbrev pub quanta_left : Machine → ℕ
-quanta_left machine = quanta_from machine.context.now machine.world.spec
+quanta_left machine = quanta_from machine.context.time machine.world.spec
 
--- the complete event comes last
-abbrev pub finished : Told → List World → Played
-finished told tape = record { lines = told.lines ++ line.Complete told.machine.world.spec.length ∷ []; end = Completed; tape = tape }
+-- whether rendering goes on
+abbrev pub is_running : State → Bool
+is_running state.Suspended = false
+is_running state.Running = true
+is_running state.Closed = false
 
--- where the length is reached the context closes, and the list of startRendering runs
-abbrev pub ends : Folder → List Call → Told → ℕ → Told
-ends folder calls told ordinal = after_calls folder (closing told ordinal) (held_by ordinal calls)
+abbrev pub by_turn : Turn → Played → (ℕ → Played) → (ℕ → Played) → Played
+by_turn Went went due done = went
+by_turn (Due ordinal) went due done = due ordinal
+by_turn (Done ordinal) went due done = done ordinal
 
-abbrev pub by_turn : Turn → Played → (ℕ → Played) → Played
-by_turn Went more done = more
-by_turn (Done ordinal) more done = done ordinal
-
--- A turn puts the world in force onto the tape and renders a quantum of it, and then rendering goes on or ends. There are no more turns than quanta left.
+-- A turn puts the world in force onto the tape and renders a quantum of it. Where a suspension is due its list runs, and the session is at its end unless that resumed it. Where the length is reached the list of startRendering runs. There are no more turns than quanta left.
 abbrev pub turns : ℕ → Folder → List Call → Told → List World → Played
 turns zero folder calls told tape = finished told tape
 turns (suc left) folder calls told tape =
     let tape = tape ++ told.machine.world ∷ [] in
-    let told = after_quantum told in
-    by_turn (turn_of told.machine) (turns left folder calls told tape) (λ ordinal. finished (ends folder calls told ordinal) tape)
+    let turn = turn_of told.machine.context in
+    let told = after_turn told in
+    by_turn turn
+    (turns left folder calls told tape)
+    (λ ordinal.
+    let told = after_list folder calls told ordinal in
+    if is_running told.machine.context.state then turns left folder calls told tape else finished told tape)
+    (λ ordinal. finished (after_list folder calls told ordinal) tape)
 
 -- rendering that was started goes on to its end
-abbrev pub rendered : Folder → List Call → Told → Option ℕ → Played
-rendered folder calls told None = record { lines = told.lines; end = Idle; tape = [] }
-rendered folder calls told (Some ordinal) = turns (quanta_left told.machine) folder calls told []
+abbrev pub rendered : Folder → List Call → Told → Played
+rendered folder calls told = if is_some told.machine.context.started then turns (quanta_left told.machine) folder calls told [] else finished told []
+
+-- ---- the session
 
 -- the machine before the first call: the destination is there, and its name needs no binding
 abbrev pub first_machine : ContextSpec → Machine
 first_machine spec = record {
-  context = record { state = state.Suspended; now = 0; started = None };
+  context = first_context spec;
   world = first_world spec;
   bindings = [];
   first_names = [];
@@ -158,10 +163,10 @@ first_told spec = record { machine = first_machine spec; lines = [] }
 
 -- the main list runs first
 abbrev pub main_list : Folder → List Call → Told → Told
-main_list folder calls told = after_calls folder told (held_by 0 calls)
+main_list folder calls told = after_list folder calls told 0
 
 abbrev pub replayed : Folder → List Call → Told → Played
-replayed folder calls told = rendered folder calls (main_list folder calls told) (main_list folder calls told).machine.context.started
+replayed folder calls told = rendered folder calls (main_list folder calls told)
 
 -- a session, over a folder of assets
 unfoldable pub session_of : Folder → Script → Played
@@ -171,11 +176,31 @@ session_of folder script =
 
 -- ---- which sessions look into the folder
 
-abbrev pub has_decode : List Call → Bool
-has_decode calls = list_any (λ (call : Call). is_decode call.op) calls
+abbrev pub HasDecode : List Call → Type 0
+HasDecode calls = list_any (λ (call : Call). is_decode call.op) calls ≡ true
 
--- a decodeAudioData is in the main list, or in the list of the startRendering that is accepted there
+abbrev pub ByTurn : Turn → Type 0 → (ℕ → Type 0) → (ℕ → Type 0) → Type 0
+ByTurn Went went due done = went
+ByTurn (Due ordinal) went due done = due ordinal
+ByTurn (Done ordinal) went due done = done ordinal
+
+-- a decodeAudioData is in a list that runs in one of the turns
+abbrev pub TurnsDecode : ℕ → Folder → List Call → Told → Type 0
+TurnsDecode zero folder calls told = ⊥
+TurnsDecode (suc left) folder calls told =
+    let turn = turn_of told.machine.context in
+    let told = after_turn told in
+    ByTurn turn
+    (TurnsDecode left folder calls told)
+    (λ ordinal.
+    let list = held_by ordinal calls in
+    let told = after_calls folder told list in
+    HasDecode list ⊎ (IsTrue (is_running told.machine.context.state) × TurnsDecode left folder calls told))
+    (λ ordinal. HasDecode (held_by ordinal calls))
+
+-- a decodeAudioData is in the main list, or in a list that runs later
 abbrev pub Decodes : Folder → List Call → Told → Type 0
 Decodes folder calls told =
-    (has_decode (held_by 0 calls) ≡ true)
-    ⊎ ((ordinal : ℕ) × ((main_list folder calls told).machine.context.started ≡ Some ordinal) × (has_decode (held_by ordinal calls) ≡ true))
+    let list = held_by 0 calls in
+    let told = after_calls folder told list in
+    HasDecode list ⊎ (IsSome told.machine.context.started × TurnsDecode (quanta_left told.machine) folder calls told)

@@ -1,11 +1,11 @@
 -- What holds of the machine between two steps.
-use Rattle.std.specs.Prelude.{ℕ, ◌≤◌, ◌<◌, List, length, All, IsSome}
+use Rattle.std.specs.Prelude.{ℕ, ◌≡◌, ◌≤◌, ◌<◌, List, length, All, IsSome}
 use Rattle.name_book.specs.Book.{first_name_of}
 use Rattle.name_book.specs.declared.book.Object.{Object}
 use Rattle.name_book.specs.declared.book.Object.TheVariants.{Node, Buffer}
 use Rattle.meaning.specs.declared.world.World.{World}
 use Rattle.meaning.specs.Validity.{IsValid, play_nodes}
-use Rattle.session.specs.Machine.{Machine, IsInState}
+use Rattle.session.specs.Machine.{Machine}
 
 -- an object is there, among the nodes and the buffers
 abbrev pub IsThere : World → Object → Type 0
@@ -14,7 +14,7 @@ IsThere w (Buffer buffer) = buffer.0 < length w.store
 
 pub record IsSteady (machine : Machine) : Type 0 where
   pub valid : IsValid machine.world
-  pub in_state : IsInState machine.context.state machine.context.started machine.context.now machine.world.spec.length
-  pub time : machine.context.now ≤ 33554560
+  pub spec : machine.context.spec ≡ machine.world.spec
+  pub time : machine.context.time ≤ 33554560
   pub bound : All (λ (b : List ℕ × Object). IsThere machine.world b.1) machine.bindings
   pub named : All (λ node. IsSome (first_name_of machine.first_names node)) (play_nodes machine.world)

@@ -1,10 +1,11 @@
 -- One control call: first it is decided what it comes to, and then that is done.
-use Rattle.std.specs.Prelude.{ℕ, ◌≡◌, ◌/◌, ◌%◌, ◌==◌, ℤ, pos, negsuc, List, length, Bool, true, false, if◌then◌else◌, is_some, Option, Some, None}
-use Rattle.wa_base.specs.declared.contexts.State.{State}
-use Rattle.wa_base.specs.declared.contexts.State.TheVariants as state
-use Rattle.wa_base.specs.declared.exceptions.Exc.TheVariants.{NotSupported, InvalidState}
+use Rattle.std.specs.Prelude.{ℕ, ◌≡◌, ◌/◌, ◌%◌, ◌==◌, ℤ, pos, negsuc, List, length, Bool, true, false, if◌then◌else◌, is_some, IsSome, Option, Some, None}
+use Rattle.wa_base.specs.declared.contexts.State.TheVariants.{Running}
+use Rattle.wa_base.specs.declared.exceptions.Exc.{Exc}
+use Rattle.wa_base.specs.declared.exceptions.Exc.TheVariants.{NotSupported}
 use Rattle.wa_base.specs.declared.graph_names.NodeId.{NodeId}
 use Rattle.io_edge.specs.Paths.{Paths}
+use Rattle.ctx_state.specs.Context.{ContextView, start_refusal, with_start, resume_refusal, resumed, suspend_refusal, suspend_frame, may_suspend, with_suspension}
 use Rattle.script_ast.specs.declared.call_list.Call.{Call}
 use Rattle.script_ast.specs.declared.operations.Op.{Op}
 use Rattle.script_ast.specs.declared.operations.Op.TheVariants as op
@@ -25,9 +26,10 @@ use Rattle.meaning.specs.declared.change.Edit.TheVariants as edit
 use Rattle.meaning.specs.declared.scheds.LoopPart.TheVariants as part
 use Rattle.meaning.specs.declared.sources.SourceEdit.TheVariants as source
 use Rattle.meaning.specs.declared.world.World.{World}
-use Rattle.meaning.specs.Changes.{edited, creates}
-use Rattle.session.specs.declared.control.Decided.{Decided}
-use Rattle.session.specs.declared.control.Decided.TheVariants as comes_to
+use Rattle.meaning.specs.declared.change.Change.{Change}
+use Rattle.meaning.specs.Changes.{Accepts, changed, edited, creates}
+use Rattle.session.specs.declared.decide.Decided.{Decided}
+use Rattle.session.specs.declared.decide.Decided.TheVariants as comes_to
 use Rattle.session.specs.Assets.{decodes}
 use Rattle.session.specs.Machine.{Machine, IsAccepted}
 use Rattle.session.specs.Params.{decided_on_param}
@@ -68,16 +70,10 @@ abbrev pub disconnects : Machine → Option NodeId → Option ℕ → Option (Li
 disconnects machine from output None input = edits_node machine from (λ node. edit.Disconnect node (form_from output))
 disconnects machine from output (Some to) input = edits_nodes machine from (node_named machine to) (λ node target. edit.Disconnect node (form_to output input target))
 
--- rendering is started once
-abbrev pub starts : Option ℕ → Decided
-starts None = comes_to.Start
-starts (Some ordinal) = comes_to.Answer (answer.Rejected InvalidState)
-
--- a running context is resumed without effect
-abbrev pub resumes : State → Answer
-resumes state.Suspended = answer.Rejected InvalidState
-resumes state.Running = answer.Resolved
-resumes state.Closed = answer.Rejected InvalidState
+-- a promise, which is rejected where there is a refusal
+abbrev pub promises : Option Exc → Decided → Decided
+promises None decided = decided
+promises (Some exception) decided = comes_to.Answer (answer.Rejected exception)
 
 -- what an operation comes to that looks at nothing outside
 unfoldable pub decided : Machine → Op → Decided
@@ -102,10 +98,11 @@ decided machine (op.SetLoopStart node value) = edits_node machine (node_named ma
 decided machine (op.SetLoopEnd node value) = edits_node machine (node_named machine node) (λ n. edit.Source n (source.SetLoop (part.End value)))
 decided machine (op.CopyToChannel buffer channel samples first) =
     edits_buffer machine (buffer_named machine buffer) (λ written. edit.Buffers (buffer_edit.Write written channel samples first))
-decided machine op.StartRendering = starts machine.context.started
-decided machine op.Resume = comes_to.Answer (resumes machine.context.state)
+decided machine op.StartRendering = promises (start_refusal machine.context) comes_to.Start
+decided machine (op.Suspend time) = promises (suspend_refusal machine.context time) (comes_to.Suspend (suspend_frame machine.context time))
+decided machine op.Resume = promises (resume_refusal machine.context) comes_to.Resume
 decided machine op.ReadState = comes_to.Answer (answer.State machine.context.state)
-decided machine op.ReadTime = comes_to.Answer (answer.Time machine.context.now)
+decided machine op.ReadTime = comes_to.Answer (answer.Time machine.context.time)
 decided machine other = decided_on_param machine other
 
 -- and one that looks into the folder of assets, where the paths hold this
@@ -130,15 +127,15 @@ created_by machine other = object.Node (record { 0 = length machine.world.nodes 
 
 -- the world is edited, and where a name is given it is bound to what is new
 abbrev pub with_edit : Machine → Edit → Option (List ℕ) → Machine
-with_edit machine change None = with_world machine (edited machine.world machine.context.now change)
+with_edit machine change None = with_world machine (edited machine.world machine.context.time change)
 with_edit machine change (Some name) = record machine {
-  world = edited machine.world machine.context.now change;
+  world = edited machine.world machine.context.time change;
   bindings = bound machine.bindings name (created_by machine change);
   first_names = first_named machine.first_names (created_by machine change) name;
 }
 
-abbrev pub with_start : Machine → ℕ → Machine
-with_start machine ordinal = record machine { context = record machine.context { state = state.Running; started = Some ordinal } }
+abbrev pub with_context : Machine → ContextView → Machine
+with_context machine context = record machine { context = context }
 
 -- the answer to an edit that was made; decodeAudioData gives a promise, which resolves within the call
 abbrev pub done : Op → Answer
@@ -148,7 +145,9 @@ done other = answer.Ok
 -- a call that is only answered leaves the machine as it is, refused or not
 abbrev pub settled : Machine → Call → Decided → Stepped
 settled machine call (comes_to.Answer said) = record { machine = machine; answer = said }
-settled machine call comes_to.Start = record { machine = with_start machine call.ordinal; answer = answer.Pending }
+settled machine call comes_to.Start = record { machine = with_context machine (with_start machine.context call.ordinal); answer = answer.Pending }
+settled machine call (comes_to.Suspend frame) = record { machine = with_context machine (with_suspension machine.context frame call.ordinal); answer = answer.Pending }
+settled machine call comes_to.Resume = record { machine = with_context machine (resumed machine.context); answer = answer.Resolved }
 settled machine call (comes_to.Change change) = record { machine = with_edit machine change (new_name call.op); answer = done call.op }
 
 -- a call, where the paths of the folder hold this
@@ -161,14 +160,20 @@ abbrev pub is_start : Op → Bool
 is_start op.StartRendering = true
 is_start other = false
 
+abbrev pub is_resume : Op → Bool
+is_resume op.Resume = true
+is_resume other = false
+
 abbrev pub is_decode : Op → Bool
 is_decode (op.DecodeAudioData name path) = true
 is_decode other = false
 
--- What an operation may come to: only startRendering starts the rendering, and only once; an edit is one that the world accepts, and what it creates gets a name.
+-- What an operation may come to: only startRendering starts the rendering, and only once; what the context refuses is not done to it; an edit is one that the world accepts, and what it creates gets a name.
 abbrev pub IsFor : Machine → Op → Decided → Type 0
 IsFor machine call (comes_to.Answer said) = Unit {0}
-IsFor machine call comes_to.Start = (is_start call ≡ true) × (machine.context.started ≡ None)
+IsFor machine call comes_to.Start = (is_start call ≡ true) × (start_refusal machine.context ≡ None)
+IsFor machine call (comes_to.Suspend frame) = may_suspend machine.context frame ≡ true
+IsFor machine call comes_to.Resume = resume_refusal machine.context ≡ None
 IsFor machine call (comes_to.Change change) = IsAccepted machine change × (creates change ≡ is_some (new_name call))
 
 -- the machine and the answer are those of a step
@@ -178,4 +183,13 @@ Steps machine stepped said = (machine ≡ stepped.machine) × (said ≡ stepped.
 -- a call moves neither the context's numbers nor its time
 pub record KeepsTime (old new : Machine) : Type 0 where
   pub spec : new.world.spec ≡ old.world.spec
-  pub now : new.context.now ≡ old.context.now
+  pub now : new.context.time ≡ old.context.time
+
+-- once rendering was started, it is running
+abbrev pub RunsOnceStarted : Machine → Type 0
+RunsOnceStarted machine = IsSome machine.context.started → machine.context.state ≡ Running
+
+-- What a call sends to the side that renders: the change of the world, which the world accepted, or nothing where the world stays.
+abbrev pub Sends : World → World → Option Change → Type 0
+Sends old new None = new ≡ old
+Sends old new (Some change) = Accepts old change × (new ≡ changed old change)

@@ -6,7 +6,8 @@ ghost use Rattle.wav_io.specs.WavGrammar.{IsRecording};
 ghost use Rattle.session.specs.Assets as spec;
 ghost use Rattle.session.specs.Assets.{IsHeld, IsFit};
 
-use crate::control::{Control, Decided};
+use crate::control::Control;
+use crate::decide::Decided;
 use crate::session::Stop;
 use io_edge::{EdgeErr, Fetched, Files};
 use meaning::{BufferEdit, Edit};
@@ -75,7 +76,7 @@ impl Control {
         let edit = Edit::Buffers {
             edit: BufferEdit::Adopt { wav },
         };
-        match self.world().refusal(self.now(), &edit) {
+        match self.world().refusal(self.context().now(), &edit) {
             Some(exc) => rejected(exc),
             None => Decided::Change(edit),
         }

@@ -1,39 +1,14 @@
-ghost use Rattle.std.specs.Prelude.{◌≡◌, [], map, All, IsSome, unwrap_or, IfOk};
+ghost use Rattle.std.specs.Prelude.{◌≡◌, [], All, IsSome, unwrap_or, IfOk};
 ghost use Rattle.name_book.specs.Book.{first_name_of};
-ghost use Rattle.session.specs.Quantum as changes;
 ghost use Rattle.session.specs.Session as session_spec;
 ghost use Rattle.meaning.specs.declared.scheds.Play.{Play as play};
 
-use meaning::{Play, Scheds};
+use control_msgs::ends_by;
+use meaning::Play;
 use name_book::Book;
-use sched_source::Sched;
 use std::alloc::Global;
 use transcript::Line;
 use wa_base::NoMemory;
-
-// Whether a source ends before the quantum that begins at `now`, and has not ended before.
-fn ends_by(sched: &Sched, now: u64) -> bool
-    ensures { result ≡ changes.ends_by now sched.now }
-{
-    if sched.has_ended() {
-        return false;
-    }
-    match sched.end_frame() {
-        Some(end) => end <= now,
-        None => false,
-    }
-}
-
-/// Marks the sources that end before the quantum that begins at `now`.
-pub(crate) fn mark_ended(scheds: &mut Scheds, now: u64)
-    ensures { scheds.new.items ≡ map (changes.marked now) scheds.old.items }
-{
-    for place in 0..scheds.len() {
-        if ends_by(&scheds.at(place).sched, now) {
-            scheds.at_mut(place).sched.fire();
-        }
-    }
-}
 
 /// A line for each source that ends before the quantum that begins at `now`, in order of node number.
 pub(crate) fn ended_lines(

@@ -3,13 +3,15 @@
 
 mod assets;
 mod control;
+mod decide;
 mod ends;
 mod params;
-mod quantum;
+mod render_side;
 mod rendered;
 mod replay;
 mod session;
 
+pub use ctx_state::Turn;
 pub use rendered::Rendered;
 pub use replay::{Outcome, run};
-pub use session::{Options, Session, Stop, Turn};
+pub use session::{Options, Session, Stop};

@@ -7,7 +7,8 @@ ghost use Rattle.session.specs.Step as step;
 ghost use Rattle.session.specs.Step.{node_named, edits};
 ghost use Rattle.meaning.specs.World.{slot_of};
 
-use crate::control::{Control, Decided, refused};
+use crate::control::Control;
+use crate::decide::{Decided, refused};
 use conn_graph::{Edge, Form, Target};
 use meaning::{Edit, ParamEdit};
 use node_table::Kind;

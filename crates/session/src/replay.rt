@@ -1,22 +1,24 @@
-ghost use Rattle.std.specs.Prelude.{◌≡◌, ◌≤◌, ◌++◌, ℕ, List, [], length, true, IsTrue, IsSome, IfOk, IsErrOf, OnOk, Some};
+ghost use Rattle.std.specs.Prelude.{◌≡◌, ◌≤◌, ◌++◌, ℕ, List, [], length, true, IsTrue, IsSome, IfOk, IsErrOf, OnOk, Some, None, slice_index_or};
 ghost use Rattle.io_edge.specs.Faults.{Rose};
 ghost use Rattle.io_edge.specs.Paths.{SamePaths};
 ghost use Rattle.script_ast.specs.WellFormed.{AreCallsAfter};
 ghost use Rattle.wa_base.specs.Contexts.{IsSupported};
-ghost use Rattle.session.specs.Assets.{Folder, IsFolderOf, AgreeBetween, AgreeFrom};
+ghost use Rattle.session.specs.Assets.{Folder, IsFolderOf, AgreeBetween};
 ghost use Rattle.session.specs.Rendering.{IsOutcomeOf};
-ghost use Rattle.session.specs.Session.{after_calls, first_told, held_by, has_decode, replayed as replayed_of, session_of, Decodes};
-ghost use Rattle.session.specs.Step.{KeepsTime};
-ghost use Rattle.session.specs.View.{Stands, turns_of};
+ghost use Rattle.session.specs.Session.{after_calls, first_told, held_by, is_running as runs, session_of, HasDecode, Decodes};
+ghost use Rattle.session.specs.Step.{KeepsTime, RunsOnceStarted};
+ghost use Rattle.session.specs.Lists.{AreLengths};
+ghost use Rattle.session.specs.View.{Stands, IsPlayed, IsReplayed, ComesToDecode};
 ghost use Rattle.meaning.specs.declared.world.World.{World};
 
 use crate::rendered::Rendered;
-use crate::session::{Options, Session, Stop, Turn};
+use crate::session::{Options, Session, Stop};
+use ctx_state::Turn;
 use io_edge::Files;
 use script_ast::{Call, Script};
 use std::alloc::Global;
 use transcript::{EndWord, Lines};
-use wa_base::{Refusal, State};
+use wa_base::{NoMemory, Refusal, State};
 
 /// What a session led to.
 #[derive(Debug, Drop)]
@@ -51,7 +53,13 @@ pub fn run<F: Files>(
         × ((folder : Folder) × IsFolderOf (F.tells files.old) (F.paths files.old) folder × Decodes folder script.now.calls (first_told script.now.context)) }
 {
     match Session::new(alloc, script.context, options) {
-        Ok(session) => replayed(session, script.calls.as_slice(), files),
+        Ok(mut session) => match replay_calls(alloc, &mut session, script.calls.as_slice(), files) {
+            Ok(()) => Ok(session.finish()),
+            Err(stop) => {
+                drop(session);
+                Err(stop)
+            }
+        },
         Err(Refusal::Exc(exception)) => Ok(Outcome {
             lines: Lines::new(alloc),
             end: EndWord::Refused(exception),
@@ -61,60 +69,107 @@ pub fn run<F: Files>(
     }
 }
 
-// Replays the calls of a script in a session without a call yet.
-fn replayed<F: Files>(mut session: Session, calls: &[Call], files: &mut F) -> Result<Outcome, Stop>
+// Does the calls of a script in a session without a call yet: the main list and, where that started
+// rendering, what comes after it.
+fn replay_calls<F: Files>(
+    alloc: Global,
+    session: &mut Session,
+    calls: &[Call],
+    files: &mut F,
+) -> Result<(), Stop>
     requires calls { AreCallsAfter 0 calls.now }
-    requires fresh { Stands session [] }
-    ensures outcome { IfOk result (λ outcome. (folder : Folder) × IsFolderOf (F.tells files.old) (F.paths files.old) folder
-        × IsOutcomeOf session.audio session.told.machine.world.spec (replayed_of folder calls.now session.told) outcome) }
+    requires idle { session.old.told.machine.context.started ≡ None }
+    requires fresh { Stands session.old [] }
+    ensures ok { OnOk result (IsReplayed (F.tells files.old) (F.paths files.old) calls.now session.old session.new) }
+    ensures audio { session.new.audio ≡ session.old.audio }
     ensures tells { F.tells files.new ≡ F.tells files.old }
     ensures paths { IsTrue (F.tells files.old) → SamePaths (F.paths files.old) (F.paths files.new) }
     ensures later { F.read_faults files.old ≤ F.read_faults files.new }
     ensures writes { F.write_faults files.new ≡ F.write_faults files.old }
     ensures cause { IsErrOf result Stop.AssetFault → Rose (F.read_faults files.old) (F.read_faults files.new)
-        × ((folder : Folder) × IsFolderOf (F.tells files.old) (F.paths files.old) folder × Decodes folder calls.now session.told) }
+        × ((folder : Folder) × IsFolderOf (F.tells files.old) (F.paths files.old) folder × Decodes folder calls.now session.old.told) }
 {
-    call_list(&mut session, calls, 0, files)?;
+    let lengths = list_lengths(alloc, calls)?;
+    let lengths = lengths.as_slice();
+    call_list(session, calls, lengths, 0, files)?;
     if session.started().is_none() {
-        return Ok(session.idle());
+        return Ok(());
     }
-    go_on(session, calls, files)
+    go_on(session, calls, lengths, files)
 }
 
-// Renders a session turn by turn, from its first quantum to its end.
-fn go_on<F: Files>(mut session: Session, calls: &[Call], files: &mut F) -> Result<Outcome, Stop>
+// Takes turn after turn, with the lists of the suspensions that are due, until the length is reached,
+// and its list is done, or a suspension is not resumed.
+fn go_on<F: Files>(
+    session: &mut Session,
+    calls: &[Call],
+    lengths: &[usize],
+    files: &mut F,
+) -> Result<(), Stop>
     requires calls { AreCallsAfter 0 calls.now }
-    requires running { session.told.machine.context.state ≡ State.Running }
-    requires context { IsSupported session.told.machine.world.spec }
-    requires fresh { Stands session [] }
-    ensures outcome { IfOk result (λ outcome. (folder : Folder) × IsFolderOf (F.tells files.old) (F.paths files.old) folder
-        × ((other : Folder) → AgreeFrom (length session.told.lines) folder other → IsOutcomeOf session.audio session.told.machine.world.spec (turns_of other session calls.now) outcome)) }
+    requires lengths { AreLengths lengths.now calls.now }
+    requires running { session.old.told.machine.context.state ≡ State.Running }
+    requires started { IsSome session.old.told.machine.context.started }
+    requires fresh { Stands session.old [] }
+    ensures ok { OnOk result (IsPlayed (F.tells files.old) (F.paths files.old) calls.now session.old session.new) }
+    ensures longer { length session.old.told.lines ≤ length session.new.told.lines }
+    ensures audio { session.new.audio ≡ session.old.audio }
+    ensures spec { session.new.told.machine.world.spec ≡ session.old.told.machine.world.spec }
+    ensures started { OnOk result (IsSome session.new.told.machine.context.started) }
     ensures tells { F.tells files.new ≡ F.tells files.old }
     ensures paths { IsTrue (F.tells files.old) → SamePaths (F.paths files.old) (F.paths files.new) }
     ensures later { F.read_faults files.old ≤ F.read_faults files.new }
     ensures writes { F.write_faults files.new ≡ F.write_faults files.old }
     ensures cause { IsErrOf result Stop.AssetFault → Rose (F.read_faults files.old) (F.read_faults files.new)
-        × ((ordinal : ℕ) × (session.told.machine.context.started ≡ Some ordinal) × (has_decode (held_by ordinal calls.now) ≡ true)) }
+        × ComesToDecode (F.tells files.old) (F.paths files.old) calls.now session.old session.new }
 {
     loop {
         match session.advance()? {
             Turn::Went => {}
-            Turn::Done(ordinal) => {
-                call_list(&mut session, calls, ordinal, files)?;
-                return Ok(session.completed());
+            Turn::Due(ordinal) => {
+                call_list(session, calls, lengths, ordinal, files)?;
+                if !is_running(session.state()) {
+                    return Ok(());
+                }
             }
+            Turn::Done(ordinal) => return call_list(session, calls, lengths, ordinal, files),
         }
     }
 }
 
-// Does the calls of one list, in their order.
+// Whether rendering goes on.
+fn is_running(state: State) -> bool
+    ensures { result ≡ runs state }
+{
+    match state {
+        State::Running => true,
+        State::Suspended | State::Closed => false,
+    }
+}
+
+// How many calls each list has: at the place of a holder's ordinal, that of the list that it holds.
+fn list_lengths(alloc: Global, calls: &[Call]) -> Result<Vec<usize>, NoMemory>
+    requires { AreCallsAfter 0 calls.now }
+    ensures { IfOk result (λ lengths. AreLengths lengths.items calls.now) }
+{
+    let mut lengths = vec![in alloc; 0; calls.len()]?;
+    for call in calls {
+        lengths[call.holder as usize] += 1;
+    }
+    Ok(lengths)
+}
+
+// Does the calls of one list, in their order. They come after their holder, and no call is looked at
+// behind the last of them.
 fn call_list<F: Files>(
     session: &mut Session,
     calls: &[Call],
+    lengths: &[usize],
     holder: u32,
     files: &mut F,
 ) -> Result<(), Stop>
     requires calls { AreCallsAfter 0 calls.now }
+    requires lengths { AreLengths lengths.now calls.now }
     ensures told { OnOk result ((folder : Folder) × IsFolderOf (F.tells files.old) (F.paths files.old) folder
         × ((other : Folder) → AgreeBetween (length session.old.told.lines) (length session.new.told.lines) folder other
         → session.new.told ≡ after_calls other session.old.told (held_by holder calls.now))) }
@@ -122,17 +177,33 @@ fn call_list<F: Files>(
     ensures audio { session.new.audio ≡ session.old.audio }
     ensures kept { KeepsTime session.old.told.machine session.new.told.machine }
     ensures started { IsSome session.old.told.machine.context.started → IsSome session.new.told.machine.context.started }
+    ensures runs { RunsOnceStarted session.old.told.machine → RunsOnceStarted session.new.told.machine }
     ensures stands { (tape : List World) → Stands session.old tape → Stands session.new tape }
     ensures tells { F.tells files.new ≡ F.tells files.old }
     ensures paths { IsTrue (F.tells files.old) → SamePaths (F.paths files.old) (F.paths files.new) }
     ensures later { F.read_faults files.old ≤ F.read_faults files.new }
     ensures writes { F.write_faults files.new ≡ F.write_faults files.old }
-    ensures cause { IsErrOf result Stop.AssetFault → Rose (F.read_faults files.old) (F.read_faults files.new) × (has_decode (held_by holder calls.now) ≡ true) }
+    ensures cause { IsErrOf result Stop.AssetFault → Rose (F.read_faults files.old) (F.read_faults files.new) × HasDecode (held_by holder calls.now) }
 {
-    for call in calls {
+    let mut left = length_of(lengths, holder);
+    let mut place = holder as usize;
+    while left > 0 {
+        let call = &calls[place];
+        place += 1;
         if call.holder == holder {
+            left -= 1;
             session.call(call, files)?;
         }
     }
     Ok(())
+}
+
+// The length of the list of a holder.
+fn length_of(lengths: &[usize], holder: u32) -> usize
+    ensures { result ≡ slice_index_or lengths.now holder 0 }
+{
+    match lengths.get(holder as usize) {
+        Some(length) => *length,
+        None => 0,
+    }
 }

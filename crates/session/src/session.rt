@@ -2,21 +2,25 @@ ghost use Rattle.std.specs.Prelude.{◌≡◌, ◌↔◌, ◌≤◌, ◌<◌, �
 ghost use Rattle.io_edge.specs.Faults.{Rose};
 ghost use Rattle.io_edge.specs.Paths.{Paths, SamePaths};
 ghost use Rattle.script_ast.specs.Ranges.{IsInRange};
-ghost use Rattle.session.specs.Machine.{IsInState};
+ghost use Rattle.ctx_state.specs.Context.{IsInState, turn_of};
 ghost use Rattle.wa_base.specs.Contexts.{IsSupported};
-ghost use Rattle.session.specs.Session.{after_call, after_quantum, machine_after, turn_of, closing, has_closed, end_of, lines_at_end};
+ghost use Rattle.control_msgs.specs.Messages.{IsAcceptedBy};
+ghost use Rattle.meaning.specs.Changes.{Accepts};
+ghost use Rattle.session.specs.Session.{after_call, after_turn, has_closed, end_of, lines_at_end};
 ghost use Rattle.wa_base.specs.Contexts.{is_supported as supports};
 ghost use Rattle.session.specs.Assets.{IsHeld};
-ghost use Rattle.session.specs.Step.{is_start, is_decode, KeepsTime};
-ghost use Rattle.session.specs.View.{IsFirst, IsAsBefore, Stands};
+ghost use Rattle.session.specs.Step.{is_start, is_decode, KeepsTime, RunsOnceStarted};
+ghost use Rattle.session.specs.View.{IsFirst, IsAsBefore, IsTurned, Stands, Follows, MakesRoom, Gets, Hears, GoesOn, Waits, IsAt, sent};
 ghost use Rattle.meaning.specs.declared.world.World.{World};
 
-use crate::control::Control;
-use crate::quantum::render_audio;
+use crate::control::{Control, Stepped};
+use crate::render_side::{QUANTUM, RenderSide};
 use crate::rendered::Rendered;
 use crate::replay::Outcome;
+use control_msgs::Message;
+use ctx_state::Turn;
 use io_edge::Files;
-use quantum_render::Renderer;
+use meaning::Change;
 use script_ast::{Call, Op};
 use std::alloc::Global;
 use std::marker::Model;
@@ -53,15 +57,6 @@ impl From<NoMemory> for Stop {
     }
 }
 
-/// What a quantum led to.
-#[derive(Clone, Copy, Debug, PartialEq, Eq)]
-pub enum Turn {
-    /// Rendering goes on.
-    Went,
-    /// The length is reached. The ordinal is that of the accepted startRendering.
-    Done(u32),
-}
-
 /// A session while it runs. Contracts see it as its machine, its lines, its samples and, with audio,
 /// its renderer.
 #[derive(Drop)]
@@ -69,19 +64,20 @@ pub struct Session {
     alloc: Global,
     control: Control,
     lines: Lines,
-    renderer: Option<Renderer>,
+    // With audio, the side that renders.
+    side: Option<RenderSide>,
     samples: Vec<Fix>,
 }
 
 impl Model for Session {
-    ghost use Rattle.std.specs.Prelude.{is_some};
+    ghost use Rattle.std.specs.Prelude.{is_some, option_map};
     ghost use Rattle.session.specs.View.{SessionView, IsSound};
 
     ghost Value = { SessionView };
 
-    ghost view = { λ s. record { told = record { machine = s.control; lines = s.lines.items }; audio = is_some s.renderer; samples = s.samples.items; renderer = s.renderer } };
+    ghost view = { λ s. record { told = record { machine = s.control; lines = s.lines.items }; audio = is_some s.side; samples = s.samples.items; renderer = option_map (λ side. side.renderer) s.side } };
 
-    ghost invariant = { λ s. IsSound (is_some s.renderer) s.control s.lines.room s.samples.items s.renderer };
+    ghost invariant = { λ s. IsSound (is_some s.side) s.control s.lines.room s.samples.items s.side };
 }
 
 impl Session {
@@ -97,8 +93,8 @@ impl Session {
         }
         let mut lines = Lines::new(alloc);
         lines.reserve(1)?;
-        let renderer = if options.audio {
-            Some(Renderer::new(alloc, spec, options.tie)?)
+        let side = if options.audio {
+            Some(RenderSide::new(alloc, spec, options.tie)?)
         } else {
             None
         };
@@ -106,7 +102,7 @@ impl Session {
             alloc,
             control: Control::new(alloc, spec)?,
             lines,
-            renderer,
+            side,
             samples: Vec::new(alloc),
         })
     }
@@ -120,6 +116,7 @@ impl Session {
         ensures audio { self.new.audio ≡ self.old.audio }
         ensures kept { KeepsTime self.old.told.machine self.new.told.machine }
         ensures started { IsSome self.old.told.machine.context.started → IsSome self.new.told.machine.context.started }
+        ensures runs { RunsOnceStarted self.old.told.machine → RunsOnceStarted self.new.told.machine }
         ensures stands { (tape : List World) → Stands self.old tape → Stands self.new tape }
         ensures err { OnErr result (self.new ≡ self.old) }
         ensures tells { F.tells files.new ≡ F.tells files.old }
@@ -129,8 +126,10 @@ impl Session {
         ensures cause { IsErrOf result Stop.AssetFault → Rose (F.read_faults files.old) (F.read_faults files.new) × (is_decode call.now.op ≡ true) }
     {
         self.lines.reserve(2)?;
+        reserve(&mut self.side, 1)?;
         let samples = self.samples_for(&call.op)?;
-        let answer = self.control.step(call, files)?;
+        let Stepped { answer, change } = self.control.step(call, files)?;
+        send(&mut self.side, change);
         if let Some(samples) = samples {
             self.samples = samples;
         }
@@ -138,47 +137,44 @@ impl Session {
         Ok(())
     }
 
-    /// Renders one quantum, and closes the context where its length is reached.
+    /// Takes a turn: renders one quantum, and closes the context where its length is reached, or
+    /// suspends it where a suspension is due. The promise resolves then. After `NoMemory` the session
+    /// stands as before, and the call can be made again.
     pub fn advance(&mut self) -> Result<Turn, NoMemory>
         requires { self.old.told.machine.context.state ≡ State.Running }
-        ensures turn { IfOk result (λ turn. turn ≡ turn_of (machine_after self.old.told.machine)) }
-        ensures left { IfOk result (λ _. self.old.told.machine.context.now < self.old.told.machine.world.spec.length) }
-        ensures went { IfOk result (λ turn. turn ≡ Turn.Went
-            → (self.new.told ≡ after_quantum self.old.told) × (self.new.told.machine.context.state ≡ State.Running)
-            × (self.new.told.machine.context.now < self.new.told.machine.world.spec.length)) }
-        ensures done { IfOk result (λ turn. (ordinal : ℕ) → turn ≡ Turn.Done ordinal
-            → (self.old.told.machine.context.started ≡ Some ordinal) × (self.new.told ≡ closing (after_quantum self.old.told) ordinal)
-            × (self.old.told.machine.world.spec.length ≤ self.new.told.machine.context.now)) }
+        ensures turn { IfOk result (λ turn. turn ≡ turn_of self.old.told.machine.context) }
+        ensures told { OnOk result (self.new.told ≡ after_turn self.old.told) }
+        ensures left { OnOk result (self.old.told.machine.context.time < self.old.told.machine.world.spec.length) }
+        ensures state { IfOk result (λ turn. IsTurned turn self.old.told.machine self.new.told.machine) }
         ensures audio { self.new.audio ≡ self.old.audio }
         ensures stands { (tape : List World) → Stands self.old tape → OnOk result (Stands self.new (tape ++ self.old.told.machine.world ∷ [])) }
         ensures err { OnErr result (IsAsBefore self.old self.new) }
     {
-        let ordinal = self.control.started().unwrap_or(0);
         let ended = self.control.lines_of_quantum(self.alloc)?;
         self.lines.reserve(ended.len() + 2)?;
-        render_audio(
-            &mut self.renderer,
-            self.control.world(),
-            self.control.now(),
-            self.samples.as_mut_slice(),
-        )?;
-        let closed = self.control.end_quantum();
+        reserve(&mut self.side, 2)?;
+        let first = self.control.now();
+        render(&mut self.side, first, self.samples.as_mut_slice())?;
+        let turn = self.control.turn();
+        post(&mut self.side, Message::Slots(first));
+        post(&mut self.side, Message::Ended(first + QUANTUM));
         self.lines.append_reserved(ended);
-        if !closed {
-            return Ok(Turn::Went);
+        match turn {
+            Turn::Went => {}
+            Turn::Due(ordinal) | Turn::Done(ordinal) => self
+                .lines
+                .push_reserved(Line::Call(ordinal, Answer::Resolved)),
         }
-        self.lines
-            .push_reserved(Line::Call(ordinal, Answer::Resolved));
-        Ok(Turn::Done(ordinal))
+        Ok(turn)
     }
 
     // The samples that an operation starts to render, all zeros.
     fn samples_for(&self, op: &Op) -> Result<Option<Vec<Fix>>, NoMemory>
         ensures some { IfOk result (λ samples. IsSome samples ↔ (IsTrue self.now.audio × IsNone self.now.told.machine.context.started × (is_start op.now ≡ true))) }
-        ensures at_start { IfOk result (λ samples. IsSome samples → self.now.told.machine.context.now ≡ 0) }
+        ensures at_start { IfOk result (λ samples. IsSome samples → self.now.told.machine.context.time ≡ 0) }
         ensures zeros { IfOk result (λ samples. IfSome samples (λ v. v.items ≡ replicate (self.now.told.machine.world.spec.channels * self.now.told.machine.world.spec.length) (pos 0))) }
     {
-        if self.renderer.is_none()
+        if self.side.is_none()
             || !matches!(op, Op::StartRendering)
             || self.control.started().is_some()
         {
@@ -192,39 +188,44 @@ impl Session {
     /// The ordinal of the accepted startRendering.
     pub fn started(&self) -> Option<u32>
         ensures started { result ≡ self.now.told.machine.context.started }
-        ensures state { IsInState self.now.told.machine.context.state self.now.told.machine.context.started self.now.told.machine.context.now self.now.told.machine.world.spec.length }
+        ensures state { IsInState self.now.told.machine.context.state self.now.told.machine.context.started self.now.told.machine.context.time self.now.told.machine.world.spec.length }
         ensures supported { IsSupported self.now.told.machine.world.spec }
     {
         self.control.started()
     }
 
     /// The outcome of a session as it stands. Where its context closed, the line of the complete
-    /// event comes last, and with audio the samples are handed over.
+    /// event comes last, and with audio the samples are handed over. Where it was started and did not
+    /// close, it stalled.
     pub fn finish(self) -> Outcome
-        requires { self.told.machine.context.state ≡ State.Running → ⊥ }
         ensures lines { result.lines.items ≡ lines_at_end self.told }
-        ensures end { result.end ≡ end_of self.told.machine.context.state }
+        ensures end { result.end ≡ end_of self.told.machine.context }
         ensures rendered { result.rendered ≡ (if self.audio && has_closed self.told.machine.context.state then Some (record { spec = self.told.machine.world.spec; samples = self.samples }) else None) }
     {
-        match self.control.state() {
-            State::Closed => self.completed(),
-            State::Suspended | State::Running => self.idle(),
+        let context = self.control.context();
+        match (context.state(), context.started()) {
+            (State::Closed, _) => self.completed(),
+            (_, Some(_)) => {
+                let end = EndWord::Stalled(context.now());
+                self.unrendered(end)
+            }
+            (_, None) => self.unrendered(EndWord::Idle),
         }
     }
 
-    // The outcome of a session in which rendering was not started.
-    pub(crate) fn idle(self) -> Outcome
-        ensures { result ≡ record { lines = record { items = self.told.lines; room = result.lines.room }; end = EndWord.Idle; rendered = None } }
+    // The outcome of a session that did not complete.
+    fn unrendered(self, end: EndWord) -> Outcome
+        ensures { result ≡ record { lines = record { items = self.told.lines; room = result.lines.room }; end = end; rendered = None } }
     {
         Outcome {
             lines: self.lines,
-            end: EndWord::Idle,
+            end,
             rendered: None,
         }
     }
 
     // The outcome of a session whose context closed.
-    pub(crate) fn completed(self) -> Outcome
+    fn completed(self) -> Outcome
         ensures lines { result.lines.items ≡ self.told.lines ++ Line.Complete self.told.machine.world.spec.length ∷ [] }
         ensures end { result.end ≡ EndWord.Completed }
         ensures rendered { result.rendered ≡ (if self.audio then Some (record { spec = self.told.machine.world.spec; samples = self.samples }) else None) }
@@ -232,13 +233,13 @@ impl Session {
         let Session {
             control,
             mut lines,
-            renderer,
+            side,
             samples,
             ..
         } = self;
         let spec = control.spec();
         lines.push_reserved(Line::Complete(spec.length));
-        let rendered = rendered_if(renderer.is_some(), spec, samples);
+        let rendered = rendered_if(side.is_some(), spec, samples);
         Outcome {
             lines,
             end: EndWord::Completed,
@@ -250,7 +251,7 @@ impl Session {
     pub fn state(&self) -> State
         ensures { result ≡ self.now.told.machine.context.state }
     {
-        self.control.state()
+        self.control.context().state()
     }
 }
 
@@ -265,5 +266,52 @@ fn rendered_if(audio: bool, spec: ContextSpec, samples: Vec<Fix>) -> Option<Rend
         })
     } else {
         None
+    }
+}
+
+// Makes room for messages to the side that renders.
+fn reserve(side: &mut Option<RenderSide>, more: usize) -> Result<(), NoMemory>
+    ensures ok { OnOk result (Follows (MakesRoom more) side.old side.new) }
+    ensures err { OnErr result (Follows (MakesRoom 0) side.old side.new) }
+{
+    match side {
+        Some(side) => side.reserve(more),
+        None => Ok(()),
+    }
+}
+
+// Sends a message to the side that renders.
+fn post(side: &mut Option<RenderSide>, message: Message)
+    requires room { IfSome side.old (λ s. 0 < s.room) }
+    requires accepted { IfSome side.old (λ s. IsAcceptedBy (sent s) message) }
+    ensures { Follows (Gets message) side.old side.new }
+{
+    if let Some(side) = side {
+        side.post(message);
+    }
+}
+
+// Sends what a call changed to the side that renders.
+fn send(side: &mut Option<RenderSide>, change: Option<Change>)
+    requires room { IfSome side.old (λ s. 0 < s.room) }
+    requires accepted { IfSome change (λ c. IfSome side.old (λ s. Accepts (sent s) c)) }
+    ensures { Follows (Hears change) side.old side.new }
+{
+    if let Some(change) = change {
+        post(side, Message::Change(change));
+    }
+}
+
+// Renders the quantum that begins at `first`, where there is a side that renders.
+fn render(side: &mut Option<RenderSide>, first: u64, samples: &mut [Fix]) -> Result<(), NoMemory>
+    requires at { IfSome side.old (λ s. IsAt (sent s).spec first s.renderer) }
+    requires running { IfSome side.old (λ s. first < (sent s).spec.length) }
+    requires long { IfSome side.old (λ s. length samples.old ≡ (sent s).spec.channels * (sent s).spec.length) }
+    ensures ok { OnOk result (Follows (GoesOn first samples.old samples.new) side.old side.new) }
+    ensures err { OnErr result (Follows (Waits first) side.old side.new × (samples.new ≡ samples.old)) }
+{
+    match side {
+        Some(side) => side.render(first, samples),
+        None => Ok(()),
     }
 }

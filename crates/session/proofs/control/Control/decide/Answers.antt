@@ -3,7 +3,7 @@ use Rattle.std.proofs.lemmas.Int.{to_z-of_z}
 use Rattle.script_ast.specs.declared.operations.Op.{Op}
 use Rattle.script_ast.specs.declared.operations.Op.TheVariants as op
 use Rattle.std.specs.Prelude.{IfOk}
-use Rattle.session.specs.declared.control.Decided.{Decided}
+use Rattle.session.specs.declared.decide.Decided.{Decided}
 use Rattle.session.specs.Params.{decided_on_param}
 use Rattle.session.specs.Step.{decided}
 use Rattle.session.proofs.control.Control.decide.Goals as goal
@@ -95,6 +95,7 @@ default c (op.SetLoopEnd node value) is = absurd (c.in_default.not-SetLoopEnd no
 default c (op.CopyToChannel buffer channel samples at) is = absurd (c.in_default.not-CopyToChannel buffer channel samples at is)
 default c (op.Start node when offset duration) is = absurd (c.in_default.not-Start node when offset duration is)
 default c (op.Stop node when) is = absurd (c.in_default.not-Stop node when is)
+default c (op.Suspend time) is = absurd (c.in_default.not-Suspend time is)
 default c op.StartRendering is = absurd (c.in_default.not-StartRendering is)
 default c op.Resume is = absurd (c.in_default.not-Resume is)
 default c op.ReadState is = absurd (c.in_default.not-ReadState is)

@@ -19,3 +19,6 @@ pub returns-clause-started : goal.returns-clause-started
 returns-clause-started g c = λ starts.
     let decided = c.in_ok-decided.ensures.decided in
     stepped_started c.args.self.now c.settle.new.self c.args.call.now decided.0 c.in_ok-decided.decided _ c.in_ok-settle.ensures.ok decided.2 starts
+
+pub returns-clause-runs : goal.returns-clause-runs
+returns-clause-runs g c = (leaves g c).runs

@@ -1,42 +1,51 @@
-use Rattle.std.proofs.Common.{◌++◌, ◌∷◌, [], List, ℤ, refl, sym, ◌∙◌, subst}
+use Rattle.std.proofs.Common.{◌++◌, ◌∷◌, [], ℤ, List, length, sym, ap, ◌∙◌, subst, arith}
 use Rattle.std.specs.Prelude.{is_some}
 use Rattle.std.proofs.lemmas.List.{with_items_is}
-use Rattle.session.specs.View.{SessionView, Stands}
-use Rattle.session.proofs.Standing.{quantum_stands}
+use Rattle.session.specs.View.{Stands, HasRoom}
+use Rattle.session.proofs.Turning.{seen, keeps_up, has_room, stands_next, long_room}
 use Rattle.session.proofs.session.Session.advance.Goals as goal
 
-went_view : (c : goal.Then-not-closed) → List ℤ → SessionView
-went_view c samples = record {
-  told = record { machine = c.end_quantum-closed.new.self; lines = c.append_reserved.new.self.items };
-  audio = is_some c.render_audio.new.renderer;
-  samples = samples;
-  renderer = c.render_audio.new.renderer;
-}
+pub render-requires-clause-long : goal.render-requires-clause-long
+render-requires-clause-long c =
+    long_room c.self.inside.control c.self.inside.samples.items c.as_mut_slice.result.now c.self.inside.side c.reserve-2.new.side c.as_mut_slice.ensures.value (c.now-first.ensures.begun (rw (← c.self.view_is) at c.requires)) c.self.invariant.samples_long
+    c.self.invariant.side_keeps_up c.in_ok-reserve-2.ensures.ok
 
-pub returns-then-not-closed-clause-stands : goal.returns-then-not-closed-clause-stands
-unfolding went_view
-returns-then-not-closed-clause-stands c = λ tape stands.
-    let before = rw (← c.self.view_is) at stands in
-    let rendered = c.in_ok-render_audio.ensures in
-    let items = with_items_is c.self.inside.samples c.render_audio.new.samples (c.render_audio.auto.samples ∙ c.as_mut_slice.ensures.len) in
-    rw (← c.self.view_is) (subst (λ samples. Stands (went_view c samples) (tape ++ c.self.inside.control.world ∷ [])) (sym items)
-    (quantum_stands _ (went_view c c.render_audio.new.samples) tape c.world.result.now c.end_quantum-closed.result c.world.ensures.world refl refl rendered.audio c.end_quantum-closed.ensures.machine c.end_quantum-closed.ensures.valid
-    (rendered.renders tape) (λ renders regular time samples. rendered.samples tape renders regular (c.now.ensures.now ∙ time) (c.as_mut_slice.ensures.value ∙ samples)) before))
+-- ---- rendering goes on
 
-done_view : (c : goal.After-push_reserved) → List ℤ → SessionView
-done_view c samples = record {
-  told = record { machine = c.end_quantum-closed.new.self; lines = c.push_reserved.new.self.items };
-  audio = is_some c.render_audio.new.renderer;
-  samples = samples;
-  renderer = c.render_audio.new.renderer;
-}
+pub invariant_of-self-in-Went-1 : goal.invariant_of-self-in-Went-1
+invariant_of-self-in-Went-1 c =
+    let items = with_items_is c.self.inside.samples c.render.new.samples (c.render.auto.samples ∙ c.as_mut_slice.ensures.len) in
+    record {
+      line = omega (arith, c.in_ok-reserve.ensures.room, c.append_reserved.ensures.room, c.len.ensures);
+      samples_long = subst (HasRoom (is_some c.post-2.new.side) c.turn-turn.new.self) (sym items) (has_room c.self.inside.control c.turn-turn.new.self c.self.inside.samples.items c.as_mut_slice.result.now c.render.new.samples c.self.inside.side c.reserve-2.new.side c.render.new.side c.post.new.side c.post-2.new.side
+          c.now-first.result c.now-first.ensures.now c.turn-turn.ensures.machine c.as_mut_slice.ensures.value c.in_ok-reserve-2.ensures.ok c.in_ok-render.ensures.ok c.post.ensures c.post-2.ensures (c.render.auto.samples ∙ ap length c.as_mut_slice.ensures.value) c.self.invariant.samples_long);
+      side_keeps_up = keeps_up c.self.inside.control c.turn-turn.new.self c.self.inside.samples.items c.as_mut_slice.result.now c.render.new.samples c.self.inside.side c.reserve-2.new.side c.render.new.side c.post.new.side c.post-2.new.side
+          c.now-first.result c.now-first.ensures.now c.turn-turn.ensures.machine c.as_mut_slice.ensures.value c.in_ok-reserve-2.ensures.ok c.in_ok-render.ensures.ok c.post.ensures c.post-2.ensures c.self.invariant.side_keeps_up;
+    }
 
-pub returns-clause-stands : goal.returns-clause-stands
-unfolding done_view
-returns-clause-stands c = λ tape stands.
-    let before = rw (← c.self.view_is) at stands in
-    let rendered = c.in_ok-render_audio.ensures in
-    let items = with_items_is c.self.inside.samples c.render_audio.new.samples (c.render_audio.auto.samples ∙ c.as_mut_slice.ensures.len) in
-    rw (← c.self.view_is) (subst (λ samples. Stands (done_view c samples) (tape ++ c.self.inside.control.world ∷ [])) (sym items)
-    (quantum_stands _ (done_view c c.render_audio.new.samples) tape c.world.result.now c.end_quantum-closed.result c.world.ensures.world refl refl rendered.audio c.end_quantum-closed.ensures.machine c.end_quantum-closed.ensures.valid
-    (rendered.renders tape) (λ renders regular time samples. rendered.samples tape renders regular (c.now.ensures.now ∙ time) (c.as_mut_slice.ensures.value ∙ samples)) before))
+pub returns-in-Went-clause-stands : goal.returns-in-Went-clause-stands
+returns-in-Went-clause-stands c = λ tape stands.
+    let items = with_items_is c.self.inside.samples c.render.new.samples (c.render.auto.samples ∙ c.as_mut_slice.ensures.len) in
+    rw (← c.self.view_is) (subst (λ (xs : List ℤ). Stands (seen c.turn-turn.new.self c.append_reserved.new.self.items xs c.post-2.new.side) (tape ++ c.self.inside.control.world ∷ [])) (sym items)
+    (stands_next c.self.inside.control c.turn-turn.new.self c.self.inside.samples.items c.as_mut_slice.result.now c.render.new.samples c.self.inside.side c.reserve-2.new.side c.render.new.side c.post.new.side c.post-2.new.side
+    c.now-first.result c.now-first.ensures.now c.turn-turn.ensures.machine c.as_mut_slice.ensures.value c.in_ok-reserve-2.ensures.ok c.in_ok-render.ensures.ok c.post.ensures c.post-2.ensures c.self.inside.lines.items c.append_reserved.new.self.items tape c.self.invariant.side_keeps_up c.turn-turn.ensures.valid (rw (← c.self.view_is) at stands)))
+
+-- ---- a promise resolves
+
+pub invariant_of-self-in-Due : goal.invariant_of-self-in-Due
+invariant_of-self-in-Due c =
+    let items = with_items_is c.self.inside.samples c.render.new.samples (c.render.auto.samples ∙ c.as_mut_slice.ensures.len) in
+    record {
+      line = omega (arith, c.in_ok-reserve.ensures.room, c.append_reserved.ensures.room, c.push_reserved.ensures.room, c.len.ensures);
+      samples_long = subst (HasRoom (is_some c.post-2.new.side) c.turn-turn.new.self) (sym items) (has_room c.self.inside.control c.turn-turn.new.self c.self.inside.samples.items c.as_mut_slice.result.now c.render.new.samples c.self.inside.side c.reserve-2.new.side c.render.new.side c.post.new.side c.post-2.new.side
+          c.now-first.result c.now-first.ensures.now c.turn-turn.ensures.machine c.as_mut_slice.ensures.value c.in_ok-reserve-2.ensures.ok c.in_ok-render.ensures.ok c.post.ensures c.post-2.ensures (c.render.auto.samples ∙ ap length c.as_mut_slice.ensures.value) c.self.invariant.samples_long);
+      side_keeps_up = keeps_up c.self.inside.control c.turn-turn.new.self c.self.inside.samples.items c.as_mut_slice.result.now c.render.new.samples c.self.inside.side c.reserve-2.new.side c.render.new.side c.post.new.side c.post-2.new.side
+          c.now-first.result c.now-first.ensures.now c.turn-turn.ensures.machine c.as_mut_slice.ensures.value c.in_ok-reserve-2.ensures.ok c.in_ok-render.ensures.ok c.post.ensures c.post-2.ensures c.self.invariant.side_keeps_up;
+    }
+
+pub returns-in-Due-clause-stands : goal.returns-in-Due-clause-stands
+returns-in-Due-clause-stands c = λ tape stands.
+    let items = with_items_is c.self.inside.samples c.render.new.samples (c.render.auto.samples ∙ c.as_mut_slice.ensures.len) in
+    rw (← c.self.view_is) (subst (λ (xs : List ℤ). Stands (seen c.turn-turn.new.self c.push_reserved.new.self.items xs c.post-2.new.side) (tape ++ c.self.inside.control.world ∷ [])) (sym items)
+    (stands_next c.self.inside.control c.turn-turn.new.self c.self.inside.samples.items c.as_mut_slice.result.now c.render.new.samples c.self.inside.side c.reserve-2.new.side c.render.new.side c.post.new.side c.post-2.new.side
+    c.now-first.result c.now-first.ensures.now c.turn-turn.ensures.machine c.as_mut_slice.ensures.value c.in_ok-reserve-2.ensures.ok c.in_ok-render.ensures.ok c.post.ensures c.post-2.ensures c.self.inside.lines.items c.push_reserved.new.self.items tape c.self.invariant.side_keeps_up c.turn-turn.ensures.valid (rw (← c.self.view_is) at stands)))

@@ -2,7 +2,7 @@ use Rattle.std.proofs.Common.{◌≡◌, ◌+◌, ◌*◌, List, length}
 use Rattle.meaning.specs.declared.world.World.{World}
 use Rattle.quantum_render.specs.Stands.{Shows}
 use Rattle.session.specs.Frames.{WritesBelow}
-use Rattle.session.proofs.quantum.copy_out.Given as goal
+use Rattle.session.proofs.render_side.copy_out.Given as goal
 
 abbrev pub invariant-loop-channel : goal.invariant-loop-channel
 invariant-loop-channel l =

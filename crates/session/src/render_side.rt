@@ -1,52 +1,93 @@
-ghost use Rattle.std.specs.Prelude.{◌≡◌, ◌≤◌, ◌<◌, ◌+◌, ◌*◌, ◌++◌, ◌∷◌, [], List, length, is_some, IfSome, OnOk, OnErr};
+ghost use Rattle.std.specs.Prelude.{◌≡◌, ◌≤◌, ◌<◌, ◌+◌, ◌*◌, ◌++◌, ◌∷◌, [], List, length, IfOk, IfSome, OnOk, OnErr};
 ghost use Rattle.wa_base.specs.Contexts.{IsSupported, quantum_of};
+ghost use Rattle.control_msgs.specs.Messages.{IsAcceptedBy};
 ghost use Rattle.meaning.specs.declared.world.World.{World as a_world};
 ghost use Rattle.meaning.specs.World.{plain};
 ghost use Rattle.meaning.specs.Validity.{IsValid};
-ghost use Rattle.meaning.specs.Worlds.{IsRegular};
+ghost use Rattle.meaning.specs.Worlds.{IsRegular, first_world};
 ghost use Rattle.quantum_render.specs.Stands.{StandsFor, Shows};
 ghost use Rattle.session.specs.Frames.{WritesBelow};
-ghost use Rattle.session.specs.Rows.{samples_of};
-ghost use Rattle.session.specs.View.{IsAt, Renders};
+ghost use Rattle.session.specs.View.{IsAt, Renders, MakesRoom, Gets, GoesOn, Waits, sent};
 
+use control_msgs::{Message, Queue};
 use meaning::World;
 use quantum_render::Renderer;
-use std::marker::Brand;
+use std::alloc::Global;
+use std::marker::{Brand, Model};
 use std::sync::ledger::{Blank, Ledger};
-use wa_base::{ContextSpec, Fix, NoMemory, Steps};
+use wa_base::{ContextSpec, Fix, NoMemory, Steps, Tie};
 
 /// The size of a render quantum, in frames.
 pub(crate) const QUANTUM: u64 = 128;
 
-/// Renders the quantum that begins at `first` into samples that stand channel after channel, where
-/// there is a renderer. After `NoMemory` the samples are as before, and the renderer stands for the
-/// tapes for which it stood.
-pub(crate) fn render_audio(
-    renderer: &mut Option<Renderer>,
-    world: &World,
-    first: u64,
-    samples: &mut [Fix],
-) -> Result<(), NoMemory>
-    requires valid { IsValid world.now }
-    requires at { IfSome renderer.old (IsAt world.now.spec first) }
-    requires running { first < world.now.spec.length }
-    requires room { IfSome renderer.old (λ _. length samples.old ≡ world.now.spec.channels * world.now.spec.length) }
-    ensures audio { is_some renderer.new ≡ is_some renderer.old }
-    ensures ok { OnOk result (IfSome renderer.new (IsAt world.now.spec (first + quantum_of world.now.spec))) }
-    ensures renders { (tape : List a_world) → IfSome renderer.old (Renders tape) → IsRegular (quantum_of world.now.spec) (tape ++ plain world.now ∷ [])
-        → OnOk result (IfSome renderer.new (Renders (tape ++ plain world.now ∷ []))) }
-    ensures samples { (tape : List a_world) → IfSome renderer.old (Renders tape) → IsRegular (quantum_of world.now.spec) (tape ++ plain world.now ∷ []) → first ≡ quantum_of world.now.spec * length tape
-        → samples.old ≡ samples_of tape world.now.spec → OnOk result (IfSome renderer.new (λ _. samples.new ≡ samples_of (tape ++ plain world.now ∷ []) world.now.spec)) }
-    ensures err { OnErr result (IfSome renderer.new (IsAt world.now.spec first)) }
-    ensures err_renders { (tape : List a_world) → IfSome renderer.old (Renders tape) → OnErr result (IfSome renderer.new (Renders tape)) }
-    ensures err_samples { OnErr result (samples.new ≡ samples.old) }
-{
-    let Some(renderer) = renderer else {
-        return Ok(());
-    };
-    render_quantum(renderer, world, first)?;
-    copy_out(renderer, world.spec, first, samples);
-    Ok(())
+/// The side of a session that renders: a world of its own, which hears of each change by a message,
+/// and the renderer.
+#[derive(Drop)]
+pub(crate) struct RenderSide {
+    world: World,
+    queue: Queue,
+    renderer: Renderer,
+}
+
+impl Model for RenderSide {
+    ghost use Rattle.meaning.specs.World.{plain};
+    ghost use Rattle.session.specs.View.{SideView, IsSide};
+
+    ghost Value = { SideView };
+
+    ghost view = { λ s. record { world = plain s.world; messages = s.queue.messages; room = s.queue.room; renderer = s.renderer } };
+
+    ghost invariant = { λ s. IsSide (record { world = plain s.world; messages = s.queue.messages; room = s.queue.room; renderer = s.renderer }) };
+}
+
+impl RenderSide {
+    /// The side of a context before its first call.
+    pub fn new(alloc: Global, spec: ContextSpec, tie: Tie) -> Result<RenderSide, NoMemory>
+        requires { IsSupported spec }
+        ensures world { IfOk result (λ side. sent side ≡ first_world spec) }
+        ensures stands { IfOk result (λ side. StandsFor side.renderer []) }
+        ensures spec { IfOk result (λ side. side.renderer.spec ≡ spec) }
+        ensures tie { IfOk result (λ side. side.renderer.tie ≡ tie) }
+    {
+        Ok(RenderSide {
+            world: World::new(alloc, spec)?,
+            queue: Queue::new(alloc),
+            renderer: Renderer::new(alloc, spec, tie)?,
+        })
+    }
+
+    /// Makes room for so many messages.
+    pub fn reserve(&mut self, more: usize) -> Result<(), NoMemory>
+        ensures ok { OnOk result (MakesRoom more self.old self.new) }
+        ensures err { OnErr result (MakesRoom 0 self.old self.new) }
+    {
+        self.queue.reserve(more)
+    }
+
+    /// Sends a message, for which there is room. It takes no memory.
+    pub fn post(&mut self, message: Message)
+        requires room { 0 < self.old.room }
+        requires accepted { IsAcceptedBy (sent self.old) message }
+        ensures { Gets message self.old self.new }
+    {
+        self.queue.post(message);
+    }
+
+    /// Hears all messages, and renders the quantum that begins at `first` into samples that stand
+    /// channel after channel. After `NoMemory` the samples are as before, what was not heard is still
+    /// queued, and the renderer stands for the tapes for which it stood.
+    pub fn render(&mut self, first: u64, samples: &mut [Fix]) -> Result<(), NoMemory>
+        requires at { IsAt (sent self.old).spec first self.old.renderer }
+        requires running { first < (sent self.old).spec.length }
+        requires long { length samples.old ≡ (sent self.old).spec.channels * (sent self.old).spec.length }
+        ensures ok { OnOk result (GoesOn first samples.old samples.new self.old self.new) }
+        ensures err { OnErr result (Waits first self.old self.new × (samples.new ≡ samples.old)) }
+    {
+        self.queue.drain_into(&mut self.world)?;
+        render_quantum(&mut self.renderer, &self.world, first)?;
+        copy_out(&self.renderer, self.world.spec, first, samples);
+        Ok(())
+    }
 }
 
 // Renders the quantum that begins at `first`, and counts no steps. After `NoMemory` the renderer

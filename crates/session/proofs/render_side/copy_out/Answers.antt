@@ -1,6 +1,6 @@
 use Rattle.std.proofs.Common.{◌≡◌, ◌≤◌, ◌+◌, ◌*◌, ◌-◌, ℕ, take, arith, length-take}
 use Rattle.session.proofs.Copying.{none_copied, channel_copied, block_values}
-use Rattle.session.proofs.quantum.copy_out.Goals as goal
+use Rattle.session.proofs.render_side.copy_out.Goals as goal
 
 pub loop-channel-init : goal.loop-channel-init
 loop-channel-init c = λ tape shows first. none_copied c.args.samples.now c.args.spec tape c.args.first (c.args.first + 128)

@@ -1,0 +1,38 @@
+use Rattle.std.proofs.Common.{◌≡◌, ◌+◌, ◌*◌, ◌++◌, ◌∷◌, [], length, sym, ◌∙◌, ap, subst, arith, length-append}
+use Rattle.meaning.specs.declared.world.World.{World}
+use Rattle.meaning.specs.World.{plain}
+use Rattle.meaning.specs.Worlds.{IsRegular}
+use Rattle.control_msgs.specs.Messages.{after_messages}
+use Rattle.session.specs.Rows.{samples_of}
+use Rattle.session.specs.View.{Renders}
+use Rattle.session.proofs.Standing.{length_worlds, raw_regular, renders_more, samples_more}
+use Rattle.session.proofs.render_side.RenderSide.render.Goals as goal
+
+-- the world that was sent is the one that is rendered
+heard : (c : goal.After-samples-1) → plain c.drain_into.new.world ≡ after_messages (plain c.self.inside.world) c.self.inside.queue.messages
+heard c = c.in_ok-drain_into.ensures.ok.1
+
+pub returns-clause-ok : goal.returns-clause-ok
+returns-clause-ok c =
+    let world = c.drain_into.new.world in
+    let renderer = c.render_quantum.new.renderer in
+    let rendered = c.in_ok-render_quantum.ensures in
+    let at = rw (← c.self.view_is) at c.requires.at in
+    let long = rw (← c.self.view_is) at c.requires.long in
+    rw (← c.self.view_is) record {
+      world = c.drain_into.ensures.left;
+      room = c.drain_into.ensures.room;
+      at = record { context = rendered.spec ∙ at.context; quanta = let quanta = at.quanta in omega (arith, quanta, rendered.quanta) };
+      renders = λ tape before regular.
+          let raw = subst (λ (x : World). IsRegular 128 (tape ++ x ∷ [])) (sym (heard c)) regular in
+          subst (λ (x : World). Renders (tape ++ x ∷ []) renderer) (heard c)
+          (renders_more tape before.worlds world renderer before.plain_worlds (rendered.stands before.worlds before.stands (raw_regular tape before.worlds world before.plain_worlds raw)));
+      samples = λ tape before regular first samples.
+          let raw = subst (λ (x : World). IsRegular 128 (tape ++ x ∷ [])) (sym (heard c)) regular in
+          let shows = rendered.shows before.worlds before.stands (raw_regular tape before.worlds world before.plain_worlds raw) in
+          let count = length_worlds tape before.worlds before.plain_worlds in
+          let next : c.args.first + 128 ≡ 128 * length (before.worlds ++ world ∷ []) = omega (arith, first, count, length-append before.worlds (world ∷ [])) in
+          samples_more tape before.worlds world world.spec c.args.samples.now c.copy_out.new.samples c.args.first before.plain_worlds first (samples ∙ ap (λ (x : World). samples_of tape x.spec) (sym (heard c)))
+          (c.copy_out.ensures (before.worlds ++ world ∷ []) shows next) c.drain_into.ensures.valid.spec.length_low c.copy_out.auto.samples (long ∙ ap (λ (x : World). x.spec.channels * x.spec.length) (sym (heard c)))
+          ∙ ap (λ (x : World). samples_of (tape ++ x ∷ []) x.spec) (heard c);
+    }
