@@ -22,3 +22,7 @@ mod runs;
 mod sampling;
 #[cfg(test)]
 mod spelling;
+#[cfg(test)]
+mod suspended_rows;
+#[cfg(test)]
+mod suspending;

@@ -21,7 +21,7 @@ const WITH_AUDIO: Options = Options {
 const HALF: Fix = 8_388_608;
 
 // A session in which no call came yet. It is begun here so that no proof reckons with the numbers of a test.
-fn begin(alloc: Global, channels: u32, length: u64) -> Result<Session, Refusal> {
+pub(crate) fn begin(alloc: Global, channels: u32, length: u64) -> Result<Session, Refusal> {
     let context = ContextSpec {
         channels,
         length,
@@ -30,7 +30,11 @@ fn begin(alloc: Global, channels: u32, length: u64) -> Result<Session, Refusal> 
     Session::new(alloc, context, WITH_AUDIO)
 }
 
-fn start_rendering(alloc: Global, session: &mut Session, ordinal: u32) -> Result<(), Stop> {
+pub(crate) fn start_rendering(
+    alloc: Global,
+    session: &mut Session,
+    ordinal: u32,
+) -> Result<(), Stop> {
     let call = Call {
         ordinal,
         holder: 0,
@@ -44,14 +48,14 @@ fn start_rendering(alloc: Global, session: &mut Session, ordinal: u32) -> Result
 }
 
 // The next turn, where rendering goes on.
-fn advance(session: &mut Session) -> Result<Option<Turn>, NoMemory> {
+pub(crate) fn advance(session: &mut Session) -> Result<Option<Turn>, NoMemory> {
     if session.state() == State::Running {
         return Ok(Some(session.advance()?));
     }
     Ok(None)
 }
 
-fn is_at(session: &Session, state: State, started: Option<u32>) -> bool {
+pub(crate) fn is_at(session: &Session, state: State, started: Option<u32>) -> bool {
     session.state() == state && session.started() == started
 }
 
@@ -94,7 +98,7 @@ fn play(alloc: Global, session: &mut Session, turns: u32) -> Result<(), Stop> {
 }
 
 // The end of a session, and how many samples it has; None where its context still runs.
-fn end_of(session: Session) -> Option<(EndWord, Option<usize>)> {
+pub(crate) fn end_of(session: Session) -> Option<(EndWord, Option<usize>)> {
     if session.state() == State::Running {
         drop(session);
         return None;
@@ -163,7 +167,7 @@ const LINES: &[u8] =
     b"1 ok\n2 ok\n3 ok\n4 ok\n5 ok\n6 ok\n7 throw InvalidAccessError\n8 pending\nended 1 c\n8 resolved\ncomplete 100\nend completed\n";
 
 // A script that is read a second time where memory for it was refused.
-fn script_again(alloc: Global, text: &str) -> Result<Script, ScriptErr>
+pub(crate) fn script_again(alloc: Global, text: &str) -> Result<Script, ScriptErr>
     ensures { IfOk result IsWellFormed }
 {
     match read(alloc, text.as_bytes()) {
@@ -188,7 +192,7 @@ fn call_again(session: &mut Session, calls: &[Call], files: &mut MemFiles) -> Re
     Ok(())
 }
 
-fn advance_again(session: &mut Session) -> Result<Option<Turn>, NoMemory> {
+pub(crate) fn advance_again(session: &mut Session) -> Result<Option<Turn>, NoMemory> {
     match advance(session) {
         Err(NoMemory) => advance(session),
         turn => turn,
@@ -244,7 +248,7 @@ fn run_again(alloc: Global, script: &Script) -> Result<Outcome, Stop>
     outcome
 }
 
-fn text_again(alloc: Global, lines: &Lines, end: EndWord) -> Result<Bytes, NoMemory> {
+pub(crate) fn text_again(alloc: Global, lines: &Lines, end: EndWord) -> Result<Bytes, NoMemory> {
     match text(alloc, lines, &end) {
         Err(NoMemory) => text(alloc, lines, &end),
         Ok(bytes) => Ok(bytes),
