@@ -1,5 +1,5 @@
-"""What the second calculations of tools/timelines.py and tools/filters.py share: the random numbers and the
-digest, both made as the tests make them, and the rounding of docs/PROFILE.md."""
+"""What the second calculations of tools/timelines.py, tools/filters.py and tools/delays.py share: the random
+numbers and the digest, both made as the tests make them, and the rounding of docs/PROFILE.md."""
 
 MASK = 2**64 - 1
 LEAST, GREATEST = -2**31, 2**31 - 1

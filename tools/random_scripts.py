@@ -3,10 +3,10 @@
 
 Of each script it compares the exit status, the transcript and every byte of the WAV file. Scripts
 that decode assets have these files beside them: WAV files of every kind, files that are none, files of
-another rate, links, folders, and paths that lead nowhere or out of the folder. A script and its assets
-hang on the seed and its number, and on which operations are read: what the program does not read is in
-no script, and gets a line. So each script can be made again by itself. It needs Python 3, and for
---measure GNU time.
+another rate, links, folders, and paths that lead nowhere or out of the folder. About half of the scripts have
+suspensions. A script and its assets hang on the seed and its number, and on which operations are read:
+what the program does not read is in no script, and gets a line. So each script can be made again by
+itself. It needs Python 3, and for --measure GNU time.
 
     python3 tools/random_scripts.py                       compares 1,000 scripts with the program that
                                                           ./waplay has built
@@ -33,12 +33,14 @@ that can come up did not, and last how many scripts differ. The status is 0 wher
 A new operation gets a function in "The operations" and a row in OPERATIONS, or in KINDS where it
 makes a node: from then on other calls name nodes of the kind. One that sets an attribute needs its row
 in ATTRIBUTES of tools/expecting/sessions.py alone. Its refusals get a row in REFUSALS, and an answer
-that only it gives one in ANSWERS. A row names the operations that its calls are: where the program
+that only it gives one in ANSWERS. Where it changes what is heard, a row in CHANGES brings it often into
+the lists of suspensions. A row names the operations that its calls are: where the program
 does not read them, no such call is made.
 """
 
 import argparse
 import collections
+import copy
 import json
 import multiprocessing
 import os
@@ -85,6 +87,8 @@ class Maker:
         self.instants = {}  # of a name, times that edits of its parameter had, and ends of curves
         self.made = 0
         self.depth = 0  # of the lists of calls
+        self.suspends = "suspend" in read
+        self.now = 0  # the frame at which the calls in the making are to be done
         self.length = self.channels = 1
         self.rate = 48000
 
@@ -140,12 +144,12 @@ class Maker:
         return self.rng.choice([*FIX, self.rng.randint(*FIX)])
 
     def time(self):
-        """Mostly a frame of the context."""
+        """Mostly a frame of the context, and at a suspension mostly one that is to come."""
         some = self.rng.randint(0, 9)
         if some < 6:
-            return self.rng.randint(0, self.length)
+            return self.rng.randint(max(0, self.now - 100), self.length)
         if some < 8:
-            return self.rng.choice([0, 1, 127, 128, 129, 256])
+            return self.now + self.rng.choice([0, 1, 127, 128, 129, 256])
         return self.rng.choice([self.length + self.rng.randint(-1, 130), -1, TIME, -TIME])
 
     def value(self):
@@ -182,9 +186,9 @@ class Maker:
         if some < 9:
             time = self.rng.choice(known) + self.rng.choice([0, 0, 0, 1, -1])
         elif some < 14:
-            time = self.rng.randint(0, self.length)
+            time = self.rng.randint(max(0, self.now - 100), self.length)
         elif some < 18:
-            time = self.rng.choice([0, 0, 1, 2, 3]) + self.rng.choice([0, 0, 127, 128, 255, 256])
+            time = self.now + self.rng.choice([0, 0, 1, 2, 3]) + self.rng.choice([0, 0, 127, 128, 255, 256])
         else:
             far = [TIME, TIME - self.rng.randint(0, 300), self.length + self.rng.randint(-1, 300)]
             time = self.rng.choice([-1, -TIME, *far])
@@ -360,8 +364,9 @@ class Maker:
         not. Many have the time of the one before them or where its curve ends, or are a frame apart."""
         edits = [self.edit("setAutomationRate", name)] if self.may(0.25) else []
         if self.may(0.15):  # a value that is current and is cancelled
-            edits += [self.edit("setValue", name), self.edit("cancelScheduledValues", name, self.rng.choice([0, 0, 1]))]
-        time = self.rng.choice([0, 0, 0, 1, 120, self.rng.randint(0, self.length)])
+            edits += [self.edit("setValue", name),
+                      self.edit("cancelScheduledValues", name, self.now + self.rng.choice([0, 0, 1]))]
+        time = self.now + self.rng.choice([0, 0, 0, 1, 120, self.rng.randint(0, self.length - self.now)])
         if self.may(0.15):  # an event, and a ramp before it
             after = time + self.rng.randint(1, 200)
             edits.append(self.edit(self.rng.choice(["setValueAtTime", "setValueCurveAtTime"]), name, after))
@@ -534,6 +539,81 @@ class Maker:
         self.depth += 1
         calls = [self.any_call() for _ in range(0 if self.depth > 3 else self.rng.choice([0, 1, 4, 8]))]
         self.depth -= 1
+        return calls
+
+    # Suspensions, and what is changed at them.
+
+    def suspension_time(self):
+        """A time that is rounded up to a frame to come, or now and then one at which there can be no suspension."""
+        ahead = range(self.now // 128 * 128 + 128, self.length, 128)
+        if ahead and self.may(0.8):
+            return self.rng.choice(ahead) - self.rng.choice([0, 0, 0, 1, 127, self.rng.randint(0, 127)])
+        past = self.rng.choice([0, -1, -127, -128, self.now, self.now - 1, self.now - 127, -TIME])
+        late = self.rng.choice([self.length, self.length - 1, self.length + 1, -(-self.length // 128) * 128 - 128, TIME])
+        return self.rng.choice([past, late, self.now + 1])
+
+    def suspend(self, time=None):
+        time = self.suspension_time() if time is None else time
+        call = self.call("suspend", [("time", time)])
+        if self.may(0.97):
+            call["then"] = self.changes(max(0, min(-(-time // 128) * 128, self.length)))
+        return call
+
+    def changes(self, frame):
+        """The calls of a list at a suspension. Most lists resume, mostly with their last call."""
+        before, self.now, self.depth = self.now, frame, self.depth + 1
+        rows = [row for row in CHANGES if self.read_ops.issuperset(row[2:])]
+        calls = []
+        for _ in range(0 if self.depth > 3 else self.rng.choice([0, 2, 4, 6, 10])):
+            made = self.rng.choices([row[1] for row in rows], [row[0] for row in rows])[0](self)
+            calls += made if isinstance(made, list) else [made]
+        self.now, self.depth = before, self.depth - 1
+        if self.may(0.97):
+            calls.insert(len(calls) if self.may(0.8) else self.rng.randint(0, len(calls)), {"op": "resume"})
+        return calls
+
+    def heard(self, name):
+        """A connection by which a node is mostly heard."""
+        return self.joined(name, "destination" if self.may(0.6) else self.target())
+
+    def voice(self):
+        """A source that is made and connected, mostly by a gain, and starts."""
+        calls = [self.create_source()]
+        name = last = calls[0]["as"]
+        if self.may(0.6):
+            calls.append(self.create_gain())
+            last = calls[-1]["as"]
+            calls.append(self.joined(name, last))
+            if self.read_ops.issuperset(AUTOMATED) and self.may(0.5):
+                calls += self.timeline(last)[:4]
+        return calls + [self.heard(last), self.call("start", [("node", name)], when=self.time())]
+
+    def rewired(self):
+        return self.heard(self.name(lambda kind: kind.outputs))
+
+    def moved(self):
+        """Edits of a parameter, mostly from now on."""
+        edits = self.timeline(self.name(lambda kind: kind.parameter))
+        return edits[:self.rng.choice([1, 2, 4, 8])]
+
+    def sampled(self):
+        """Buffers, and a source that plays one."""
+        calls = self.some_buffers() + [self.create_buffer_source()]
+        name = calls[-1]["as"]
+        return calls + [self.heard(name), self.start(name)]
+
+    def values_read(self):
+        names = [name for name, kind in self.names.items() if kind.parameter]
+        return [self.edit("readValue", name) for name in self.rng.sample(names, min(3, len(names)))]
+
+    def suspended(self, calls):
+        """The calls with suspensions between them, which are made in order of time."""
+        calls, ahead = list(calls), range(128, self.length, 128)
+        frames = self.rng.sample(ahead, min(len(ahead), self.rng.choice([1, 1, 2, 3, 5])))
+        times = [frame - self.rng.choice([0, 0, 0, 1, 127]) for frame in frames]
+        times += [self.suspension_time() for _ in range(self.rng.choice([0, 0, 1, 2]))]
+        for call in [self.suspend(time) for time in sorted(times)]:
+            calls.insert(self.rng.randint(len(calls) // 2, len(calls)), call)
         return calls
 
     # The shapes of scripts: each gives the calls of the main list.
@@ -850,6 +930,8 @@ class Maker:
         if not self.read_ops.issuperset(needed.get(shape, ())):
             shape = Maker.graph
         self.length = rng.choice([1, 2, 127, 128, 129, 255, 256, 257]) if self.may(0.2) else rng.randint(1, 600)
+        if self.suspends and self.may(0.8):
+            self.length = rng.randint(129, 900)
         channels = rng.choice([1, 1, 2, 2, 4, 6, rng.randint(1, 32), 32])
         rate = rng.choice([8000, 44100, 48000, 96000, rng.randint(8000, 96000)])
         self.channels, self.rate = channels, rate
@@ -857,7 +939,8 @@ class Maker:
         calls = self.some_buffers() if self.has_buffers and self.may(often) else []
         made = shape(self)
         sprinkled = shape in (Maker.graph, Maker.wide, Maker.woven, Maker.played, Maker.cables, Maker.tangle)
-        calls += self.sprinkled(made) if sprinkled and self.may(0.3) else made
+        made = self.sprinkled(made) if sprinkled and self.may(0.3) else made
+        calls += self.suspended(made) if self.suspends else made
         if shape is Maker.unrendered:
             channels = rng.choice([0, 1, 2, 3, 32, 33, 2**32 - 1])
             self.length = rng.choice([0, 1, 2**21, 2**21 + 1, 2**25, 2**25 + 1, 2**32 - 1])
@@ -889,6 +972,29 @@ OPERATIONS = [
     (8, Maker.connect_param, "connectParam"),
     (4, Maker.disconnect_param, "disconnectParam"),
     *[(3, lambda maker, op=op: maker.edit(op), op) for op in AUTOMATED],
+    (3, Maker.suspend, "suspend"),
+]
+
+# The same of what is changed at a suspension.
+CHANGES = [
+    (6, Maker.voice),
+    (4, Maker.sampled, *BUFFERS),
+    (8, Maker.rewired),
+    (6, Maker.disconnect),
+    (10, Maker.moved, *AUTOMATED),
+    (6, Maker.any_edit, *AUTOMATED),
+    (3, Maker.values_read, "readValue"),
+    (3, Maker.connect_param, "connectParam"),
+    (2, Maker.disconnect_param, "disconnectParam"),
+    (4, Maker.start),
+    (4, Maker.stop),
+    (4, Maker.set_attribute, *ATTRIBUTES),
+    (2, Maker.copy_to_channel, *BUFFERS),
+    (2, Maker.set_buffer, *BUFFERS),
+    (2, Maker.set_loop, *BUFFERS),
+    (3, Maker.read),
+    (4, Maker.suspend, "suspend"),
+    (8, Maker.any_call),
 ]
 
 # The kinds of nodes, by the operation that makes them: how often one is made, and by what; how many
@@ -952,6 +1058,9 @@ script: OutOfRange""".split("\n")
 UNREAD = "no transcript, since an asset cannot be read"
 ASSET_ANSWERS = ["decodeAudioData resolved", UNREAD]
 
+# Those that come up where suspensions are read.
+SUSPENSION_ANSWERS = ["suspend resolved", "end stalled"]
+
 # The refusals that are to come up, of each operation.
 PROFILE = "NotSupportedError profile:"
 OF_PARAMETERS = ["TypeError", PROFILE + "playback-rate-automation", PROFILE + "detune"]
@@ -985,14 +1094,16 @@ REFUSALS = {
     "copyToChannel": ["TypeError", "IndexSizeError", PROFILE + "buffer-acquired"],
     "decodeAudioData": ["NotFoundError", PROFILE + "asset-size", "EncodingError", PROFILE + "resampling",
                         PROFILE + "buffer-limit"],
-    "startRendering": ["InvalidStateError"],
-    "resume": ["InvalidStateError"],
+    **dict.fromkeys(("suspend", "startRendering", "resume"), ["InvalidStateError"]),
     **{op: [PROFILE + feature] for op, feature in LEFT_OUT.items()},
 }
 
 
 def script_of(seed, number, read):
-    """A script, and its assets."""
+    """A script, and its assets. Half of the scripts have no suspensions, and are the same where the program
+    reads none."""
+    if random.Random("%d %d suspensions" % (seed, number)).random() < 0.5:
+        read = [op for op in read if op != "suspend"]
     maker = Maker(random.Random("%d %d" % (seed, number)), read)
     return maker.script(), maker.assets
 
@@ -1037,10 +1148,10 @@ def answers_of(script, text):
         elif re.match(r"(ended|complete|\d+ time|\d+ value) ", line):
             yield re.sub(r"^(?:\d+ )?(\w+) .*", r"\1", line)
         elif re.match(r"\d+ (throw|rejected) ", line) or (
-                line.endswith(" resolved") and operations[int(line.split()[0])] == "decodeAudioData"):
+                line.endswith(" resolved") and operations[int(line.split()[0])] in ("decodeAudioData", "suspend")):
             yield operations[int(line.split()[0])] + " " + line.split(" ", 1)[1]
         else:
-            yield re.sub(r"^\d+ ", "", line)
+            yield re.sub(r"^\d+ | \d+$", "", line)
 
 
 # The loads.
@@ -1186,6 +1297,25 @@ def many_reads_of_the_state():
     return script_with(1, 128, [{"op": "readState"}] * 100000)
 
 
+def suspension(time, *calls):
+    """A suspension whose list has these calls, and resumes."""
+    return {"op": "suspend", "time": time, "then": [*calls, {"op": "resume"}]}
+
+
+def voices_with_suspensions():
+    """The voices, and a suspension behind each quantum but the last, which sets one of their gains."""
+    script = voices_with_ramps()
+    calls = [suspension(128 * k, {"op": "setValue", "node": "g%d" % (k % 200), "param": "gain", "value": 2**12 * (k % 999)})
+             for k in range(1, 3750)]
+    return {**script, "calls": script["calls"][:-1] + calls + script["calls"][-1:]}
+
+
+def many_suspensions():
+    """A suspension behind each quantum but the last, whose list resumes and does nothing else."""
+    calls = sounding("c", ONE // 2) + [joined("c", "destination")]
+    return script_with(1, 128 * 100001, calls + [suspension(128 * k) for k in range(1, 100001)])
+
+
 LOADS = {
     "a": pairs_of_constants_and_gains,      # 200 constants into 200 gains, 2 channels, 480,000 frames
     "b": chain_of_gains,                    # 400 gains one behind the other, 1 channel, 480,000 frames
@@ -1199,6 +1329,8 @@ LOADS = {
     "j": many_timelines,                    # 1,000 gains with 200 events each, 9,600 frames
     "k": long_timelines,                    # 200 gains with 1,000 events each, 9,600 frames
     "l": many_reads_of_the_state,           # 100,000 calls of readState, 128 frames
+    "m": voices_with_suspensions,           # i with 3,749 suspensions, each of which sets one gain
+    "n": many_suspensions,                  # a constant and 100,000 suspensions, 1 channel, 12,800,128 frames
 }
 
 
@@ -1282,18 +1414,31 @@ def compared(job):
     return number, wrong, answers
 
 
+def lists_of(calls):
+    """A list of calls, and those that its calls hold."""
+    if isinstance(calls, list):
+        yield calls
+        for call in calls:
+            if isinstance(call, dict):
+                yield from lists_of(call.get("then"))
+
+
 def shrunk(program, script):
-    """The script without calls of its main list that no difference hangs on."""
-    size = len(script["calls"]) if isinstance(script.get("calls"), list) else 0
-    while size:
-        at = 0
-        while at < len(script["calls"]):
-            less = {**script, "calls": script["calls"][:at] + script["calls"][at + size:]}
-            if differences(program, less)[0]:
-                script = less
-            else:
-                at += size
-        size //= 2
+    """The script without calls that no difference hangs on, first those of its main list."""
+    number = 0
+    while number < len(list(lists_of(script.get("calls")))):
+        size = len(list(lists_of(script["calls"]))[number])
+        while size:
+            at = 0
+            while at < len(list(lists_of(script["calls"]))[number]):
+                less = copy.deepcopy(script)
+                del list(lists_of(less["calls"]))[number][at:at + size]
+                if differences(program, less)[0]:
+                    script = less
+                else:
+                    at += size
+            size //= 2
+        number += 1
     return script
 
 
@@ -1309,7 +1454,8 @@ def compare(program, seed, count, jobs):
                     print("script %d of seed %d: %s" % (number, seed, ", ".join(different)), flush=True)
     for answer, often in answers.most_common():
         print("%9d %s" % (often, answer))
-    for answer in ANSWERS + (ASSET_ANSWERS if "decodeAudioData" in read else []) + ["value"] * ("readValue" in read) + [
+    of_some = {"decodeAudioData": ASSET_ANSWERS, "readValue": ["value"], "suspend": SUSPENSION_ANSWERS}
+    for answer in ANSWERS + [answer for op, them in of_some.items() if op in read for answer in them] + [
             "%s %s %s" % (op, "rejected" if op in PROMISES else "throw", refusal)
             for op, refusals in REFUSALS.items() if op in read or op in LEFT_OUT for refusal in refusals]:
         if answer not in answers:

@@ -1,4 +1,5 @@
-"""Compares tools/expected.py with what was worked out by hand, which stands in tools/worked_rows.py."""
+"""Compares tools/expected.py with what was worked out by hand, which stands in tools/worked_rows.py and in
+tools/worked_suspensions.py."""
 
 import json
 import os
@@ -6,6 +7,7 @@ import re
 import tempfile
 
 import worked_rows
+import worked_suspensions
 from expecting.nodes import QUANTUM
 from expecting.numbers import mixed
 from expecting.sessions import replayed
@@ -25,23 +27,34 @@ def rows_that_differ():
     return rows, [row for row in rows if mixed(row[0], len(row[2]), row[1]) != row[2]]
 
 
+def call_of(text):
+    """The call that is written OP FIELD=VALUE."""
+    op, *fields = text.split()
+    call = {"op": op}
+    for field in fields:
+        key, value = field.split("=")
+        is_json = re.fullmatch(r"null|true|false|-?[0-9.]+|\[.*\]", value) and value.strip(".")
+        call[key] = json.loads(value) if is_json else value
+    return call
+
+
 def calls_of(text):
-    """The calls that are written OP FIELD=VALUE, one behind the other."""
-    calls = []
-    for call in re.split("[;\n]", text) if text else []:
-        op, *fields = call.split()
-        calls.append({"op": op})
-        for field in fields:
-            key, value = field.split("=")
-            is_json = re.fullmatch(r"null|true|false|-?[0-9.]+|\[.*\]", value) and value.strip(".")
-            calls[-1][key] = json.loads(value) if is_json else value
-    return calls
+    """The calls that are written one behind the other. Those of a list stand in braces behind the call that
+    holds them."""
+    lists = [[]]
+    for piece in re.split("([;\n{}])", text):
+        if piece == "{":
+            lists.append(lists[-1][-1].setdefault("then", []))
+        elif piece == "}":
+            lists.pop()
+        elif piece.strip(" ;\n"):
+            lists[-1].append(call_of(piece))
+    return lists[0]
 
 
-def script_with(calls, context, held):
-    """The bytes of the script of these calls, with startRendering behind them, which holds the others."""
+def script_with(calls, context):
+    """The bytes of the script of these calls."""
     context = dict(zip(("channels", "length", "rate"), context))
-    calls = calls + [{"op": "startRendering", "then": held}]
     return json.dumps({"version": 1, "context": context, "calls": calls}).encode()
 
 
@@ -66,23 +79,40 @@ def write_asset(path, data):
         file.truncate(data) if isinstance(data, int) else file.write(data)
 
 
+def worked(session):
+    """Of a session without suspensions: its calls as they are written, its script, its text and its samples."""
+    calls, context, answers, ended, samples, *held = session
+    made, held, text = calls_of(calls), calls_of(*held or [""]), ""
+    if isinstance(answers, str):
+        text = "script: %s\n" % answers
+    elif answers is not None:
+        text = transcript_of(made, held, context[1], answers, ended)
+    return calls, script_with(made + [{"op": "startRendering", "then": held}], context), text, samples
+
+
+def lines_of(text):
+    """The text of lines that are written one behind the other, some of them as FIRST-LAST REST."""
+    lines = []
+    for line in re.split("[;\n]", text):
+        first, last, rest = re.fullmatch(r"(?:(\d+)-(\d+) )?(.*)", line.strip()).groups()
+        lines += ["%d %s" % (n, rest) for n in range(int(first), int(last) + 1)] if first else [rest]
+    return "\n".join(lines) + "\n"
+
+
+def worked_with_lines(session):
+    """The same of a session whose lines are told."""
+    calls, context, lines, samples = session
+    return calls, script_with(calls_of(calls), context), "" if lines is None else lines_of(lines), samples
+
+
 def sessions():
     """The sessions, by what they are of."""
     routed = [(calls, (channels, QUANTUM, 48000), answers, [], samples and [samples] * QUANTUM)
               for calls, channels, answers, samples in worked_rows.SESSIONS]
-    return {"splitters and mergers": routed, "buffers": worked_rows.BUFFER_SESSIONS,
-            "parameters": list(worked_rows.AUTOMATION_SESSIONS.values())}
-
-
-def worked(session):
-    """The script of a session, its text and its samples."""
-    calls, context, answers, ended, samples, *held = session
-    calls, held, text = calls_of(calls), calls_of(*held or [""]), ""
-    if isinstance(answers, str):
-        text = "script: %s\n" % answers
-    elif answers is not None:
-        text = transcript_of(calls, held, context[1], answers, ended)
-    return script_with(calls, context, held), text, samples
+    them = {"splitters and mergers": routed, "buffers": worked_rows.BUFFER_SESSIONS,
+            "parameters": worked_rows.AUTOMATION_SESSIONS.values()}
+    return {**{what: [worked(session) for session in some] for what, some in them.items()},
+            "suspensions": [worked_with_lines(session) for session in worked_suspensions.SESSIONS.values()]}
 
 
 def write_assets(folder):
@@ -95,9 +125,8 @@ def write_sessions(folder):
     os.makedirs(folder)
     write_assets(folder)
     for what, them in sessions().items():
-        for number, session in enumerate(them):
+        for number, (_, script, text, _) in enumerate(them):
             path = os.path.join(folder, "%s-%d" % (what.replace(" ", "-"), number))
-            script, text, _ = worked(session)
             write_asset(path + ".json", script)
             write_asset(path + ".txt", text.encode())
 
@@ -107,12 +136,11 @@ def sessions_that_differ(them):
     wrong = []
     with tempfile.TemporaryDirectory() as folder:
         write_assets(folder)
-        for session in them:
-            script, wanted, samples = worked(session)
+        for calls, script, wanted, samples in them:
             _, text, replay = replayed(script, folder)
             found = replay and replay.samples
             if text != wanted or found != samples:
-                wrong.append((session[0], text, found and found[:10]))
+                wrong.append((calls, text, found and found[:10]))
     return wrong
 
 

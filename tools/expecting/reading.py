@@ -16,6 +16,7 @@ LEFT_OUT = dict(pair.split(":") for pair in """
     createScriptProcessor:script-processor createAudioWorkletNode:audio-worklet""".split())
 
 PARAMETER = [("node", "name"), ("param", "name")]
+HELD = ("then", "calls", [])
 
 # The fields of the operations that are built: of each its name, its kind, and its default where it has
 # one. Null is a value of a field whose default is null, and of one whose kind says so.
@@ -51,7 +52,8 @@ OPERATIONS = {
     "copyToChannel": [("buffer", "name"), ("channel", "count"), ("samples", "list"), ("at", "count", 0)],
     "start": [("node", "name"), ("when", "time", 0), ("offset", "time", 0), ("duration", "time", None)],
     "stop": [("node", "name"), ("when", "time", 0)],
-    "startRendering": [("then", "calls", [])],
+    "suspend": [("time", "time"), HELD],
+    "startRendering": [HELD],
     "resume": [],
     "decodeAudioData": [("as", "new name"), ("path", "path")],
     "readState": [],
@@ -156,7 +158,7 @@ def look_at_calls(calls, first):
             for field in ("to", "output"):
                 if call.get(field) is None:
                     raise Fault("%d %s MissingField" % (ordinal, field))
-        if ("then", "calls", []) in fields:
+        if HELD in fields:
             first = look_at_calls(call.get("then", []), first)
     return first
 
@@ -183,7 +185,7 @@ def numbered(calls, first):
     for call in calls:
         ordinal, held = first, []
         first += 1
-        if call["op"] == "startRendering":
+        if HELD in OPERATIONS.get(call["op"], []):
             held, first = numbered(call.get("then", []), first)
         done.append((ordinal, call, held))
     return done, first

@@ -5,10 +5,10 @@ from expecting.numbers import computed_count, mixed, product, sample_of, saturat
 
 
 class Rendering:
-    """A session's nodes and connections, as they are from its first frame to its last."""
+    """A session's nodes and connections, as they are from one frame to another at which they may change."""
 
     def __init__(self, session):
-        self.nodes, self.edges, self.length = session.nodes, session.edges, session.length
+        self.nodes, self.edges = session.nodes, session.edges
         self.connected = [[[] for _ in range(node.inputs)] for node in self.nodes]
         self.controls = [{parameter: [] for parameter in node.timelines} for node in self.nodes]
         for source, output, target, place in self.edges:
@@ -99,16 +99,16 @@ class Rendering:
                 values[number] = [sounds[number]] if number in sounds else self.carried(node, heard, computed)
         return [sample_of(v) for v in values[0][0]], at_first
 
-    def samples(self):
-        """The samples, frame by frame. Frames are alike in which the sources sound alike and the parameters
-        have the same values."""
+    def samples(self, begin, end):
+        """The samples from a frame that begins a quantum on, up to the one before `end`. Frames are alike in
+        which the sources sound alike and the parameters have the same values."""
         counts, rows, samples = {}, {}, []
         sources = [(number, node) for number, node in enumerate(self.nodes) if node.kind in SOURCES]
         timelines = {(number, parameter): timeline for number, node in enumerate(self.nodes)
                      for parameter, timeline in node.timelines.items()}
         levels = {key: timeline.base for key, timeline in timelines.items()}  # which those without events keep
         moving = [(key, timeline) for key, timeline in timelines.items() if timeline.events]
-        for frame in range(self.length):
+        for frame in range(begin, end):
             if frame % QUANTUM == 0:
                 first, held = frame, {}
                 playing = {number for number, node in sources if node.plays_from(first)}

@@ -25,7 +25,7 @@ ATTRIBUTES = {"setChannelCount": "count", "setChannelCountMode": "mode", "setCha
 LOOPS = {"setLoop": "is_looping", "setLoopStart": "loop_start", "setLoopEnd": "loop_end"}
 
 # The calls that give a promise.
-PROMISES = ("startRendering", "resume", "decodeAudioData")
+PROMISES = ("suspend", "startRendering", "resume", "decodeAudioData")
 
 
 class Session:
@@ -38,6 +38,7 @@ class Session:
         self.edges = set()  # of (from, output, to, input), with a parameter's name for an input where it goes to one
         self.now, self.state = 0, "suspended"
         self.rendering = None  # the accepted startRendering: its ordinal and its list
+        self.suspensions = {}  # those to come, by their frames: of each its ordinal and its list
         self.lines = []
         self.samples = None
 
@@ -245,6 +246,13 @@ class Session:
             node.stop = frame
         return "ok"
 
+    def suspend(self, ordinal, call, held):
+        frame = -(-call["time"] // QUANTUM) * QUANTUM  # rounded up
+        if not self.now < frame < self.length or frame in self.suspensions:
+            raise Refused("InvalidStateError")
+        self.suspensions[frame] = ordinal, held
+        return "pending"
+
     def start_rendering(self, ordinal, held):
         if self.rendering is not None:
             raise Refused("InvalidStateError")
@@ -252,8 +260,9 @@ class Session:
         return "pending"
 
     def resume(self):
-        if self.state != "running":
+        if self.rendering is None or self.state == "closed":
             raise Refused("InvalidStateError")
+        self.state = "running"
         return "resolved"
 
     def answer(self, ordinal, call, held):
@@ -278,6 +287,7 @@ class Session:
             "copyToChannel": lambda: self.copy_to_channel(call),
             "start": lambda: self.schedule(call),
             "stop": lambda: self.schedule(call),
+            "suspend": lambda: self.suspend(ordinal, call, held),
             "startRendering": lambda: self.start_rendering(ordinal, held),
             "resume": self.resume,
             "decodeAudioData": lambda: self.decode(call),
@@ -293,28 +303,44 @@ class Session:
                 text = ("rejected " if call["op"] in PROMISES else "throw ") + str(refused)
             self.lines.append("%d %s" % (ordinal, text))
 
+    def settle(self, ordinal, held):
+        """The promise of a call resolves, and the list that the call holds is run."""
+        self.lines.append("%d resolved" % ordinal)
+        self.run(held)
+
+    def pass_quantum(self):
+        """What comes after each quantum: the current values are those of its first frame, and sources end."""
+        for node in self.nodes:
+            for timeline in node.timelines.values():
+                timeline.slot = timeline.value(self.now)
+        self.now += QUANTUM
+        for number, node in enumerate(self.nodes):
+            if not node.ended and node.end() is not None and node.end() <= self.now:
+                node.ended = True
+                self.lines.append("ended %d %s" % (number, node.name))
+
     def replay(self, calls):
-        """The last line. The other lines and the samples stand in the session afterwards."""
+        """The last line. The other lines and the samples stand in the session afterwards. Nothing is changed
+        between two suspensions, so what lies between them is rendered at once."""
         if not (1 <= self.channels <= 32 and 1 <= self.length <= 2**25
                 and 8000 <= self.rate <= 96000 and self.channels * self.length <= 2**26):
             return "end refused NotSupportedError"
         self.run(calls)
         if self.rendering is None:
             return "end idle"
-        self.samples = Rendering(self).samples()
+        samples = []
         while self.now < self.length:
-            for node in self.nodes:
-                for timeline in node.timelines.values():
-                    timeline.slot = timeline.value(self.now)
-            self.now += QUANTUM
-            for number, node in enumerate(self.nodes):
-                if not node.ended and node.end() is not None and node.end() <= self.now:
-                    node.ended = True
-                    self.lines.append("ended %d %s" % (number, node.name))
-        ordinal, held = self.rendering
-        self.state = "closed"
-        self.lines.append("%d resolved" % ordinal)
-        self.run(held)
+            following = min(self.suspensions, default=self.length)
+            samples += Rendering(self).samples(self.now, following)
+            while self.now < following:
+                self.pass_quantum()
+            if self.now < self.length:
+                self.state = "suspended"
+                self.settle(*self.suspensions.pop(self.now))
+                if self.state == "suspended":
+                    return "end stalled %d" % self.now
+        self.samples, self.state = samples, "closed"
+        self.settle(*self.rendering)
         self.lines.append("complete %d" % self.length)
         return "end completed"
 

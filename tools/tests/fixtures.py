@@ -57,11 +57,11 @@ def write(folder, name, data):
 
 
 def example(name):
-    """The bytes of an example's script, its transcript and its WAV file, as they are worked out."""
+    """The bytes of an example's script, its transcript and its WAV file, if any, as they are worked out."""
     with open(os.path.join(EXAMPLES, name + ".json"), "rb") as file:
         data = file.read()
-    _, text, session = sessions.replayed(data, EXAMPLES)
-    return data, text, sessions.wav_bytes(session)
+    status, text, session = sessions.replayed(data, EXAMPLES)
+    return data, text, sessions.wav_bytes(session) if status == 0 else None
 
 
 def written(folder, name, data, text, sound=None):

@@ -2,10 +2,11 @@
 
 import os
 import random
+import re
 import unittest
 
 import fixtures
-from expecting import reading, sessions
+from expecting import by_hand, reading, sessions
 import random_scripts
 from reporting import entries, rules, script_reading, transcript_reading, wav_samples
 from reporting.following import Session
@@ -18,7 +19,6 @@ REFUSALS = {
     "createIIRFilter": ["NotSupportedError", "InvalidStateError", "node-limit"],
     "setCurve": ["TypeError", "InvalidStateError"],
     "setOversample": ["TypeError", "oversample"],
-    "suspend": ["InvalidStateError"],
 }
 
 
@@ -32,8 +32,10 @@ def fault_of(data):
 
 
 def random_script(number, spoiled=False, most=60):
-    """A random script of at most so many calls, with its assets' paths leading nowhere."""
-    maker = random_scripts.Maker(random.Random("tools %d" % number), list(reading.OPERATIONS))
+    """A random script of at most so many calls, with its assets' paths leading nowhere. Half of them have
+    suspensions."""
+    read = [op for op in reading.OPERATIONS if op != "suspend" or number % 2 == 0]
+    maker = random_scripts.Maker(random.Random("tools %d" % number), read)
     script = maker.script()
     script["calls"] = script["calls"][:most] if isinstance(script.get("calls"), list) else script.get("calls")
     if spoiled and isinstance(script.get("context"), dict):
@@ -199,6 +201,22 @@ class Following(unittest.TestCase):
             "The main list, at frame 0", "Suspended at frame 512: the list of call 14", "Rendering, from frame 512 on",
             "Suspended at frame 1,536: the list of call 20", "The end"])
         self.assertEqual([call.ordinal for call in found.not_run], [23])
+
+    def test_worked_sessions_with_suspensions_belong_to_their_scripts(self):
+        for name, data, text, _ in by_hand.sessions()["suspensions"]:
+            if not text:  # an asset can't be read
+                continue
+            script = script_reading.script_of(data)
+            found = Session(script, transcript_reading.lines_of(text.encode(), "t"), ("s", "t"))
+            marks = [mark for mark in found.marks if mark.kind != "ended"]
+            resolved = [int(it) for it in re.findall(r"^(\d+) resolved$", text, re.M)]
+            self.assertEqual([mark.told.ordinal for mark in marks],
+                             [it for it in resolved if script.by_ordinal[it].op == "suspend"], name)
+            self.assertEqual([mark.low for mark in marks if mark.kind == "stalled"],
+                             [int(it) for it in re.findall(r"^end stalled (\d+)$", text, re.M)], name)
+            answered = {int(it) for it in re.findall(r"^(\d+) ", text, re.M)}
+            self.assertEqual([call.ordinal for call in found.not_run],
+                             [call.ordinal for call in script.calls if call.ordinal not in answered], name)
 
     def test_transcripts_that_do_not_belong_to_their_script(self):
         data, text = fixtures.suspended()
