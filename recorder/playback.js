@@ -128,7 +128,7 @@ const PLAYED = {
   suspend(player, call) {
     player.context.suspend(player.secondsOf(call.time)).then(() => player.perform(call.then ?? []), () => {});
   },
-  resume(player) { player.context.resume(); },
+  resume(player) { player.context.resume().catch(() => {}); },
   startRendering(player) { player.rendering = player.rendering || player.context.startRendering(); },
 };
 

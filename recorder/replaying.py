@@ -7,6 +7,7 @@ import subprocess
 import tempfile
 
 FULL = 2**23  # the samples of a file of 24 bits are whole numbers of 2^-23
+QUANTUM = 128
 
 
 def samples_of(path):
@@ -60,6 +61,11 @@ def changes_at_once(call):
     return call["op"].startswith(("connect", "disconnect", "setChannel", "setValue"))
 
 
+def is_at_an_edge(time, length):
+    """Whether a suspension is at frame 0, at the length, or rounded up to the length or past it."""
+    return time == 0 or time <= length <= -(-time // QUANTUM) * QUANTUM
+
+
 def is_at_its_most(calls, delay):
     """Whether a delay is ever set to its maxDelayTime or beyond."""
     most = delay.get("maxDelayTime", 2**24)
@@ -101,6 +107,8 @@ def known_departures(script, kinds):
         found.append("Chromium plays what is written into a buffer after a source acquired it")
     if ops & {"cancelScheduledValues", "cancelAndHoldAtTime"}:
         found.append("Chromium holds the value of a ramp that is cancelled on its way, and keeps a curve that ends at a cancel")
+    if any(is_at_an_edge(call["time"], script["context"]["length"]) for call in calls if call["op"] == "suspend"):
+        found.append("a suspension at frame 0 or at the length is accepted by Chromium")
     if any(changes_at_once(inner) for call in calls if call["op"] == "suspend" for inner in call.get("then", [])):
         found.append("a change at a suspension may come one quantum late in Chromium, in one run and not in the next")
     if "createChannelMerger" in ops:

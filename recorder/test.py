@@ -75,6 +75,11 @@ def difference(ours, theirs):
 # What some pages are for: of each the value that it must have, worked out of the recording and the main list of its calls.
 SPECIAL = {
     "exception": (["IndexSizeError"], lambda recorded, calls: list(recorded.outcomes.values())),
+    # A resumption before the start, and suspensions before the first frame, at one that is taken, and behind the end.
+    "refused_suspensions": (["InvalidStateError"] * 4, lambda recorded, calls: list(recorded.outcomes.values())),
+    # The inner suspension stands in the list of the outer one, which ends with what resumes.
+    "suspension_in_a_suspension": ([["suspend", "resume"]], lambda recorded, calls: [
+        [inner["op"] for inner in call["then"]][-2:] for call in calls if call["op"] == "suspend"]),
     # One buffer for each of two sources, and another one for the third, whose samples are those of the second's file or not.
     "buffer_written_between_starts": ((2, 3), lambda recorded, calls: (
         len(recorded.assets), len({call["buffer"] for call in calls if call["op"] == "createBufferSource"}))),
