@@ -3,4 +3,5 @@ mod Ends
 mod FaultLines
 mod FrameRows
 mod Outcomes
+mod Turns
 mod WavParts

@@ -5,9 +5,10 @@ use Rattle.wa_base.specs.Contexts.{is_supported}
 use Rattle.script_ast.specs.declared.call_list.Call.{Call}
 use Rattle.script_ast.specs.declared.call_list.Script.{Script}
 use Rattle.script_json.specs.Script.{script_of}
+use Rattle.ctx_state.specs.Context.{ContextView, first_context, turn_of, after_turn}
 use Rattle.session.specs.Assets.{Folder}
-use Rattle.ctx_state.specs.Context.{turn_of}
-use Rattle.session.specs.Session.{Told, first_told, held_by, main_list, after_turn, after_list, quanta_left, has_closed, ByTurn}
+use Rattle.session.specs.Contexts.{context_after_calls}
+use Rattle.session.specs.Session.{held_by, quanta_from, has_closed, ByTurn}
 use Rattle.session.specs.Step.{is_start, is_resume}
 use Rattle.replay_top.specs.Answer.{answer, max_script}
 use Rattle.replay_top.specs.Words.{Reading, reading}
@@ -18,33 +19,33 @@ abbrev pub has_resume : List Call → Bool
 has_resume calls = list_any (λ (call : Call). is_resume call.op) calls
 
 -- Turn by turn, the list of each suspension that becomes due has a resume, until the length is reached; with no quantum left, the context is closed.
-abbrev pub EachResumes : ℕ → Folder → List Call → Told → Type 0
-EachResumes zero folder calls told = has_closed told.machine.context.state ≡ true
-EachResumes (suc left) folder calls told =
-    ByTurn (turn_of told.machine.context)
-    (EachResumes left folder calls (after_turn told))
-    (λ ordinal. (has_resume (held_by ordinal calls) ≡ true) × EachResumes left folder calls (after_list folder calls (after_turn told) ordinal))
+abbrev pub EachResumes : ℕ → List Call → ContextView → Type 0
+EachResumes zero calls context = has_closed context.state ≡ true
+EachResumes (suc left) calls context =
+    ByTurn (turn_of context)
+    (EachResumes left calls (after_turn context))
+    (λ ordinal. (has_resume (held_by ordinal calls) ≡ true) × EachResumes left calls (context_after_calls (after_turn context) (held_by ordinal calls)))
     (λ ordinal. Unit {0})
 
--- once its main list ran
-abbrev pub started : Folder → Script → Told
-started folder script = main_list folder script.calls (first_told script.context)
+-- the context of a script once its main list ran, which takes no time
+abbrev pub started : Script → ContextView
+started script = context_after_calls (first_context script.context) (held_by 0 script.calls)
 
 -- a script whose context can be rendered, whose main list starts the rendering, and whose suspensions resume
-pub record Renders (folder : Folder) (script : Script) : Type 0 where
+pub record Renders (script : Script) : Type 0 where
   pub context : is_supported script.context ≡ true
   pub starts : list_any (λ (call : Call). is_start call.op) (held_by 0 script.calls) ≡ true
-  pub resumes : EachResumes (quanta_left (started folder script).machine) folder script.calls (started folder script)
+  pub resumes : EachResumes (quanta_from 0 script.context) script.calls (started script)
 
 -- words that have a reading, and no more bytes than a script may have, which are a script that renders
-pub record IsRendered (words : List (List ℕ)) (bytes : List ℕ) (folder : Folder) : Type 0 where
+pub record IsRendered (words : List (List ℕ)) (bytes : List ℕ) : Type 0 where
   pub asked : Reading
   pub reads : reading words ≡ Some asked
   pub short : length bytes ≤ max_script
   pub script : Script
   pub read : script_of bytes ≡ Ok script
-  pub renders : Renders folder script
+  pub renders : Renders script
 
--- The answer is Rendered exactly there.
+-- The answer is Rendered exactly there, whatever the folder of assets holds.
 abbrev pub CompletenessLaw : Type 0
-CompletenessLaw = (words : List (List ℕ)) (bytes : List ℕ) (folder : Folder) → ((answer words bytes folder).status ≡ Rendered) ↔ IsRendered words bytes folder
+CompletenessLaw = (words : List (List ℕ)) (bytes : List ℕ) (folder : Folder) → ((answer words bytes folder).status ≡ Rendered) ↔ IsRendered words bytes

@@ -5,6 +5,7 @@ mod Finishing
 mod Folders
 mod Going
 pub mod Interleaving
+mod Leaving
 mod Lists
 mod Marks
 mod Named

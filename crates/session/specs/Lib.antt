@@ -1,4 +1,5 @@
 pub mod Assets
+pub mod Contexts
 pub mod Frames
 pub mod Lists
 pub mod Machine

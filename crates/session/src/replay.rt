@@ -31,8 +31,9 @@ pub struct Outcome {
 }
 
 /// Replays a script: its main list at frame 0 and, where that started rendering, the quanta of the
-/// context up to its length, and then the list that the promise of startRendering holds. Assets are
-/// read from `files`.
+/// context up to its length, and then the list that the promise of startRendering holds. Where a
+/// suspension is due, the list that its promise holds is done between two quanta, and the session
+/// stalls there unless that resumed the context. Assets are read from `files`.
 ///
 /// A refused context, and refused calls, are part of the outcome. `AssetFault` comes where reading an
 /// asset failed. After a `Stop` nothing is left of the session. No file is written.

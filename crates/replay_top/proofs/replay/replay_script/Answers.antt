@@ -1,8 +1,5 @@
-use Rattle.std.proofs.Common.{Err, refl, ap, inl}
-use Rattle.std.proofs.KnownBytes.{Appends-nil, Keeps-refl}
-use Rattle.session.specs.Assets.{Folder}
-use Rattle.session.specs.Session.{session_of}
-use Rattle.replay_top.specs.Answer.{answer_to_session, Decodes}
+use Rattle.std.proofs.Common.{refl, ap, inl}
+use Rattle.std.proofs.KnownBytes.{Appends-nil}
 use Rattle.replay_top.specs.Words.{renders}
 use Rattle.replay_top.proofs.Ends.{replays, answers_since}
 use Rattle.replay_top.proofs.Outcomes.{writable, rendering_answered}
