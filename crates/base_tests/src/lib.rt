@@ -3,6 +3,8 @@
 #![tactic(auto)]
 
 #[cfg(test)]
+mod kinds;
+#[cfg(test)]
 mod names;
 #[cfg(test)]
 mod nodes;
@@ -10,6 +12,8 @@ mod nodes;
 mod numbers;
 #[cfg(test)]
 mod schedules;
+#[cfg(test)]
+mod shapers;
 #[cfg(test)]
 mod timelines;
 #[cfg(test)]

@@ -1,3 +1,4 @@
+use crate::kinds::are_same;
 use node_table::{Attrs, Kind, Nodes};
 use std::alloc::Global;
 use std::test::Fail;
@@ -32,6 +33,11 @@ fn kind_of(nodes: &Nodes, number: u32) -> Option<&Kind> {
     }
 }
 
+// Whether the node with this number is there, and is of this kind.
+fn is_kind(nodes: &Nodes, number: u32, kind: &Kind) -> bool {
+    kind_of(nodes, number).is_some_and(|found| are_same(found, kind))
+}
+
 fn attrs_of(nodes: &Nodes, number: u32) -> Option<Attrs> {
     if number < nodes.len() {
         Some(nodes.attrs(NodeId(number)))
@@ -42,7 +48,7 @@ fn attrs_of(nodes: &Nodes, number: u32) -> Option<Attrs> {
 
 // Whether the node with this number is of this kind and has these attributes.
 fn is_node(nodes: &Nodes, number: u32, kind: &Kind, attrs: Attrs) -> bool {
-    kind_of(nodes, number) == Some(kind) && attrs_of(nodes, number) == Some(attrs)
+    is_kind(nodes, number, kind) && attrs_of(nodes, number) == Some(attrs)
 }
 
 fn attrs(count: u32, mode: Mode, birth: u64) -> Attrs {
@@ -119,8 +125,8 @@ fn creates_ports(alloc: Global) -> Result<bool, Refusal> {
             && (merger.inputs(), merger.outputs()) == (32, 1)
             && !splitter.is_delay()
             && !merger.is_delay()
-            && splitter.copy()? == splitter
-            && merger.copy()? == merger
+            && are_same(&splitter.copy()?, &splitter)
+            && are_same(&merger.copy()?, &merger)
             && splitter.param_base(ParamName::Gain).is_none()
             && merger.param_base(ParamName::Offset).is_none(),
     )
@@ -222,7 +228,7 @@ fn refuses_the_1025th(alloc: Global) -> Result<bool, Refusal> {
             && create_gain(&mut nodes, 1, 256) == refused
             && create_gain(&mut nodes, 1, 256) == refused
             && nodes.len() == 1_024
-            && kind_of(&nodes, 1_023) == Some(&Kind::Gain { gain: 0 })
+            && is_kind(&nodes, 1_023, &Kind::Gain { gain: 0 })
             && kind_of(&nodes, 1_024).is_none(),
     )
 }
@@ -345,7 +351,7 @@ fn attributes_are_set_unless_they_are_fixed(rt: HostRuntime) -> Result<(), Fail>
 
 // Whether both have the same node at this number.
 fn are_alike(first: &Nodes, second: &Nodes, number: u32) -> bool {
-    kind_of(first, number) == kind_of(second, number)
+    kind_of(second, number).is_some_and(|kind| is_kind(first, number, kind))
         && attrs_of(first, number) == attrs_of(second, number)
 }
 
@@ -360,8 +366,8 @@ fn copies_apart(alloc: Global) -> Result<bool, Refusal> {
             && second.len() == 3
             && are_alike(&first, &second, 0)
             && are_alike(&first, &second, 1)
-            && kind_of(&second, 2) == Some(&gain)
-            && gain.copy()? == gain,
+            && is_kind(&second, 2, &gain)
+            && are_same(&gain.copy()?, &gain),
     )
 }
 

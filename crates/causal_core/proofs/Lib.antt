@@ -1,3 +1,4 @@
 pub mod Lists
 pub mod Sums
 mod Rows
+pub mod Shares

@@ -11,8 +11,8 @@ use Rattle.wa_base.specs.declared.memory.NoMemory.{NoMemory}
 use Rattle.wa_base.specs.declared.exceptions.Exc.TheVariants.{NotSupported}
 use Rattle.wa_base.specs.declared.features.Feature.TheVariants.{DestinationOutput}
 use Rattle.law_base.specs.Members.{AreDistinct}
-use Rattle.node_table.specs.Kinds.{is_destination, range_refusal, IsInEntry}
-use Rattle.node_table.specs.Nodes.{creation_refusal, node_of, changed_at, refusal_at}
+use Rattle.node_table.specs.Kinds.{is_destination, range_refusal, IsInEntry, lasting}
+use Rattle.node_table.specs.Nodes.{creation_refusal, node_of, node_with_curve, curve_refusal, changed_at, refusal_at}
 use Rattle.node_table.proofs.NodeLists.{second_none}
 use Rattle.node_table.proofs.Setting.{length-changed}
 use Rattle.node_table.specs.declared.kinds.Kind.{Kind}
@@ -32,7 +32,7 @@ use Rattle.meaning.specs.Sources.{changed_play, resampling_refusal}
 use Rattle.meaning.specs.Changes.{created, edited, new_play, with_nodes, output_refusal, refusal, changed, attribute_set, attribute_refusal, IsNamed, Accepts, Grows, ChangeLaw}
 use Rattle.meaning.proofs.Valid.{plain_valid, connected_valid, disconnected_valid}
 use Rattle.meaning.proofs.Creating.{created_valid, node_kept, node_new, IsNewPlay}
-use Rattle.meaning.proofs.Setting.{KeepsNode, set_valid, changed_same, node_keeps_attribute}
+use Rattle.meaning.proofs.Setting.{KeepsNode, set_valid, changed_same, node_keeps_attribute, node_keeps_curve}
 use Rattle.meaning.proofs.Sourcing.{new_play_is, new_source_is, source_edited_valid, acquired_keeps}
 use Rattle.meaning.proofs.OneChanged.{written_over}
 use Rattle.meaning.proofs.Automating.{automated_valid}
@@ -46,7 +46,7 @@ grows_still now old new valid spec buffers nodes = record {
   buffers = buffers;
   stays = λ i l. record {
     there = rw nodes l;
-    kind = ap (λ (ns : List Node). (slice_index_or ns i no_node).kind) nodes;
+    kind = ap (λ (ns : List Node). lasting (slice_index_or ns i no_node).kind) nodes;
     birth = ap (λ (ns : List Node). (slice_index_or ns i no_node).attrs.birth) nodes;
   };
   born = λ i high low. let same : length new.nodes ≡ length old.nodes = ap length nodes in absurd (omega arith);
@@ -64,7 +64,7 @@ grows_created w kind play new now other entry accepted = record {
   buffers = omega arith;
   stays = λ i l.
       let kept = node_kept w.nodes (node_of kind now) i l in
-      record { there = omega (arith, long); kind = ap (λ (n : Node). n.kind) kept; birth = ap (λ (n : Node). n.attrs.birth) kept };
+      record { there = omega (arith, long); kind = ap (λ (n : Node). lasting n.kind) kept; birth = ap (λ (n : Node). n.attrs.birth) kept };
   born = λ i high low.
       let last : i ≡ length w.nodes = omega (arith, long) in
       ap (λ k. (slice_index_or (w.nodes ++ node_of kind now ∷ []) k no_node).attrs.birth) last ∙ ap (λ (n : Node). n.attrs.birth) (node_new w.nodes (node_of kind now));
@@ -81,7 +81,7 @@ grows_set w node now refusal change keeps fine = record {
   buffers = omega arith;
   stays = λ i l. record {
     there = omega (arith, same);
-    kind = changed_same (λ (n : Node). n.kind) change keeps.kind node w.nodes i;
+    kind = changed_same (λ (n : Node). lasting n.kind) change keeps.kind node w.nodes i;
     birth = changed_same (λ (n : Node). n.attrs.birth) change keeps.birth node w.nodes i;
   };
   born = λ i high low. absurd (omega (arith, same));
@@ -109,6 +109,7 @@ edited_grows w now (edit.Disconnect from form) named accepted valid = grows_stil
 edited_grows w now (edit.Source node e) named accepted valid = grows_still now w _ (λ v. source_edited_valid w now node.0 e named accepted v) refl (acquired_keeps w.store e (find_play w.scheds.items node.0)).long refl
 edited_grows w now (edit.Param id e) named accepted valid = grows_still now w _ (λ v. automated_valid w now id e accepted v) refl (omega arith) refl
 edited_grows w now (edit.Attribute node e) named accepted valid = grows_set w node.0 now (attribute_refusal e) (attribute_set e) (node_keeps_attribute e) accepted
+edited_grows w now (edit.SetCurve node curve) named accepted valid = grows_set w node.0 now (curve_refusal curve) (node_with_curve curve) (node_keeps_curve curve) accepted
 edited_grows w now (edit.Buffers e) named accepted valid = grows_still now w _ (λ v. buffers_edited_valid w e named accepted v) refl (buffers_stay w.store e) refl
 
 pub changed_grows : ChangeLaw

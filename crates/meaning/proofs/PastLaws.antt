@@ -12,7 +12,7 @@ use Rattle.law_base.specs.Heights.{at_height, at_moment, before}
 use Rattle.law_base.proofs.SchemeLaws.{moment-zero}
 use Rattle.node_table.specs.Kinds.{is_delay_kind, remembers}
 use Rattle.node_table.specs.declared.kinds.Kind.{Kind}
-use Rattle.node_table.specs.declared.kinds.Kind.TheVariants.{Destination, Constant, Buffer, Gain, Splitter, Merger}
+use Rattle.node_table.specs.declared.kinds.Kind.TheVariants.{Destination, Constant, Buffer, Gain, Splitter, Merger, Shaper}
 use Rattle.conn_graph.specs.Graph.{Connections}
 use Rattle.conn_graph.specs.Ends.{writer_of, reader_of, input_end, ends, is_delay, height, muted}
 use Rattle.conn_graph.proofs.EndLaws.{has_end}
@@ -36,6 +36,7 @@ writer_carries q (Buffer rate) is tape i f = absurd cc
 writer_carries q (Gain gain) is tape i f = absurd cc
 writer_carries q (Splitter ports) is tape i f = absurd cc
 writer_carries q (Merger ports) is tape i f = absurd cc
+writer_carries q (Shaper curve was_set) is tape i f = absurd cc
 
 -- what an input takes in at a frame, by all that the frame has
 abbrev heard_of : Frame → ℕ → ℕ → ℤ

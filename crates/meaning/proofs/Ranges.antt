@@ -1,8 +1,8 @@
 -- Every value is a Fix.
-use Rattle.std.proofs.Common.{ℕ, zero, suc, ◌-◌, ◌*◌, ◌/◌, ℤ, pos, negsuc, List, [], ◌∷◌, take, drop, All, Bool, true, false, Option, None, Some, slice_index_or, subst, sym, arith}
+use Rattle.std.proofs.Common.{ℕ, zero, suc, ◌+◌, ◌-◌, ◌*◌, ◌/◌, ◌+ℤ◌, length, ℤ, pos, negsuc, List, [], ◌∷◌, take, drop, All, Bool, true, false, Option, None, Some, slice_index_or, subst, sym, arith}
 use Rattle.std.proofs.lemmas.Int.{ints}
 use Rattle.std.proofs.lemmas.List.Elements.{All-head, All-tail, All-nil}
-use Rattle.std.specs.Prelude.{if◌then◌else◌, nat_lt, slice_get}
+use Rattle.std.specs.Prelude.{if◌then◌else◌, nat_lt, nat_le, slice_get}
 use Rattle.std.specs.Option.{option_map_or}
 use Rattle.wa_base.specs.Numbers.{IsFix, sat}
 use Rattle.wa_base.specs.declared.graph_names.BufId.{BufId}
@@ -10,6 +10,9 @@ use Rattle.wa_base.specs.declared.graph_names.End.{End}
 use Rattle.wa_base.specs.declared.graph_names.ParamId.{ParamId}
 use Rattle.wa_base.specs.declared.graph_names.ParamName.TheVariants as param
 use Rattle.law_base.proofs.SchemeLaws.{moment-zero}
+use Rattle.causal_core.specs.Curves.{on_way, curve_at}
+use Rattle.causal_core.specs.Frames.{item}
+use Rattle.causal_core.proofs.Shares.{between_fix}
 use Rattle.buffer_store.specs.declared.buffers.Buffer.{Buffer}
 use Rattle.buffer_store.specs.Buffers.{channel_of}
 use Rattle.sched_source.specs.declared.content.Content.{Content}
@@ -17,13 +20,13 @@ use Rattle.sched_source.specs.Playback.{position}
 use Rattle.sched_source.specs.Schedule.{plays_at, sample_at}
 use Rattle.node_table.specs.declared.kinds.Kind.{Kind}
 use Rattle.node_table.specs.declared.kinds.Kind.TheVariants as kinds
-use Rattle.node_table.specs.declared.kinds.Kind.TheVariants.{Destination, Constant, Gain, Splitter, Merger}
+use Rattle.node_table.specs.declared.kinds.Kind.TheVariants.{Destination, Constant, Gain, Splitter, Merger, Shaper}
 use Rattle.conn_graph.specs.Ends.{height, muted}
 use Rattle.meaning.specs.declared.world.World.{World}
 use Rattle.meaning.specs.declared.scheds.Play.{Play}
 use Rattle.meaning.specs.World.{kind_of, param_id, nominal, sounds_at, find_play, samples_in, played_at}
 use Rattle.meaning.specs.Counts.{world_in, input_channels}
-use Rattle.meaning.specs.Laws.{HasFixes}
+use Rattle.meaning.specs.Laws.{HasFixes, HasFixPoints}
 use Rattle.meaning.specs.Values.{Frame, Values, input_value, computed_value, value_by_kind, has_channel, equation, value_scheme, world_at, known_at, value_at, value, frames_before, frame_at}
 use Rattle.meaning.proofs.ValueLaws.{value_suc}
 
@@ -49,12 +52,13 @@ nominal_fix (kinds.Buffer rate) x = sat_fix x
 nominal_fix (Gain gain) x = sat_fix x
 nominal_fix (Splitter ports) x = sat_fix x
 nominal_fix (Merger ports) x = sat_fix x
+nominal_fix (Shaper curve was_set) x = sat_fix x
 
 computed_fix : (q f : ℕ) (past : ℕ → Frame) (here : Frame) (id : ParamId) → IsFix (computed_value q f past here id)
 unfolding computed_value
 computed_fix q f past here id = nominal_fix (kind_of here.world id.node.0) _
 
--- ---- the samples of buffers
+-- ---- the points of curves, and the samples of buffers
 
 abbrev AreFixesAt : List ℤ → Type 0
 AreFixesAt xs = (i : ℕ) → IsFix (slice_index_or xs i (pos 0))
@@ -74,6 +78,13 @@ drop_at : (n : ℕ) (xs : List ℤ) → AreFixesAt xs → AreFixesAt (drop n xs)
 drop_at zero xs at i = at i
 drop_at (suc n) [] at i = zero_fix
 drop_at (suc n) (x ∷ xs) at i = drop_at n xs (λ j. at (suc j)) i
+
+way_fix : (curve : List ℤ) (p : ℕ) → AreFixesAt curve → IsFix (on_way curve p)
+way_fix curve p at = between_fix (item curve (p / 33554432)) (item curve (p / 33554432 + 1)) (p - p / 33554432 * 33554432) (at (p / 33554432)) (at (p / 33554432 + 1)) (omega arith)
+
+curve_fix : (curve : List ℤ) (x : ℤ) → AreFixesAt curve → IsFix (curve_at curve x)
+curve_fix curve (negsuc n) at = at 0
+curve_fix curve (pos x) at = either_fix (nat_le x 0) _ _ (at 0) (either_fix (nat_le 33554432 x) _ _ (at (length curve - 1)) (way_fix curve ((length curve - 1) * x) at))
 
 abbrev IsSampled : Buffer → Type 0
 IsSampled b = All IsFix b.samples
@@ -98,26 +109,28 @@ found_fix play (Some p) each = each p
 
 played_fix : (w : World) (node c f : ℕ) → HasFixes w → IsFix (played_at w node c f)
 played_fix w node c f fixes = found_fix _ (find_play w.scheds.items node) (λ p.
-    either_fix (plays_at p.sched f) _ (pos 0) (sample_fix p.sched.content p.sched.start (samples_in w.store p.buffer c) f (samples_fix w.store p.buffer c fixes)) zero_fix)
+    either_fix (plays_at p.sched f) _ (pos 0) (sample_fix p.sched.content p.sched.start (samples_in w.store p.buffer c) f (samples_fix w.store p.buffer c fixes.samples)) zero_fix)
 
-kind_fix : (q f : ℕ) (past : ℕ → Frame) (here : Frame) → HasFixes here.world → (kind : Kind) (e : End) (o c : ℕ) → IsFix (value_by_kind q f past here kind e o c)
-kind_fix q f past here fixes Destination e o c = input_fix here e.node.0 0 c
-kind_fix q f past here fixes (Constant offset) e o c = either_fix (sounds_at here.world e.node.0 f) _ (pos 0) (computed_fix q f past here (param_id e.node.0 param.Offset)) zero_fix
-kind_fix q f past here fixes (kinds.Buffer rate) e o c = played_fix here.world e.node.0 c f fixes
-kind_fix q f past here fixes (Gain gain) e o c = sat_fix _
-kind_fix q f past here fixes (Splitter ports) e o c = input_fix here e.node.0 0 o
-kind_fix q f past here fixes (Merger ports) e o c = input_fix here e.node.0 c 0
+kind_fix : (q f : ℕ) (past : ℕ → Frame) (here : Frame) → HasFixes here.world → (kind : Kind) → HasFixPoints kind → (e : End) (o c : ℕ) → IsFix (value_by_kind q f past here kind e o c)
+kind_fix q f past here fixes Destination points e o c = input_fix here e.node.0 0 c
+kind_fix q f past here fixes (Constant offset) points e o c = either_fix (sounds_at here.world e.node.0 f) _ (pos 0) (computed_fix q f past here (param_id e.node.0 param.Offset)) zero_fix
+kind_fix q f past here fixes (kinds.Buffer rate) points e o c = played_fix here.world e.node.0 c f fixes
+kind_fix q f past here fixes (Gain gain) points e o c = sat_fix _
+kind_fix q f past here fixes (Splitter ports) points e o c = input_fix here e.node.0 0 o
+kind_fix q f past here fixes (Merger ports) points e o c = input_fix here e.node.0 c 0
+kind_fix q f past here fixes (Shaper None was_set) points e o c = input_fix here e.node.0 0 c
+kind_fix q f past here fixes (Shaper (Some curve) was_set) points e o c = curve_fix curve (input_value here e.node.0 0 c +ℤ pos 16777216) (all_at curve points)
 
 equation_fix : (q f : ℕ) (past : ℕ → Frame) (here : Frame) → HasFixes here.world → (e : End) (o c : ℕ) → IsFix (equation q f past here e o c)
 unfolding equation
 equation_fix q f past here fixes e o c =
     either_fix (muted here.world.graph.value e) (pos 0) _ zero_fix
-    (either_fix (has_channel here.world here.counts e o c) _ (pos 0) (kind_fix q f past here fixes (kind_of here.world e.node.0) e o c) zero_fix)
+    (either_fix (has_channel here.world here.counts e o c) _ (pos 0) (kind_fix q f past here fixes (kind_of here.world e.node.0) (fixes.points e.node.0) e o c) zero_fix)
 
 -- so are those of every world of a tape, and of the one past its end
 fixes_in : (tape : List World) (j : ℕ) → All HasFixes tape → HasFixes (world_in tape j)
-fixes_in [] j all = All-nil IsSampled
-fixes_in (w ∷ ws) zero all = All-head HasFixes w ws all
+fixes_in [] j all = record { samples = All-nil IsSampled; points = λ i. tt }
+fixes_in (w ∷ ws) zero all = let fixes = All-head HasFixes w ws all in record { samples = fixes.samples; points = fixes.points }
 fixes_in (w ∷ ws) (suc j) all = fixes_in ws j (All-tail HasFixes w ws all)
 
 height_fix : (q : ℕ) (tape : List World) → All HasFixes tape → (f h : ℕ) (e : End) (o c : ℕ) → IsFix (value_at q tape f h e o c)

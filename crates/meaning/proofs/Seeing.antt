@@ -1,5 +1,5 @@
 -- What the equation of one end sees, of its own frame, of its own quantum, and of the quanta before.
-use Rattle.std.proofs.Common.{ℕ, ℤ, pos, ◌≡◌, ◌*◌, ◌/◌, ◌<◌, ◌≤◌, ◌+ℤ◌, List, Bool, true, false, refl, sym, ◌∙◌, ap, arith, subst}
+use Rattle.std.proofs.Common.{ℕ, ℤ, pos, ◌≡◌, ◌*◌, ◌/◌, ◌<◌, ◌≤◌, ◌+ℤ◌, List, [], ◌∷◌, Bool, true, false, refl, sym, ◌∙◌, ap, arith, subst}
 use mathlib.Core.Path.{fun_ext}
 use Rattle.std.specs.Prelude.{if◌then◌else◌, nat_lt, ◌==◌, ◌&&◌}
 use Rattle.std.proofs.lemmas.Bool.Decides.{nat_tests}
@@ -14,9 +14,10 @@ use Rattle.law_base.specs.Members.{IsIn}
 use Rattle.law_base.proofs.Members.{same_map}
 use Rattle.channel_mix.specs.Counts.{input_count}
 use Rattle.channel_mix.specs.Mixing.{mix, fan_in}
+use Rattle.causal_core.specs.Curves.{shaper_value}
 use Rattle.node_table.specs.Kinds.{is_delay_kind, outputs}
 use Rattle.node_table.specs.declared.kinds.Kind.{Kind}
-use Rattle.node_table.specs.declared.kinds.Kind.TheVariants.{Destination, Constant, Buffer, Gain, Splitter, Merger}
+use Rattle.node_table.specs.declared.kinds.Kind.TheVariants.{Destination, Constant, Buffer, Gain, Splitter, Merger, Shaper}
 use Rattle.conn_graph.specs.declared.edges.Edge.{Edge}
 use Rattle.conn_graph.specs.Graph.{edges_to_input, edges_to_param}
 use Rattle.conn_graph.specs.Ends.{writer_of, reader_of, ends, is_delay, input_end, arrow, muted}
@@ -144,6 +145,7 @@ module _ (q : ℕ) (some : 0 < q) (w : World) (joined : IsJoined w) (f : ℕ) (p
       ∙ ap (scale (input_value (here w n t) e.node.0 0 c)) (computed_like (plain_reader w joined e h (ap is_delay_kind is)) param.Gain)
   by_kind o c (Splitter ports) is = input_like w joined m n s t e (plain_end w joined e h (ap is_delay_kind is)) agree_counts agree 0 o
   by_kind o c (Merger ports) is = input_like w joined m n s t e (plain_end w joined e h (ap is_delay_kind is)) agree_counts agree c 0
+  by_kind o c (Shaper curve was_set) is = ap (λ x. shaper_value curve (x ∷ [])) (input_like w joined m n s t e (plain_end w joined e h (ap is_delay_kind is)) agree_counts agree 0 c)
 
   pub equation_sees : equation q f past (here w m s) e ≡ equation q f past' (here w n t) e
   unfolding equation

@@ -1,13 +1,16 @@
 -- A world stays valid when an attribute of a node is set.
-use Rattle.std.proofs.Common.{ℕ, zero, suc, ◌≡◌, ◌<◌, length, List, [], ◌∷◌, map, slice_index_or, true, Option, None, refl, sym, ◌∙◌, ap, subst}
+use Rattle.std.proofs.Common.{ℕ, ℤ, zero, suc, ◌≡◌, ◌<◌, length, List, [], ◌∷◌, map, slice_index_or, true, Option, None, refl, sym, ◌∙◌, ap, subst}
 use Rattle.std.specs.Prelude.{◌↔◌, IsSome}
 use Rattle.wa_base.specs.declared.exceptions.Exc.{Exc}
 use Rattle.wa_base.specs.declared.graph_names.Mode.{Mode}
 use Rattle.wa_base.specs.declared.graph_names.Interp.{Interp}
 use Rattle.law_base.specs.Members.{IsIn}
-use Rattle.node_table.specs.Kinds.{inputs, outputs, is_delay_kind, param_base}
-use Rattle.node_table.specs.Nodes.{IsCreated, with_count, with_mode, with_interp, count_refusal, mode_refusal, interp_refusal, changed_at, refusal_at}
+use Rattle.node_table.specs.Kinds.{inputs, outputs, is_delay_kind, param_base, lasting, with_curve}
+use Rattle.node_table.specs.Nodes.{IsCreated, with_count, with_mode, with_interp, count_refusal, mode_refusal, interp_refusal, node_with_curve, curve_refusal, changed_at, refusal_at}
 use Rattle.node_table.specs.declared.kinds.Kind.{Kind}
+use Rattle.node_table.specs.declared.kinds.Kind.TheVariants.{Destination, Constant, Buffer, Gain, Splitter, Merger, Shaper}
+use Rattle.node_table.proofs.Lasting.{same_by_lasting, holds_by_lasting}
+use Rattle.node_table.proofs.Shaping.{keeps_curve}
 use Rattle.node_table.specs.declared.nodes.Node.{Node}
 use Rattle.node_table.proofs.Setting.{count_free, mode_kept, keeps_count, keeps_mode, keeps_interp, length-changed}
 use Rattle.conn_graph.specs.declared.edges.Ports.{Ports}
@@ -21,7 +24,7 @@ use Rattle.meaning.specs.Changes.{with_nodes, attribute_set, attribute_refusal}
 
 -- what a change that is not refused leaves of a node
 pub record KeepsNode (refusal : Node → Option Exc) (change : Node → Node) : Type 0 where
-  pub kind : (n : Node) → (change n).kind ≡ n.kind
+  pub kind : (n : Node) → lasting (change n).kind ≡ lasting n.kind
   pub birth : (n : Node) → (change n).attrs.birth ≡ n.attrs.birth
   pub destination : (spec : ContextSpec) (n : Node) → refusal n ≡ None → IsDestination spec n → IsDestination spec (change n)
   pub created : (n : Node) → refusal n ≡ None → IsCreated n → IsCreated (change n)
@@ -52,9 +55,9 @@ map_same f change same (suc i) (n ∷ ns) = ap (λ xs. f n ∷ xs) (map_same f c
 ports_by_kind : Kind → Ports
 ports_by_kind kind = record { inputs = inputs kind; outputs = outputs kind; is_delay = is_delay_kind kind }
 
-ports_same : (change : Node → Node) → ((n : Node) → (change n).kind ≡ n.kind) → (n : Node) → ports_of (change n) ≡ ports_of n
+ports_same : (change : Node → Node) → ((n : Node) → lasting (change n).kind ≡ lasting n.kind) → (n : Node) → ports_of (change n) ≡ ports_of n
 unfolding ports_by_kind
-ports_same change same n = ap ports_by_kind (same n)
+ports_same change same n = same_by_lasting ports_by_kind (λ curve was_set. refl) (change n).kind n.kind (same n)
 
 pub set_valid : (w : World) (node : ℕ) (refusal : Node → Option Exc) (change : Node → Node) → KeepsNode refusal change → refusal_at w.nodes node refusal ≡ None
     → IsValid w → IsValid (with_nodes w (changed_at node change w.nodes))
@@ -69,16 +72,16 @@ set_valid w node refusal change keeps fine valid = record {
   graph = valid.graph;
   ports = valid.ports ∙ sym (map_same ports_of change (ports_same change keeps.kind) node w.nodes);
   params = record {
-    each = λ i name below. subst (λ (k : Kind). IsIn (param_id i name) (param_ids w) ↔ IsSome (param_base k name)) (sym (kinds i)) (valid.params.each i name (rw same at below));
+    each = λ i name below. subst (λ base. IsIn (param_id i name) (param_ids w) ↔ IsSome base) (sym (same_by_lasting (λ k. param_base k name) (λ curve was_set. refl) _ _ (kinds i))) (valid.params.each i name (rw same at below));
     there = λ id is. rw same (valid.params.there id is);
     order = valid.params.order;
     lines = valid.params.lines;
     targets = valid.params.targets;
   };
   scheds = record {
-    each = λ i. subst (λ (k : Kind). IsIn i (play_nodes w) ↔ (i < length (changed_at node change w.nodes)) × (is_source k ≡ true)) (sym (kinds i)) (rw same (valid.scheds.each i));
+    each = λ i. subst (λ b. IsIn i (play_nodes w) ↔ (i < length (changed_at node change w.nodes)) × (b ≡ true)) (sym (same_by_lasting is_source (λ curve was_set. refl) _ _ (kinds i))) (rw same (valid.scheds.each i));
     once = valid.scheds.once;
-    kinds = λ p is. subst (λ (k : Kind). IsPlayOf w.store k p) (sym (kinds p.id.0)) (valid.scheds.kinds p is);
+    kinds = λ p is. holds_by_lasting (λ k. IsPlayOf w.store k p) (λ curve curve' was_set was_set' none. absurd none) _ _ (sym (kinds p.id.0)) (valid.scheds.kinds p is);
   };
   store = valid.store;
 }
@@ -86,8 +89,8 @@ set_valid w node refusal change keeps fine valid = record {
     same : length (changed_at node change w.nodes) ≡ length w.nodes
     same = length-changed node change w.nodes
 
-    kinds : (i : ℕ) → (slice_index_or (changed_at node change w.nodes) i no_node).kind ≡ (slice_index_or w.nodes i no_node).kind
-    kinds i = changed_same (λ (n : Node). n.kind) change keeps.kind node w.nodes i
+    kinds : (i : ℕ) → lasting (slice_index_or (changed_at node change w.nodes) i no_node).kind ≡ lasting (slice_index_or w.nodes i no_node).kind
+    kinds i = changed_same (λ (n : Node). lasting n.kind) change keeps.kind node w.nodes i
 
 -- ---- each attribute
 
@@ -122,3 +125,22 @@ pub node_keeps_attribute : (e : AttributeEdit) → KeepsNode (attribute_refusal 
 node_keeps_attribute (attribute.Count count) = node_keeps_count count
 node_keeps_attribute (attribute.Mode mode) = node_keeps_mode mode
 node_keeps_attribute (attribute.Interp interp) = node_keeps_interp interp
+
+-- ---- the curve of a shaper
+
+with_curve_lasts : (curve : Option (List ℤ)) (kind : Kind) → lasting (with_curve curve kind) ≡ lasting kind
+with_curve_lasts curve Destination = refl
+with_curve_lasts curve (Constant offset) = refl
+with_curve_lasts curve (Buffer rate) = refl
+with_curve_lasts curve (Gain gain) = refl
+with_curve_lasts curve (Splitter ports) = refl
+with_curve_lasts curve (Merger ports) = refl
+with_curve_lasts curve (Shaper old was_set) = refl
+
+pub node_keeps_curve : (curve : Option (List ℤ)) → KeepsNode (curve_refusal curve) (node_with_curve curve)
+node_keeps_curve curve = record {
+  kind = λ n. with_curve_lasts curve n.kind;
+  birth = λ n. refl;
+  destination = λ spec n fine is. record { kind = rw is.kind refl; count = is.count; mode = is.mode };
+  created = (keeps_curve curve).created;
+}

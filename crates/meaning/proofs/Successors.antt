@@ -7,8 +7,9 @@ use Rattle.std.proofs.lemmas.Nat.{le-div}
 use Rattle.std.proofs.lemmas.Bool.Decides.{nat_tests}
 use Rattle.law_base.proofs.Tests.{and_both}
 use Rattle.node_table.specs.Kinds.{is_delay_kind, remembers, lasting}
+use Rattle.node_table.proofs.Lasting.{same_by_lasting}
 use Rattle.node_table.specs.declared.kinds.Kind.{Kind}
-use Rattle.node_table.specs.declared.kinds.Kind.TheVariants.{Destination, Constant, Buffer, Gain, Splitter, Merger}
+use Rattle.node_table.specs.declared.kinds.Kind.TheVariants.{Destination, Constant, Buffer, Gain, Splitter, Merger, Shaper}
 use Rattle.node_table.specs.declared.nodes.Node.{Node}
 use Rattle.conn_graph.specs.Ends.{writer_of}
 use Rattle.meaning.specs.declared.world.World.{World}
@@ -23,10 +24,10 @@ div-le-div a b q some l = le-div (a / q) b q some (omega (arith, div-mul-le_self
 
 -- what lasts of a kind tells whether it remembers, and whether it is a delay
 pub remembers_lasts : (k k' : Kind) → lasting k ≡ lasting k' → remembers k ≡ remembers k'
-remembers_lasts k k' same = ap remembers same
+remembers_lasts = same_by_lasting remembers (λ curve was_set. refl)
 
 pub delay_lasts : (k k' : Kind) → lasting k ≡ lasting k' → is_delay_kind k ≡ is_delay_kind k'
-delay_lasts k k' same = ap is_delay_kind same
+delay_lasts = same_by_lasting is_delay_kind (λ curve was_set. refl)
 
 -- a delay remembers
 pub delay_remembers : (k : Kind) → is_delay_kind k ≡ true → remembers k ≡ true
@@ -36,6 +37,7 @@ delay_remembers (Buffer rate) is = absurd cc
 delay_remembers (Gain gain) is = absurd cc
 delay_remembers (Splitter ports) is = absurd cc
 delay_remembers (Merger ports) is = absurd cc
+delay_remembers (Shaper curve was_set) is = absurd cc
 
 below_or_past : (i n : ℕ) → (i < n) ⊎ (n ≤ i)
 below_or_past i n = grind arith

@@ -8,9 +8,9 @@ use Rattle.wa_base.specs.declared.graph_names.ParamName.TheVariants as param
 use Rattle.wa_base.specs.declared.graph_names.Rate.TheVariants.{A}
 use Rattle.law_base.specs.Members.{IsIn}
 use Rattle.node_table.specs.Kinds.{is_destination, IsInEntry}
-use Rattle.node_table.specs.Nodes.{creation_refusal, node_of, with_count, with_mode, with_interp, count_refusal, mode_refusal, interp_refusal, changed_at, refusal_at}
+use Rattle.node_table.specs.Nodes.{creation_refusal, node_of, with_count, with_mode, with_interp, count_refusal, mode_refusal, interp_refusal, node_with_curve, curve_refusal, changed_at, refusal_at}
 use Rattle.node_table.specs.declared.kinds.Kind.{Kind}
-use Rattle.node_table.specs.declared.kinds.Kind.TheVariants.{Destination, Constant, Buffer, Gain, Splitter, Merger}
+use Rattle.node_table.specs.declared.kinds.Kind.TheVariants.{Destination, Constant, Buffer, Gain, Splitter, Merger, Shaper}
 use Rattle.node_table.specs.declared.nodes.Node.{Node}
 use Rattle.conn_graph.specs.Edges.{form_node}
 use Rattle.conn_graph.specs.Graph.{Connections, with_node, connect_refusal, connected, disconnect_refusal, disconnected}
@@ -46,6 +46,7 @@ param_of (Buffer rate) = None
 param_of (Gain gain) = Some (param.Gain, gain)
 param_of (Splitter ports) = None
 param_of (Merger ports) = None
+param_of (Shaper curve was_set) = None
 
 abbrev pub new_params : ℕ → Option (ParamName × ℤ) → List Param
 new_params node None = []
@@ -92,6 +93,7 @@ edited w now (edit.Disconnect from form) = with_graph w (disconnected w.graph.va
 edited w now (edit.Source node e) = source_edited w now node.0 e
 edited w now (edit.Param id e) = automated w now id e
 edited w now (edit.Attribute node e) = with_nodes w (changed_at node.0 (attribute_set e) w.nodes)
+edited w now (edit.SetCurve node curve) = with_nodes w (changed_at node.0 (node_with_curve curve) w.nodes)
 edited w now (edit.Buffers e) = with_store w (buffers_edited w.store e)
 
 -- whether an edit creates a node or a buffer
@@ -103,6 +105,7 @@ creates (edit.Disconnect from form) = false
 creates (edit.Source node e) = false
 creates (edit.Param id e) = false
 creates (edit.Attribute node e) = false
+creates (edit.SetCurve node curve) = false
 creates (edit.Buffers e) = makes_buffer e
 
 abbrev pub changed : World → Change → World
@@ -129,6 +132,7 @@ refusal w now (edit.Disconnect from form) = output_refusal from.0 (disconnect_re
 refusal w now (edit.Source node e) = source_refusal w e (find_play w.scheds.items node.0)
 refusal w now (edit.Param id e) = automation_refusal w now id e
 refusal w now (edit.Attribute node e) = refusal_at w.nodes node.0 (attribute_refusal e)
+refusal w now (edit.SetCurve node curve) = refusal_at w.nodes node.0 (curve_refusal curve)
 refusal w now (edit.Buffers e) = buffers_refusal w.store e
 
 -- ---- what a world accepts
@@ -147,6 +151,7 @@ IsNamed w (edit.Disconnect from form) = (from.0 < length w.nodes) × IfSome (for
 IsNamed w (edit.Source node e) = IsNamedBy w.store e
 IsNamed w (edit.Param id e) = IsIn id (param_ids w)
 IsNamed w (edit.Attribute node e) = node.0 < length w.nodes
+IsNamed w (edit.SetCurve node curve) = node.0 < length w.nodes
 IsNamed w (edit.Buffers e) = IsEditOf w.store e
 
 -- A world accepts a change that names what is there and is not refused.

@@ -1,13 +1,16 @@
 -- What is said of the definitions. Each law holds for every size of a quantum from 1 to 1,024 frames.
-use Rattle.std.specs.Prelude.{ℕ, suc, ◌+◌, ◌*◌, ◌/◌, ◌≡◌, ◌<◌, ◌≤◌, length, List, [], ◌∷◌, ◌++◌, All}
+use Rattle.std.specs.Prelude.{ℕ, suc, ◌+◌, ◌*◌, ◌/◌, ◌≡◌, ◌<◌, ◌≤◌, length, List, [], ◌∷◌, ◌++◌, All, Some}
 use Rattle.wa_base.specs.Numbers.{IsFix}
 use Rattle.wa_base.specs.declared.graph_names.End.{End}
 use Rattle.wa_base.specs.declared.graph_names.ParamId.{ParamId}
 use Rattle.law_base.specs.Members.{IsIn}
 use Rattle.buffer_store.specs.declared.buffers.Buffer.{Buffer}
+use Rattle.node_table.specs.declared.kinds.Kind.{Kind}
+use Rattle.node_table.specs.declared.kinds.Kind.TheVariants.{Shaper}
 use Rattle.conn_graph.specs.Ends.{ends, height}
 use Rattle.conn_graph.specs.Orders.{IsLegalOrder}
 use Rattle.meaning.specs.declared.world.World.{World}
+use Rattle.meaning.specs.World.{kind_of}
 use Rattle.meaning.specs.Validity.{IsValid}
 use Rattle.meaning.specs.Counts.{world_in, count_rule, count_at, count, counts_before}
 use Rattle.meaning.specs.Values.{silence, equation, world_at, value_at, value, frame, frames_before, frame_at, param_value}
@@ -40,11 +43,17 @@ FixpointLaw = (q : ℕ) → 0 < q → q ≤ 1024 → (tape : List World) → All
     (equation q f (frames_before q tape f) (frame q tape f) e ≡ value q tape f e)
     × (count_rule q (world_at q tape f) (f / q) (counts_before q tape (f / q)) (count q tape (f / q)) e ≡ count q tape (f / q) e)
 
--- the samples of its buffers are Fixes
-abbrev pub HasFixes : World → Type 0
-HasFixes w = All (λ (b : Buffer). All IsFix b.samples) w.store
+-- the points of the curve that a node has, if it has one, are Fixes
+abbrev pub HasFixPoints : Kind → Type 0
+HasFixPoints (Shaper (Some curve) was_set) = All IsFix curve
+HasFixPoints other = Unit {0}
 
--- Every value is a Fix, where the samples of the buffers are.
+-- the samples of its buffers are Fixes, and the points of its curves
+pub record HasFixes (w : World) : Type 0 where
+  pub samples : All (λ (b : Buffer). All IsFix b.samples) w.store
+  pub points : (i : ℕ) → HasFixPoints (kind_of w i)
+
+-- Every value is a Fix, where the samples of the buffers and the points of the curves are.
 abbrev pub RangeLaw : Type 0
 RangeLaw = (q : ℕ) (tape : List World) → All HasFixes tape → (f : ℕ) (e : End) (o c : ℕ) → IsFix (value q tape f e o c)
 

@@ -1,5 +1,5 @@
 -- What each end carries at each frame.
-use Rattle.std.specs.Prelude.{ℕ, ℤ, pos, ◌+ℤ◌, ◌*◌, ◌/◌, List, map, Bool, nat_lt, ◌==◌, ◌&&◌, if◌then◌else◌}
+use Rattle.std.specs.Prelude.{ℕ, ℤ, pos, ◌+ℤ◌, ◌*◌, ◌/◌, List, [], ◌∷◌, map, Bool, nat_lt, ◌==◌, ◌&&◌, if◌then◌else◌}
 use Rattle.wa_base.specs.Numbers.{scale}
 use Rattle.wa_base.specs.declared.graph_names.End.{End}
 use Rattle.wa_base.specs.declared.graph_names.Interp.{Interp}
@@ -7,10 +7,11 @@ use Rattle.wa_base.specs.declared.graph_names.Interp.TheVariants.{Speakers}
 use Rattle.wa_base.specs.declared.graph_names.ParamId.{ParamId}
 use Rattle.wa_base.specs.declared.graph_names.ParamName.TheVariants as param
 use Rattle.law_base.specs.Heights.{Scheme, at_moment}
+use Rattle.causal_core.specs.Curves.{shaper_value}
 use Rattle.channel_mix.specs.Mixing.{mix, fan_in}
 use Rattle.node_table.specs.Kinds.{outputs}
 use Rattle.node_table.specs.declared.kinds.Kind.{Kind}
-use Rattle.node_table.specs.declared.kinds.Kind.TheVariants.{Destination, Constant, Buffer, Gain, Splitter, Merger}
+use Rattle.node_table.specs.declared.kinds.Kind.TheVariants.{Destination, Constant, Buffer, Gain, Splitter, Merger, Shaper}
 use Rattle.conn_graph.specs.declared.edges.Edge.{Edge}
 use Rattle.conn_graph.specs.Graph.{edges_to_input, edges_to_param}
 use Rattle.conn_graph.specs.Ends.{reader_of, height, muted}
@@ -75,6 +76,8 @@ value_by_kind q f past here (Gain gain) e o c =
 -- an output of a splitter is a channel of its input, and a channel of a merger is one of its inputs, mixed to one channel
 value_by_kind q f past here (Splitter outputs) e o c = input_value here e.node.0 0 o
 value_by_kind q f past here (Merger inputs) e o c = input_value here e.node.0 c 0
+-- a shaper hears its input, of which the newest frame alone counts
+value_by_kind q f past here (Shaper curve was_set) e o c = shaper_value curve (input_value here e.node.0 0 c ∷ [])
 
 -- whether an end has channel c of output o
 abbrev pub has_channel : World → Counts → End → ℕ → ℕ → Bool

@@ -1,6 +1,6 @@
 ghost use Rattle.std.specs.Prelude.{◌≡◌, ◌<◌, ◌≤◌, ◌^◌, length, None, IfSome, IsOk, OnOk, OnErr};
 ghost use Rattle.std.specs.Result.{result_err};
-ghost use Rattle.node_table.specs.Nodes.{changed_at, refusal_at};
+ghost use Rattle.node_table.specs.Nodes.{changed_at, refusal_at, curve_refusal, node_with_curve};
 ghost use Rattle.conn_graph.specs.Edges.{form_node};
 ghost use Rattle.conn_graph.specs.Graph.{connect_refusal, connected, disconnect_refusal, disconnected};
 ghost use Rattle.meaning.specs.Changes as changes;
@@ -14,7 +14,7 @@ use crate::world::World;
 use conn_graph::{Edge, Form};
 use node_table::Kind;
 use sched_source::Loop;
-use wa_base::{BufId, Exc, Feature, Interp, Mode, NoMemory, NodeId, ParamId};
+use wa_base::{BufId, Exc, Feature, Interp, Mode, NoMemory, NodeId, ParamId, Samples};
 
 /// What a control call edits in a world. It names nodes by their numbers.
 #[derive(Debug, Drop)]
@@ -53,6 +53,11 @@ pub enum Edit {
     Attribute {
         node: NodeId,
         edit: AttributeEdit,
+    },
+    /// Another curve is put into force in a shaper, or none (WaveShaperNode.curve), in units of 2^-24.
+    SetCurve {
+        node: NodeId,
+        curve: Option<Samples>,
     },
     /// The buffers are edited.
     Buffers {
@@ -97,6 +102,7 @@ impl World {
             Edit::Source { node, edit } => self.source_refusal(*node, *edit),
             Edit::Param { id, edit } => self.automation_refusal(now, *id, edit),
             Edit::Attribute { node, edit } => self.attribute_refusal(*node, *edit),
+            Edit::SetCurve { node, curve } => self.nodes.curve_refusal(*node, curve),
             Edit::Buffers { edit } => self.buffers_refusal(edit),
         }
     }
@@ -159,6 +165,7 @@ impl World {
             }
             Edit::Param { id, edit } => self.edit_param(now, *id, edit),
             Edit::Attribute { node, edit } => done(self.set_attribute(*node, *edit)),
+            Edit::SetCurve { node, curve } => self.set_curve(*node, curve),
             Edit::Buffers { edit } => self.edit_buffers(edit),
         }
     }
@@ -239,6 +246,19 @@ impl World {
             AttributeEdit::Mode(mode) => self.nodes.set_mode(node, mode),
             AttributeEdit::Interp(interp) => self.nodes.set_interp(node, interp),
         }
+    }
+
+    fn set_curve(&mut self, node: NodeId, curve: &Option<Samples>) -> Result<(), NoMemory>
+        requires node { node.0 < length self.old.nodes }
+        requires accepted { refusal_at self.old.nodes node.0 (curve_refusal curve.now) ≡ None }
+        ensures ok { OnOk result (plain self.new ≡ changes.with_nodes (plain self.old) (changed_at node.0 (node_with_curve curve.now) self.old.nodes)) }
+        ensures err { OnErr result (plain self.new ≡ plain self.old) }
+    {
+        let copy = match curve {
+            Some(points) => Some(points.copy()?),
+            None => None,
+        };
+        done(self.nodes.set_curve(node, copy))
     }
 }
 

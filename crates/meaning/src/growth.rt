@@ -87,8 +87,11 @@ fn param_of(kind: &Kind) -> Option<(ParamName, Fix)>
     ensures { result ≡ changes.param_of kind.now }
 {
     match kind {
-        Kind::Destination | Kind::Buffer { .. } | Kind::Splitter { .. } | Kind::Merger { .. } =>
-            None,
+        Kind::Destination
+        | Kind::Buffer { .. }
+        | Kind::Splitter { .. }
+        | Kind::Merger { .. }
+        | Kind::Shaper { .. } => None,
         Kind::Constant { offset } => Some((ParamName::Offset, *offset)),
         Kind::Gain { gain } => Some((ParamName::Gain, *gain)),
     }
@@ -102,7 +105,11 @@ fn first_sched(kind: &Kind) -> Option<Sched>
     match kind {
         Kind::Constant { .. } => Some(Sched::constant()),
         Kind::Buffer { rate } => Some(Sched::buffer(*rate, NO_LOOP)),
-        Kind::Destination | Kind::Gain { .. } | Kind::Splitter { .. } | Kind::Merger { .. } => None,
+        Kind::Destination
+        | Kind::Gain { .. }
+        | Kind::Splitter { .. }
+        | Kind::Merger { .. }
+        | Kind::Shaper { .. } => None,
     }
 }
 

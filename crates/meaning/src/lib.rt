@@ -41,7 +41,8 @@ pub fn fixpoint_law()
     ensures { FixpointLaw }
 {}
 
-/// Every value is a Fix, from -2^31 to 2^31 - 1, where the samples of the buffers are.
+/// Every value is a Fix, from -2^31 to 2^31 - 1, where the samples of the buffers and the points of the
+/// curves are.
 pub fn range_law()
     ensures { RangeLaw }
 {}

@@ -1,3 +1,5 @@
+pub mod Lasting
 pub mod NodeLists
 pub mod Rows
 pub mod Setting
+pub mod Shaping

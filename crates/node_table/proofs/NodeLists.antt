@@ -1,15 +1,16 @@
 -- What holds of every list of nodes.
-use Rattle.std.proofs.Common.{◌≡◌, ◌<◌, ◌≤◌, ◌++◌, ◌∷◌, [], ℕ, Bool, true, false, Option, Some, None, List, length, refl, arith}
+use Rattle.std.proofs.Common.{◌≡◌, ◌<◌, ◌≤◌, ◌++◌, ◌∷◌, [], ℕ, ℤ, Bool, true, false, Option, Some, None, List, length, refl, arith}
 use Rattle.std.specs.Prelude.{if◌then◌else◌, ◌&&◌, nat_le, nat_lt}
 use Rattle.std.specs.Option.{option_or}
 use Rattle.std.proofs.lemmas.Bool.Decides.{nat_tests}
 use Rattle.std.proofs.lemmas.List.{length-append}
 use Rattle.std.proofs.lemmas.List.Elements.{All-append, All-cons, All-nil}
 use Rattle.wa_base.specs.declared.exceptions.Exc.{Exc}
-use Rattle.wa_base.specs.declared.exceptions.Exc.TheVariants.{NotSupported, IndexSize}
+use Rattle.wa_base.specs.declared.exceptions.Exc.TheVariants.{NotSupported, IndexSize, InvalidState}
 use Rattle.wa_base.specs.declared.features.Feature.TheVariants.{NodeLimit, PlaybackRate}
+use Rattle.causal_core.specs.Curves.{IsCurve, curve_refusal}
 use Rattle.node_table.specs.declared.kinds.Kind.{Kind}
-use Rattle.node_table.specs.declared.kinds.Kind.TheVariants.{Destination, Constant, Buffer, Gain, Splitter, Merger}
+use Rattle.node_table.specs.declared.kinds.Kind.TheVariants.{Destination, Constant, Buffer, Gain, Splitter, Merger, Shaper}
 use Rattle.node_table.specs.declared.nodes.Node.{Node}
 use Rattle.node_table.specs.Kinds.{is_destination, port_refusal, rate_refusal, range_refusal, IsInEntry, IsInLimits}
 use Rattle.node_table.specs.Nodes.{creation_refusal, AreNodes, IsCreated, KeepsFixed, first_attrs, node_of}
@@ -25,6 +26,7 @@ count_low (Buffer rate) birth has = omega arith
 count_low (Gain gain) birth has = omega arith
 count_low (Splitter ports) birth has = has.0
 count_low (Merger ports) birth has = omega arith
+count_low (Shaper curve was_set) birth has = omega arith
 
 count_high : (kind : Kind) (birth : ℕ) → IsInLimits kind → (first_attrs kind birth).count ≤ 32
 count_high Destination birth has = omega arith
@@ -33,6 +35,7 @@ count_high (Buffer rate) birth has = omega arith
 count_high (Gain gain) birth has = omega arith
 count_high (Splitter ports) birth has = has.1
 count_high (Merger ports) birth has = omega arith
+count_high (Shaper curve was_set) birth has = omega arith
 
 pub created_node : (kind : Kind) (birth : ℕ) → is_destination kind ≡ false → IsInEntry kind → IsInLimits kind → IsCreated (node_of kind birth)
 created_node kind birth other entry has =
@@ -52,6 +55,14 @@ rate_allowed rate fine = by_low (nat_le 1 rate) refl fine
     by_low true is h = grind (arith, nat_tests)
     by_low false is h = absurd cc
 
+pub curve_allowed : (curve : Option (List ℤ)) (was_set : Bool) → curve_refusal curve was_set ≡ None → IsCurve curve
+curve_allowed None was_set fine = tt
+curve_allowed (Some points) was_set fine = by_points (nat_lt (length points) 2) was_set refl fine
+  where
+    by_points : (short set : Bool) → nat_lt (length points) 2 ≡ short → (if short then Some InvalidState else if set then Some InvalidState else None) ≡ None → 2 ≤ length points
+    by_points true set is h = absurd cc
+    by_points false set is h = grind (arith, nat_tests)
+
 in_limits : (kind : Kind) → range_refusal kind ≡ None → IsInLimits kind
 in_limits Destination fine = tt
 in_limits (Constant offset) fine = tt
@@ -59,6 +70,7 @@ in_limits (Buffer rate) fine = rate_allowed rate fine
 in_limits (Gain gain) fine = tt
 in_limits (Splitter ports) fine = ports_allowed ports fine
 in_limits (Merger ports) fine = ports_allowed ports fine
+in_limits (Shaper curve was_set) fine = curve_allowed curve false fine
 
 -- neither of two causes
 first_none : (a b : Option Exc) → option_or a b ≡ None → a ≡ None

@@ -1,31 +1,32 @@
 -- What nodes of each kind have, and what they are created with, as the definitions compute it.
-use Rattle.std.proofs.Common.{pos, ◌≡◌, List, [], ◌∷◌, None, Some, map, true, false, refl}
+use Rattle.std.specs.Prelude.{neg_ℤ, is_some}
+use Rattle.std.proofs.Common.{ℤ, pos, ◌≡◌, List, [], ◌∷◌, None, Some, map, true, false, refl}
 use Rattle.wa_base.specs.declared.contexts.ContextSpec.{ContextSpec}
-use Rattle.wa_base.specs.declared.exceptions.Exc.TheVariants.{NotSupported, InvalidState, IndexSize}
+use Rattle.wa_base.specs.declared.exceptions.Exc.TheVariants.{NotSupported, InvalidState, IndexSize, WrongType}
 use Rattle.wa_base.specs.declared.features.Feature.TheVariants.{PlaybackRate}
 use Rattle.wa_base.specs.declared.graph_names.Interp.TheVariants.{Speakers, Discrete}
 use Rattle.wa_base.specs.declared.graph_names.Mode.TheVariants.{Max, Explicit}
 use Rattle.wa_base.specs.declared.graph_names.ParamName.{ParamName}
 use Rattle.wa_base.specs.declared.graph_names.ParamName.TheVariants as param
 use Rattle.node_table.specs.declared.kinds.Kind.{Kind}
-use Rattle.node_table.specs.declared.kinds.Kind.TheVariants.{Destination, Constant, Buffer, Gain, Splitter, Merger}
-use Rattle.node_table.specs.Kinds.{is_destination, fixed_count, fixed_mode, fixed_interp, inputs, outputs, is_delay_kind, param_base}
+use Rattle.node_table.specs.declared.kinds.Kind.TheVariants.{Destination, Constant, Buffer, Gain, Splitter, Merger, Shaper}
+use Rattle.node_table.specs.Kinds.{is_destination, fixed_count, fixed_mode, fixed_interp, inputs, outputs, is_delay_kind, param_base, lasting, with_curve, set_curve_refusal}
 use Rattle.node_table.specs.Nodes.{destination_of, node_of, creation_refusal, count_refusal, kind_at, attrs_at}
 
 abbrev kinds : List Kind
-kinds = Destination ∷ Constant (pos 5) ∷ Buffer 2 ∷ Gain (pos 7) ∷ Splitter 3 ∷ Merger 4 ∷ []
+kinds = Destination ∷ Constant (pos 5) ∷ Buffer 2 ∷ Gain (pos 7) ∷ Splitter 3 ∷ Merger 4 ∷ Shaper None false ∷ []
 
 -- the ports of each kind
-inputs-kinds : map inputs kinds ≡ 1 ∷ 0 ∷ 0 ∷ 1 ∷ 1 ∷ 4 ∷ []
+inputs-kinds : map inputs kinds ≡ 1 ∷ 0 ∷ 0 ∷ 1 ∷ 1 ∷ 4 ∷ 1 ∷ []
 inputs-kinds = refl
 
-outputs-kinds : map outputs kinds ≡ 1 ∷ 1 ∷ 1 ∷ 1 ∷ 3 ∷ 1 ∷ []
+outputs-kinds : map outputs kinds ≡ 1 ∷ 1 ∷ 1 ∷ 1 ∷ 3 ∷ 1 ∷ 1 ∷ []
 outputs-kinds = refl
 
-is_destination-kinds : map is_destination kinds ≡ true ∷ false ∷ false ∷ false ∷ false ∷ false ∷ []
+is_destination-kinds : map is_destination kinds ≡ true ∷ false ∷ false ∷ false ∷ false ∷ false ∷ false ∷ []
 is_destination-kinds = refl
 
-is_delay_kind-kinds : map is_delay_kind kinds ≡ false ∷ false ∷ false ∷ false ∷ false ∷ false ∷ []
+is_delay_kind-kinds : map is_delay_kind kinds ≡ false ∷ false ∷ false ∷ false ∷ false ∷ false ∷ false ∷ []
 is_delay_kind-kinds = refl
 
 -- the parameters of each kind, with the values that they are created with
@@ -56,21 +57,21 @@ attrs-created : map (attrs_at (destination_of context ∷ node_of (Gain (pos 7))
 attrs-created = refl
 
 -- a source and a gain may get another count and another mode; of the destination, a splitter and a merger both are fixed, and of a splitter the interpretation too
-fixed : map fixed_count kinds ≡ true ∷ false ∷ false ∷ false ∷ true ∷ true ∷ []
+fixed : map fixed_count kinds ≡ true ∷ false ∷ false ∷ false ∷ true ∷ true ∷ false ∷ []
 fixed = refl
 
-fixed_modes : map fixed_mode kinds ≡ true ∷ false ∷ false ∷ false ∷ true ∷ true ∷ []
+fixed_modes : map fixed_mode kinds ≡ true ∷ false ∷ false ∷ false ∷ true ∷ true ∷ false ∷ []
 fixed_modes = refl
 
-fixed_interps : map fixed_interp kinds ≡ false ∷ false ∷ false ∷ false ∷ true ∷ false ∷ []
+fixed_interps : map fixed_interp kinds ≡ false ∷ false ∷ false ∷ false ∷ true ∷ false ∷ false ∷ []
 fixed_interps = refl
 
 kind-created : map (kind_at (destination_of context ∷ node_of (Gain (pos 7)) 1280 ∷ [])) (1 ∷ 2 ∷ []) ≡ Some (Gain (pos 7)) ∷ None ∷ []
 kind-created = refl
 
--- a splitter of three outputs and a merger of four inputs at their creation
-attrs-ports : map (λ kind. (node_of kind 0).attrs) (Splitter 3 ∷ Merger 4 ∷ [])
-    ≡ record { count = 3; mode = Explicit; interp = Discrete; birth = 0 } ∷ record { count = 1; mode = Explicit; interp = Speakers; birth = 0 } ∷ []
+-- a splitter of three outputs, a merger of four inputs and a shaper at their creation
+attrs-ports : map (λ kind. (node_of kind 0).attrs) (Splitter 3 ∷ Merger 4 ∷ Shaper None false ∷ [])
+    ≡ record { count = 3; mode = Explicit; interp = Discrete; birth = 0 } ∷ record { count = 1; mode = Explicit; interp = Speakers; birth = 0 } ∷ record { count = 2; mode = Max; interp = Speakers; birth = 0 } ∷ []
 attrs-ports = refl
 
 -- 0 and 33 ports are refused, before there is too little room
@@ -89,3 +90,29 @@ param_base-buffer = refl
 -- of a splitter with three outputs the count 3 may be set, and no other; 0 and 33 are no counts at all
 refused-counts : map (λ count. count_refusal count (node_of (Splitter 3) 0)) (3 ∷ 2 ∷ 0 ∷ 33 ∷ []) ≡ None ∷ Some InvalidState ∷ Some (NotSupported None) ∷ Some (NotSupported None) ∷ []
 refused-counts = refl
+
+-- ---- shapers
+
+abbrev line : List ℤ
+line = neg_ℤ (pos 8388608) ∷ pos 0 ∷ pos 8388608 ∷ []
+
+-- a curve of one point is refused at the creation; none, and one of two points, are not
+refused-curves : map (λ curve. creation_refusal (destination_of context ∷ []) (Shaper curve (is_some curve))) (Some (pos 5 ∷ []) ∷ Some [] ∷ None ∷ Some (pos 5 ∷ pos 7 ∷ []) ∷ [])
+    ≡ Some InvalidState ∷ Some InvalidState ∷ None ∷ None ∷ []
+refused-curves = refl
+
+-- A second curve is refused, also after the first was taken away. None never is.
+refused-second : map (λ kind. set_curve_refusal (Some line) kind) (Shaper None false ∷ Shaper (Some line) true ∷ Shaper None true ∷ Gain (pos 7) ∷ [])
+    ≡ None ∷ Some InvalidState ∷ Some InvalidState ∷ Some WrongType ∷ []
+refused-second = refl
+
+refused-none : map (λ kind. set_curve_refusal None kind) (Shaper None false ∷ Shaper (Some line) true ∷ Shaper None true ∷ Destination ∷ []) ≡ None ∷ None ∷ None ∷ Some WrongType ∷ []
+refused-none = refl
+
+-- that a curve was set is remembered
+curve-taken : with_curve None (with_curve (Some line) (Shaper None false)) ≡ Shaper None true
+curve-taken = refl
+
+-- a shaper lasts, whatever its curve
+lasting-shaper : lasting (Shaper (Some line) true) ≡ lasting (Shaper None false)
+lasting-shaper = refl

@@ -1,8 +1,8 @@
 -- What the kinds of nodes have.
-use Rattle.std.specs.Prelude.{ℕ, ℤ, ◌≤◌, ◌&&◌, nat_le, Bool, true, false, if◌then◌else◌, Option, Some, None}
+use Rattle.std.specs.Prelude.{ℕ, ℤ, ◌≤◌, ◌&&◌, ◌||◌, nat_le, List, Bool, true, false, if◌then◌else◌, Option, Some, None, is_some}
 use Rattle.wa_base.specs.Numbers.{IsFix}
 use Rattle.wa_base.specs.declared.exceptions.Exc.{Exc}
-use Rattle.wa_base.specs.declared.exceptions.Exc.TheVariants.{IndexSize, NotSupported}
+use Rattle.wa_base.specs.declared.exceptions.Exc.TheVariants.{IndexSize, NotSupported, WrongType}
 use Rattle.wa_base.specs.declared.features.Feature.TheVariants.{PlaybackRate}
 use Rattle.wa_base.specs.declared.graph_names.Interp.{Interp}
 use Rattle.wa_base.specs.declared.graph_names.Interp.TheVariants.{Speakers, Discrete}
@@ -11,7 +11,9 @@ use Rattle.wa_base.specs.declared.graph_names.Mode.TheVariants.{Max, ClampedMax,
 use Rattle.wa_base.specs.declared.graph_names.ParamName.{ParamName}
 use Rattle.wa_base.specs.declared.graph_names.ParamName.TheVariants as param
 use Rattle.node_table.specs.declared.kinds.Kind.{Kind}
-use Rattle.node_table.specs.declared.kinds.Kind.TheVariants.{Destination, Constant, Buffer, Gain, Splitter, Merger}
+use Rattle.causal_core.specs.Curves as curves
+use Rattle.causal_core.specs.Curves.{IsCurve}
+use Rattle.node_table.specs.declared.kinds.Kind.TheVariants.{Destination, Constant, Buffer, Gain, Splitter, Merger, Shaper}
 
 abbrev pub is_destination : Kind → Bool
 is_destination Destination = true
@@ -20,6 +22,7 @@ is_destination (Buffer rate) = false
 is_destination (Gain gain) = false
 is_destination (Splitter ports) = false
 is_destination (Merger ports) = false
+is_destination (Shaper curve was_set) = false
 
 -- the number of inputs: a source has none
 abbrev pub inputs : Kind → ℕ
@@ -29,6 +32,7 @@ inputs (Buffer rate) = 0
 inputs (Gain gain) = 1
 inputs (Splitter ports) = 1
 inputs (Merger ports) = ports
+inputs (Shaper curve was_set) = 1
 
 -- the number of outputs
 abbrev pub outputs : Kind → ℕ
@@ -38,6 +42,7 @@ outputs (Buffer rate) = 1
 outputs (Gain gain) = 1
 outputs (Splitter ports) = ports
 outputs (Merger ports) = 1
+outputs (Shaper curve was_set) = 1
 
 -- whether each output has one channel, whatever comes in
 abbrev pub is_mono : Kind → Bool
@@ -47,6 +52,7 @@ is_mono (Buffer rate) = false
 is_mono (Gain gain) = false
 is_mono (Splitter ports) = true
 is_mono (Merger ports) = false
+is_mono (Shaper curve was_set) = false
 
 -- ---- how the channels of its inputs are mixed
 
@@ -58,6 +64,7 @@ first_count (Buffer rate) = 2
 first_count (Gain gain) = 2
 first_count (Splitter ports) = ports
 first_count (Merger ports) = 1
+first_count (Shaper curve was_set) = 2
 
 -- its channelCountMode
 abbrev pub first_mode : Kind → Mode
@@ -67,6 +74,7 @@ first_mode (Buffer rate) = Max
 first_mode (Gain gain) = Max
 first_mode (Splitter ports) = Explicit
 first_mode (Merger ports) = Explicit
+first_mode (Shaper curve was_set) = Max
 
 -- its channelInterpretation
 abbrev pub first_interp : Kind → Interp
@@ -76,6 +84,7 @@ first_interp (Buffer rate) = Speakers
 first_interp (Gain gain) = Speakers
 first_interp (Splitter ports) = Discrete
 first_interp (Merger ports) = Speakers
+first_interp (Shaper curve was_set) = Speakers
 
 abbrev pub same_mode : Mode → Mode → Bool
 same_mode Max Max = true
@@ -96,6 +105,7 @@ fixed_count (Buffer rate) = false
 fixed_count (Gain gain) = false
 fixed_count (Splitter ports) = true
 fixed_count (Merger ports) = true
+fixed_count (Shaper curve was_set) = false
 
 -- whether its channelCountMode does
 abbrev pub fixed_mode : Kind → Bool
@@ -105,6 +115,7 @@ fixed_mode (Buffer rate) = false
 fixed_mode (Gain gain) = false
 fixed_mode (Splitter ports) = true
 fixed_mode (Merger ports) = true
+fixed_mode (Shaper curve was_set) = false
 
 -- whether its channelInterpretation does
 abbrev pub fixed_interp : Kind → Bool
@@ -114,6 +125,7 @@ fixed_interp (Buffer rate) = false
 fixed_interp (Gain gain) = false
 fixed_interp (Splitter ports) = true
 fixed_interp (Merger ports) = false
+fixed_interp (Shaper curve was_set) = false
 
 -- ---- what it renders
 
@@ -124,9 +136,11 @@ is_delay_kind (Buffer rate) = false
 is_delay_kind (Gain gain) = false
 is_delay_kind (Splitter ports) = false
 is_delay_kind (Merger ports) = false
+is_delay_kind (Shaper curve was_set) = false
 
--- what of a kind stays as long as its node is there
+-- what of a kind stays as long as its node is there: all but the curve of a shaper
 abbrev pub lasting : Kind → Kind
+lasting (Shaper curve was_set) = Shaper None false
 lasting kind = kind
 
 -- whether what the input of a node took in matters to later quanta
@@ -137,6 +151,7 @@ remembers (Buffer rate) = false
 remembers (Gain gain) = false
 remembers (Splitter ports) = false
 remembers (Merger ports) = false
+remembers (Shaper curve was_set) = false
 
 -- the value with which a parameter was created, where the kind has it
 abbrev pub param_base : Kind → ParamName → Option ℤ
@@ -152,6 +167,7 @@ IsInEntry (Buffer rate) = Unit {0}
 IsInEntry (Gain gain) = IsFix gain
 IsInEntry (Splitter ports) = Unit {0}
 IsInEntry (Merger ports) = Unit {0}
+IsInEntry (Shaper curve was_set) = Unit {0}
 
 -- ---- in which limits it is created
 
@@ -171,6 +187,7 @@ range_refusal (Buffer rate) = rate_refusal rate
 range_refusal (Gain gain) = None
 range_refusal (Splitter ports) = port_refusal ports
 range_refusal (Merger ports) = port_refusal ports
+range_refusal (Shaper curve was_set) = curves.curve_refusal curve false
 
 -- what a node was created with is not refused
 abbrev pub IsInLimits : Kind → Type 0
@@ -180,3 +197,16 @@ IsInLimits (Buffer rate) = 1 ≤ rate
 IsInLimits (Gain gain) = Unit {0}
 IsInLimits (Splitter ports) = (1 ≤ ports) × (ports ≤ 32)
 IsInLimits (Merger ports) = (1 ≤ ports) × (ports ≤ 32)
+IsInLimits (Shaper curve was_set) = IsCurve curve
+
+-- ---- the curve of a shaper
+
+-- a kind with another curve, or with none; that it had one is remembered
+abbrev pub with_curve : Option (List ℤ) → Kind → Kind
+with_curve curve (Shaper old was_set) = Shaper curve (was_set || is_some curve)
+with_curve curve kind = kind
+
+-- why a kind refuses a curve, or none: it is no shaper, or the curve is refused where one was set before or not
+abbrev pub set_curve_refusal : Option (List ℤ) → Kind → Option Exc
+set_curve_refusal curve (Shaper old was_set) = curves.curve_refusal curve was_set
+set_curve_refusal curve kind = Some WrongType

@@ -1,5 +1,5 @@
 -- The nodes of a graph, in order of creation.
-use Rattle.std.specs.Prelude.{ℕ, zero, suc, ◌≡◌, ◌≤◌, ◌==◌, ◌&&◌, not, nat_le, List, [], ◌∷◌, length, drop, slice_get, nat_lt, All, Bool, true, false, if◌then◌else◌, Option, Some, None, IfSome, option_map, option_and_then}
+use Rattle.std.specs.Prelude.{ℕ, ℤ, zero, suc, ◌≡◌, ◌≤◌, ◌==◌, ◌&&◌, not, nat_le, List, [], ◌∷◌, length, drop, slice_get, nat_lt, All, Bool, true, false, if◌then◌else◌, Option, Some, None, IfSome, option_map, option_and_then}
 use Rattle.std.specs.Option.{option_or}
 use Rattle.wa_base.specs.declared.contexts.ContextSpec.{ContextSpec}
 use Rattle.wa_base.specs.declared.exceptions.Exc.{Exc}
@@ -13,7 +13,7 @@ use Rattle.node_table.specs.declared.kinds.Kind.{Kind}
 use Rattle.node_table.specs.declared.kinds.Kind.TheVariants.{Destination}
 use Rattle.node_table.specs.declared.nodes.Attrs.{Attrs}
 use Rattle.node_table.specs.declared.nodes.Node.{Node}
-use Rattle.node_table.specs.Kinds.{is_destination, first_count, first_mode, first_interp, fixed_count, fixed_mode, fixed_interp, same_mode, same_interp, IsInEntry, range_refusal, IsInLimits}
+use Rattle.node_table.specs.Kinds.{is_destination, first_count, first_mode, first_interp, fixed_count, fixed_mode, fixed_interp, same_mode, same_interp, IsInEntry, range_refusal, IsInLimits, with_curve, set_curve_refusal}
 
 -- the destination of a context
 abbrev pub destination_of : ContextSpec → Node
@@ -69,6 +69,13 @@ mode_refusal mode node = fixed_refusal (fixed_mode node.kind) (same_mode node.at
 
 abbrev pub interp_refusal : Interp → Node → Option Exc
 interp_refusal interp node = fixed_refusal (fixed_interp node.kind) (same_interp node.attrs.interp interp)
+
+-- a shaper with another curve, and why it is refused
+abbrev pub node_with_curve : Option (List ℤ) → Node → Node
+node_with_curve curve node = record node { kind = with_curve curve node.kind }
+
+abbrev pub curve_refusal : Option (List ℤ) → Node → Option Exc
+curve_refusal curve node = set_curve_refusal curve node.kind
 
 -- the list with one node changed, which is there
 abbrev pub changed_at : ℕ → (Node → Node) → List Node → List Node

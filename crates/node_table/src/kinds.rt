@@ -1,10 +1,11 @@
-ghost use Rattle.std.specs.Prelude.{◌≡◌, IfOk};
+ghost use Rattle.std.specs.Prelude.{◌≡◌, IfOk, option_copied};
 ghost use Rattle.node_table.specs.Kinds as spec;
 
-use wa_base::{Exc, Feature, Fix, NoMemory, ParamName};
+use causal_core::curve_refusal;
+use wa_base::{Exc, Feature, Fix, NoMemory, ParamName, Samples};
 
 /// What a node is, with what it was created with.
-#[derive(Debug, Drop, PartialEq)]
+#[derive(Debug, Drop)]
 pub enum Kind {
     /// The node whose input the context renders (AudioDestinationNode).
     Destination,
@@ -34,6 +35,14 @@ pub enum Kind {
         /// The number of inputs (numberOfInputs), from 1 to 32 once the node is there.
         inputs: u32,
     },
+    /// A node that shapes its input by a curve (WaveShaperNode).
+    Shaper {
+        /// The curve in force (the attribute `curve`), in units of 2^-24. It has at least two points
+        /// once the node is there. Without one the input passes through.
+        curve: Option<Samples>,
+        /// Whether a curve was set before. It stays so where the curve is taken away.
+        was_set: bool,
+    },
 }
 
 const MAX_PORTS: u32 = 32;
@@ -44,7 +53,8 @@ impl Kind {
         ensures { result ≡ spec.inputs self.now }
     {
         match self {
-            Kind::Destination | Kind::Gain { .. } | Kind::Splitter { .. } => 1,
+            Kind::Destination | Kind::Gain { .. } | Kind::Splitter { .. } | Kind::Shaper { .. } =>
+                1,
             Kind::Constant { .. } | Kind::Buffer { .. } => 0,
             Kind::Merger { inputs } => *inputs,
         }
@@ -71,7 +81,8 @@ impl Kind {
             | Kind::Buffer { .. }
             | Kind::Gain { .. }
             | Kind::Splitter { .. }
-            | Kind::Merger { .. } => false,
+            | Kind::Merger { .. }
+            | Kind::Shaper { .. } => false,
         }
     }
 
@@ -81,7 +92,8 @@ impl Kind {
     {
         match self {
             Kind::Destination | Kind::Splitter { .. } | Kind::Merger { .. } => true,
-            Kind::Constant { .. } | Kind::Buffer { .. } | Kind::Gain { .. } => false,
+            Kind::Constant { .. } | Kind::Buffer { .. } | Kind::Gain { .. } | Kind::Shaper { .. } =>
+                false,
         }
     }
 
@@ -91,7 +103,8 @@ impl Kind {
     {
         match self {
             Kind::Destination | Kind::Splitter { .. } | Kind::Merger { .. } => true,
-            Kind::Constant { .. } | Kind::Buffer { .. } | Kind::Gain { .. } => false,
+            Kind::Constant { .. } | Kind::Buffer { .. } | Kind::Gain { .. } | Kind::Shaper { .. } =>
+                false,
         }
     }
 
@@ -105,12 +118,13 @@ impl Kind {
             | Kind::Constant { .. }
             | Kind::Buffer { .. }
             | Kind::Gain { .. }
-            | Kind::Merger { .. } => false,
+            | Kind::Merger { .. }
+            | Kind::Shaper { .. } => false,
         }
     }
 
     /// The exception with which a node of the kind is refused because of what it would be created
-    /// with: the number of its ports, or its rate.
+    /// with: the number of its ports, its rate, or its curve.
     pub fn range_refusal(&self) -> Option<Exc>
         ensures { result ≡ spec.range_refusal self.now }
     {
@@ -120,6 +134,7 @@ impl Kind {
             Kind::Splitter { outputs: ports } | Kind::Merger { inputs: ports } => {
                 port_refusal(*ports)
             }
+            Kind::Shaper { curve, .. } => curve_refusal(points_of(curve), false),
         }
     }
 
@@ -140,8 +155,11 @@ impl Kind {
         ensures { spec.IsInEntry self.now }
     {
         match self {
-            Kind::Destination | Kind::Buffer { .. } | Kind::Splitter { .. } | Kind::Merger { .. } =>
-                {}
+            Kind::Destination
+            | Kind::Buffer { .. }
+            | Kind::Splitter { .. }
+            | Kind::Merger { .. }
+            | Kind::Shaper { .. } => {}
             Kind::Constant { offset: entry } | Kind::Gain { gain: entry } => {
                 let _value = *entry;
             }
@@ -159,7 +177,55 @@ impl Kind {
             Kind::Gain { gain } => Kind::Gain { gain: *gain },
             Kind::Splitter { outputs } => Kind::Splitter { outputs: *outputs },
             Kind::Merger { inputs } => Kind::Merger { inputs: *inputs },
+            Kind::Shaper { curve, was_set } => Kind::Shaper {
+                curve: copy_of(curve)?,
+                was_set: *was_set,
+            },
         })
+    }
+
+    // Of a shaper, puts another curve into force, or none.
+    pub(crate) fn set_curve(&mut self, curve: Option<Samples>)
+        ensures { self.new ≡ spec.with_curve curve self.old }
+    {
+        if let Kind::Shaper {
+            curve: in_force,
+            was_set,
+        } = self
+        {
+            *was_set = *was_set || curve.is_some();
+            *in_force = curve;
+        }
+    }
+
+    // Why a curve, or none, is refused.
+    pub(crate) fn set_curve_refusal(&self, curve: &Option<Samples>) -> Option<Exc>
+        ensures { result ≡ spec.set_curve_refusal curve.now self.now }
+    {
+        match self {
+            Kind::Shaper { was_set, .. } => curve_refusal(points_of(curve), *was_set),
+            _ => Some(Exc::WrongType),
+        }
+    }
+}
+
+// The points of a curve, if there is one.
+fn points_of(curve: &Option<Samples>) -> Option<&[Fix]>
+    ensures { option_copied result ≡ curve.now }
+{
+    match curve {
+        Some(points) => Some(points.as_slice()),
+        None => None,
+    }
+}
+
+// A curve with memory of its own, if there is one.
+fn copy_of(curve: &Option<Samples>) -> Result<Option<Samples>, NoMemory>
+    ensures { IfOk result (λ copy. copy ≡ curve.now) }
+{
+    match curve {
+        Some(points) => Ok(Some(points.copy()?)),
+        None => Ok(None),
     }
 }
 

@@ -3,6 +3,7 @@
 #![tactic(auto)]
 
 mod attributes;
+mod curves;
 mod kinds;
 mod nodes;
 

@@ -8,7 +8,7 @@ use Rattle.channel_mix.specs.Counts.{input_count}
 use Rattle.node_table.specs.Kinds.{outputs, first_count, first_mode, fixed_count, fixed_mode, is_destination, IsInLimits}
 use Rattle.node_table.specs.Nodes.{IsCreated}
 use Rattle.node_table.specs.declared.kinds.Kind.{Kind}
-use Rattle.node_table.specs.declared.kinds.Kind.TheVariants.{Destination, Constant, Buffer, Gain, Splitter, Merger}
+use Rattle.node_table.specs.declared.kinds.Kind.TheVariants.{Destination, Constant, Buffer, Gain, Splitter, Merger, Shaper}
 use Rattle.node_table.specs.declared.nodes.Node.{Node}
 use Rattle.meaning.specs.declared.world.World.{World}
 use Rattle.meaning.specs.World.{plain, no_node, node_at, kind_of}
@@ -33,6 +33,7 @@ outputs_few w valid i = by_ports (kind_of w i) (ports_there w valid i)
     by_ports (Gain gain) has = omega arith
     by_ports (Splitter ports) has = has.1
     by_ports (Merger ports) has = omega arith
+    by_ports (Shaper curve was_set) has = omega arith
 
 -- a node whose count and mode are fixed, and which is no destination
 created_at : (w : World) → IsValid w → (i : ℕ) → i < length w.nodes → is_destination (kind_of w i) ≡ false → IsCreated (node_at w i)

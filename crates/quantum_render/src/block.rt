@@ -1,6 +1,7 @@
-ghost use Rattle.std.specs.Prelude.{◌≡◌, ◌≤◌, ◌<◌, ◌*◌, ◌+◌, ◌^◌, ◌+ℤ◌, ℕ, pos, Some, length, slice_index_or, OnOk, IfOk, IfSome, FitsSigned, if◌then◌else◌};
+ghost use Rattle.std.specs.Prelude.{◌≡◌, ◌≤◌, ◌<◌, ◌*◌, ◌+◌, ◌^◌, ◌+ℤ◌, ◌∷◌, [], ℕ, pos, Some, length, slice_index_or, OnOk, IfOk, IfSome, FitsSigned, if◌then◌else◌};
 ghost use Rattle.std.specs.Int.{w32};
 ghost use Rattle.wa_base.specs.Numbers.{sat as saturated, scale as scaled};
+ghost use Rattle.causal_core.specs.Curves.{IsCurve, shaper_value};
 ghost use Rattle.sched_source.specs.Schedule.{is_between, played};
 ghost use Rattle.meaning.specs.World.{channels_in, samples_in};
 ghost use Rattle.channel_mix.specs.Blocks.{sample};
@@ -17,9 +18,10 @@ use crate::kernels::{
 use crate::playing::Source;
 use crate::sums::Sums;
 use automation::{Level, Values};
+use shaper_iir::shape_all;
 use std::alloc::Global;
 use std::marker::Model;
-use wa_base::{Fix, NoMemory};
+use wa_base::{Fix, NoMemory, Samples};
 
 // The frames of a render quantum.
 pub(crate) const QUANTUM: usize = 128;
@@ -442,6 +444,27 @@ impl Block {
         match other.held() {
             Held::Steady(held) => scale_steady(values, held, gains),
             Held::Moving(heard) => scale_channels(values, self.lanes, heard, gains),
+        }
+    }
+
+    // Becomes what another block is, shaped by a curve.
+    pub(crate) fn shape(&mut self, other: &Block, curve: &Option<Samples>)
+        requires room { other.now.lanes * 128 ≤ room_of self.old }
+        requires curve { IsCurve curve.now }
+        ensures lanes { self.new.lanes ≡ other.now.lanes }
+        ensures room { room_of self.new ≡ room_of self.old }
+        ensures values { (lane m : ℕ) → lane < other.now.lanes → m < 128 → at self.new lane m ≡ shaper_value curve.now (at other.now lane m ∷ []) }
+    {
+        self.lanes = other.lanes();
+        match other.held() {
+            Held::Steady(held) => {
+                self.steady = true;
+                shape_all(curve, held, &mut self.values[0..self.lanes]);
+            }
+            Held::Moving(values) => {
+                self.steady = false;
+                shape_all(curve, values, &mut self.values[0..self.lanes * QUANTUM]);
+            }
         }
     }
 }

@@ -1,6 +1,7 @@
-ghost use Rattle.std.specs.Prelude.{◌≡◌, ◌<◌, ◌-◌, ◌^◌, ℕ, ℤ, Some};
+ghost use Rattle.std.specs.Prelude.{◌≡◌, ◌<◌, ◌-◌, ◌^◌, ℕ, ℤ, Bool, Some};
+ghost use Rattle.causal_core.specs.Curves.{IsCurve};
 ghost use Rattle.sched_source.specs.Schedule.{is_between};
-ghost use Rattle.node_table.specs.declared.kinds.Kind.TheVariants.{Destination, Constant, Buffer, Gain, Splitter, Merger};
+ghost use Rattle.node_table.specs.declared.kinds.Kind.TheVariants.{Destination, Constant, Buffer, Gain, Splitter, Merger, Shaper};
 ghost use Rattle.meaning.specs.Validity.{IsValid};
 ghost use Rattle.meaning.specs.World.{kind_of, sounds_at};
 ghost use Rattle.quantum_render.specs.Blocks.{Writes};
@@ -13,7 +14,7 @@ use crate::places::play_place;
 use crate::playing::sounding;
 use crate::site::{Site, slot};
 use node_table::Kind;
-use wa_base::ParamName;
+use wa_base::{ParamName, Samples};
 
 // What each kind of node does in a quantum: a line of the table, and a function that takes an input
 // and levels and leaves the block of its end.
@@ -31,6 +32,7 @@ impl Bench {
             Kind::Gain { .. } => self.render_gain(blocks, site),
             Kind::Splitter { .. } => self.render_splitter(blocks, site),
             Kind::Merger { .. } => self.render_merger(blocks, site),
+            Kind::Shaper { curve, .. } => self.render_shaper(blocks, site, curve),
         }
     }
 
@@ -87,6 +89,18 @@ impl Bench {
     {
         self.take_inputs(blocks, site, site.channels());
         blocks[slot(site.end)].copy(&self.merged);
+    }
+
+    // Its input, shaped by the curve in force.
+    fn render_shaper(&mut self, blocks: &mut [Block], site: &Site, curve: &Option<Samples>)
+        requires fit { AreFit site.now.world site.now.counts blocks.old }
+        requires kind { (was_set : Bool) × (kind_of site.now.world site.now.end.node.0 ≡ Shaper curve.now was_set) }
+        requires curve { IsCurve curve.now }
+        ensures writes { Writes blocks.old blocks.new site.now.end }
+        ensures renders { (was_set : Bool) → Renders site.now blocks.old blocks.new (Shaper curve.now was_set) }
+    {
+        self.take_input(blocks, site, 0, site.channels());
+        blocks[slot(site.end)].shape(&self.heard, curve);
     }
 }
 

@@ -4,7 +4,6 @@ pub mod Dots
 pub mod Parts
 pub mod Quiet
 pub mod Recalling
-pub mod Shares
 pub mod Shifts
 pub mod States
 pub mod Waving

@@ -11,4 +11,4 @@ mod shaper;
 mod sums;
 
 pub use iir::Iir;
-pub use shaper::Shaper;
+pub use shaper::{Shaper, shape_all};

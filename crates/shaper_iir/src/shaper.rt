@@ -89,11 +89,13 @@ fn copied(alloc: Global, curve: Option<&[Fix]>) -> Result<Option<Samples>, NoMem
     }
 }
 
-// Shapes each sample by the curve in force.
-fn shape_all(curve: &Option<Samples>, x: &[Fix], y: &mut [Fix])
+/// Shapes each sample of `x` by a curve, and writes what comes of it at its place of `y`. Without a
+/// curve each passes through. Samples and points are in units of 2^-24.
+pub fn shape_all(curve: &Option<Samples>, x: &[Fix], y: &mut [Fix])
     requires curve { IsCurve curve.now }
     requires y { length y.old ≡ length x.now }
-    ensures { (k : ℕ) → k < length x.now → item y.new k ≡ shaper_value curve.now (item x.now k ∷ []) }
+    ensures length { length y.new ≡ length y.old }
+    ensures values { (k : ℕ) → k < length x.now → item y.new k ≡ shaper_value curve.now (item x.now k ∷ []) }
 {
     match curve {
         Some(points) => shape_each(points.as_slice(), x, y),

@@ -78,7 +78,8 @@ returns-in-Destination-clause-value c j earlier time =
     let counted : Kind → ℕ = λ k. count_by_kind 128 (plain c.args.world.now) j earlier (counts_in c.args.counts.now) k c.args.end in
     c.input_count.ensures.value ∙ elim c.in-Destination.is [
       | inl is ↦ ap counted (sym (table ∙ is))
-      | inr is ↦ ap counted (sym (table ∙ is.1))
+      | inr (inl is) ↦ ap counted (sym (table ∙ is.1))
+      | inr (inr is) ↦ ap counted (sym (table ∙ is.2))
     ]
 
 -- a kind that counts its input is not always mono
@@ -87,5 +88,6 @@ returns-in-Destination-clause-mono c mono =
     let table = kind_is c.args.world.now c.args.end.node.0 c.kind.result.now (end_low c.args.world.now c.requires.valid c.args.end c.requires.there) c.kind.ensures.value in
     elim c.in-Destination.is [
       | inl is ↦ let none : is_mono (kind_of c.args.world.now c.args.end.node.0) ≡ false = ap is_mono (table ∙ is) in absurd cc
-      | inr is ↦ let none : is_mono (kind_of c.args.world.now c.args.end.node.0) ≡ false = ap is_mono (table ∙ is.1) in absurd cc
+      | inr (inl is) ↦ let none : is_mono (kind_of c.args.world.now c.args.end.node.0) ≡ false = ap is_mono (table ∙ is.1) in absurd cc
+      | inr (inr is) ↦ let none : is_mono (kind_of c.args.world.now c.args.end.node.0) ≡ false = ap is_mono (table ∙ is.2) in absurd cc
     ]

@@ -3,7 +3,7 @@ use Rattle.std.specs.Int.{w32, w64}
 use Rattle.std.proofs.lemmas.Int.{to_z-of_z}
 use Rattle.wa_base.specs.Numbers.{rnd}
 use Rattle.causal_core.specs.Curves.{between}
-use Rattle.shaper_iir.proofs.Shares.{between_fits}
+use Rattle.causal_core.proofs.Shares.{between_fits}
 use Rattle.shaper_iir.proofs.curves.between.Goals as goal
 
 fits : (c : goal.After-share) → FitsSigned w32 (between c.args.from c.args.to c.args.part 33554432)

@@ -1,10 +1,12 @@
 use Rattle.std.proofs.Common.{◌≡◌, Some, sym, ◌∙◌, subst}
+use Rattle.node_table.specs.Kinds.{IsInLimits}
 use Rattle.node_table.specs.Nodes.{kind_at}
 use Rattle.node_table.specs.declared.kinds.Kind.{Kind}
 use Rattle.meaning.specs.World.{kind_of}
 use Rattle.quantum_render.specs.Sites.{SiteView, IsSite}
 use Rattle.quantum_render.specs.Renders.{Renders}
 use Rattle.quantum_render.proofs.InputLaws.{kind_is}
+use Rattle.quantum_render.proofs.Ports.{ports_there}
 use Rattle.quantum_render.proofs.Sources.{end_low}
 use Rattle.quantum_render.proofs.Rendering.{site_is}
 use Rattle.quantum_render.proofs.bench.Bench.render.Goals as goal
@@ -55,6 +57,28 @@ render_merger-requires-clause-kind c = (
   kind_of_site c.args.site.now (site_is c.args.site.now _ _ _ _ _ _ c.site.invariant c.site.view_is) c.kind.result.now
       (subst (λ (x : SiteView). kind_at x.world.nodes x.end.node.0 ≡ Some c.kind.result.now) c.site.view_is c.kind.ensures.value) ∙ c.in-Merger.is,
 )
+
+pub render_shaper-requires-clause-kind : goal.render_shaper-requires-clause-kind
+render_shaper-requires-clause-kind c = (
+  c.in-Shaper.was_set,
+  kind_of_site c.args.site.now (site_is c.args.site.now _ _ _ _ _ _ c.site.invariant c.site.view_is) c.kind.result.now
+      (subst (λ (x : SiteView). kind_at x.world.nodes x.end.node.0 ≡ Some c.kind.result.now) c.site.view_is c.kind.ensures.value) ∙ c.in-Shaper.is,
+)
+
+-- the curve of a node that is there has its points
+pub render_shaper-requires-clause-curve : goal.render_shaper-requires-clause-curve
+render_shaper-requires-clause-curve c =
+    let kind = kind_of_site c.args.site.now (site_is c.args.site.now _ _ _ _ _ _ c.site.invariant c.site.view_is) c.kind.result.now
+    (subst (λ (x : SiteView). kind_at x.world.nodes x.end.node.0 ≡ Some c.kind.result.now) c.site.view_is c.kind.ensures.value) ∙ c.in-Shaper.is in
+    let site = site_is c.args.site.now _ _ _ _ _ _ c.site.invariant c.site.view_is in
+    subst IsInLimits kind (ports_there c.args.site.now.world site.valid c.args.site.now.end.node.0)
+
+pub returns-in-Shaper-clause-renders : goal.returns-in-Shaper-clause-renders
+returns-in-Shaper-clause-renders c =
+    subst (Renders c.args.site.now c.args.blocks.now c.render_shaper.new.blocks)
+    (sym (kind_of_site c.args.site.now (site_is c.args.site.now _ _ _ _ _ _ c.site.invariant c.site.view_is) c.kind.result.now
+    (subst (λ (x : SiteView). kind_at x.world.nodes x.end.node.0 ≡ Some c.kind.result.now) c.site.view_is c.kind.ensures.value) ∙ c.in-Shaper.is))
+    (c.render_shaper.ensures.renders c.in-Shaper.was_set)
 
 pub returns-in-Destination-clause-renders : goal.returns-in-Destination-clause-renders
 returns-in-Destination-clause-renders c =

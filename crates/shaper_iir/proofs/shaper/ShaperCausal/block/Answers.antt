@@ -13,6 +13,6 @@ returns-clause-output c = λ channel k frames there lt stands.
     let start = channel * c.args._frames in
     let room = part_room channel c.args.self.now.channels c.args._frames there in
     let long = c.requires.x in
-    c.shape_all.ensures (start + k) (omega arith)
+    c.shape_all.ensures.values (start + k) (omega arith)
     ∙ ap (λ (v : Wave). shaper_value v.curve (item x (start + k) ∷ [])) c.self.view_is
     ∙ shaper_newest c.args.self.now.curve _ _ (sym (newest-heard x start k frames))

@@ -3,7 +3,7 @@ use Rattle.std.proofs.Common.{ℕ, ℤ, pos, negsuc, suc, ◌≤◌, ◌^◌, �
 use Rattle.std.specs.Int.{w32, int_div_euclid}
 use Rattle.std.proofs.lemmas.Int.{ints}
 use Rattle.std.proofs.lemmas.Nat.{mul-le}
-use Rattle.wa_base.specs.Numbers.{rnd}
+use Rattle.wa_base.specs.Numbers.{rnd, IsFix}
 use Rattle.causal_core.specs.Curves.{between}
 
 -- a quotient that is rounded down, and what is left
@@ -46,13 +46,16 @@ of_bounds : (z : ℤ) → negsuc 2147483647 ≤ℤ z → z ≤ℤ pos 2147483647
 of_bounds (pos n) l h = record { sfits = omega (arith, ints) }
 of_bounds (negsuc n) l h = record { sfits = omega (arith, ints) }
 
-pub between_fits : (from to : ℤ) (p : ℕ) → FitsSigned w32 from → FitsSigned w32 to → p ≤ 2 ^ 25 → FitsSigned w32 (between from to p (2 ^ 25))
-between_fits from to p from_fits to_fits l =
-    let f = in_bounds from from_fits in
-    let t = in_bounds to to_fits in
+pub between_fix : (from to : ℤ) (p : ℕ) → IsFix from → IsFix to → p ≤ 2 ^ 25 → IsFix (between from to p (2 ^ 25))
+between_fix from to p f t l =
     let part = rnd ((to -ℤ from) *ℤ pos p) (pos 33554432) in
     let is = share_part (to -ℤ from) p l in
     elim (sign (to -ℤ from)) [
-      | inl up ↦ let m = is.up up in of_bounds (from +ℤ part) (omega (arith, ints)) (omega (arith, ints))
-      | inr down ↦ let m = is.down down in of_bounds (from +ℤ part) (omega (arith, ints)) (omega (arith, ints))
+      | inl up ↦ let m = is.up up in (omega (arith, ints), omega (arith, ints))
+      | inr down ↦ let m = is.down down in (omega (arith, ints), omega (arith, ints))
     ]
+
+pub between_fits : (from to : ℤ) (p : ℕ) → FitsSigned w32 from → FitsSigned w32 to → p ≤ 2 ^ 25 → FitsSigned w32 (between from to p (2 ^ 25))
+between_fits from to p from_fits to_fits l =
+    let value = between_fix from to p (in_bounds from from_fits) (in_bounds to to_fits) l in
+    of_bounds (between from to p (2 ^ 25)) value.0 value.1

@@ -1,0 +1,50 @@
+-- What stays as long as a node is there.
+use Rattle.std.proofs.Common.{◌≡◌, ℤ, Bool, false, Option, None, List, ◌⊎◌, inl, inr, refl, sym, ◌∙◌, ap, subst}
+use Rattle.node_table.specs.declared.kinds.Kind.{Kind}
+use Rattle.node_table.specs.declared.kinds.Kind.TheVariants.{Destination, Constant, Buffer, Gain, Splitter, Merger, Shaper}
+use Rattle.node_table.specs.Kinds.{lasting}
+
+record IsShaper (kind : Kind) : Type 0 where
+  curve : Option (List ℤ)
+  was_set : Bool
+  is : kind ≡ Shaper curve was_set
+
+-- all of a kind lasts, but for a shaper's curve
+lasts : (kind : Kind) → (lasting kind ≡ kind) ⊎ IsShaper kind
+lasts Destination = inl refl
+lasts (Constant offset) = inl refl
+lasts (Buffer rate) = inl refl
+lasts (Gain gain) = inl refl
+lasts (Splitter ports) = inl refl
+lasts (Merger ports) = inl refl
+lasts (Shaper curve was_set) = inr (record { curve = curve; was_set = was_set; is = refl })
+
+-- what is the same for every shaper, whatever its curve
+module _ {A : Type 0} (f : Kind → A) (shapers : (curve : Option (List ℤ)) (was_set : Bool) → f (Shaper None false) ≡ f (Shaper curve was_set)) where
+  of_lasting : (kind : Kind) → f (lasting kind) ≡ f kind
+  of_lasting kind = elim (lasts kind) [
+    | inl same ↦ ap f same
+    | inr shaper ↦ ap (λ k. f (lasting k)) shaper.is ∙ shapers shaper.curve shaper.was_set ∙ sym (ap f shaper.is)
+  ]
+
+  -- lasts
+  pub same_by_lasting : (a b : Kind) → lasting a ≡ lasting b → f a ≡ f b
+  same_by_lasting a b same = sym (of_lasting a) ∙ ap f same ∙ of_lasting b
+
+-- what holds of one shaper as of another
+module _ (P : Kind → Type 0) (shapers : (curve curve' : Option (List ℤ)) (was_set was_set' : Bool) → P (Shaper curve was_set) → P (Shaper curve' was_set')) where
+  to_lasting : (kind : Kind) → P kind → P (lasting kind)
+  to_lasting kind holds = elim (lasts kind) [
+    | inl same ↦ subst P (sym same) holds
+    | inr shaper ↦ subst (λ k. P (lasting k)) (sym shaper.is) (shapers shaper.curve None shaper.was_set false (subst P shaper.is holds))
+  ]
+
+  from_lasting : (kind : Kind) → P (lasting kind) → P kind
+  from_lasting kind holds = elim (lasts kind) [
+    | inl same ↦ subst P same holds
+    | inr shaper ↦ subst P (sym shaper.is) (shapers None shaper.curve false shaper.was_set (subst (λ k. P (lasting k)) shaper.is holds))
+  ]
+
+  -- goes on to hold
+  pub holds_by_lasting : (a b : Kind) → lasting a ≡ lasting b → P a → P b
+  holds_by_lasting a b same holds = from_lasting b (subst P same (to_lasting a holds))
