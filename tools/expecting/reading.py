@@ -18,13 +18,14 @@ LEFT_OUT = dict(pair.split(":") for pair in """
 PARAMETER = [("node", "name"), ("param", "name")]
 HELD = ("then", "calls", [])
 
-# The fields of the operations that are built: of each its name, its kind, and its default where it has
+# The fields of the operations that are read: of each its name, its kind, and its default where it has
 # one. Null is a value of a field whose default is null, and of one whose kind says so.
 OPERATIONS = {
     "createConstantSource": [("as", "new name"), ("offset", "fix", ONE)],
     "createGain": [("as", "new name"), ("gain", "fix", ONE)],
     "createChannelSplitter": [("as", "new name"), ("numberOfOutputs", "count", 6)],
     "createChannelMerger": [("as", "new name"), ("numberOfInputs", "count", 6)],
+    "createWaveShaper": [("as", "new name"), ("curve", "list", None), ("oversample", "none 2x 4x", "none")],
     "createBufferSource": [("as", "new name"), ("buffer", "name", None), ("loop", "bool", False), ("loopStart", "time", 0),
                            ("loopEnd", "time", 0), ("playbackRate", "fix", ONE)],
     "createBuffer": [("as", "new name"), ("channels", "count"), ("length", "count"), ("rate", "count")],
@@ -45,6 +46,8 @@ OPERATIONS = {
     "setChannelCount": [("node", "name"), ("value", "count")],
     "setChannelCountMode": [("node", "name"), ("value", "max clamped-max explicit")],
     "setChannelInterpretation": [("node", "name"), ("value", "speakers discrete")],
+    "setCurve": [("node", "name"), ("curve", "list or null")],
+    "setOversample": [("node", "name"), ("value", "none 2x 4x")],
     "setBuffer": [("node", "name"), ("buffer", "name or null")],
     "setLoop": [("node", "name"), ("value", "bool")],
     "setLoopStart": [("node", "name"), ("value", "time")],

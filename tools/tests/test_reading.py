@@ -12,7 +12,7 @@ from reporting import entries, rules, script_reading, transcript_reading, wav_sa
 from reporting.following import Session
 from reporting.text import BadInput, quoted, visible
 
-# What the format refuses, where the program does not read the operation yet.
+# What the format refuses, where the program does not do the operation yet.
 REFUSALS = {
     "createDelay": ["NotSupportedError", "long-delay", "node-limit", "delay-limit"],
     "createWaveShaper": ["oversample", "InvalidStateError", "node-limit"],

@@ -1,4 +1,4 @@
--- The word of each mode, of each interpretation and of each automation rate names it and no other one.
+-- The word of each mode, of each interpretation, of each automation rate and of each oversampling names it and no other one.
 use Rattle.std.specs.Prelude.{◌≡◌, refl, Some}
 use Rattle.wa_base.specs.GraphNames.{mode_word, interp_word, rate_word}
 use Rattle.wa_base.specs.declared.graph_names.Mode.{Mode}
@@ -7,7 +7,9 @@ use Rattle.wa_base.specs.declared.graph_names.Interp.{Interp}
 use Rattle.wa_base.specs.declared.graph_names.Interp.TheVariants.{Speakers, Discrete}
 use Rattle.wa_base.specs.declared.graph_names.Rate.{Rate}
 use Rattle.wa_base.specs.declared.graph_names.Rate.TheVariants.{A, K}
-use Rattle.script_ast.specs.Words.{mode_named, interp_named, rate_named}
+use Rattle.script_ast.specs.Words.{mode_named, interp_named, rate_named, oversample_word, oversample_named}
+use Rattle.script_ast.specs.declared.operations.Oversample.{Oversample}
+use Rattle.script_ast.specs.declared.operations.Oversample.TheVariants.{Off, Two, Four}
 
 mode_by_word : (mode : Mode) → mode_named (mode_word mode) ≡ Some mode
 unfolding mode_named
@@ -24,3 +26,9 @@ rate_by_word : (rate : Rate) → rate_named (rate_word rate) ≡ Some rate
 unfolding rate_named
 rate_by_word A = refl
 rate_by_word K = refl
+
+oversample_by_word : (oversample : Oversample) → oversample_named (oversample_word oversample) ≡ Some oversample
+unfolding oversample_named
+oversample_by_word Off = refl
+oversample_by_word Two = refl
+oversample_by_word Four = refl

@@ -1,14 +1,14 @@
 -- The entries: the members of a script and of its context, and the fields of each operation, in the order in which they are read.
--- Each row is the name of a field, its kind and its default: a field that is `Needed` has none, and one whose default is `Null` may hold null, as may one of the kind `NameOrNull`.
-use Rattle.std.specs.Prelude.{List, [], ◌∷◌, pos, false, bytes_eq, find, Option, Some, None}
-use Rattle.script_ast.specs.Fields.{field_word}
+-- Each row is the name of a field, its kind and its default: a field that is `Needed` has none, and one whose default is `Null` may hold null, as may one of the kinds `NameOrNull` and `FixesOrNull`.
+use Rattle.std.specs.Prelude.{List, [], ◌∷◌, pos, false}
 use Rattle.script_ast.specs.declared.entries.Fallback.{Fallback}
-use Rattle.script_ast.specs.declared.entries.Fallback.TheVariants.{Needed, Null, Number, Count, Flag, NoCalls}
+use Rattle.script_ast.specs.declared.entries.Fallback.TheVariants.{Needed, Null, Number, Count, Flag, Oversample, NoCalls}
 use Rattle.script_ast.specs.declared.entries.Kind.{Kind}
 use Rattle.script_ast.specs.declared.entries.Kind.TheVariants as kind
 use Rattle.script_ast.specs.declared.entries.Row.{Row}
 use Rattle.script_ast.specs.declared.fields.Field.{Field}
 use Rattle.script_ast.specs.declared.fields.Field.TheVariants as field
+use Rattle.script_ast.specs.declared.operations.Oversample.TheVariants.{Off}
 
 -- a row of an entry
 abbrev pub row : Field → Kind → Fallback → Row
@@ -59,6 +59,13 @@ abbrev pub create_channel_merger : List Row
 create_channel_merger =
     row field.As kind.NewName Needed ∷
     row field.NumberOfInputs kind.Count (Count 6) ∷ []
+
+-- `createWaveShaper`
+abbrev pub create_wave_shaper : List Row
+create_wave_shaper =
+    row field.As kind.NewName Needed ∷
+    row field.Curve kind.Fixes Null ∷
+    row field.Oversample kind.Oversample (Oversample Off) ∷ []
 
 -- `createBufferSource`
 abbrev pub create_buffer_source : List Row
@@ -127,6 +134,18 @@ abbrev pub set_channel_interpretation : List Row
 set_channel_interpretation =
     row field.Node kind.Name Needed ∷
     row field.Value kind.Interp Needed ∷ []
+
+-- `setCurve`
+abbrev pub set_curve : List Row
+set_curve =
+    row field.Node kind.Name Needed ∷
+    row field.Curve kind.FixesOrNull Needed ∷ []
+
+-- `setOversample`
+abbrev pub set_oversample : List Row
+set_oversample =
+    row field.Node kind.Name Needed ∷
+    row field.Value kind.Oversample Needed ∷ []
 
 -- `setBuffer`
 abbrev pub set_buffer : List Row
@@ -261,18 +280,3 @@ abbrev pub decode_audio_data : List Row
 decode_audio_data =
     row field.As kind.NewName Needed ∷
     row field.Path kind.Path Needed ∷ []
-
--- ---- the default of a field
-
--- the row of the field with this name
-abbrev pub row_in : List Row → Field → Option Row
-row_in rows field = find (λ row. bytes_eq (field_word row.field) (field_word field)) rows
-
--- the default that a row has; a field without a row is needed
-abbrev pub fallback_of : Option Row → Fallback
-fallback_of None = Needed
-fallback_of (Some row) = row.fallback
-
--- the default of the field with this name in an entry
-abbrev pub fallback_in : List Row → Field → Fallback
-fallback_in rows field = fallback_of (row_in rows field)

@@ -1,4 +1,5 @@
 pub mod Entries
+pub mod Fallbacks
 pub mod Fields
 pub mod Holders
 pub mod OpNames

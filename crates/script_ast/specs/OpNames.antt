@@ -10,7 +10,7 @@ use Rattle.script_ast.specs.declared.entries.Row.{Row}
 use Rattle.script_ast.specs.declared.op_names.LeftOutName.{LeftOutName}
 use Rattle.script_ast.specs.declared.op_names.LeftOutName.TheVariants as left_out
 use Rattle.script_ast.specs.declared.op_names.OpName.{OpName}
-use Rattle.script_ast.specs.declared.op_names.OpName.TheVariants.{CreateConstantSource, CreateGain, CreateChannelSplitter, CreateChannelMerger, CreateBufferSource, CreateBuffer, Connect, ConnectParam, Disconnect, DisconnectParam, SetChannelCount, SetChannelCountMode, SetChannelInterpretation, SetBuffer, SetLoop, SetLoopStart, SetLoopEnd, CopyToChannel, Start, Stop, Param, Suspend, StartRendering, Resume, DecodeAudioData, ReadState, ReadTime, LeftOut}
+use Rattle.script_ast.specs.declared.op_names.OpName.TheVariants.{CreateConstantSource, CreateGain, CreateChannelSplitter, CreateChannelMerger, CreateWaveShaper, CreateBufferSource, CreateBuffer, Connect, ConnectParam, Disconnect, DisconnectParam, SetChannelCount, SetChannelCountMode, SetChannelInterpretation, SetCurve, SetOversample, SetBuffer, SetLoop, SetLoopStart, SetLoopEnd, CopyToChannel, Start, Stop, Param, Suspend, StartRendering, Resume, DecodeAudioData, ReadState, ReadTime, LeftOut}
 use Rattle.script_ast.specs.declared.param_ops.ParamOpName.{ParamOpName}
 use Rattle.script_ast.specs.declared.param_ops.ParamOpName.TheVariants as param
 
@@ -69,6 +69,7 @@ op_word CreateConstantSource = codes "createConstantSource"
 op_word CreateGain = codes "createGain"
 op_word CreateChannelSplitter = codes "createChannelSplitter"
 op_word CreateChannelMerger = codes "createChannelMerger"
+op_word CreateWaveShaper = codes "createWaveShaper"
 op_word CreateBufferSource = codes "createBufferSource"
 op_word CreateBuffer = codes "createBuffer"
 op_word Connect = codes "connect"
@@ -78,6 +79,8 @@ op_word DisconnectParam = codes "disconnectParam"
 op_word SetChannelCount = codes "setChannelCount"
 op_word SetChannelCountMode = codes "setChannelCountMode"
 op_word SetChannelInterpretation = codes "setChannelInterpretation"
+op_word SetCurve = codes "setCurve"
+op_word SetOversample = codes "setOversample"
 op_word SetBuffer = codes "setBuffer"
 op_word SetLoop = codes "setLoop"
 op_word SetLoopStart = codes "setLoopStart"
@@ -101,6 +104,7 @@ operations =
     CreateGain ∷
     CreateChannelSplitter ∷
     CreateChannelMerger ∷
+    CreateWaveShaper ∷
     CreateBufferSource ∷
     CreateBuffer ∷
     Connect ∷
@@ -110,6 +114,8 @@ operations =
     SetChannelCount ∷
     SetChannelCountMode ∷
     SetChannelInterpretation ∷
+    SetCurve ∷
+    SetOversample ∷
     SetBuffer ∷
     SetLoop ∷
     SetLoopStart ∷
@@ -176,6 +182,7 @@ fields_of CreateConstantSource = entry.create_constant_source
 fields_of CreateGain = entry.create_gain
 fields_of CreateChannelSplitter = entry.create_channel_splitter
 fields_of CreateChannelMerger = entry.create_channel_merger
+fields_of CreateWaveShaper = entry.create_wave_shaper
 fields_of CreateBufferSource = entry.create_buffer_source
 fields_of CreateBuffer = entry.create_buffer
 fields_of Connect = entry.connect
@@ -185,6 +192,8 @@ fields_of DisconnectParam = entry.disconnect_param
 fields_of SetChannelCount = entry.set_channel_count
 fields_of SetChannelCountMode = entry.set_channel_count_mode
 fields_of SetChannelInterpretation = entry.set_channel_interpretation
+fields_of SetCurve = entry.set_curve
+fields_of SetOversample = entry.set_oversample
 fields_of SetBuffer = entry.set_buffer
 fields_of SetLoop = entry.set_loop
 fields_of SetLoopStart = entry.set_loop_start
@@ -212,10 +221,12 @@ is_calls kind.NameOrNull = false
 is_calls kind.NewName = false
 is_calls kind.Flag = false
 is_calls kind.Fixes = false
+is_calls kind.FixesOrNull = false
 is_calls kind.Path = false
 is_calls kind.Mode = false
 is_calls kind.Interp = false
 is_calls kind.Rate = false
+is_calls kind.Oversample = false
 is_calls kind.Calls = true
 is_calls kind.Object = false
 

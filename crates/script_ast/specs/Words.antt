@@ -1,5 +1,5 @@
 -- The fields that hold one of a list of words: what each word stands for.
-use Rattle.std.specs.Prelude.{ℕ, List, [], ◌∷◌, bytes_eq, find, Option}
+use Rattle.std.specs.Prelude.{ℕ, List, [], ◌∷◌, codes, bytes_eq, find, Option}
 use Rattle.wa_base.specs.GraphNames.{mode_word, interp_word, rate_word}
 use Rattle.wa_base.specs.declared.graph_names.Mode.{Mode}
 use Rattle.wa_base.specs.declared.graph_names.Mode.TheVariants.{Max, ClampedMax, Explicit}
@@ -7,6 +7,8 @@ use Rattle.wa_base.specs.declared.graph_names.Interp.{Interp}
 use Rattle.wa_base.specs.declared.graph_names.Interp.TheVariants.{Speakers, Discrete}
 use Rattle.wa_base.specs.declared.graph_names.Rate.{Rate}
 use Rattle.wa_base.specs.declared.graph_names.Rate.TheVariants.{A, K}
+use Rattle.script_ast.specs.declared.operations.Oversample.{Oversample}
+use Rattle.script_ast.specs.declared.operations.Oversample.TheVariants.{Off, Two, Four}
 
 -- every ChannelCountMode
 abbrev pub modes : List Mode
@@ -43,3 +45,21 @@ first_rate word listed = find (λ rate. bytes_eq (rate_word rate) word) listed
 -- the AutomationRate that a text names
 unfoldable pub rate_named : List ℕ → Option Rate
 rate_named word = first_rate word rates
+
+-- the word of an OverSampleType
+abbrev pub oversample_word : Oversample → List ℕ
+oversample_word Off = codes "none"
+oversample_word Two = codes "2x"
+oversample_word Four = codes "4x"
+
+-- every OverSampleType
+abbrev pub oversamples : List Oversample
+oversamples = Off ∷ Two ∷ Four ∷ []
+
+-- the first of these that the text names
+abbrev pub first_oversample : List ℕ → List Oversample → Option Oversample
+first_oversample word listed = find (λ oversample. bytes_eq (oversample_word oversample) word) listed
+
+-- the OverSampleType that a text names
+unfoldable pub oversample_named : List ℕ → Option Oversample
+oversample_named word = first_oversample word oversamples

@@ -1,7 +1,8 @@
 ghost use Rattle.std.specs.Prelude.{◌≡◌, option_map};
-ghost use Rattle.script_ast.specs.Entries.{row_in, fallback_in};
+ghost use Rattle.script_ast.specs.Fallbacks.{row_in, fallback_in};
 
 use crate::fields::Field;
+use crate::operations::Oversample;
 
 /// What the JSON value of a field has to be.
 #[derive(Clone, Copy, Debug, PartialEq, Eq)]
@@ -24,6 +25,8 @@ pub enum Kind {
     Flag,
     /// An array of whole numbers from -2^31 to 2^31 - 1.
     Fixes,
+    /// Such an array, or null, which is a value here and no default.
+    FixesOrNull,
     /// A string of 1 to 255 bytes.
     Path,
     /// The word of a ChannelCountMode.
@@ -32,6 +35,8 @@ pub enum Kind {
     Interp,
     /// The word of an AutomationRate.
     Rate,
+    /// The word of an Oversample.
+    Oversample,
     /// An array.
     Calls,
     /// An object.
@@ -51,6 +56,8 @@ pub enum Fallback {
     Count(u32),
     /// True or false.
     Flag(bool),
+    /// An oversampling.
+    Oversample(Oversample),
     /// The empty list of calls.
     NoCalls,
 }
@@ -111,6 +118,12 @@ pub const CREATE_CHANNEL_MERGER: [Row; 2] = [
     row!(NumberOfInputs, Count, Count(6)),
 ];
 
+pub const CREATE_WAVE_SHAPER: [Row; 3] = [
+    row!(As, NewName, Needed),
+    row!(Curve, Fixes, Null),
+    row!(Oversample, Oversample, Oversample(Oversample::Off)),
+];
+
 pub const CREATE_BUFFER_SOURCE: [Row; 6] = [
     row!(As, NewName, Needed),
     row!(Buffer, Name, Null),
@@ -163,6 +176,10 @@ pub const SET_CHANNEL_INTERPRETATION: [Row; 2] = [
     row!(Node, Name, Needed),
     row!(Value, Interp, Needed),
 ];
+
+pub const SET_CURVE: [Row; 2] = [row!(Node, Name, Needed), row!(Curve, FixesOrNull, Needed)];
+
+pub const SET_OVERSAMPLE: [Row; 2] = [row!(Node, Name, Needed), row!(Value, Oversample, Needed)];
 
 pub const SET_BUFFER: [Row; 2] = [row!(Node, Name, Needed), row!(Buffer, NameOrNull, Needed)];
 

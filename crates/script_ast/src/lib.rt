@@ -19,4 +19,4 @@ pub use op_names::{LeftOutName, OP_NAMES, OpName, is_built};
 pub use operations::{Op, Oversample};
 pub use param_ops::ParamOpName;
 pub use paths::Path;
-pub use words::{interp_named, mode_named, rate_named};
+pub use words::{interp_named, mode_named, oversample_named, rate_named};

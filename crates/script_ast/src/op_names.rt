@@ -4,9 +4,9 @@ ghost use Rattle.script_ast.specs.OpNames.{left_out_word, left_out_feature, op_w
 use crate::entries::{
     CONNECT, CONNECT_PARAM, COPY_TO_CHANNEL, CREATE_BUFFER, CREATE_BUFFER_SOURCE,
     CREATE_CHANNEL_MERGER, CREATE_CHANNEL_SPLITTER, CREATE_CONSTANT_SOURCE, CREATE_GAIN,
-    DECODE_AUDIO_DATA, DISCONNECT, DISCONNECT_PARAM, Kind, Row, SET_BUFFER, SET_CHANNEL_COUNT,
-    SET_CHANNEL_COUNT_MODE, SET_CHANNEL_INTERPRETATION, SET_LOOP, SET_LOOP_END, SET_LOOP_START,
-    START, START_RENDERING, STOP, SUSPEND,
+    CREATE_WAVE_SHAPER, DECODE_AUDIO_DATA, DISCONNECT, DISCONNECT_PARAM, Kind, Row, SET_BUFFER,
+    SET_CHANNEL_COUNT, SET_CHANNEL_COUNT_MODE, SET_CHANNEL_INTERPRETATION, SET_CURVE, SET_LOOP,
+    SET_LOOP_END, SET_LOOP_START, SET_OVERSAMPLE, START, START_RENDERING, STOP, SUSPEND,
 };
 use crate::param_ops::ParamOpName;
 use wa_base::Feature;
@@ -88,6 +88,7 @@ pub enum OpName {
     CreateGain,
     CreateChannelSplitter,
     CreateChannelMerger,
+    CreateWaveShaper,
     CreateBufferSource,
     CreateBuffer,
     Connect,
@@ -97,6 +98,8 @@ pub enum OpName {
     SetChannelCount,
     SetChannelCountMode,
     SetChannelInterpretation,
+    SetCurve,
+    SetOversample,
     SetBuffer,
     SetLoop,
     SetLoopStart,
@@ -115,11 +118,12 @@ pub enum OpName {
 }
 
 /// Every operation.
-pub const OP_NAMES: [OpName; 51] = [
+pub const OP_NAMES: [OpName; 54] = [
     OpName::CreateConstantSource,
     OpName::CreateGain,
     OpName::CreateChannelSplitter,
     OpName::CreateChannelMerger,
+    OpName::CreateWaveShaper,
     OpName::CreateBufferSource,
     OpName::CreateBuffer,
     OpName::Connect,
@@ -129,6 +133,8 @@ pub const OP_NAMES: [OpName; 51] = [
     OpName::SetChannelCount,
     OpName::SetChannelCountMode,
     OpName::SetChannelInterpretation,
+    OpName::SetCurve,
+    OpName::SetOversample,
     OpName::SetBuffer,
     OpName::SetLoop,
     OpName::SetLoopStart,
@@ -181,6 +187,7 @@ impl OpName {
             OpName::CreateGain => "createGain",
             OpName::CreateChannelSplitter => "createChannelSplitter",
             OpName::CreateChannelMerger => "createChannelMerger",
+            OpName::CreateWaveShaper => "createWaveShaper",
             OpName::CreateBufferSource => "createBufferSource",
             OpName::CreateBuffer => "createBuffer",
             OpName::Connect => "connect",
@@ -190,6 +197,8 @@ impl OpName {
             OpName::SetChannelCount => "setChannelCount",
             OpName::SetChannelCountMode => "setChannelCountMode",
             OpName::SetChannelInterpretation => "setChannelInterpretation",
+            OpName::SetCurve => "setCurve",
+            OpName::SetOversample => "setOversample",
             OpName::SetBuffer => "setBuffer",
             OpName::SetLoop => "setLoop",
             OpName::SetLoopStart => "setLoopStart",
@@ -231,6 +240,7 @@ impl OpName {
             OpName::CreateGain => &CREATE_GAIN,
             OpName::CreateChannelSplitter => &CREATE_CHANNEL_SPLITTER,
             OpName::CreateChannelMerger => &CREATE_CHANNEL_MERGER,
+            OpName::CreateWaveShaper => &CREATE_WAVE_SHAPER,
             OpName::CreateBufferSource => &CREATE_BUFFER_SOURCE,
             OpName::CreateBuffer => &CREATE_BUFFER,
             OpName::Connect => &CONNECT,
@@ -240,6 +250,8 @@ impl OpName {
             OpName::SetChannelCount => &SET_CHANNEL_COUNT,
             OpName::SetChannelCountMode => &SET_CHANNEL_COUNT_MODE,
             OpName::SetChannelInterpretation => &SET_CHANNEL_INTERPRETATION,
+            OpName::SetCurve => &SET_CURVE,
+            OpName::SetOversample => &SET_OVERSAMPLE,
             OpName::SetBuffer => &SET_BUFFER,
             OpName::SetLoop => &SET_LOOP,
             OpName::SetLoopStart => &SET_LOOP_START,

@@ -1,3 +1,6 @@
+ghost use Rattle.std.specs.Prelude.{◌≡◌};
+ghost use Rattle.script_ast.specs.Words.{oversample_word};
+
 use crate::paths::Path;
 use wa_base::{Feature, Fix, Interp, Mode, Name, Rate, Samples};
 
@@ -7,6 +10,19 @@ pub enum Oversample {
     Off,
     Two,
     Four,
+}
+
+impl Oversample {
+    /// The oversampling as the Web Audio recommendation spells it.
+    pub fn word(self) -> &'static str
+        ensures { result.now ≡ oversample_word self }
+    {
+        match self {
+            Oversample::Off => "none",
+            Oversample::Two => "2x",
+            Oversample::Four => "4x",
+        }
+    }
 }
 
 /// An operation of a script with its fields. Values and curves are in units of 2^-24, and times are

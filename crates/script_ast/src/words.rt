@@ -1,6 +1,7 @@
 ghost use Rattle.std.specs.Prelude.{◌≡◌, option_map};
-ghost use Rattle.script_ast.specs.Words.{first_mode, mode_named, first_interp, interp_named, first_rate, rate_named};
+ghost use Rattle.script_ast.specs.Words.{first_mode, mode_named, first_interp, interp_named, first_rate, rate_named, first_oversample, oversample_named};
 
+use crate::operations::Oversample;
 use wa_base::{Interp, Mode, Rate};
 
 const MODES: [Mode; 3] = [Mode::Max, Mode::ClampedMax, Mode::Explicit];
@@ -8,6 +9,8 @@ const MODES: [Mode; 3] = [Mode::Max, Mode::ClampedMax, Mode::Explicit];
 const INTERPS: [Interp; 2] = [Interp::Speakers, Interp::Discrete];
 
 const RATES: [Rate; 2] = [Rate::A, Rate::K];
+
+const OVERSAMPLES: [Oversample; 3] = [Oversample::Off, Oversample::Two, Oversample::Four];
 
 /// The mode with this word; `None` where the word is no mode's.
 #[tactic(auto, unfolding(crate::specs::Words::mode_named))]
@@ -33,6 +36,14 @@ pub fn rate_named(word: &str) -> Option<Rate>
     find_rate(&RATES, word).copied()
 }
 
+/// The oversampling with this word; `None` where the word is no oversampling's.
+#[tactic(auto, unfolding(crate::specs::Words::oversample_named))]
+pub fn oversample_named(word: &str) -> Option<Oversample>
+    ensures { result ≡ oversample_named word.now }
+{
+    find_oversample(&OVERSAMPLES, word).copied()
+}
+
 // The first of the modes with this word.
 fn find_mode<'a>(modes: &'a [Mode], word: &str) -> Option<&'a Mode>
     ensures { option_map (λ mode. mode.now) result ≡ first_mode word.now modes.now }
@@ -52,4 +63,13 @@ fn find_rate<'a>(rates: &'a [Rate], word: &str) -> Option<&'a Rate>
     ensures { option_map (λ rate. rate.now) result ≡ first_rate word.now rates.now }
 {
     rates.iter().find(|rate| rate.word() == word)
+}
+
+// The first of the oversamplings with this word.
+fn find_oversample<'a>(oversamples: &'a [Oversample], word: &str) -> Option<&'a Oversample>
+    ensures { option_map (λ oversample. oversample.now) result ≡ first_oversample word.now oversamples.now }
+{
+    oversamples
+        .iter()
+        .find(|oversample| oversample.word() == word)
 }

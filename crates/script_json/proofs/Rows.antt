@@ -7,11 +7,12 @@ use Rattle.wa_base.specs.declared.graph_names.Mode.TheVariants.{ClampedMax}
 use Rattle.wa_base.specs.declared.graph_names.Interp.TheVariants.{Discrete}
 use Rattle.wa_base.specs.declared.graph_names.Rate.TheVariants.{K}
 use Rattle.script_ast.specs.Ranges.{is_new_name}
-use Rattle.script_ast.specs.Words.{mode_named, interp_named, rate_named}
+use Rattle.script_ast.specs.Words.{mode_named, interp_named, rate_named, oversample_named}
+use Rattle.script_ast.specs.declared.operations.Oversample.TheVariants.{Off, Two, Four}
 use Rattle.script_ast.specs.declared.fields.Field.TheVariants as field
 use Rattle.script_ast.specs.declared.operations.Op.TheVariants as op
 use Rattle.script_json.specs.Calls.{placed, call_faults, call_of}
-use Rattle.script_json.specs.Fields.{number_in, flag_in, fixes_of, text_in, time_or_null_in, count_or_null_in, text_or_null_in, mode_in, interp_in, rate_in}
+use Rattle.script_json.specs.Fields.{number_in, flag_in, fixes_of, fixes_or_null_in, text_in, time_or_null_in, count_or_null_in, text_or_null_in, mode_in, interp_in, rate_in, oversample_in}
 use Rattle.script_json.specs.Script.{context_in, main_list, calls_of, head_faults, script_faults, script_in, script_or_fault}
 use Rattle.script_json.specs.declared.faults.ScriptErr.TheVariants.{BadJson, MissingField, WrongKind, UnknownOp, OutOfRange}
 
@@ -159,3 +160,42 @@ param_cut = refl
 no_param : script_or_fault (read (codes "{\"version\":1,\"context\":{\"channels\":1,\"length\":1,\"rate\":1},\"calls\":[{\"op\":\"connectParam\",\"from\":\"a\",\"to\":\"b\"}]}")) ≡ Err (MissingField 1 field.Param)
 unfolding serde_json_on_literals context_in main_list calls_of head_faults script_faults placed call_faults op_named
 no_param = refl
+
+-- a shaper without a curve, which does not oversample
+shaper : script_or_fault (read (codes "{\"version\":1,\"context\":{\"channels\":1,\"length\":1,\"rate\":1},\"calls\":[{\"op\":\"createWaveShaper\",\"as\":\"w\"}]}"))
+    ≡ Ok (record { context = record { channels = 1; length = 1; rate = 1 }; calls = record { ordinal = 1; holder = 0; op = op.CreateWaveShaper (codes "w") None Off } ∷ [] })
+unfolding serde_json_on_literals context_in main_list calls_of head_faults script_faults script_in placed call_faults call_of op_named is_new_name oversample_named number_in text_in fixes_or_null_in oversample_in
+shaper = refl
+
+shaper_curve : script_or_fault (read (codes "{\"version\":1,\"context\":{\"channels\":1,\"length\":1,\"rate\":1},\"calls\":[{\"op\":\"createWaveShaper\",\"as\":\"w\",\"curve\":[0,5],\"oversample\":\"2x\"}]}"))
+    ≡ Ok (record { context = record { channels = 1; length = 1; rate = 1 }; calls = record { ordinal = 1; holder = 0; op = op.CreateWaveShaper (codes "w") (Some (pos 0 ∷ pos 5 ∷ [])) Two } ∷ [] })
+unfolding serde_json_on_literals context_in main_list calls_of head_faults script_faults script_in placed call_faults call_of op_named is_new_name oversample_named number_in text_in fixes_of fixes_or_null_in oversample_in
+shaper_curve = refl
+
+-- null takes a curve away, and stands for no curve that is left out
+curve_taken : script_or_fault (read (codes "{\"version\":1,\"context\":{\"channels\":1,\"length\":1,\"rate\":1},\"calls\":[{\"op\":\"setCurve\",\"node\":\"w\",\"curve\":null}]}"))
+    ≡ Ok (record { context = record { channels = 1; length = 1; rate = 1 }; calls = record { ordinal = 1; holder = 0; op = op.SetCurve (codes "w") None } ∷ [] })
+unfolding serde_json_on_literals context_in main_list calls_of head_faults script_faults script_in placed call_faults call_of op_named number_in text_in fixes_or_null_in
+curve_taken = refl
+
+no_curve : script_or_fault (read (codes "{\"version\":1,\"context\":{\"channels\":1,\"length\":1,\"rate\":1},\"calls\":[{\"op\":\"setCurve\",\"node\":\"w\"}]}")) ≡ Err (MissingField 1 field.Curve)
+unfolding serde_json_on_literals context_in main_list calls_of head_faults script_faults placed call_faults op_named
+no_curve = refl
+
+curve_out_of_range : script_or_fault (read (codes "{\"version\":1,\"context\":{\"channels\":1,\"length\":1,\"rate\":1},\"calls\":[{\"op\":\"setCurve\",\"node\":\"w\",\"curve\":[0,2147483648]}]}")) ≡ Err (OutOfRange 1 field.Curve)
+unfolding serde_json_on_literals context_in main_list calls_of head_faults script_faults placed call_faults op_named
+curve_out_of_range = refl
+
+-- the words of an oversampling
+oversample_set : script_or_fault (read (codes "{\"version\":1,\"context\":{\"channels\":1,\"length\":1,\"rate\":1},\"calls\":[{\"op\":\"setOversample\",\"node\":\"w\",\"value\":\"4x\"}]}"))
+    ≡ Ok (record { context = record { channels = 1; length = 1; rate = 1 }; calls = record { ordinal = 1; holder = 0; op = op.SetOversample (codes "w") Four } ∷ [] })
+unfolding serde_json_on_literals context_in main_list calls_of head_faults script_faults script_in placed call_faults call_of op_named oversample_named number_in text_in oversample_in
+oversample_set = refl
+
+oversample_in_capitals : script_or_fault (read (codes "{\"version\":1,\"context\":{\"channels\":1,\"length\":1,\"rate\":1},\"calls\":[{\"op\":\"setOversample\",\"node\":\"w\",\"value\":\"4X\"}]}")) ≡ Err (OutOfRange 1 field.Value)
+unfolding serde_json_on_literals context_in main_list calls_of head_faults script_faults placed call_faults op_named oversample_named
+oversample_in_capitals = refl
+
+oversample_is_null : script_or_fault (read (codes "{\"version\":1,\"context\":{\"channels\":1,\"length\":1,\"rate\":1},\"calls\":[{\"op\":\"createWaveShaper\",\"as\":\"w\",\"oversample\":null}]}")) ≡ Err (WrongKind 1 field.Oversample)
+unfolding serde_json_on_literals context_in main_list calls_of head_faults script_faults placed call_faults op_named is_new_name oversample_named
+oversample_is_null = refl

@@ -8,29 +8,30 @@ use Rattle.std.proofs.lemmas.Bool.{leb-true}
 use Rattle.std.proofs.lemmas.Int.{ints}
 use Rattle.std.proofs.lemmas.List.Elements.{filter_map-append}
 use Rattle.serde_json.specs.Data.{Data, Items, no_items, item}
-use Rattle.serde_json.specs.Find.{as_object, as_str}
+use Rattle.serde_json.specs.Find.{as_object, as_array, as_str}
 use Rattle.wa_base.specs.declared.contexts.ContextSpec.{ContextSpec}
 use Rattle.wa_base.specs.Numbers.{IsFix}
-use Rattle.script_ast.specs.Ranges.{IsTime, IsTimeIfSome, IsCount, IsCountIfSome, AreFixes, IsNewName, IsPath, IsInRange, is_new_name, is_path}
+use Rattle.script_ast.specs.Ranges.{IsTime, IsTimeIfSome, IsCount, IsCountIfSome, AreFixes, AreFixesIfSome, IsNewName, IsPath, IsInRange, is_new_name, is_path}
 use Rattle.script_ast.specs.WellFormed.{IsCallAt, AreCallsAfter, IsWellFormed}
 use Rattle.script_ast.specs.declared.call_list.Call.{Call}
 use Rattle.script_ast.specs.declared.clocks.Clock.{Clock}
 use Rattle.script_ast.specs.declared.clocks.Clock.TheVariants.{Frames}
-use Rattle.script_ast.specs.Entries.{row, fallback_in, context_fields}
+use Rattle.script_ast.specs.Entries.{row, context_fields}
+use Rattle.script_ast.specs.Fallbacks.{fallback_in}
 use Rattle.script_ast.specs.declared.entries.Fallback.TheVariants.{Needed}
 use Rattle.script_ast.specs.declared.entries.Kind.TheVariants as kind
 use Rattle.script_ast.specs.declared.entries.Row.{Row}
 use Rattle.script_ast.specs.declared.fields.Field.{Field}
 use Rattle.script_ast.specs.declared.fields.Field.TheVariants as field
 use Rattle.script_ast.specs.declared.op_names.OpName.{OpName}
-use Rattle.script_ast.specs.declared.op_names.OpName.TheVariants.{CreateConstantSource, CreateGain, CreateChannelSplitter, CreateChannelMerger, CreateBufferSource, CreateBuffer, Connect, ConnectParam, Disconnect, DisconnectParam, SetChannelCount, SetChannelCountMode, SetChannelInterpretation, SetBuffer, SetLoop, SetLoopStart, SetLoopEnd, CopyToChannel, Start, Stop, Param, Suspend, StartRendering, Resume, DecodeAudioData, ReadState, ReadTime, LeftOut}
+use Rattle.script_ast.specs.declared.op_names.OpName.TheVariants.{CreateConstantSource, CreateGain, CreateChannelSplitter, CreateChannelMerger, CreateWaveShaper, CreateBufferSource, CreateBuffer, Connect, ConnectParam, Disconnect, DisconnectParam, SetChannelCount, SetChannelCountMode, SetChannelInterpretation, SetCurve, SetOversample, SetBuffer, SetLoop, SetLoopStart, SetLoopEnd, CopyToChannel, Start, Stop, Param, Suspend, StartRendering, Resume, DecodeAudioData, ReadState, ReadTime, LeftOut}
 use Rattle.script_ast.specs.declared.param_ops.ParamOpName.{ParamOpName}
 use Rattle.script_ast.specs.declared.param_ops.ParamOpName.TheVariants as param
 use Rattle.script_json.proofs.CallSteps.{both_none, length-calls, outcome_ok}
 use Rattle.script_json.proofs.FormLaws.{disconnect_form}
 use Rattle.script_json.proofs.PlacedLaws.{placed_all}
 use Rattle.script_json.specs.Calls.{Placed, placed, has_then, call_faults, call_of, name_in, name_faults, op_faults, op_in, param_op_in}
-use Rattle.script_json.specs.Fields.{field_faults, cause_faults, member_faults, member_at, number_in, number_within, given_number, time_or_null_in, count_in, count_or_null_in, fix_of, fixes_of, fixes_in, list_in, text_in}
+use Rattle.script_json.specs.Fields.{field_faults, cause_faults, member_faults, member_at, number_in, number_within, given_number, time_or_null_in, count_in, count_or_null_in, fix_of, fixes_of, fixes_in, fixes_or_null_in, list_in, text_in}
 use Rattle.script_json.specs.Outcome.{outcome}
 use Rattle.script_json.specs.Reading.{placed_at, calls_read}
 use Rattle.script_json.specs.Script.{context_in, context_of, head_faults}
@@ -144,6 +145,15 @@ pub fixes_in-range : (field : Field) (d : Data) → AreFixes (fixes_in field d)
 unfolding fixes_of
 fixes_in-range field d = fixes_of-range (list_in field d)
 
+fixes_given : (o : Option Items) → AreFixesIfSome (option_map fixes_of o)
+unfolding fixes_of
+fixes_given None = tt
+fixes_given (Some ds) = fixes_of-range ds
+
+pub fixes_or_null_in-range : (field : Field) (d : Data) → AreFixesIfSome (fixes_or_null_in field d)
+unfolding fixes_or_null_in
+fixes_or_null_in-range field d = fixes_given (option_and_then as_array (member_at field d))
+
 param_op_in-range : (clock : Clock) (d : Data) (name : ParamOpName) → IsInRange (param_op_in clock name d)
 param_op_in-range clock d param.SetValue = fix_in-range _ _ d
 param_op_in-range clock d param.SetValueAtTime = (fix_in-range _ _ d, time_in-range clock _ _ d)
@@ -161,6 +171,7 @@ op_in-range clock n d CreateConstantSource h = (text_in-new_name clock n d (both
 op_in-range clock n d CreateGain h = (text_in-new_name clock n d (both_none _ _ (both_none _ _ h).0).0, fix_in-range _ _ d)
 op_in-range clock n d CreateChannelSplitter h = (text_in-new_name clock n d (both_none _ _ (both_none _ _ h).0).0, count_in-range _ _ d)
 op_in-range clock n d CreateChannelMerger h = (text_in-new_name clock n d (both_none _ _ (both_none _ _ h).0).0, count_in-range _ _ d)
+op_in-range clock n d CreateWaveShaper h = (text_in-new_name clock n d (both_none _ _ (both_none _ _ h).0).0, fixes_or_null_in-range _ d)
 op_in-range clock n d CreateBufferSource h = (text_in-new_name clock n d (both_none _ _ (both_none _ _ h).0).0, time_in-range clock _ _ d, time_in-range clock _ _ d, fix_in-range _ _ d)
 op_in-range clock n d CreateBuffer h = (text_in-new_name clock n d (both_none _ _ (both_none _ _ h).0).0, count_in-range _ _ d, count_in-range _ _ d, count_in-range _ _ d)
 op_in-range clock n d Connect h = (count_in-range _ _ d, count_in-range _ _ d)
@@ -172,6 +183,8 @@ op_in-range clock n d DisconnectParam h = count_or_null_in-range _ d
 op_in-range clock n d SetChannelCount h = count_in-range _ _ d
 op_in-range clock n d SetChannelCountMode h = tt
 op_in-range clock n d SetChannelInterpretation h = tt
+op_in-range clock n d SetCurve h = fixes_or_null_in-range _ d
+op_in-range clock n d SetOversample h = tt
 op_in-range clock n d SetBuffer h = tt
 op_in-range clock n d SetLoop h = tt
 op_in-range clock n d SetLoopStart h = time_in-range clock _ _ d

@@ -9,12 +9,12 @@ use Rattle.script_ast.specs.declared.call_list.Call.{Call}
 use Rattle.script_ast.specs.declared.clocks.Clock.{Clock}
 use Rattle.script_ast.specs.declared.fields.Field.TheVariants as field
 use Rattle.script_ast.specs.declared.op_names.OpName.{OpName}
-use Rattle.script_ast.specs.declared.op_names.OpName.TheVariants.{CreateConstantSource, CreateGain, CreateChannelSplitter, CreateChannelMerger, CreateBufferSource, CreateBuffer, Connect, ConnectParam, Disconnect, DisconnectParam, SetChannelCount, SetChannelCountMode, SetChannelInterpretation, SetBuffer, SetLoop, SetLoopStart, SetLoopEnd, CopyToChannel, Start, Stop, Param, Suspend, StartRendering, Resume, DecodeAudioData, ReadState, ReadTime, LeftOut}
+use Rattle.script_ast.specs.declared.op_names.OpName.TheVariants.{CreateConstantSource, CreateGain, CreateChannelSplitter, CreateChannelMerger, CreateWaveShaper, CreateBufferSource, CreateBuffer, Connect, ConnectParam, Disconnect, DisconnectParam, SetChannelCount, SetChannelCountMode, SetChannelInterpretation, SetCurve, SetOversample, SetBuffer, SetLoop, SetLoopStart, SetLoopEnd, CopyToChannel, Start, Stop, Param, Suspend, StartRendering, Resume, DecodeAudioData, ReadState, ReadTime, LeftOut}
 use Rattle.script_ast.specs.declared.operations.Op.{Op}
 use Rattle.script_ast.specs.declared.operations.Op.TheVariants as op
 use Rattle.script_ast.specs.declared.param_ops.ParamOpName.{ParamOpName}
 use Rattle.script_ast.specs.declared.param_ops.ParamOpName.TheVariants as param
-use Rattle.script_json.specs.Fields.{is_there, fields_faults, lack_faults, text_in, text_or_null_in, fix_in, time_in, time_or_null_in, count_in, count_or_null_in, flag_in, fixes_in, mode_in, interp_in, rate_in}
+use Rattle.script_json.specs.Fields.{is_there, fields_faults, lack_faults, text_in, text_or_null_in, fix_in, time_in, time_or_null_in, count_in, count_or_null_in, flag_in, fixes_in, fixes_or_null_in, mode_in, interp_in, rate_in, oversample_in}
 use Rattle.script_json.specs.declared.faults.ScriptErr.{ScriptErr}
 use Rattle.script_json.specs.declared.faults.ScriptErr.TheVariants.{WrongKind, UnknownOp}
 
@@ -105,6 +105,7 @@ op_in clock CreateConstantSource d = op.CreateConstantSource (text_in field.As d
 op_in clock CreateGain d = op.CreateGain (text_in field.As d) (fix_in entry.create_gain field.Gain d)
 op_in clock CreateChannelSplitter d = op.CreateChannelSplitter (text_in field.As d) (count_in entry.create_channel_splitter field.NumberOfOutputs d)
 op_in clock CreateChannelMerger d = op.CreateChannelMerger (text_in field.As d) (count_in entry.create_channel_merger field.NumberOfInputs d)
+op_in clock CreateWaveShaper d = op.CreateWaveShaper (text_in field.As d) (fixes_or_null_in field.Curve d) (oversample_in entry.create_wave_shaper field.Oversample d)
 op_in clock CreateBufferSource d = op.CreateBufferSource (text_in field.As d) (text_or_null_in field.Buffer d) (flag_in entry.create_buffer_source field.Loop d) (time_in clock entry.create_buffer_source field.LoopStart d) (time_in clock entry.create_buffer_source field.LoopEnd d) (fix_in entry.create_buffer_source field.PlaybackRate d)
 op_in clock CreateBuffer d = op.CreateBuffer (text_in field.As d) (count_in entry.create_buffer field.Channels d) (count_in entry.create_buffer field.Length d) (count_in entry.create_buffer field.Rate d)
 op_in clock Connect d = op.Connect (text_in field.From d) (count_in entry.connect field.Output d) (text_in field.To d) (count_in entry.connect field.Input d)
@@ -114,6 +115,8 @@ op_in clock DisconnectParam d = op.DisconnectParam (text_in field.From d) (text_
 op_in clock SetChannelCount d = op.SetChannelCount (text_in field.Node d) (count_in entry.set_channel_count field.Value d)
 op_in clock SetChannelCountMode d = op.SetChannelCountMode (text_in field.Node d) (mode_in field.Value d)
 op_in clock SetChannelInterpretation d = op.SetChannelInterpretation (text_in field.Node d) (interp_in field.Value d)
+op_in clock SetCurve d = op.SetCurve (text_in field.Node d) (fixes_or_null_in field.Curve d)
+op_in clock SetOversample d = op.SetOversample (text_in field.Node d) (oversample_in entry.set_oversample field.Value d)
 op_in clock SetBuffer d = op.SetBuffer (text_in field.Node d) (text_or_null_in field.Buffer d)
 op_in clock SetLoop d = op.SetLoop (text_in field.Node d) (flag_in entry.set_loop field.Value d)
 op_in clock SetLoopStart d = op.SetLoopStart (text_in field.Node d) (time_in clock entry.set_loop_start field.Value d)

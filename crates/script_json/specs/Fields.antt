@@ -8,14 +8,16 @@ use Rattle.wa_base.specs.declared.graph_names.Interp.{Interp}
 use Rattle.wa_base.specs.declared.graph_names.Interp.TheVariants.{Speakers}
 use Rattle.wa_base.specs.declared.graph_names.Rate.{Rate}
 use Rattle.wa_base.specs.declared.graph_names.Rate.TheVariants.{A}
-use Rattle.script_ast.specs.Entries.{fallback_in}
+use Rattle.script_ast.specs.Fallbacks.{fallback_in}
 use Rattle.script_ast.specs.declared.clocks.Clock.{Clock}
 use Rattle.script_ast.specs.declared.entries.Row.{Row}
 use Rattle.script_ast.specs.declared.entries.Fallback.{Fallback}
-use Rattle.script_ast.specs.declared.entries.Fallback.TheVariants.{Needed, Null, Number, Count, Flag, NoCalls}
+use Rattle.script_ast.specs.declared.entries.Fallback.TheVariants.{Needed, Null, Number, Count, Flag, Oversample as OversampleFallback, NoCalls}
 use Rattle.script_ast.specs.declared.fields.Field.{Field}
 use Rattle.script_ast.specs.Fields.{field_word}
-use Rattle.script_ast.specs.Words.{mode_named, interp_named, rate_named}
+use Rattle.script_ast.specs.Words.{mode_named, interp_named, rate_named, oversample_named}
+use Rattle.script_ast.specs.declared.operations.Oversample.{Oversample}
+use Rattle.script_ast.specs.declared.operations.Oversample.TheVariants.{Off}
 use Rattle.script_json.specs.Values.{whole, wholes, frames, is_within, cause_of}
 use Rattle.script_json.specs.declared.faults.ScriptErr.{ScriptErr}
 use Rattle.script_json.specs.declared.faults.ScriptErr.TheVariants as fault
@@ -44,6 +46,7 @@ is_needed Null = false
 is_needed (Number z) = false
 is_needed (Count n) = false
 is_needed (Flag b) = false
+is_needed (OversampleFallback o) = false
 is_needed NoCalls = false
 
 -- a field whose default is null may hold null
@@ -53,6 +56,7 @@ takes_null Null = true
 takes_null (Number z) = false
 takes_null (Count n) = false
 takes_null (Flag b) = false
+takes_null (OversampleFallback o) = false
 takes_null NoCalls = false
 
 -- the fault of a field whose value may not stand in it
@@ -87,6 +91,7 @@ default_number Null = None
 default_number (Number z) = Some z
 default_number (Count n) = Some (pos n)
 default_number (Flag b) = None
+default_number (OversampleFallback o) = None
 default_number NoCalls = None
 
 -- the default that is true or false
@@ -96,7 +101,18 @@ default_flag Null = false
 default_flag (Number z) = false
 default_flag (Count n) = false
 default_flag (Flag b) = b
+default_flag (OversampleFallback o) = false
 default_flag NoCalls = false
+
+-- the default that is an oversampling
+abbrev pub default_oversample : Fallback → Oversample
+default_oversample Needed = Off
+default_oversample Null = Off
+default_oversample (Number z) = Off
+default_oversample (Count n) = Off
+default_oversample (Flag b) = Off
+default_oversample (OversampleFallback o) = o
+default_oversample NoCalls = Off
 
 -- a number from low to high
 abbrev pub number_within : ℤ → ℤ → Option ℤ → Option ℤ
@@ -152,6 +168,10 @@ fixes_of ds = map fix_of (wholes ds)
 abbrev pub fixes_in : Field → Data → List ℤ
 fixes_in field d = fixes_of (list_in field d)
 
+-- the values of a field that may be null; none where it is null or absent
+unfoldable pub fixes_or_null_in : Field → Data → Option (List ℤ)
+fixes_or_null_in field d = option_map fixes_of (option_and_then as_array (member_at field d))
+
 -- the text of a field
 unfoldable pub text_in : Field → Data → List ℕ
 text_in field d = unwrap_or (option_and_then as_str (member_at field d)) []
@@ -171,3 +191,7 @@ interp_in field d = unwrap_or (option_and_then interp_named (option_and_then as_
 -- the AutomationRate of a field
 unfoldable pub rate_in : Field → Data → Rate
 rate_in field d = unwrap_or (option_and_then rate_named (option_and_then as_str (member_at field d))) A
+
+-- the OverSampleType of a field of an entry: that of its word, or the default where it has none
+unfoldable pub oversample_in : List Row → Field → Data → Oversample
+oversample_in entry field d = unwrap_or (option_and_then oversample_named (option_and_then as_str (member_at field d))) (default_oversample (fallback_in entry field))

@@ -8,7 +8,7 @@ use Rattle.script_ast.specs.declared.clocks.Clock.TheVariants.{Frames}
 use Rattle.script_ast.specs.declared.entries.Kind.{Kind}
 use Rattle.script_ast.specs.declared.entries.Kind.TheVariants as kind
 use Rattle.script_ast.specs.Ranges.{is_new_name, is_path}
-use Rattle.script_ast.specs.Words.{mode_named, interp_named, rate_named}
+use Rattle.script_ast.specs.Words.{mode_named, interp_named, rate_named, oversample_named}
 use Rattle.script_json.specs.declared.values.Cause.{Cause}
 use Rattle.script_json.specs.declared.values.Cause.TheVariants.{WrongKind, OutOfRange}
 
@@ -44,6 +44,10 @@ abbrev pub fixes_cause : Option (List (Option ℤ)) → Option Cause
 fixes_cause None = Some WrongKind
 fixes_cause (Some numbers) = if list_all is_some numbers then (if list_all is_fix numbers then None else Some OutOfRange) else Some WrongKind
 
+-- such an array, or null
+abbrev pub fixes_or_null_cause : Data → Option Cause
+fixes_or_null_cause d = if is_some (as_null d) then None else fixes_cause (option_map wholes (as_array d))
+
 -- a text that is in range, or is not
 abbrev pub text_cause : Option Bool → Option Cause
 text_cause None = Some WrongKind
@@ -70,9 +74,11 @@ cause_of clock kind.NameOrNull d = kind_cause (is_some (as_str d) || is_some (as
 cause_of clock kind.NewName d = text_cause (option_map is_new_name (as_str d))
 cause_of clock kind.Flag d = kind_cause (is_some (as_bool d))
 cause_of clock kind.Fixes d = fixes_cause (option_map wholes (as_array d))
+cause_of clock kind.FixesOrNull d = fixes_or_null_cause d
 cause_of clock kind.Path d = text_cause (option_map is_path (as_str d))
 cause_of clock kind.Mode d = word_cause (option_map mode_named (as_str d))
 cause_of clock kind.Interp d = word_cause (option_map interp_named (as_str d))
 cause_of clock kind.Rate d = word_cause (option_map rate_named (as_str d))
+cause_of clock kind.Oversample d = word_cause (option_map oversample_named (as_str d))
 cause_of clock kind.Calls d = kind_cause (is_some (as_array d))
 cause_of clock kind.Object d = kind_cause (is_some (as_object d))

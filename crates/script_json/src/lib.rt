@@ -7,6 +7,7 @@ mod members;
 mod ops;
 mod param_ops;
 mod scripts;
+mod shaper_ops;
 mod texts;
 mod tree;
 mod values;

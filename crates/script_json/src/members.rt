@@ -1,7 +1,7 @@
 ghost use Rattle.std.specs.Prelude.{◌≡◌, Some, IfOk, option_map};
 ghost use Rattle.serde_json.specs.View.{view, items_view};
-ghost use Rattle.script_ast.specs.Entries.{fallback_in};
-ghost use Rattle.script_json.specs.Fields.{member_at, member_faults, field_faults, fields_faults, default_number, default_flag, number_in, fix_in, time_in, time_or_null_in, count_in, flag_in, list_in, fix_of, fixes_of, fixes_in, count_or_null_in, is_there, lack_faults, is_needed, takes_null, given_number, number_within};
+ghost use Rattle.script_ast.specs.Fallbacks.{fallback_in};
+ghost use Rattle.script_json.specs.Fields.{member_at, member_faults, field_faults, fields_faults, default_number, default_flag, default_oversample, number_in, fix_in, time_in, time_or_null_in, count_in, flag_in, list_in, fix_of, fixes_of, fixes_in, fixes_or_null_in, count_or_null_in, is_there, lack_faults, is_needed, takes_null, given_number, number_within};
 ghost use Rattle.script_json.specs.Outcome.{outcome};
 ghost use Rattle.script_json.specs.Values.{whole, frames};
 
@@ -9,7 +9,7 @@ use crate::faults::ScriptErr;
 use crate::values::{
     Cause, MAX_COUNT, MAX_FIX, MAX_TIME, MIN_FIX, MIN_TIME, cause_of, frames, whole,
 };
-use script_ast::{Clock, Fallback, Field, Row, fallback_in};
+use script_ast::{Clock, Fallback, Field, Oversample, Row, fallback_in};
 use serde_json::Value;
 use std::alloc::Global;
 use wa_base::{Fix, NoMemory, Samples};
@@ -109,6 +109,16 @@ fn default_flag(fallback: Fallback) -> bool
     match fallback {
         Fallback::Flag(flag) => flag,
         _ => false,
+    }
+}
+
+/// The default that is an oversampling.
+pub fn default_oversample(fallback: Fallback) -> Oversample
+    ensures { result ≡ default_oversample fallback }
+{
+    match fallback {
+        Fallback::Oversample(oversample) => oversample,
+        _ => Oversample::Off,
     }
 }
 
@@ -217,6 +227,24 @@ pub fn fixes(alloc: Global, object: &Value, field: Field) -> Result<Samples, NoM
 {
     let fixes = fixes_of(alloc, list(object, field))?;
     Ok(Samples::from(fixes))
+}
+
+/// The values of a field that is a list of them, or may be null or absent.
+#[tactic(auto, unfolding(crate::specs::Fields::fixes_or_null_in))]
+pub fn fixes_or_null(
+    alloc: Global,
+    object: &Value,
+    field: Field,
+) -> Result<Option<Samples>, NoMemory>
+    ensures { IfOk result (λ fixes. fixes ≡ fixes_or_null_in field (view object.now)) }
+{
+    match member(object, field).and_then(Value::as_array) {
+        Some(list) => {
+            let fixes = fixes_of(alloc, list.as_slice())?;
+            Ok(Some(Samples::from(fixes)))
+        }
+        None => Ok(None),
+    }
 }
 
 // The values of the items of a list, in memory that is taken once.

@@ -4,6 +4,7 @@ ghost use Rattle.script_json.specs.Calls.{op_in};
 
 use crate::members::{count, count_or_null, fix, fixes, flag, time, time_or_null};
 use crate::param_ops::build_param_op;
+use crate::shaper_ops::{create_wave_shaper, set_curve, set_oversample};
 use crate::texts::{interp, mode, path, text, text_or_null};
 use script_ast::{Clock, Field, Op, OpName, entries};
 use serde_json::Value;
@@ -19,6 +20,7 @@ pub fn build(alloc: Global, clock: Clock, name: OpName, call: &Value) -> Result<
         OpName::CreateGain => create_gain(alloc, call),
         OpName::CreateChannelSplitter => create_channel_splitter(alloc, call),
         OpName::CreateChannelMerger => create_channel_merger(alloc, call),
+        OpName::CreateWaveShaper => create_wave_shaper(alloc, call),
         OpName::CreateBufferSource => create_buffer_source(alloc, clock, call),
         OpName::CreateBuffer => create_buffer(alloc, call),
         OpName::Connect => connect(alloc, call),
@@ -28,6 +30,8 @@ pub fn build(alloc: Global, clock: Clock, name: OpName, call: &Value) -> Result<
         OpName::SetChannelCount => set_channel_count(alloc, call),
         OpName::SetChannelCountMode => set_channel_count_mode(alloc, call),
         OpName::SetChannelInterpretation => set_channel_interpretation(alloc, call),
+        OpName::SetCurve => set_curve(alloc, call),
+        OpName::SetOversample => set_oversample(alloc, call),
         OpName::SetBuffer => set_buffer(alloc, call),
         OpName::SetLoop => set_loop(alloc, call),
         OpName::SetLoopStart => set_loop_start(alloc, clock, call),
@@ -36,9 +40,7 @@ pub fn build(alloc: Global, clock: Clock, name: OpName, call: &Value) -> Result<
         OpName::Start => start(alloc, clock, call),
         OpName::Stop => stop(alloc, clock, call),
         OpName::Param(name) => build_param_op(alloc, clock, name, call),
-        OpName::Suspend => Ok(Op::Suspend {
-            time: time(clock, call, &entries::SUSPEND, Field::Time),
-        }),
+        OpName::Suspend => Ok(suspend(clock, call)),
         OpName::StartRendering => Ok(Op::StartRendering),
         OpName::Resume => Ok(Op::Resume),
         OpName::DecodeAudioData => decode_audio_data(alloc, call),
@@ -257,6 +259,14 @@ fn stop(alloc: Global, clock: Clock, call: &Value) -> Result<Op, NoMemory>
         node: text(alloc, call, Field::Node)?,
         when: time(clock, call, &entries::STOP, Field::When),
     })
+}
+
+fn suspend(clock: Clock, call: &Value) -> Op
+    ensures { result ≡ op_in clock OpName.Suspend (view call.now) }
+{
+    Op::Suspend {
+        time: time(clock, call, &entries::SUSPEND, Field::Time),
+    }
 }
 
 fn decode_audio_data(alloc: Global, call: &Value) -> Result<Op, NoMemory>

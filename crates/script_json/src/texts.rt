@@ -1,9 +1,12 @@
 ghost use Rattle.std.specs.Prelude.{◌≡◌, IfOk};
 ghost use Rattle.serde_json.specs.View.{view};
-ghost use Rattle.script_json.specs.Fields.{text_in, text_or_null_in, mode_in, interp_in, rate_in};
+ghost use Rattle.script_json.specs.Fields.{text_in, text_or_null_in, mode_in, interp_in, rate_in, oversample_in};
 
-use crate::members::member;
-use script_ast::{Field, Path, interp_named, mode_named, rate_named};
+use crate::members::{default_oversample, member};
+use script_ast::{
+    Field, Oversample, Path, Row, fallback_in, interp_named, mode_named, oversample_named,
+    rate_named,
+};
 use serde_json::Value;
 use std::alloc::Global;
 use wa_base::{Interp, Mode, Name, NoMemory, Rate};
@@ -72,4 +75,15 @@ pub fn rate(object: &Value, field: Field) -> Rate
         .and_then(Value::as_str)
         .and_then(|word| rate_named(word))
         .unwrap_or(Rate::A)
+}
+
+/// The OverSampleType of a field of an entry.
+#[tactic(auto, unfolding(crate::specs::Fields::oversample_in))]
+pub fn oversample(object: &Value, entry: &[Row], field: Field) -> Oversample
+    ensures { result ≡ oversample_in entry.now field (view object.now) }
+{
+    member(object, field)
+        .and_then(Value::as_str)
+        .and_then(|word| oversample_named(word))
+        .unwrap_or(default_oversample(fallback_in(entry, field)))
 }

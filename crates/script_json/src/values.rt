@@ -3,9 +3,9 @@ ghost use Rattle.std.specs.List.{list_all};
 ghost use Rattle.serde_json.specs.Find.{as_array};
 ghost use Rattle.serde_json.specs.View.{view, items_view};
 ghost use Rattle.script_ast.specs.Ranges.{is_name_byte, has_name_length, has_name_bytes, is_new_name, is_path};
-ghost use Rattle.script_json.specs.Values.{whole, wholes, is_fix, frames, cause_of, number_cause, fixes_cause, text_cause, word_cause, kind_cause};
+ghost use Rattle.script_json.specs.Values.{whole, wholes, is_fix, frames, cause_of, number_cause, fixes_cause, text_cause, word_cause, kind_cause, fixes_or_null_cause};
 
-use script_ast::{Clock, Kind, interp_named, mode_named, rate_named};
+use script_ast::{Clock, Kind, interp_named, mode_named, oversample_named, rate_named};
 use serde_json::{Number, Value};
 
 /// Why a value is not taken for a field.
@@ -60,10 +60,12 @@ pub fn cause_of(clock: Clock, kind: Kind, value: &Value) -> Option<Cause>
         Kind::NewName => text_cause(value.as_str().map(|name| is_new_name(name))),
         Kind::Flag => kind_cause(value.as_bool().is_some()),
         Kind::Fixes => fixes_cause(value),
+        Kind::FixesOrNull => fixes_or_null_cause(value),
         Kind::Path => text_cause(value.as_str().map(|path| is_path(path))),
         Kind::Mode => word_cause(value.as_str().map(|word| mode_named(word))),
         Kind::Interp => word_cause(value.as_str().map(|word| interp_named(word))),
         Kind::Rate => word_cause(value.as_str().map(|word| rate_named(word))),
+        Kind::Oversample => word_cause(value.as_str().map(|word| oversample_named(word))),
         Kind::Calls => kind_cause(value.is_array()),
         Kind::Object => kind_cause(value.is_object()),
     }
@@ -104,6 +106,15 @@ fn fixes_cause(value: &Value) -> Option<Cause>
         return Some(Cause::OutOfRange);
     }
     None
+}
+
+fn fixes_or_null_cause(value: &Value) -> Option<Cause>
+    ensures { result ≡ fixes_or_null_cause (view value.now) }
+{
+    if value.is_null() {
+        return None;
+    }
+    fixes_cause(value)
 }
 
 fn are_whole(list: &[Value]) -> bool

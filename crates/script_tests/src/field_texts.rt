@@ -1,5 +1,6 @@
+use script_ast::Oversample;
 use std::alloc::{AllocError, Global};
-use wa_base::{Fix, Interp, Mode, Name, Rate};
+use wa_base::{Fix, Interp, Mode, Name, Rate, Samples};
 
 pub fn text(name: &Name) -> &str {
     str::from_utf8(name.as_slice()).unwrap_or("no text")
@@ -31,6 +32,18 @@ pub fn values_text(alloc: Global, values: &[Fix]) -> Result<String, AllocError> 
     Ok(all)
 }
 
+pub fn list_text(alloc: Global, values: &Samples) -> Result<String, AllocError> {
+    let values = values_text(alloc, values.as_slice())?;
+    format!(in alloc; "[{values}]")
+}
+
+pub fn list_or_none(alloc: Global, values: &Option<Samples>) -> Result<String, AllocError> {
+    match values {
+        Some(values) => list_text(alloc, values),
+        None => String::from_str(alloc, "none"),
+    }
+}
+
 pub fn mode_text(mode: Mode) -> &'static str {
     match mode {
         Mode::Max => "max",
@@ -50,5 +63,13 @@ pub fn rate_text(rate: Rate) -> &'static str {
     match rate {
         Rate::A => "a-rate",
         Rate::K => "k-rate",
+    }
+}
+
+pub fn oversample_text(oversample: Oversample) -> &'static str {
+    match oversample {
+        Oversample::Off => "none",
+        Oversample::Two => "2x",
+        Oversample::Four => "4x",
     }
 }

@@ -28,6 +28,10 @@ mod reading;
 #[cfg(test)]
 mod script_cases;
 #[cfg(test)]
+mod shaper_cases;
+#[cfg(test)]
 mod texts;
 #[cfg(test)]
 mod word_cases;
+#[cfg(test)]
+mod words;

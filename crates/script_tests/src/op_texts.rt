@@ -1,4 +1,7 @@
-use crate::field_texts::{count_text, interp_text, mode_text, text, text_or_none, values_text};
+use crate::field_texts::{
+    count_text, interp_text, list_or_none, list_text, mode_text, oversample_text, text,
+    text_or_none,
+};
 use crate::param_texts::param_op_text;
 use script_ast::Op;
 use std::alloc::{AllocError, Global};
@@ -122,8 +125,30 @@ fn attribute_text(alloc: Global, op: &Op) -> Result<String, AllocError> {
             samples,
             at,
         } => {
-            let values = values_text(alloc, samples.as_slice())?;
-            format!(in alloc; "copyToChannel {} {channel} [{values}] {at}", text(buffer))
+            let samples = list_text(alloc, samples)?;
+            format!(in alloc; "copyToChannel {} {channel} {samples} {at}", text(buffer))
+        }
+        _ => shaper_text(alloc, op),
+    }
+}
+
+fn shaper_text(alloc: Global, op: &Op) -> Result<String, AllocError> {
+    match op {
+        Op::CreateWaveShaper {
+            name,
+            curve,
+            oversample,
+        } => {
+            let curve = list_or_none(alloc, curve)?;
+            let oversample = oversample_text(*oversample);
+            format!(in alloc; "createWaveShaper {} {curve} {oversample}", text(name))
+        }
+        Op::SetCurve { node, curve } => {
+            let curve = list_or_none(alloc, curve)?;
+            format!(in alloc; "setCurve {} {curve}", text(node))
+        }
+        Op::SetOversample { node, value } => {
+            format!(in alloc; "setOversample {} {}", text(node), oversample_text(*value))
         }
         _ => buffer_source_text(alloc, op),
     }

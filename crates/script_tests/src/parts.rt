@@ -1,10 +1,10 @@
 use script_ast::{
-    Call, Calls, Fallback, Field, Kind, Op, OpName, ParamOpName, Path, Row, Script, fallback_in,
-    interp_named, is_built, mode_named, rate_named,
+    Call, Calls, Fallback, Field, Kind, Op, OpName, Oversample, ParamOpName, Path, Row, Script,
+    fallback_in, is_built,
 };
 use std::alloc::Global;
 use std::test::Fail;
-use wa_base::{ContextSpec, Interp, Mode, NoMemory, Rate};
+use wa_base::{ContextSpec, NoMemory};
 
 fn script(alloc: Global) -> Result<Script, NoMemory> {
     let mut calls = Calls::new(alloc);
@@ -47,13 +47,16 @@ fn finds_calls_by_their_ordinals(rt: HostRuntime) -> Result<(), Fail> {
     Ok(())
 }
 
-static BUILT: [&str; 22] = [
+static BUILT: [&str; 25] = [
     "createGain",
     "connect",
     "disconnect",
     "setChannelCount",
     "setChannelCountMode",
     "setChannelInterpretation",
+    "createWaveShaper",
+    "setCurve",
+    "setOversample",
     "createBufferSource",
     "createBuffer",
     "setBuffer",
@@ -72,12 +75,11 @@ static BUILT: [&str; 22] = [
     "setListener",
 ];
 
-static NOT_BUILT: [&str; 7] = [
+static NOT_BUILT: [&str; 6] = [
     "",
     "Connect",
     "creategain",
-    "setOversample",
-    "setCurve",
+    "createIIRFilter",
     "createDelay",
     "then",
 ];
@@ -123,11 +125,12 @@ fn a_disconnect_has_the_fields_of_the_format(rt: HostRuntime) {
 }
 
 #[test]
-fn what_sets_channels_has_the_fields_of_the_format(rt: HostRuntime) {
+fn what_sets_a_value_has_the_fields_of_the_format(rt: HostRuntime) {
     for (name, kind) in [
         (OpName::SetChannelCount, Kind::Count),
         (OpName::SetChannelCountMode, Kind::Mode),
         (OpName::SetChannelInterpretation, Kind::Interp),
+        (OpName::SetOversample, Kind::Oversample),
     ] {
         let want = [
             row(Field::Node, Kind::Name, Fallback::Needed),
@@ -135,6 +138,25 @@ fn what_sets_channels_has_the_fields_of_the_format(rt: HostRuntime) {
         ];
         assert_eq!(rt; name.fields(), want.as_slice(), "of {}", name.word());
     }
+}
+
+#[test]
+fn a_shaper_has_the_fields_of_the_format(rt: HostRuntime) {
+    let made = [
+        row(Field::As, Kind::NewName, Fallback::Needed),
+        row(Field::Curve, Kind::Fixes, Fallback::Null),
+        row(
+            Field::Oversample,
+            Kind::Oversample,
+            Fallback::Oversample(Oversample::Off),
+        ),
+    ];
+    let curved = [
+        row(Field::Node, Kind::Name, Fallback::Needed),
+        row(Field::Curve, Kind::FixesOrNull, Fallback::Needed),
+    ];
+    assert_eq!(rt; OpName::CreateWaveShaper.fields(), made.as_slice());
+    assert_eq!(rt; OpName::SetCurve.fields(), curved.as_slice());
 }
 
 #[test]
@@ -208,46 +230,6 @@ fn a_field_has_the_default_of_its_row(rt: HostRuntime) {
             want,
             "of {field}"
         );
-    }
-}
-
-#[test]
-fn a_mode_has_its_word(rt: HostRuntime) {
-    for (word, want) in [
-        ("max", Some(Mode::Max)),
-        ("clamped-max", Some(Mode::ClampedMax)),
-        ("explicit", Some(Mode::Explicit)),
-        ("Max", None),
-        ("", None),
-        ("speakers", None),
-    ] {
-        assert_eq!(rt; mode_named(word), want, "of {word}");
-    }
-}
-
-#[test]
-fn an_interpretation_has_its_word(rt: HostRuntime) {
-    for (word, want) in [
-        ("speakers", Some(Interp::Speakers)),
-        ("discrete", Some(Interp::Discrete)),
-        ("Discrete", None),
-        ("", None),
-        ("max", None),
-    ] {
-        assert_eq!(rt; interp_named(word), want, "of {word}");
-    }
-}
-
-#[test]
-fn an_automation_rate_has_its_word(rt: HostRuntime) {
-    for (word, want) in [
-        ("a-rate", Some(Rate::A)),
-        ("k-rate", Some(Rate::K)),
-        ("K-rate", None),
-        ("", None),
-        ("max", None),
-    ] {
-        assert_eq!(rt; rate_named(word), want, "of {word}");
     }
 }
 

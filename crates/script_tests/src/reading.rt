@@ -6,6 +6,7 @@ use crate::event_cases::EVENTS;
 use crate::param_cases::{PARAM_CONNECTIONS, VALUES};
 use crate::port_cases::PORTS;
 use crate::script_cases::SCRIPTS;
+use crate::shaper_cases::SHAPERS;
 use crate::texts::reading;
 use crate::word_cases::{INTERPS, MODES};
 use script_ast::{Call, Op, Script};
@@ -85,6 +86,13 @@ fn reads_ports(rt: HostRuntime) -> Result<(), Fail> {
 #[test]
 fn reads_buffers(rt: HostRuntime) -> Result<(), Fail> {
     let misread = first_misread(rt.alloc(), BEFORE, AFTER, &BUFFERS)?;
+    assert_eq!(rt; misread, None);
+    Ok(())
+}
+
+#[test]
+fn reads_shapers(rt: HostRuntime) -> Result<(), Fail> {
+    let misread = first_misread(rt.alloc(), BEFORE, AFTER, &SHAPERS)?;
     assert_eq!(rt; misread, None);
     Ok(())
 }
