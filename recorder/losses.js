@@ -49,6 +49,8 @@ const LOSS_KINDS = {
 
   // What a script cannot say.
   'call-while-rendering': {grade: 'refused', says: 'calls made while rendering runs, outside a suspension; no frame is known for them'},
+  'second-curve': {grade: 'refused',
+    says: 'a curve of a WaveShaperNode after its first one, or one of fewer than two points; browsers take it, waplay does not'},
   'context-rate': {grade: 'refused', says: 'a rate that is no whole number'},
   'context-limit': {grade: 'refused',
     says: 'a context that waplay refuses: 1 to 32 channels, 8,000 to 96,000 frames a second, quanta of 128 frames'},

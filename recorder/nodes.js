@@ -126,6 +126,13 @@ function registerNode(recording, node, entry) {
   if (entry.kind === 'AnalyserNode') recording.analysers.push(entry);
 }
 
+// The browser took a curve. waplay takes one for each shaper, of two points or more.
+function curveTaken(entry, call) {
+  if (!call.curve) return;
+  if (entry.hasCurve || call.curve.length < 2) entry.recording.lose('second-curve', call);
+  entry.hasCurve = true;
+}
+
 // A page created a node, or was refused one.
 function nodeCreated(kind, context, options, node, exception) {
   const recording = recordingOfContext.get(context);
@@ -138,6 +145,7 @@ function nodeCreated(kind, context, options, node, exception) {
   const entry = entryOfNode.get(node);
   if (kind === 'AudioBufferSourceNode' && isGiven(options.buffer))
     Object.assign(entry, {buffer: options.buffer, bufferCall: creation, bufferList: recording.current});
+  if (kind === 'WaveShaperNode') curveTaken(entry, creation);
 }
 
 // The arguments of a factory as the options of its constructor.
@@ -188,6 +196,7 @@ function wrapNodes() {
     const call = {op: 'setCurve', node: entry.name, curve: null};
     if (isGiven(curve)) call.curve = fixedList(entry.recording, Float32Array.from(curve), call);
     entry.recording.emit([call], exception);
+    if (!exception) curveTaken(entry, call);
   });
   // What counts for baking and for the rewriting of biquads.
   wrapAttribute(globalThis.OscillatorNode.prototype, 'type', (node, type, exception) => {

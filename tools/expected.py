@@ -13,9 +13,10 @@ the folder that it runs in, as they are for the program.
     python3 tools/expected.py --rows               compares mixing with rows that were worked out by
                                                    hand, and with all pairs of 1 to 32 channels that
                                                    have no equation; and compares whole sessions of
-                                                   splitters and mergers, of buffers, of parameters and of
-                                                   suspensions, that were worked out by hand
-                                                   (tools/worked_rows.py, tools/worked_suspensions.py)
+                                                   splitters and mergers, of buffers, of parameters, of
+                                                   suspensions and of wave shapers, that were worked out by
+                                                   hand (tools/worked_rows.py, tools/worked_suspensions.py,
+                                                   tools/worked_shapers.py)
     python3 tools/expected.py --write FOLDER       writes the scripts of these sessions with their
                                                    transcripts and assets into a new folder, so that
                                                    tools/compare.sh FOLDER/*.json runs them

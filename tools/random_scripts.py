@@ -65,6 +65,7 @@ FIX = (-(2**31), 2**31 - 1)
 TIME = 2**40
 ONE = 2**24
 AUTOMATED = [*EDITS, *LEFT_OUT_EDITS, "readValue"]  # the operations on one parameter
+SHAPERS = {"createWaveShaper", "setCurve", "setOversample"}
 BUFFERS = {"createBuffer", "copyToChannel", "createBufferSource", "setBuffer", *LOOPS}
 
 
@@ -117,6 +118,9 @@ class Maker:
     def player(self):
         return self.name(lambda kind: kind is KINDS["createBufferSource"])
 
+    def shaper(self):
+        return self.name(lambda kind: kind is KINDS["createWaveShaper"])
+
     def buffer(self):
         return self.name(lambda kind: isinstance(kind, Sound))
 
@@ -167,6 +171,19 @@ class Maker:
         count = self.rng.choice([2, 2, 3]) if some < 12 else self.rng.randint(4, 12) if some < 17 else self.rng.choice(
             [0, 1, 1, 60, 200])
         return [self.value() for _ in range(count)]
+
+    def bend(self):
+        """The curve of a shaper, or none. Some have points at the ends of the range, and some many of them, as
+        a staircase has."""
+        some = self.rng.randint(0, 19)
+        if some < 4:
+            return None
+        if some < 6:
+            return [self.rng.choice(FIX) for _ in range(self.rng.choice([2, 2, 3, 4, 9]))]
+        if some < 8:
+            steps, length = self.rng.choice([2, 3, 8, 17]), self.rng.choice([1, 2, 7, 30])
+            return [2 * ONE * step // (steps - 1) - ONE for step in range(steps) for _ in range(length)]
+        return self.points()
 
     def span(self, name, time):
         """The duration of a curve from this time on: mostly some frames or up to the time of another edit,
@@ -280,6 +297,16 @@ class Maker:
 
     def create_merger(self):
         return self.create_with("createChannelMerger", "numberOfInputs", "inputs")
+
+    def create_shaper(self):
+        return self.create("createWaveShaper", curve=self.bend(),
+                           oversample=self.rng.choice(["none"] * 8 + ["2x", "4x"]))
+
+    def set_curve(self, name=None):
+        return self.call("setCurve", [("node", name or self.shaper()), ("curve", self.bend())])
+
+    def set_oversample(self):
+        return self.call("setOversample", [("node", self.shaper()), ("value", self.rng.choice(["none", "none", "2x", "4x"]))])
 
     def connect(self):
         source, target = self.name(), self.target()
@@ -837,6 +864,43 @@ class Maker:
             return calls
         return calls + [{"op": "startRendering", "then": held}]
 
+    def bent(self):
+        """Sources that mostly move, and shapers behind one another with a few other nodes between, some of them
+        in cycles. What comes to a shaper is mostly up to 2.0. Some curves are set before the connections and some
+        behind them, and some are taken away."""
+        calls = [self.create_constant()] + [self.create_source() for _ in range(self.rng.randint(0, 3))]
+        sources = [call["as"] for call in calls]
+        for _ in range(self.rng.randint(1, 6)):
+            make = self.create_shaper if self.may(0.7) else self.rng.choice([self.create_gain, self.create_place])
+            calls.append(make())
+        places = list(dict.fromkeys(call["as"] for call in calls))
+        shapers = [name for name in places if self.names[name] is KINDS["createWaveShaper"]]
+        for call in calls:
+            if "oversample" in call and self.may(0.8):
+                del call["oversample"]
+            if {"offset", "gain"} & set(call) and self.may(0.7):
+                call.update(dict.fromkeys({"offset", "gain"} & set(call), self.rng.randint(-2 * ONE, 2 * ONE)))
+        early = [self.set_curve(name) for name in shapers if self.may(0.3)]
+        backward = self.rng.choice([0, 0, 0, 0.1, 0.3])
+        for at, name in enumerate(places):
+            after = [place for place in places[at + 1:] if self.names[place].inputs]
+            after = places if self.may(backward) else after
+            for _ in range(self.rng.choice([1, 1, 2])):
+                target = self.rng.choice(after) if after and self.may(0.7) else "destination"
+                calls.append(self.joined(name, target))
+        if shapers:
+            calls.append(self.joined(shapers[-1], "destination"))
+        calls += early + [call for name in sources if self.names[name].parameter and self.may(0.8)
+                          for call in self.timeline(name)]
+        calls += [self.connect_param(name) for name in shapers if self.may(0.2)]
+        calls += [self.attribute(op, name) for name in places + ["destination"] for op in self.attributes
+                  if self.may(0.1)]
+        calls += [self.call("start", [("node", name)]) for name in sources if self.may(0.95)]
+        late = [self.set_curve, self.set_curve, self.set_oversample, self.any_call]
+        calls += [self.rng.choice(late)() for _ in range(self.rng.choice([0, 0, 1, 4]))]
+        calls += [self.stop() for _ in range(self.rng.choice([0, 0, 1]))]
+        return calls + [self.start_rendering()]
+
     def sprinkled(self, calls):
         """The calls with some more between them that have to do with parameters."""
         calls = list(calls)
@@ -926,6 +990,7 @@ class Maker:
         shape = rng.choices([shape for _, shape in SHAPES], [often for often, _ in SHAPES])[0]
         needed = {Maker.wide: ATTRIBUTES, Maker.played: BUFFERS, Maker.store: BUFFERS,
                   Maker.automated: [*AUTOMATED, "connectParam", "disconnectParam"],
+                  Maker.bent: [*SHAPERS, *AUTOMATED, "connectParam"],
                   **dict.fromkeys((Maker.woven, Maker.cables), ("createChannelSplitter", "createChannelMerger"))}
         if not self.read_ops.issuperset(needed.get(shape, ())):
             shape = Maker.graph
@@ -969,6 +1034,8 @@ OPERATIONS = [
     (8, Maker.copy_to_channel, *BUFFERS),
     (6, Maker.set_buffer, *BUFFERS),
     (6, Maker.set_loop, *BUFFERS),
+    (6, Maker.set_curve, *SHAPERS),
+    (2, Maker.set_oversample, *SHAPERS),
     (8, Maker.connect_param, "connectParam"),
     (4, Maker.disconnect_param, "disconnectParam"),
     *[(3, lambda maker, op=op: maker.edit(op), op) for op in AUTOMATED],
@@ -989,6 +1056,8 @@ CHANGES = [
     (4, Maker.start),
     (4, Maker.stop),
     (4, Maker.set_attribute, *ATTRIBUTES),
+    (5, Maker.set_curve, *SHAPERS),
+    (1, Maker.set_oversample, *SHAPERS),
     (2, Maker.copy_to_channel, *BUFFERS),
     (2, Maker.set_buffer, *BUFFERS),
     (2, Maker.set_loop, *BUFFERS),
@@ -1006,6 +1075,7 @@ KINDS = {
     "createGain": Kind(14, Maker.create_gain, 1, 1, False, "gain"),
     "createChannelSplitter": Kind(5, Maker.create_splitter, 1, 6, False, None),
     "createChannelMerger": Kind(5, Maker.create_merger, 6, 1, False, None),
+    "createWaveShaper": Kind(6, Maker.create_shaper, 1, 1, False, None),
 }
 
 # What is kept of a buffer: what a node has, so that a call can take it for one, and its size.
@@ -1017,7 +1087,7 @@ Link = collections.namedtuple("Link", "target")
 # What a member is spoiled with: much of it is of a wrong kind or out of range for most fields.
 SPOILED = [None, True, 0, 1, -1, 1.0, 1e2, 2**31, 2**32, 2**40 + 1, 2**63, 2**64, -(2**63) - 1, "", "n1", "x" * 65,
            "a b", "destination", "\ud800", "max", "k-rate", "Explicit", "discrete", "connect", "createFoo", [], {}, [7], [{}],
-           False, [2**31], [0.5, 2**31], "x" * 256, "\u00e9" * 128, 2**24]
+           False, [2**31], [0.5, 2**31], "x" * 256, "\u00e9" * 128, 2**24, "2x", "none", [2**31, 1]]
 
 # How often a script has each shape. The last four take long to work out, or much memory to run.
 SHAPES = [
@@ -1027,6 +1097,7 @@ SHAPES = [
     (600, Maker.woven),
     (1200, Maker.played),
     (2000, Maker.automated),
+    (1000, Maker.bent),
     (300, Maker.faulty),
     (100, Maker.unrendered),
     (2, Maker.cables),
@@ -1069,6 +1140,9 @@ REFUSALS = {
     "createGain": [PROFILE + "node-limit"],
     "createChannelSplitter": ["IndexSizeError", PROFILE + "node-limit"],
     "createChannelMerger": ["IndexSizeError", PROFILE + "node-limit"],
+    "createWaveShaper": [PROFILE + "oversample", "InvalidStateError", PROFILE + "node-limit"],
+    "setCurve": ["TypeError", "InvalidStateError"],
+    "setOversample": ["TypeError", PROFILE + "oversample"],
     "connect": ["TypeError", PROFILE + "destination-output", "IndexSizeError", PROFILE + "connection-limit"],
     "disconnect": ["TypeError", PROFILE + "destination-output", "IndexSizeError", "InvalidAccessError"],
     "connectParam": [*OF_PARAMETERS, PROFILE + "destination-output", "IndexSizeError", PROFILE + "connection-limit"],
@@ -1235,6 +1309,21 @@ def stereo_loops():
     return script_with(2, 480000, calls)
 
 
+def loops_through(length, creation):
+    """The same loops, each through so many nodes of this creation behind one another."""
+    calls = [call for call in stereo_loops()["calls"] if call["op"] not in ("connect", "startRendering")]
+    for i in range(32):
+        row = ["n%d-%d" % (i, k) for k in range(length)]
+        calls += [{**creation, "as": name} for name in row]
+        calls += [joined(*pair) for pair in zip(["s%d" % i, *row], [*row, "destination"])]
+    return script_with(2, 480000, calls)
+
+
+def loops_through_shapers():
+    curve = [ONE * k * (12288 - k * k) // 2**20 for k in range(-64, 65)]  # 3/4 x - 1/4 x^3 of x = k / 64
+    return loops_through(6, {"op": "createWaveShaper", "curve": curve})
+
+
 def largest_asset():
     calls = [{"op": "decodeAudioData", "as": "b", "path": "largest.wav"}, joined("s", "destination")]
     calls[1:1] = [{"op": "createBufferSource", "as": "s", "buffer": "b"}, {"op": "start", "node": "s"}]
@@ -1331,6 +1420,7 @@ LOADS = {
     "l": many_reads_of_the_state,           # 100,000 calls of readState, 128 frames
     "m": voices_with_suspensions,           # i with 3,749 suspensions, each of which sets one gain
     "n": many_suspensions,                  # a constant and 100,000 suspensions, 1 channel, 12,800,128 frames
+    "o": loops_through_shapers,             # g, each loop through 6 shapers with a curve of 129 points
 }
 
 

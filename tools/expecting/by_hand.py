@@ -1,5 +1,5 @@
-"""Compares tools/expected.py with what was worked out by hand, which stands in tools/worked_rows.py and in
-tools/worked_suspensions.py."""
+"""Compares tools/expected.py with what was worked out by hand, which stands in tools/worked_rows.py,
+tools/worked_suspensions.py and tools/worked_shapers.py."""
 
 import json
 import os
@@ -7,6 +7,7 @@ import re
 import tempfile
 
 import worked_rows
+import worked_shapers
 import worked_suspensions
 from expecting.nodes import QUANTUM
 from expecting.numbers import mixed
@@ -109,10 +110,14 @@ def sessions():
     """The sessions, by what they are of."""
     routed = [(calls, (channels, QUANTUM, 48000), answers, [], samples and [samples] * QUANTUM)
               for calls, channels, answers, samples in worked_rows.SESSIONS]
-    them = {"splitters and mergers": routed, "buffers": worked_rows.BUFFER_SESSIONS,
-            "parameters": worked_rows.AUTOMATION_SESSIONS.values()}
-    return {**{what: [worked(session) for session in some] for what, some in them.items()},
-            "suspensions": [worked_with_lines(session) for session in worked_suspensions.SESSIONS.values()]}
+    of_each = {  # those without suspensions, and those whose lines are told
+        "splitters and mergers": (routed, []),
+        "buffers": (worked_rows.BUFFER_SESSIONS, []),
+        "parameters": (worked_rows.AUTOMATION_SESSIONS.values(), []),
+        "suspensions": ([], worked_suspensions.SESSIONS.values()),
+        "wave shapers": (worked_shapers.SESSIONS.values(), worked_shapers.SUSPENDED.values()),
+    }
+    return {what: [*map(worked, some), *map(worked_with_lines, others)] for what, (some, others) in of_each.items()}
 
 
 def write_assets(folder):

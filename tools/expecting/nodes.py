@@ -16,6 +16,7 @@ FIXED = {
     "gain": (),
     "splitter": ("count", "mode", "interpretation"),
     "merger": ("count", "mode"),
+    "shaper": (),
 }
 
 SOURCES = ("constant", "buffer source")

@@ -68,6 +68,8 @@ class Rendering:
         have these values."""
         if node.kind == "gain":
             return [[product(x, levels["gain"]) for x in heard[0]]]
+        if node.kind == "shaper":
+            return [[node.shaped(x) for x in heard[0]]]
         if node.kind == "splitter":  # its one input has as many channels as it has outputs
             return [[x] for x in heard[0]]
         if node.kind == "merger":  # each of its inputs has one channel

@@ -5,6 +5,7 @@ import os
 import struct
 
 from expecting.automation import EDITS, LEFT_OUT_EDITS
+from expecting.causal import Shaper, check_oversample
 from expecting.nodes import (ASSET_LIMIT, FIXED, PARAMETERS, QUANTUM, SOURCES, AssetFault, Buffer, BufferSource, Node,
                              asset)
 from expecting.numbers import ONE
@@ -105,6 +106,18 @@ class Session:
         self.check_rate(it)
         self.add_buffer(call["as"], Buffer(it.channels, it.frames, it.rate, it))
         return "resolved"
+
+    def shaper(self, call):
+        return self.nodes[self.find(call["node"], ("shaper",))]
+
+    def set_curve(self, call):
+        self.shaper(call).set_curve(call["curve"])
+        return "ok"
+
+    def set_oversample(self, call):
+        self.shaper(call)
+        check_oversample(call["value"])
+        return "ok"
 
     def set_buffer(self, call):
         node, buffer = self.nodes[self.find(call["node"], SOURCES[1:])], self.find_buffer(call["buffer"])
@@ -274,6 +287,7 @@ class Session:
             "createGain": lambda: self.create("gain", call["as"], call.get("gain", ONE)),
             "createChannelSplitter": lambda: self.create("splitter", call["as"], call.get("numberOfOutputs", 6)),
             "createChannelMerger": lambda: self.create("merger", call["as"], call.get("numberOfInputs", 6)),
+            "createWaveShaper": lambda: self.add_node(Shaper(call)),
             "createBufferSource": lambda: self.create_source(call),
             "createBuffer": lambda: self.create_buffer(call),
             "connect": lambda: self.connect(call),
@@ -282,6 +296,8 @@ class Session:
             "disconnectParam": lambda: self.disconnect_param(call),
             **dict.fromkeys([*EDITS, *LEFT_OUT_EDITS, "readValue"], lambda: self.automate(call)),
             **dict.fromkeys(ATTRIBUTES, lambda: self.set_attribute(call)),
+            "setCurve": lambda: self.set_curve(call),
+            "setOversample": lambda: self.set_oversample(call),
             "setBuffer": lambda: self.set_buffer(call),
             **dict.fromkeys(LOOPS, lambda: self.set_loop(call)),
             "copyToChannel": lambda: self.copy_to_channel(call),

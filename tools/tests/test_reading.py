@@ -15,10 +15,7 @@ from reporting.text import BadInput, quoted, visible
 # What the format refuses, where the program does not do the operation yet.
 REFUSALS = {
     "createDelay": ["NotSupportedError", "long-delay", "node-limit", "delay-limit"],
-    "createWaveShaper": ["oversample", "InvalidStateError", "node-limit"],
     "createIIRFilter": ["NotSupportedError", "InvalidStateError", "node-limit"],
-    "setCurve": ["TypeError", "InvalidStateError"],
-    "setOversample": ["TypeError", "oversample"],
 }
 
 
@@ -203,7 +200,8 @@ class Following(unittest.TestCase):
         self.assertEqual([call.ordinal for call in found.not_run], [23])
 
     def test_worked_sessions_with_suspensions_belong_to_their_scripts(self):
-        for name, data, text, _ in by_hand.sessions()["suspensions"]:
+        worked = by_hand.sessions()
+        for name, data, text, _ in worked["suspensions"] + worked["wave shapers"]:
             if not text:  # an asset can't be read
                 continue
             script = script_reading.script_of(data)
