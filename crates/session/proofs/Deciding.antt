@@ -1,26 +1,23 @@
--- What an operation comes to, and what that leaves of a machine.
-use Rattle.std.proofs.Common.{ℕ, ℤ, Bool, ◌≡◌, ◌<◌, length, List, true, false, Option, Some, None, Result, Ok, Err, IsSome, refl, sym, ◌∙◌, ap, subst, arith}
-use Rattle.std.specs.Prelude.{is_some, unwrap_or, if◌then◌else◌, IfSome, IfOk, OnErr}
+-- What an operation comes to is what it may come to.
+use Rattle.std.proofs.Common.{ℕ, ℤ, Bool, ◌≡◌, ◌<◌, length, List, true, false, Option, Some, None, refl, sym, ap, subst, arith}
+use Rattle.std.specs.Prelude.{is_some, unwrap_or, if◌then◌else◌, IfSome}
 use Rattle.wa_base.specs.declared.exceptions.Exc.{Exc}
 use Rattle.wa_base.specs.Contexts.{quantum_of}
-use Rattle.wa_base.specs.declared.exceptions.Exc.TheVariants.{NotSupported, InvalidState}
+use Rattle.wa_base.specs.declared.exceptions.Exc.TheVariants.{NotSupported, InvalidState, WrongType}
 use Rattle.ctx_state.specs.Context.{ContextView, start_refusal, resume_refusal, quantised, frame_refusal, suspend_refusal, suspend_frame, may_suspend}
 use Rattle.wa_base.specs.declared.features.Feature.TheVariants.{ExponentialRamp, SetTarget}
 use Rattle.wa_base.specs.declared.graph_names.BufId.{BufId}
 use Rattle.wa_base.specs.declared.graph_names.ParamId.{ParamId}
 use Rattle.wa_base.specs.declared.graph_names.NodeId.{NodeId}
-use Rattle.wa_base.specs.declared.memory.NoMemory.{NoMemory}
-use Rattle.transcript.specs.declared.lines.Answer.{Answer}
 use Rattle.transcript.specs.declared.lines.Answer.TheVariants as answer
-use Rattle.io_edge.specs.Paths.{Paths}
 use Rattle.script_ast.specs.Ranges.{IsInRange, IsNewName}
-use Rattle.script_ast.specs.declared.call_list.Call.{Call}
 use Rattle.script_ast.specs.declared.operations.Op.{Op}
 use Rattle.script_ast.specs.declared.operations.Op.TheVariants as op
+use Rattle.script_ast.specs.declared.operations.Oversample.{Oversample}
 use Rattle.name_book.specs.Book.{object_of}
 use Rattle.name_book.specs.declared.book.Object.{Object}
 use Rattle.name_book.specs.declared.book.Object.TheVariants as object
-use Rattle.node_table.specs.declared.kinds.Kind.TheVariants.{Constant, Gain, Splitter, Merger}
+use Rattle.node_table.specs.declared.kinds.Kind.TheVariants.{Constant, Gain, Splitter, Merger, Shaper}
 use Rattle.conn_graph.specs.Edges.{form_node}
 use Rattle.meaning.specs.declared.automation.ParamEdit.{ParamEdit}
 use Rattle.meaning.specs.declared.automation.ParamEdit.TheVariants as line
@@ -30,18 +27,16 @@ use Rattle.meaning.specs.declared.change.Edit.{Edit}
 use Rattle.meaning.specs.declared.change.Edit.TheVariants as edit
 use Rattle.meaning.specs.declared.scheds.LoopPart.TheVariants as part
 use Rattle.meaning.specs.declared.sources.SourceEdit.TheVariants as source
-use Rattle.meaning.specs.declared.world.World.{World}
-use Rattle.meaning.specs.World.{slot_of}
+use Rattle.meaning.specs.World.{kind_of, slot_of}
 use Rattle.meaning.specs.Sources.{IsBufferOf}
-use Rattle.meaning.specs.Changes.{creates, edited, refusal, IsNamed, Grows}
-use Rattle.meaning.proofs.Changing.{grows_same, changed_grows}
-use Rattle.session.specs.declared.control.Stepped.{Stepped}
+use Rattle.meaning.specs.Changes.{creates, refusal, IsNamed}
 use Rattle.session.specs.declared.decide.Decided.{Decided}
 use Rattle.session.specs.declared.decide.Decided.TheVariants as comes_to
 use Rattle.session.specs.Machine.{Machine}
 use Rattle.session.specs.Params.{param_at, name_refusal, lead_refusal, unless_refused, on_param, edits_param, leads, edge_to_param, form_of_param, decided_on_line, decided_on_param}
+use Rattle.session.specs.Shapers.{oversample_refusal, is_shaper, sets_oversample, decided_on_shaper}
 use Rattle.session.specs.Steady.{IsSteady}
-use Rattle.session.specs.Step.{decided_with, node_bound, node_named, buffer_bound, buffer_named, new_name, refused, unless, edits, edits_node, edits_nodes, edits_buffer, edits_with_buffer, sets_buffer, rate_of, edge_of, form_to, form_from, promises, decided, with_edit, settled, is_start, KeepsTime, RunsOnceStarted, IsFor, Steps}
+use Rattle.session.specs.Step.{node_bound, node_named, buffer_bound, buffer_named, new_name, refused, unless, edits, edits_node, edits_nodes, edits_buffer, edits_with_buffer, sets_buffer, rate_of, edge_of, form_to, form_from, promises, decided, IsFor}
 use Rattle.session.proofs.Named.{named_there}
 use Rattle.session.proofs.Parameters.{param_there, param_low, lead_kept}
 
@@ -177,8 +172,34 @@ on_param_op_for m steady (op.ReadValue node param) none =
     on_param_for m steady (op.ReadValue node param) (param_at m (node_named m node) param) (λ i. comes_to.Answer (answer.Value (slot_of m.world i))) (λ i is kept. tt)
 on_param_op_for m steady other none = on_line_for m steady other none
 
-decoding_for : (m : Machine) (name path : List ℕ) → IsFor m (op.DecodeAudioData name path) (decided_on_param m (op.DecodeAudioData name path))
-unfolding decided_on_param decided_on_line
+-- ---- what is done on wave shapers
+
+creates_shaper_for : (m : Machine) → IsSteady m → (name : List ℕ) (curve : Option (List ℤ)) (oversample : Oversample)
+    → IsFor m (op.CreateWaveShaper name curve oversample) (decided_on_shaper m (op.CreateWaveShaper name curve oversample))
+unfolding decided_on_shaper
+creates_shaper_for m steady name curve oversample =
+    let o : Op = op.CreateWaveShaper name curve oversample in
+    let e : Edit = edit.Create (Shaper curve (is_some curve)) in
+    unless_for m steady o (oversample_refusal oversample) (edits m e) (λ fine. edits_for m steady o e (refl, tt) refl)
+
+sets_oversample_for : (m : Machine) → IsSteady m → (o : Op) (node : Option NodeId) (value : Oversample) → IsFor m o (sets_oversample m node value)
+sets_oversample_for m steady o None value = tt
+sets_oversample_for m steady o (Some n) value = by_kind (is_shaper (kind_of m.world n.0))
+  where
+    by_kind : (b : Bool) → IsFor m o (if b then unless_refused (oversample_refusal value) (comes_to.Answer answer.Ok) else refused WrongType)
+    by_kind true = unless_for m steady o (oversample_refusal value) (comes_to.Answer answer.Ok) (λ fine. tt)
+    by_kind false = tt
+
+on_shaper_for : (m : Machine) → IsSteady m → (o : Op) → new_name o ≡ None → IsFor m o (decided_on_shaper m o)
+unfolding decided_on_shaper
+on_shaper_for m steady (op.CreateWaveShaper name curve oversample) none = absurd cc
+on_shaper_for m steady (op.SetCurve node curve) none =
+    node_for m steady (op.SetCurve node curve) (node_named m node) (λ n. edit.SetCurve n curve) (λ a is. (node_there m steady node a is, refl))
+on_shaper_for m steady (op.SetOversample node value) none = sets_oversample_for m steady (op.SetOversample node value) (node_named m node) value
+on_shaper_for m steady other none = on_param_op_for m steady other none
+
+decoding_for : (m : Machine) (name path : List ℕ) → IsFor m (op.DecodeAudioData name path) (decided_on_shaper m (op.DecodeAudioData name path))
+unfolding decided_on_shaper decided_on_param decided_on_line
 decoding_for m name path = tt
 
 pub decided_for : (m : Machine) → IsSteady m → (o : Op) → IsInRange o → IsFor m o (decided m o)
@@ -228,7 +249,8 @@ decided_for m steady op.Resume in_range = promise_for m op.Resume (resume_refusa
 decided_for m steady op.ReadState in_range = tt
 decided_for m steady op.ReadTime in_range = tt
 decided_for m steady (op.DecodeAudioData name path) in_range = decoding_for m name path
-decided_for m steady other in_range = on_param_op_for m steady other refl
+decided_for m steady (op.CreateWaveShaper name curve oversample) in_range = creates_shaper_for m steady name curve oversample
+decided_for m steady other in_range = on_shaper_for m steady other refl
 
 -- a new name is one that may be given
 pub is_new : (o : Op) (name : List ℕ) → IsInRange o → new_name o ≡ Some name → IsNewName name
@@ -236,85 +258,8 @@ is_new (op.CreateConstantSource new offset) name in_range is = subst (λ (x : Op
 is_new (op.CreateGain new gain) name in_range is = subst (λ (x : Option (List ℕ)). IfSome x IsNewName) is in_range.0
 is_new (op.CreateChannelSplitter new outputs) name in_range is = subst (λ (x : Option (List ℕ)). IfSome x IsNewName) is in_range.0
 is_new (op.CreateChannelMerger new inputs) name in_range is = subst (λ (x : Option (List ℕ)). IfSome x IsNewName) is in_range.0
+is_new (op.CreateWaveShaper new curve oversample) name in_range is = subst (λ (x : Option (List ℕ)). IfSome x IsNewName) is in_range.0
 is_new (op.CreateBufferSource new buffer looping loop_start loop_end rate) name in_range is = subst (λ (x : Option (List ℕ)). IfSome x IsNewName) is in_range.0
 is_new (op.CreateBuffer new channels frames rate) name in_range is = subst (λ (x : Option (List ℕ)). IfSome x IsNewName) is in_range.0
 is_new (op.DecodeAudioData new path) name in_range is = subst (λ (x : Option (List ℕ)). IfSome x IsNewName) is in_range.0
 is_new other name in_range is = absurd cc
-
--- ---- what a call leaves
-
-edit_world : (m : Machine) (e : Edit) (name : Option (List ℕ)) → (with_edit m e name).world ≡ edited m.world m.context.time e
-edit_world m e None = refl
-edit_world m e (Some name) = refl
-
-edit_time : (m : Machine) (e : Edit) (name : Option (List ℕ)) → (with_edit m e name).context.time ≡ m.context.time
-edit_time m e None = refl
-edit_time m e (Some name) = refl
-
-edit_started : (m : Machine) (e : Edit) (name : Option (List ℕ)) → (with_edit m e name).context.started ≡ m.context.started
-edit_started m e None = refl
-edit_started m e (Some name) = refl
-
-edit_runs : (m : Machine) (e : Edit) (name : Option (List ℕ)) → RunsOnceStarted m → RunsOnceStarted (with_edit m e name)
-edit_runs m e None runs = runs
-edit_runs m e (Some name) runs = runs
-
-pub record Leaves (m next : Machine) (o : Op) : Type 0 where
-  pub grows : Grows m.context.time m.world next.world
-  pub kept : KeepsTime m next
-  pub kept_start : is_start o ≡ false → next.context.started ≡ m.context.started
-  pub runs : RunsOnceStarted m → RunsOnceStarted next
-
-pub leaves_all : (m : Machine) (o : Op) → Leaves m m o
-leaves_all m o = record { grows = grows_same m.context.time m.world; kept = record { spec = refl; now = refl }; kept_start = λ other. refl; runs = λ runs. runs }
-
-settled_leaves : (m : Machine) → IsSteady m → (call : Call) (d : Decided) → IsFor m call.op d → Leaves m (settled m call d).machine call.op
-settled_leaves m steady call (comes_to.Answer said) fits = leaves_all m call.op
-settled_leaves m steady call comes_to.Start fits = record {
-  grows = grows_same m.context.time m.world;
-  kept = record { spec = refl; now = refl };
-  kept_start = λ other. absurd (let both = sym fits.0 ∙ other in cc);
-  runs = λ runs started. refl;
-}
-settled_leaves m steady call (comes_to.Suspend frame) fits = record {
-  grows = grows_same m.context.time m.world;
-  kept = record { spec = refl; now = refl };
-  kept_start = λ other. refl;
-  runs = λ runs. runs;
-}
-settled_leaves m steady call comes_to.Resume fits = record {
-  grows = grows_same m.context.time m.world;
-  kept = record { spec = refl; now = refl };
-  kept_start = λ other. refl;
-  runs = λ runs started. refl;
-}
-settled_leaves m steady call (comes_to.Change e) fits =
-    let grows = changed_grows m.world (record { time = m.context.time; edit = e }) steady.valid fits.0 in
-    let world = edit_world m e (new_name call.op) in
-    record {
-      grows = subst (λ (w : World). Grows m.context.time m.world w) (sym world) grows;
-      kept = record { spec = ap (λ (w : World). w.spec) world ∙ grows.spec; now = edit_time m e (new_name call.op) };
-      kept_start = λ other. edit_started m e (new_name call.op);
-      runs = λ runs. edit_runs m e (new_name call.op) runs;
-    }
-
--- after the call that starts rendering, it was started
-then_started : (m : Machine) (call : Call) (s : Option ℕ) → m.context.started ≡ s
-    → IsSome (settled m call (promises (if is_some s then Some InvalidState else None) comes_to.Start)).machine.context.started
-then_started m call None is = refl
-then_started m call (Some ordinal) is = rw is refl
-
-op_starts : (m : Machine) (call : Call) (held : Paths) (o : Op) → is_start o ≡ true → IsSome (settled m call (decided_with m held o)).machine.context.started
-unfolding decided
-op_starts m call held op.StartRendering is = then_started m call m.context.started refl
-op_starts m call held other is = absurd cc
-
--- a machine after a call, or as it was for want of memory
-pub stepped_leaves : (old new : Machine) (call : Call) (d : Decided) (r : Result Stepped NoMemory) → IfOk r (λ s. Steps new (settled old call d) s.answer) → OnErr r (new ≡ old) → IsSteady old → IsFor old call.op d
-    → Leaves old new call.op
-stepped_leaves old new call d (Ok said) done failed steady fits = subst (λ (m : Machine). Leaves old m call.op) (sym done.0) (settled_leaves old steady call d fits)
-stepped_leaves old new call d (Err e) done failed steady fits = subst (λ (m : Machine). Leaves old m call.op) (sym failed) (leaves_all old call.op)
-
-pub stepped_started : (old new : Machine) (call : Call) (held : Paths) (d : Decided) (said : Answer) → Steps new (settled old call d) said → d ≡ decided_with old held call.op → is_start call.op ≡ true
-    → IsSome new.context.started
-stepped_started old new call held d said done is starts = rw (done.0, is) (op_starts old call held call.op starts)

@@ -1,9 +1,9 @@
 -- Which operations leave the context alone.
 use Rattle.std.proofs.Common.{ℕ, ◌≡◌, List, length, Bool, true, false, Option, Some, None, Result, Ok, Err, refl}
-use Rattle.std.specs.Prelude.{◌==◌, nat_lt, if◌then◌else◌}
+use Rattle.std.specs.Prelude.{◌==◌, nat_lt, is_some, if◌then◌else◌}
 use Rattle.io_edge.specs.Paths.{Paths}
 use Rattle.wa_base.specs.declared.exceptions.Exc.{Exc}
-use Rattle.wa_base.specs.declared.exceptions.Exc.TheVariants.{NotSupported}
+use Rattle.wa_base.specs.declared.exceptions.Exc.TheVariants.{NotSupported, WrongType}
 use Rattle.wa_base.specs.declared.features.Feature.TheVariants.{Resampling, AssetSize, ExponentialRamp, SetTarget}
 use Rattle.wav_io.specs.WavGrammar.{wav_of}
 use Rattle.wav_io.specs.declared.wav.Wav.{Wav}
@@ -15,7 +15,8 @@ use Rattle.transcript.specs.declared.lines.Answer.TheVariants as answer
 use Rattle.script_ast.specs.declared.call_list.Call.{Call}
 use Rattle.script_ast.specs.declared.operations.Op.{Op}
 use Rattle.script_ast.specs.declared.operations.Op.TheVariants as op
-use Rattle.node_table.specs.declared.kinds.Kind.TheVariants.{Constant, Gain, Splitter, Merger}
+use Rattle.script_ast.specs.declared.operations.Oversample.{Oversample}
+use Rattle.node_table.specs.declared.kinds.Kind.TheVariants.{Constant, Gain, Splitter, Merger, Shaper}
 use Rattle.meaning.specs.declared.automation.ParamEdit.{ParamEdit}
 use Rattle.meaning.specs.declared.automation.ParamEdit.TheVariants as line
 use Rattle.meaning.specs.declared.buffers.BufferEdit.TheVariants as buffer_edit
@@ -24,13 +25,14 @@ use Rattle.meaning.specs.declared.change.Edit.{Edit}
 use Rattle.meaning.specs.declared.change.Edit.TheVariants as edit
 use Rattle.meaning.specs.declared.scheds.LoopPart.TheVariants as part
 use Rattle.meaning.specs.declared.sources.SourceEdit.TheVariants as source
-use Rattle.meaning.specs.World.{slot_of}
+use Rattle.meaning.specs.World.{kind_of, slot_of}
 use Rattle.meaning.specs.Changes.{refusal}
 use Rattle.session.specs.declared.decide.Decided.{Decided}
 use Rattle.session.specs.declared.decide.Decided.TheVariants as comes_to
 use Rattle.session.specs.Assets.{max_asset, rejected, unless_rejected, adopts, by_reading, decodes}
 use Rattle.session.specs.Machine.{Machine}
 use Rattle.session.specs.Params.{param_at, name_refusal, lead_refusal, unless_refused, on_param, edits_param, leads, edge_to_param, form_of_param, decided_on_line, decided_on_param}
+use Rattle.session.specs.Shapers.{oversample_refusal, is_shaper, sets_oversample, decided_on_shaper}
 use Rattle.session.specs.Step.{refused, unless, edits, edits_node, edits_nodes, edits_buffer, edits_with_buffer, sets_buffer, rate_of, buffer_named, disconnects, decided, decided_with, settled, with_edit, new_name, node_named, edge_of, form_from, form_to}
 
 -- the operations on the context
@@ -96,6 +98,14 @@ module _ (machine : Machine) (call : Call) (held : Paths) where
   edits_param_leaves : (node word : List ℕ) (e : ParamEdit) → Leaves (edits_param machine node word e)
   edits_param_leaves node word e = on_param_leaves (param_at machine (node_named machine node) word) (λ i. edits machine (edit.Param i e)) (λ i. edits_leaves (edit.Param i e))
 
+  oversample_leaves : (node : Option NodeId) (value : Oversample) → Leaves (sets_oversample machine node value)
+  oversample_leaves None value = refl
+  oversample_leaves (Some n) value = by_kind (is_shaper (kind_of machine.world n.0))
+    where
+      by_kind : (b : Bool) → Leaves (if b then unless_refused (oversample_refusal value) (comes_to.Answer answer.Ok) else refused WrongType)
+      by_kind true = unless_refused_leaves (oversample_refusal value) (comes_to.Answer answer.Ok) refl
+      by_kind false = refl
+
   unless_rejected_leaves : (r : Option Exc) (e : Edit) → Leaves (unless_rejected r e)
   unless_rejected_leaves None e = unless_leaves None e
   unless_rejected_leaves (Some exception) e = refl
@@ -124,11 +134,12 @@ module _ (machine : Machine) (call : Call) (held : Paths) where
 
   -- an operation that is none on the context leaves it alone
   pub op_leaves : (o : Op) → is_of_context o ≡ false → Leaves (decided_with machine held o)
-  unfolding decided decided_on_param decided_on_line
+  unfolding decided decided_on_shaper decided_on_param decided_on_line
   op_leaves (op.CreateConstantSource name offset) is = (edits_leaves (edit.Create (Constant offset)))
   op_leaves (op.CreateGain name gain) is = (edits_leaves (edit.Create (Gain gain)))
   op_leaves (op.CreateChannelSplitter name outputs) is = (edits_leaves (edit.Create (Splitter outputs)))
   op_leaves (op.CreateChannelMerger name inputs) is = (edits_leaves (edit.Create (Merger inputs)))
+  op_leaves (op.CreateWaveShaper name curve oversample) is = (unless_refused_leaves (oversample_refusal oversample) (edits machine (edit.Create (Shaper curve (is_some curve)))) (edits_leaves (edit.Create (Shaper curve (is_some curve)))))
   op_leaves (op.CreateBufferSource name buffer looping loop_start loop_end rate) is =
       (with_buffer_leaves buffer (λ b. edit.CreateBufferSource (rate_of rate) b (record { on = looping; first = loop_start; end = loop_end })))
   op_leaves (op.CreateBuffer name channels frames rate) is = (edits_leaves (edit.Buffers (buffer_edit.Create channels frames rate)))
@@ -140,6 +151,8 @@ module _ (machine : Machine) (call : Call) (held : Paths) where
   op_leaves (op.SetChannelCount node value) is = (node_leaves (node_named machine node) (λ n. edit.Attribute n (attribute.Count value)))
   op_leaves (op.SetChannelCountMode node value) is = (node_leaves (node_named machine node) (λ n. edit.Attribute n (attribute.Mode value)))
   op_leaves (op.SetChannelInterpretation node value) is = (node_leaves (node_named machine node) (λ n. edit.Attribute n (attribute.Interp value)))
+  op_leaves (op.SetCurve node curve) is = (node_leaves (node_named machine node) (λ n. edit.SetCurve n curve))
+  op_leaves (op.SetOversample node value) is = (oversample_leaves (node_named machine node) value)
   op_leaves (op.SetBuffer node buffer) is = (sets_buffer_leaves (node_named machine node) buffer)
   op_leaves (op.SetLoop node value) is = (node_leaves (node_named machine node) (λ n. edit.Source n (source.SetLoop (part.On value))))
   op_leaves (op.SetLoopStart node value) is = (node_leaves (node_named machine node) (λ n. edit.Source n (source.SetLoop (part.First value))))

@@ -1,3 +1,4 @@
+mod Called
 mod Copying
 mod Deciding
 mod Finding

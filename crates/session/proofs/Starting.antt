@@ -51,6 +51,7 @@ module _ (machine : Machine) (call : Call) where
   edit_spec w now (edit.Source node e) = refl
   edit_spec w now (edit.Param id e) = refl
   edit_spec w now (edit.Attribute node e) = refl
+  edit_spec w now (edit.SetCurve node curve) = refl
   edit_spec w now (edit.Buffers e) = refl
 
   named_spec : (e : Edit) (name : Option (List ℕ)) → (with_edit machine e name).world.spec ≡ machine.world.spec

@@ -8,7 +8,7 @@ use Rattle.name_book.specs.Book.{BookView, bound, first_named, first_name_of}
 use Rattle.name_book.specs.declared.book.Object.{Object}
 use Rattle.name_book.specs.declared.book.Object.TheVariants.{Node, Buffer}
 use Rattle.buffer_store.specs.Buffers.{silence, recorded}
-use Rattle.node_table.specs.Nodes.{node_of}
+use Rattle.node_table.specs.Nodes.{node_of, node_with_curve}
 use Rattle.node_table.proofs.Setting.{length-changed}
 use Rattle.node_table.specs.declared.kinds.Kind.{Kind}
 use Rattle.node_table.specs.declared.kinds.Kind.TheVariants.{Buffer as BufferKind}
@@ -69,6 +69,8 @@ steady_edited m (edit.Source node e) none accepted steady =
     (edited_valid m (edit.Source node e) accepted steady) steady
 steady_edited m (edit.Attribute node e) none accepted steady =
     steady_world m _ refl (length-changed node.0 (attribute_set e) m.world.nodes) (omega arith) refl (edited_valid m (edit.Attribute node e) accepted steady) steady
+steady_edited m (edit.SetCurve node curve) none accepted steady =
+    steady_world m _ refl (length-changed node.0 (node_with_curve curve) m.world.nodes) (omega arith) refl (edited_valid m (edit.SetCurve node curve) accepted steady) steady
 steady_edited m (edit.Param id e) none accepted steady = steady_world m _ refl refl (omega arith) refl (edited_valid m (edit.Param id e) accepted steady) steady
 steady_edited m (edit.Buffers e) none accepted steady = steady_world m _ refl refl (buffers_stay m.world.store e) refl (edited_valid m (edit.Buffers e) accepted steady) steady
 
@@ -135,6 +137,7 @@ steady_named m (edit.Connect edge) name new accepted steady = absurd cc
 steady_named m (edit.Disconnect from form) name new accepted steady = absurd cc
 steady_named m (edit.Source node e) name new accepted steady = absurd cc
 steady_named m (edit.Attribute node e) name new accepted steady = absurd cc
+steady_named m (edit.SetCurve node curve) name new accepted steady = absurd cc
 steady_named m (edit.Param id e) name new accepted steady = absurd cc
 steady_named m (edit.Buffers (buffer_edit.Create channels frames rate)) name new accepted steady =
     steady_buffer m name (buffer_edit.Create channels frames rate) (omega (arith, length-append m.world.store (silence channels frames rate ∷ []))) accepted steady

@@ -5,6 +5,7 @@ use Rattle.std.proofs.lemmas.List.{get_or_append_left, get_or-map, length-map}
 use Rattle.std.proofs.lemmas.List.Elements.{All-append, All-cons}
 use Rattle.std.proofs.Math.Seq.{get_or-append_seam}
 use Rattle.wa_base.specs.declared.contexts.ContextSpec.{ContextSpec}
+use Rattle.node_table.specs.Kinds.{lasting}
 use Rattle.node_table.specs.declared.nodes.Node.{Node}
 use Rattle.meaning.specs.declared.world.World.{World}
 use Rattle.meaning.specs.World.{plain, no_world, no_node, node_at}
@@ -182,7 +183,7 @@ regular_after q tape w w' regular valid spec nodes = regular_more q (tape ++ w �
       let l : i < length w.nodes = subst (λ (x : World). i < length x.nodes) (world_after tape w j at) below in
       subst (λ (x : World). Stays i x (plain w')) (sym (world_after tape w j at)) (record {
         there = rw nodes l;
-        kind = ap (λ (ns : List Node). (slice_index_or ns i no_node).kind) nodes;
+        kind = ap (λ (ns : List Node). lasting (slice_index_or ns i no_node).kind) nodes;
         birth = ap (λ (ns : List Node). (slice_index_or ns i no_node).attrs.birth) nodes;
       });
   born = λ i below is. elim is [

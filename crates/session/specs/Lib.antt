@@ -9,5 +9,6 @@ pub mod Session
 pub mod Steady
 pub mod Deciding
 pub mod Params
+pub mod Shapers
 pub mod Step
 pub mod View

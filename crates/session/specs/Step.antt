@@ -32,7 +32,7 @@ use Rattle.session.specs.declared.decide.Decided.{Decided}
 use Rattle.session.specs.declared.decide.Decided.TheVariants as comes_to
 use Rattle.session.specs.Assets.{decodes}
 use Rattle.session.specs.Machine.{Machine, IsAccepted}
-use Rattle.session.specs.Params.{decided_on_param}
+use Rattle.session.specs.Shapers.{decided_on_shaper}
 pub use Rattle.session.specs.Deciding.{node_bound, node_named, buffer_bound, buffer_named, refused, unless, edits, edits_node, edits_nodes, edits_buffer, edits_with_buffer, sets_buffer}
 
 -- the name that an operation gives to what it creates
@@ -41,6 +41,7 @@ new_name (op.CreateConstantSource name offset) = Some name
 new_name (op.CreateGain name gain) = Some name
 new_name (op.CreateChannelSplitter name number_of_outputs) = Some name
 new_name (op.CreateChannelMerger name number_of_inputs) = Some name
+new_name (op.CreateWaveShaper name curve oversample) = Some name
 new_name (op.CreateBufferSource name buffer looping loop_start loop_end playback_rate) = Some name
 new_name (op.CreateBuffer name channels frames rate) = Some name
 new_name (op.DecodeAudioData name path) = Some name
@@ -103,7 +104,7 @@ decided machine (op.Suspend time) = promises (suspend_refusal machine.context ti
 decided machine op.Resume = promises (resume_refusal machine.context) comes_to.Resume
 decided machine op.ReadState = comes_to.Answer (answer.State machine.context.state)
 decided machine op.ReadTime = comes_to.Answer (answer.Time machine.context.time)
-decided machine other = decided_on_param machine other
+decided machine other = decided_on_shaper machine other
 
 -- and one that looks into the folder of assets, where the paths hold this
 abbrev pub decided_with : Machine → Paths → Op → Decided

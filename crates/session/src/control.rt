@@ -301,6 +301,7 @@ fn new_name(op: &Op) -> Option<&Name>
         | Op::CreateGain { name, .. }
         | Op::CreateChannelSplitter { name, .. }
         | Op::CreateChannelMerger { name, .. }
+        | Op::CreateWaveShaper { name, .. }
         | Op::CreateBufferSource { name, .. }
         | Op::CreateBuffer { name, .. }
         | Op::DecodeAudioData { name, .. } => Some(name),

@@ -159,7 +159,7 @@ impl Control {
             Op::Resume => Ok(promise(self.context.resume_refusal(), Decided::Resume)),
             Op::ReadState => Ok(Decided::Answer(Answer::State(self.context.state()))),
             Op::ReadTime => Ok(Decided::Answer(Answer::Time(self.context.now()))),
-            _ => self.decide_on_param(op),
+            _ => self.decide_on_shaper(op),
         }
     }
 }

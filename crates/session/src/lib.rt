@@ -10,6 +10,7 @@ mod render_side;
 mod rendered;
 mod replay;
 mod session;
+mod shapers;
 
 pub use ctx_state::Turn;
 pub use rendered::Rendered;

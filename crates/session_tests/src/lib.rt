@@ -4,4 +4,6 @@
 #[cfg(test)]
 mod sessions;
 #[cfg(test)]
+mod shapers;
+#[cfg(test)]
 mod suspensions;

@@ -239,7 +239,7 @@ fn run_with(alloc: Global, script: &Script, files: &mut MemFiles) -> Result<Outc
     }
 }
 
-fn run_again(alloc: Global, script: &Script) -> Result<Outcome, Stop>
+pub(crate) fn run_again(alloc: Global, script: &Script) -> Result<Outcome, Stop>
     requires { IsWellFormed script.now }
 {
     let mut files = MemFiles::new(alloc);

@@ -4,7 +4,7 @@ use Rattle.script_ast.specs.declared.operations.Op.{Op}
 use Rattle.script_ast.specs.declared.operations.Op.TheVariants as op
 use Rattle.std.specs.Prelude.{IfOk}
 use Rattle.session.specs.declared.decide.Decided.{Decided}
-use Rattle.session.specs.Params.{decided_on_param}
+use Rattle.session.specs.Shapers.{decided_on_shaper}
 use Rattle.session.specs.Step.{decided}
 use Rattle.session.proofs.control.Control.decide.Goals as goal
 
@@ -73,8 +73,8 @@ pub returns-in-CopyToChannel-clause-decided : goal.returns-in-CopyToChannel-clau
 unfolding decided
 returns-in-CopyToChannel-clause-decided c = rw c.in-CopyToChannel.is c.write.ensures
 
--- every other operation is one on a parameter, or not built
-default : (c : goal.After-decide_on_param) (o : Op) → c.args.op.now ≡ o → decided_on_param c.args.self.now o ≡ decided c.args.self.now o
+-- every other operation is one on a shaper or on a parameter, or not built
+default : (c : goal.After-decide_on_shaper) (o : Op) → c.args.op.now ≡ o → decided_on_shaper c.args.self.now o ≡ decided c.args.self.now o
 unfolding decided
 default c (op.CreateConstantSource name offset) is = absurd (c.in_default.not-CreateConstantSource name offset is)
 default c (op.CreateGain name gain) is = absurd (c.in_default.not-CreateGain name gain is)
@@ -104,4 +104,4 @@ default c other is = refl
 
 pub returns-in_default-clause-decided : goal.returns-in_default-clause-decided
 returns-in_default-clause-decided c =
-    subst (λ (d : Decided). IfOk c.decide_on_param.result (λ x. x ≡ d)) (default c c.args.op.now refl) c.decide_on_param.ensures.decided
+    subst (λ (d : Decided). IfOk c.decide_on_shaper.result (λ x. x ≡ d)) (default c c.args.op.now refl) c.decide_on_shaper.ensures.decided

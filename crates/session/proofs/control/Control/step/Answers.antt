@@ -1,4 +1,4 @@
-use Rattle.session.proofs.Deciding.{Leaves, stepped_leaves, stepped_started}
+use Rattle.session.proofs.Called.{Leaves, stepped_leaves, stepped_started}
 use Rattle.session.proofs.control.Control.step.Goals as goal
 use Rattle.session.proofs.control.Control.step.Goals.{In_ok-settle}
 use Rattle.session.proofs.control.Control.step.Given.{Over}

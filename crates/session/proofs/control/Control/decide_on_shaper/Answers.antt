@@ -1,0 +1,6 @@
+use Rattle.session.specs.Shapers.{decided_on_shaper}
+use Rattle.session.proofs.control.Control.decide_on_shaper.Goals as goal
+
+pub returns-in-SetCurve : goal.returns-in-SetCurve
+unfolding decided_on_shaper
+returns-in-SetCurve c = record { decided = rw c.in-SetCurve.is c.set_curve.ensures }
