@@ -21,6 +21,8 @@ mod runs;
 #[cfg(test)]
 mod sampling;
 #[cfg(test)]
+mod shaping;
+#[cfg(test)]
 mod spelling;
 #[cfg(test)]
 mod suspended_rows;

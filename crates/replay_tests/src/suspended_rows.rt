@@ -10,10 +10,10 @@ use wa_base::NoMemory;
 // A session that is rendered in one channel: its script, its lines, and the samples of its file, in runs:
 // how many there are, the first one, and what each has more than the one before it.
 #[derive(Clone, Copy)]
-struct Row {
-    script: &'static str,
-    lines: &'static str,
-    samples: &'static [(u32, i32, i32)],
+pub(crate) struct Row {
+    pub(crate) script: &'static str,
+    pub(crate) lines: &'static str,
+    pub(crate) samples: &'static [(u32, i32, i32)],
 }
 
 // The curve would end at frame 256. What is read there, and is left, is its value at frame 128.
@@ -158,7 +158,7 @@ fn is_left(alloc: Global, left: &Left, row: &Row) -> Result<bool, NoMemory> {
     Ok(is_file && left.status == Status::Rendered && left.text.as_slice() == row.lines.as_bytes())
 }
 
-fn is_met(alloc: Global, row: &Row) -> Result<bool, NoMemory> {
+pub(crate) fn is_met(alloc: Global, row: &Row) -> Result<bool, NoMemory> {
     let left = replay(alloc, &["out.wav"], row.script.as_bytes(), NONE)?;
     is_left(alloc, &left, row)
 }
