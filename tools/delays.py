@@ -114,11 +114,7 @@ def main():
     counts = collections.Counter()
     for _ in range(5_000):
         digest = one_delay(random, digest, counts)
-    if sys.argv[1:] == ["--count"]:
-        for name, count in counts.items():
-            print(count, name)
-    else:
-        print(digest)
+    digests.tell(digest, counts)
 
 
 if __name__ == "__main__":

@@ -1,5 +1,8 @@
 """What the second calculations of tools/timelines.py, tools/filters.py and tools/delays.py share: the random
-numbers and the digest, both made as the tests make them, and the rounding of docs/PROFILE.md."""
+numbers and the digest, both made as the tests make them, what they print, and the rounding of
+docs/PROFILE.md."""
+
+import sys
 
 MASK = 2**64 - 1
 LEAST, GREATEST = -2**31, 2**31 - 1
@@ -25,3 +28,12 @@ def mixed(digest, item):
 
 def rounded(num, den):
     return (2 * num + den) // (2 * den)
+
+
+def tell(digest, counts):
+    """Prints the digest, or with --count how often each case came up."""
+    if sys.argv[1:] == ["--count"]:
+        for name, count in sorted(counts.items(), key=str):
+            print(count, name)
+    else:
+        print(digest)

@@ -152,11 +152,7 @@ def main():
     for _ in range(10_000):
         digest = one_filter(random, digest, counts)
         digest = one_shaper(random, digest, counts)
-    if sys.argv[1:] == ["--count"]:
-        for name, count in counts.items():
-            print(count, name)
-    else:
-        print(digest)
+    digests.tell(digest, counts)
 
 
 if __name__ == "__main__":

@@ -210,11 +210,7 @@ def main():
         first = random.below(200)
         for frame in range(first, first + 200):
             digest = mixed(digest, line.value_at(frame) + 2**31)
-    if sys.argv[1:] == ["--count"]:
-        for name, count in sorted(counts.items()):
-            print(count, name)
-    else:
-        print(digest)
+    digests.tell(digest, counts)
 
 
 if __name__ == "__main__":
