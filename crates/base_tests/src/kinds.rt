@@ -17,6 +17,16 @@ pub fn are_same(a: &Kind, b: &Kind) -> bool {
                 was_set: other_set,
             },
         ) => points(curve) == points(other) && was_set == other_set,
+        (
+            Kind::Iir { forward, back },
+            Kind::Iir {
+                forward: other_forward,
+                back: other_back,
+            },
+        ) => {
+            forward.as_slice() == other_forward.as_slice()
+                && back.as_slice() == other_back.as_slice()
+        }
         _ => false,
     }
 }

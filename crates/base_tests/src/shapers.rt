@@ -119,6 +119,57 @@ fn copies_curves(alloc: Global) -> Result<bool, Refusal> {
     )
 }
 
+fn samples(alloc: Global, items: &[Fix]) -> Result<Samples, NoMemory> {
+    Ok(Samples::from(Vec::from_slice(alloc, items)?))
+}
+
+fn create_filter(
+    alloc: Global,
+    nodes: &mut Nodes,
+    forward: &[Fix],
+    back: &[Fix],
+) -> Result<NodeId, Refusal> {
+    let kind = Kind::Iir {
+        forward: samples(alloc, forward)?,
+        back: samples(alloc, back)?,
+    };
+    nodes.create(kind, 256)
+}
+
+// Whether a node is a filter with these coefficients.
+fn is_filter(nodes: &Nodes, node: u32, wanted: (&[Fix], &[Fix])) -> bool {
+    if node >= nodes.len() {
+        return false;
+    }
+    match nodes.kind(NodeId(node)) {
+        Kind::Iir { forward, back } => (forward.as_slice(), back.as_slice()) == wanted,
+        _ => false,
+    }
+}
+
+// Coefficients are refused in their order; the others are those of a node.
+fn creates_filters(alloc: Global) -> Result<bool, Refusal> {
+    let mut nodes = begin(alloc)?;
+    let many = create_filter(alloc, &mut nodes, &[1; 21], &[0]);
+    let silent = create_filter(alloc, &mut nodes, &[0, 0], &[0]);
+    let undivided = create_filter(alloc, &mut nodes, &[1], &[0, 1]);
+    let filter = create_filter(alloc, &mut nodes, &[1, 0], &[i32::MIN]);
+    let copy = nodes.copy()?;
+    Ok(
+        many == Err(Refusal::Exc(Exc::NotSupported(None)))
+            && silent == Err(Refusal::Exc(Exc::InvalidState))
+            && undivided == Err(Refusal::Exc(Exc::InvalidState))
+            && filter == Ok(NodeId(4))
+            && is_filter(&copy, 4, (&[1, 0], &[i32::MIN])),
+    )
+}
+
+#[test]
+fn filters_are_created(rt: HostRuntime) -> Result<(), Fail> {
+    assert!(rt; creates_filters(rt.alloc())?);
+    Ok(())
+}
+
 #[test]
 fn a_curve_is_set_once(rt: HostRuntime) -> Result<(), Fail> {
     assert!(rt; sets_once(rt.alloc())?);

@@ -9,7 +9,7 @@ use Rattle.wa_base.specs.declared.graph_names.NodeId.{NodeId}
 use Rattle.buffer_store.specs.declared.buffers.Buffer.{Buffer}
 use Rattle.node_table.specs.declared.kinds.Kind.{Kind}
 use Rattle.node_table.specs.declared.kinds.Kind.TheVariants as kinds
-use Rattle.node_table.specs.declared.kinds.Kind.TheVariants.{Destination, Constant, Gain, Splitter, Merger, Shaper}
+use Rattle.node_table.specs.declared.kinds.Kind.TheVariants.{Destination, Constant, Gain, Splitter, Merger, Shaper, Iir}
 use Rattle.meaning.specs.declared.world.World.{World}
 use Rattle.meaning.specs.Lists.{Listed}
 use Rattle.meaning.specs.World.{kind_of, plain}
@@ -65,6 +65,7 @@ mark_plays store (Gain gain) p true is = is
 mark_plays store (Splitter ports) p true is = is
 mark_plays store (Merger ports) p true is = is
 mark_plays store (Shaper curve was_set) p true is = is
+mark_plays store (Iir forward back) p true is = is
 
 mark_id : (p : Play) (b : Bool) → (if b then record p { sched = record p.sched { ended = true } } else p).id ≡ p.id
 mark_id p true = refl

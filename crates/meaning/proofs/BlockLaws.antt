@@ -1,5 +1,5 @@
 -- Blocks along a legal order are the values of the quantum.
-use Rattle.std.proofs.Common.{ℕ, ◌≡◌, ◌+◌, ◌-◌, ◌*◌, ◌/◌, ◌<◌, ◌≤◌, List, [], ◌∷◌, Bool, true, false, inl, inr, refl, sym, ◌∙◌, ap, arith, subst}
+use Rattle.std.proofs.Common.{ℕ, pos, ◌≡◌, ◌+◌, ◌-◌, ◌*◌, ◌/◌, ◌<◌, ◌≤◌, List, [], ◌∷◌, Bool, true, false, inl, inr, refl, sym, ◌∙◌, ap, arith, subst}
 use Rattle.std.specs.Prelude.{if◌then◌else◌, nat_lt}
 use Rattle.std.proofs.Math.Nat.{mul_comm}
 use Rattle.std.proofs.lemmas.Nat.{div-mul-add}
@@ -7,15 +7,15 @@ use Rattle.std.proofs.lemmas.Bool.Decides.{nat_tests}
 use Rattle.wa_base.specs.declared.graph_names.End.{End}
 use Rattle.law_base.specs.Members.{IsIn}
 use Rattle.conn_graph.specs.Graph.{Connections}
-use Rattle.conn_graph.specs.Ends.{same_end, writer_of, ends, arrow, muted}
+use Rattle.conn_graph.specs.Ends.{same_end, writer_of, input_end, ends, arrow, muted}
 use Rattle.conn_graph.specs.Orders.{IsLegalAfter, IsLegalOrder}
 use Rattle.conn_graph.proofs.EndLaws.{same_end_is}
 use Rattle.meaning.specs.declared.world.World.{World}
 use Rattle.meaning.specs.Validity.{IsJoined}
 use Rattle.meaning.specs.Counts.{Counts, world_in, count}
-use Rattle.meaning.specs.Values.{Frame, silence, no_frame, equation, value, frame, frames_before}
+use Rattle.meaning.specs.Values.{Frame, silence, no_frame, input_value, taken_in, equation, value, frame, frames_before}
 use Rattle.meaning.specs.Blocks.{Drafts, drafted, with_drafts, block, blocks_along}
-use Rattle.meaning.proofs.Seeing.{AgreeFor, LikeFor, SeesFor, equation_sees}
+use Rattle.meaning.proofs.Seeing.{AgreeFor, LikeFor, SeesFor, input_like, equation_sees}
 use Rattle.meaning.proofs.ValueLaws.{value_solves, muted_value}
 use Rattle.meaning.proofs.OrderLaws.{IsKnown, known_before, known_source, all_known}
 
@@ -89,7 +89,21 @@ module _ (q : ℕ) (some : 0 < q) (tape : List World) (j : ℕ) (joined : IsJoin
       sees = record {
         recent = recent;
         delays = λ n is low high. (ap (λ (x : Frame). x.counts (writer_of e.node.0)) (old n high), ap (λ (x : Frame). x.values (writer_of e.node.0) 0) (old n high));
+        heard = λ n c is low high. ap (λ x. taken_in x e.node.0 c) (old n high);
       }
+
+  -- What an end's node takes in is right, where the blocks of all ends with an arrow to it are.
+  pub taken_right : (drafts : Drafts) (done : List End) → AreRight drafts done → (e : End) → IsIn e (ends g) → e ≡ input_end g e.node.0
+      → ((d : End) → IsIn d (ends g) → muted g d ≡ false → arrow g d e ≡ true → IsIn d done)
+      → (m : ℕ) → m < q → (c : ℕ) → taken_in (drafted w counts (drafts m)) e.node.0 c ≡ taken_in (frame q tape (first + m)) e.node.0 c
+  taken_right drafts done right e in_e plain sources m l c =
+      ap (λ x. if muted g (input_end g e.node.0) then pos 0 else x)
+      (input_like w joined counts (count q tape j) (drafts m) (value q tape (first + m)) e plain (λ d in_d a. counted d in_d) (λ d in_d a. right m l d in_d (known_source g done e sources d in_d a)) 0 c)
+      ∙ ap (λ x. taken_in x e.node.0 c) (sym (frame_is m l))
+
+  -- a muted one takes in nothing
+  pub taken_muted : (n : ℕ) → muted g (input_end g n) ≡ true → (m : ℕ) → m < q → (c : ℕ) → taken_in (frame q tape (first + m)) n c ≡ pos 0
+  taken_muted n is m l c = ap (λ x. taken_in x n c) (frame_is m l) ∙ ap (λ b. if b then pos 0 else input_value (drafted w (count q tape j) (value q tape (first + m))) n 0 c) is
 
   pub next_right : (drafts : Drafts) (done : List End) → AreRight drafts done → (x : End) → IsIn x (ends g)
       → ((d : End) → IsIn d (ends g) → muted g d ≡ false → arrow g d x ≡ true → IsIn d done)

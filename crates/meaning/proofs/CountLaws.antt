@@ -12,7 +12,7 @@ use Rattle.law_base.proofs.HeightLaws.{settled}
 use Rattle.law_base.proofs.SchemeLaws.{before_is, before_none, moment-zero, moment-suc}
 use Rattle.node_table.specs.Kinds.{is_delay_kind}
 use Rattle.node_table.specs.declared.kinds.Kind.{Kind}
-use Rattle.node_table.specs.declared.kinds.Kind.TheVariants.{Destination, Constant, Buffer, Gain, Splitter, Merger, Shaper}
+use Rattle.node_table.specs.declared.kinds.Kind.TheVariants.{Destination, Constant, Buffer, Gain, Splitter, Merger, Shaper, Iir}
 use Rattle.conn_graph.specs.Ends.{ends, arrow, height, muted}
 use Rattle.meaning.specs.declared.world.World.{World}
 use Rattle.meaning.specs.World.{kind_of}
@@ -30,6 +30,7 @@ module _ (q : ℕ) (w : World) (joined : IsJoined w) (j : ℕ) (past : ℕ → C
   by_kind e s t h agree (Splitter ports) is = refl
   by_kind e s t h agree (Merger ports) is = refl
   by_kind e s t h agree (Shaper curve was_set) is = same_channels w joined s t e (plain_end w joined e h (ap is_delay_kind is)) agree 0
+  by_kind e s t h agree (Iir forward back) is = same_channels w joined s t e (plain_end w joined e h (ap is_delay_kind is)) agree 0
 
   pub count_local : (e : End) (s t : Counts) → IsIn e (ends w.graph.value) → AgreeFor w e s t → count_rule q w j past s e ≡ count_rule q w j past t e
   unfolding count_rule
@@ -67,6 +68,7 @@ count_rule_alike q w j past past' = fun_ext (λ now. fun_ext (λ e. ap (λ n. if
     by_kind now e (Splitter ports) = refl
     by_kind now e (Merger ports) = refl
     by_kind now e (Shaper curve was_set) = refl
+    by_kind now e (Iir forward back) = refl
 
 -- The rule gives an end's count, wherever the ends that it sees have theirs.
 pub count_gives : (q : ℕ) (tape : List World) (j : ℕ) → IsJoined (world_in tape j) → (past : ℕ → Counts) (counts : Counts) (e : End) → IsIn e (ends (world_in tape j).graph.value)

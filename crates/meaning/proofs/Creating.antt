@@ -14,7 +14,7 @@ use Rattle.param_events.specs.Timeline.{IsTimeline}
 use Rattle.node_table.specs.Kinds.{is_destination, param_base, IsInEntry}
 use Rattle.node_table.specs.Nodes.{creation_refusal, node_of}
 use Rattle.node_table.specs.declared.kinds.Kind.{Kind}
-use Rattle.node_table.specs.declared.kinds.Kind.TheVariants.{Destination, Constant, Buffer, Gain, Splitter, Merger, Shaper}
+use Rattle.node_table.specs.declared.kinds.Kind.TheVariants.{Destination, Constant, Buffer, Gain, Splitter, Merger, Shaper, Iir}
 use Rattle.node_table.specs.declared.nodes.Node.{Node}
 use Rattle.node_table.proofs.NodeLists.{room_left, ports_of_accepted, created_node}
 use Rattle.conn_graph.proofs.Graphs.{IsGraph-with_node}
@@ -103,6 +103,11 @@ new_each node (Shaper curve was_set) param.Gain = ((λ h. absurd h), (λ h. absu
 new_each node (Shaper curve was_set) param.DelayTime = ((λ h. absurd h), (λ h. absurd (none_there h)))
 new_each node (Shaper curve was_set) param.PlaybackRate = ((λ h. absurd h), (λ h. absurd (none_there h)))
 new_each node (Shaper curve was_set) param.Detune = ((λ h. absurd h), (λ h. absurd (none_there h)))
+new_each node (Iir forward back) param.Offset = ((λ h. absurd h), (λ h. absurd (none_there h)))
+new_each node (Iir forward back) param.Gain = ((λ h. absurd h), (λ h. absurd (none_there h)))
+new_each node (Iir forward back) param.DelayTime = ((λ h. absurd h), (λ h. absurd (none_there h)))
+new_each node (Iir forward back) param.PlaybackRate = ((λ h. absurd h), (λ h. absurd (none_there h)))
+new_each node (Iir forward back) param.Detune = ((λ h. absurd h), (λ h. absurd (none_there h)))
 
 new_line : (node : ℕ) (p : Option (ParamName × ℤ)) (x : Param) → IsIn x (new_params node p) → IsTimeline x.line.events
 new_line node None x is = absurd is

@@ -1,4 +1,5 @@
 pub mod Joined
+pub mod NodeKinds
 pub mod Seeing
 pub mod CountLaws
 pub mod ValueLaws

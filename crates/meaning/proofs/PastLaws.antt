@@ -12,7 +12,7 @@ use Rattle.law_base.specs.Heights.{at_height, at_moment, before}
 use Rattle.law_base.proofs.SchemeLaws.{moment-zero}
 use Rattle.node_table.specs.Kinds.{is_delay_kind, remembers}
 use Rattle.node_table.specs.declared.kinds.Kind.{Kind}
-use Rattle.node_table.specs.declared.kinds.Kind.TheVariants.{Destination, Constant, Buffer, Gain, Splitter, Merger, Shaper}
+use Rattle.node_table.specs.declared.kinds.Kind.TheVariants.{Destination, Constant, Buffer, Gain, Splitter, Merger, Shaper, Iir}
 use Rattle.conn_graph.specs.Graph.{Connections}
 use Rattle.conn_graph.specs.Ends.{writer_of, reader_of, input_end, ends, is_delay, height, muted}
 use Rattle.conn_graph.proofs.EndLaws.{has_end}
@@ -20,7 +20,7 @@ use Rattle.meaning.specs.declared.world.World.{World}
 use Rattle.meaning.specs.World.{plain, node_at, kind_of}
 use Rattle.meaning.specs.Validity.{IsJoined}
 use Rattle.meaning.specs.Counts.{Counts, world_in, count_rule, count_scheme, count_at, count}
-use Rattle.meaning.specs.Values.{Frame, Values, no_frame, world_at, known_at, input_value, computed_value, equation, value_scheme, value_at, value, frame, frames_before, param_value}
+use Rattle.meaning.specs.Values.{Frame, Values, no_frame, world_at, known_at, taken_in, computed_value, equation, value_scheme, value_at, value, frame, frames_before, param_value}
 use Rattle.meaning.specs.Pasts.{last_world, heard, past}
 use Rattle.meaning.proofs.CountLaws.{count_rule_alike}
 use Rattle.meaning.proofs.Seeing.{LikeFor, SeesFor, input_like, computed_like, equation_sees}
@@ -37,10 +37,7 @@ writer_carries q (Gain gain) is tape i f = absurd cc
 writer_carries q (Splitter ports) is tape i f = absurd cc
 writer_carries q (Merger ports) is tape i f = absurd cc
 writer_carries q (Shaper curve was_set) is tape i f = absurd cc
-
--- what an input takes in at a frame, by all that the frame has
-abbrev heard_of : Frame → ℕ → ℕ → ℤ
-heard_of x n c = if muted x.world.graph.value (input_end x.world.graph.value n) then pos 0 else input_value x n 0 c
+writer_carries q (Iir forward back) is tape i f = absurd cc
 
 module _ (q : ℕ) (some : 0 < q) (w : World) (joined : IsJoined (plain w)) (tape tape' : List World) (same : SamePast q w tape tape') where
   abbrev g : Connections
@@ -134,6 +131,13 @@ module _ (q : ℕ) (some : 0 < q) (w : World) (joined : IsJoined (plain w)) (tap
           ap (λ (x : Frame). x.counts (writer_of e.node.0)) (seen_now longer f n below) ∙ k.0 ∙ sym (ap (λ (x : Frame). x.counts (writer_of e.node.0)) (seen_now longer' f n below)),
           ap (λ (x : Frame). x.values (writer_of e.node.0) 0) (seen_now longer f n below) ∙ k.1 ∙ sym (ap (λ (x : Frame). x.values (writer_of e.node.0) 0) (seen_now longer' f n below)),
         );
+    heard = λ n c is low high.
+        let old : n < q * length tape = subst (λ j. n < q * j) here high in
+        let below : n < f = let s : q * (f / q) ≤ f = omega arith in omega arith in
+        let frames = old_frames n old in
+        ap (λ x. taken_in x e.node.0 c) (seen_now longer f n below ∙ frames.0)
+        ∙ same.heard e.node.0 n c is low old
+        ∙ sym (ap (λ x. taken_in x e.node.0 c) (seen_now longer' f n below ∙ frames.1));
   }
 
   one_up : (f h : ℕ) → f / q ≡ length tape → AgreeBefore f → ((d : End) → IsIn d (ends g) → value_at q longer f h d ≡ value_at q longer' f h d)
@@ -204,14 +208,14 @@ module _ (q : ℕ) (some : 0 < q) (w : World) (joined : IsJoined (plain w)) (tap
   heard_new n f c is low high = elim (old_or_new f) [
     | inl l ↦
         let frames = old_frames f l in
-        ap (λ x. heard_of x n c) frames.0 ∙ same.heard n f c is low l ∙ sym (ap (λ x. heard_of x n c) frames.1)
+        ap (λ x. taken_in x n c) frames.0 ∙ same.heard n f c is low l ∙ sym (ap (λ x. taken_in x n c) frames.1)
     | inr l ↦
         let here : f / q ≡ length tape = subst (λ k. k / q ≡ length tape) (let back : q * length tape + (f - q * length tape) ≡ f = omega arith in back) (quantum_new (f - q * length tape) (let short = subst (λ k. f < k) next_length high in omega arith)) in
         let e : End = input_end g n in
-        ap (λ x. heard_of x n c) (frame_new f here (value q longer f))
+        ap (λ x. taken_in x n c) (frame_new f here (value q longer f))
         ∙ ap (λ x. if muted g e then pos 0 else x)
         (input_like (plain w) joined (count q longer (length tape)) (count q longer (length tape)) (value q longer f) (value q longer' f) e refl (λ d in_d a. refl) (λ d in_d a. value_new f d here in_d) 0 c)
-        ∙ sym (ap (λ x. heard_of x n c) (frame_new' f here (value q longer' f)))
+        ∙ sym (ap (λ x. taken_in x n c) (frame_new' f here (value q longer' f)))
   ]
     where
       old_or_new : (f : ℕ) → (f < q * length tape) ⊎ (q * length tape ≤ f)

@@ -1,14 +1,14 @@
 -- The laws of one quantum, for the world that comes after a tape.
-use Rattle.std.proofs.Common.{ℕ, ◌≡◌, ◌+◌, ◌*◌, ◌<◌, length, List, [], ◌∷◌, ◌++◌, true, false, refl, sym, subst}
+use Rattle.std.proofs.Common.{ℕ, pos, ◌≡◌, ◌+◌, ◌*◌, ◌<◌, length, List, [], ◌∷◌, ◌++◌, true, false, refl, sym, subst}
 use Rattle.wa_base.specs.declared.graph_names.End.{End}
 use Rattle.law_base.specs.Members.{IsIn}
-use Rattle.conn_graph.specs.Ends.{ends, arrow, muted}
+use Rattle.conn_graph.specs.Ends.{ends, input_end, arrow, muted}
 use Rattle.meaning.specs.declared.world.World.{World}
 use Rattle.meaning.specs.World.{plain}
 use Rattle.meaning.specs.Validity.{IsJoined}
 use Rattle.meaning.specs.Counts.{Counts, world_in, count_rule, count}
-use Rattle.meaning.specs.Values.{silence, frame, value}
-use Rattle.meaning.specs.Blocks.{Drafts, block}
+use Rattle.meaning.specs.Values.{silence, taken_in, frame, value}
+use Rattle.meaning.specs.Blocks.{Drafts, drafted, block}
 use Rattle.meaning.proofs.Seeing.{AgreeFor}
 use Rattle.meaning.proofs.CountLaws.{count_gives, muted_count}
 use Rattle.meaning.proofs.BlockLaws as blocks
@@ -42,6 +42,18 @@ module _ (q : ℕ) (some : 0 < q) (w : World) (joined : IsJoined (plain w)) (tap
   block_right = subst (λ x. (counts : Counts) → HasCounts q longer j x counts → (drafts : Drafts) (done : List End) → AreRight q longer j x drafts done → (e : End) → IsIn e (ends x.graph.value)
       → HasSources x done e → (m : ℕ) → m < q → block q (frame q longer) (q * j) x counts drafts e m ≡ value q longer (q * j + m) e)
       there (λ counts counted drafts done right e is sources m l. blocks.block_right q some longer j (subst IsJoined (sym there) joined) counts counted drafts done right e is sources m l)
+
+  -- What an end's node takes in is right, where the blocks of all ends with an arrow to it are.
+  pub taken_right : (counts : Counts) → HasCounts q longer j w counts → (drafts : Drafts) (done : List End) → AreRight q longer j w drafts done → (e : End) → IsIn e (ends w.graph.value)
+      → e ≡ input_end w.graph.value e.node.0 → HasSources w done e → (m : ℕ) → m < q → (c : ℕ) → taken_in (drafted (plain w) counts (drafts m)) e.node.0 c ≡ taken_in (frame q longer (q * j + m)) e.node.0 c
+  taken_right = subst (λ x. (counts : Counts) → HasCounts q longer j x counts → (drafts : Drafts) (done : List End) → AreRight q longer j x drafts done → (e : End) → IsIn e (ends x.graph.value)
+      → e ≡ input_end x.graph.value e.node.0 → HasSources x done e → (m : ℕ) → m < q → (c : ℕ) → taken_in (drafted x counts (drafts m)) e.node.0 c ≡ taken_in (frame q longer (q * j + m)) e.node.0 c)
+      there (λ counts counted drafts done right e is plain sources m l c. blocks.taken_right q some longer j (subst IsJoined (sym there) joined) counts counted drafts done right e is plain sources m l c)
+
+  -- a muted one takes in nothing
+  pub taken_muted : (n : ℕ) → muted w.graph.value (input_end w.graph.value n) ≡ true → (m : ℕ) → m < q → (c : ℕ) → taken_in (frame q longer (q * j + m)) n c ≡ pos 0
+  taken_muted = subst (λ x. (n : ℕ) → muted x.graph.value (input_end x.graph.value n) ≡ true → (m : ℕ) → m < q → (c : ℕ) → taken_in (frame q longer (q * j + m)) n c ≡ pos 0)
+      there (λ n is m l c. blocks.taken_muted q some longer j (subst IsJoined (sym there) joined) (count q longer j) (λ d in_d. refl) n is m l c)
 
   -- before anything is made, the muted ends are right
   pub muted_right : AreRight q longer j w (λ m. silence) []

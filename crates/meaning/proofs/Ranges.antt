@@ -1,5 +1,5 @@
 -- Every value is a Fix.
-use Rattle.std.proofs.Common.{ℕ, zero, suc, ◌+◌, ◌-◌, ◌*◌, ◌/◌, ◌+ℤ◌, length, ℤ, pos, negsuc, List, [], ◌∷◌, take, drop, All, Bool, true, false, Option, None, Some, slice_index_or, subst, sym, arith}
+use Rattle.std.proofs.Common.{ℕ, zero, suc, ◌+◌, ◌-◌, ◌*◌, ◌/◌, ◌+ℤ◌, ◌-ℤ◌, length, ℤ, pos, negsuc, List, [], ◌∷◌, take, drop, All, Bool, true, false, Option, None, Some, slice_index_or, subst, sym, arith}
 use Rattle.std.proofs.lemmas.Int.{ints}
 use Rattle.std.proofs.lemmas.List.Elements.{All-head, All-tail, All-nil}
 use Rattle.std.specs.Prelude.{if◌then◌else◌, nat_lt, nat_le, slice_get}
@@ -11,6 +11,7 @@ use Rattle.wa_base.specs.declared.graph_names.ParamId.{ParamId}
 use Rattle.wa_base.specs.declared.graph_names.ParamName.TheVariants as param
 use Rattle.law_base.proofs.SchemeLaws.{moment-zero}
 use Rattle.causal_core.specs.Curves.{on_way, curve_at}
+use Rattle.causal_core.specs.Filters.{dot, quotient, filtered, filter_value}
 use Rattle.causal_core.specs.Frames.{item}
 use Rattle.causal_core.proofs.Shares.{between_fix}
 use Rattle.buffer_store.specs.declared.buffers.Buffer.{Buffer}
@@ -20,14 +21,14 @@ use Rattle.sched_source.specs.Playback.{position}
 use Rattle.sched_source.specs.Schedule.{plays_at, sample_at}
 use Rattle.node_table.specs.declared.kinds.Kind.{Kind}
 use Rattle.node_table.specs.declared.kinds.Kind.TheVariants as kinds
-use Rattle.node_table.specs.declared.kinds.Kind.TheVariants.{Destination, Constant, Gain, Splitter, Merger, Shaper}
+use Rattle.node_table.specs.declared.kinds.Kind.TheVariants.{Destination, Constant, Gain, Splitter, Merger, Shaper, Iir}
 use Rattle.conn_graph.specs.Ends.{height, muted}
 use Rattle.meaning.specs.declared.world.World.{World}
 use Rattle.meaning.specs.declared.scheds.Play.{Play}
 use Rattle.meaning.specs.World.{kind_of, param_id, nominal, sounds_at, find_play, samples_in, played_at}
 use Rattle.meaning.specs.Counts.{world_in, input_channels}
 use Rattle.meaning.specs.Laws.{HasFixes, HasFixPoints}
-use Rattle.meaning.specs.Values.{Frame, Values, input_value, computed_value, value_by_kind, has_channel, equation, value_scheme, world_at, known_at, value_at, value, frames_before, frame_at}
+use Rattle.meaning.specs.Values.{Frame, Values, input_value, frames_heard, computed_value, value_by_kind, has_channel, equation, value_scheme, world_at, known_at, value_at, value, frames_before, frame_at}
 use Rattle.meaning.proofs.ValueLaws.{value_suc}
 
 sat_fix : (x : ℤ) → IsFix (sat x)
@@ -53,6 +54,7 @@ nominal_fix (Gain gain) x = sat_fix x
 nominal_fix (Splitter ports) x = sat_fix x
 nominal_fix (Merger ports) x = sat_fix x
 nominal_fix (Shaper curve was_set) x = sat_fix x
+nominal_fix (Iir forward back) x = sat_fix x
 
 computed_fix : (q f : ℕ) (past : ℕ → Frame) (here : Frame) (id : ParamId) → IsFix (computed_value q f past here id)
 unfolding computed_value
@@ -111,6 +113,16 @@ played_fix : (w : World) (node c f : ℕ) → HasFixes w → IsFix (played_at w 
 played_fix w node c f fixes = found_fix _ (find_play w.scheds.items node) (λ p.
     either_fix (plays_at p.sched f) _ (pos 0) (sample_fix p.sched.content p.sched.start (samples_in w.store p.buffer c) f (samples_fix w.store p.buffer c fixes.samples)) zero_fix)
 
+-- ---- the outputs of filters
+
+quotient_fix : (sum divisor : ℤ) → IsFix (quotient sum divisor)
+quotient_fix sum (pos d) = sat_fix _
+quotient_fix sum (negsuc d) = sat_fix _
+
+filter_fix : (forward back frames : List ℤ) → IsFix (filter_value forward back frames)
+filter_fix forward back [] = zero_fix
+filter_fix forward back (x ∷ xs) = quotient_fix (dot forward (x ∷ xs) -ℤ dot (drop 1 back) (filtered forward back xs)) (item back 0)
+
 kind_fix : (q f : ℕ) (past : ℕ → Frame) (here : Frame) → HasFixes here.world → (kind : Kind) → HasFixPoints kind → (e : End) (o c : ℕ) → IsFix (value_by_kind q f past here kind e o c)
 kind_fix q f past here fixes Destination points e o c = input_fix here e.node.0 0 c
 kind_fix q f past here fixes (Constant offset) points e o c = either_fix (sounds_at here.world e.node.0 f) _ (pos 0) (computed_fix q f past here (param_id e.node.0 param.Offset)) zero_fix
@@ -118,6 +130,7 @@ kind_fix q f past here fixes (kinds.Buffer rate) points e o c = played_fix here.
 kind_fix q f past here fixes (Gain gain) points e o c = sat_fix _
 kind_fix q f past here fixes (Splitter ports) points e o c = input_fix here e.node.0 0 o
 kind_fix q f past here fixes (Merger ports) points e o c = input_fix here e.node.0 c 0
+kind_fix q f past here fixes (Iir forward back) points e o c = filter_fix forward back (frames_heard f past here e.node.0 c)
 kind_fix q f past here fixes (Shaper None was_set) points e o c = input_fix here e.node.0 0 c
 kind_fix q f past here fixes (Shaper (Some curve) was_set) points e o c = curve_fix curve (input_value here e.node.0 0 c +ℤ pos 16777216) (all_at curve points)
 

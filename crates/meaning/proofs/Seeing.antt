@@ -1,5 +1,5 @@
 -- What the equation of one end sees, of its own frame, of its own quantum, and of the quanta before.
-use Rattle.std.proofs.Common.{ℕ, ℤ, pos, ◌≡◌, ◌*◌, ◌/◌, ◌<◌, ◌≤◌, ◌+ℤ◌, List, [], ◌∷◌, Bool, true, false, refl, sym, ◌∙◌, ap, arith, subst}
+use Rattle.std.proofs.Common.{ℕ, zero, suc, ℤ, pos, ◌≡◌, ◌+◌, ◌-◌, ◌⊎◌, inl, inr, ap₂, ◌*◌, ◌/◌, ◌<◌, ◌≤◌, ◌+ℤ◌, List, [], ◌∷◌, Bool, true, false, refl, sym, ◌∙◌, ap, arith, subst}
 use mathlib.Core.Path.{fun_ext}
 use Rattle.std.specs.Prelude.{if◌then◌else◌, nat_lt, ◌==◌, ◌&&◌}
 use Rattle.std.proofs.lemmas.Bool.Decides.{nat_tests}
@@ -15,9 +15,10 @@ use Rattle.law_base.proofs.Members.{same_map}
 use Rattle.channel_mix.specs.Counts.{input_count}
 use Rattle.channel_mix.specs.Mixing.{mix, fan_in}
 use Rattle.causal_core.specs.Curves.{shaper_value}
-use Rattle.node_table.specs.Kinds.{is_delay_kind, outputs}
+use Rattle.causal_core.specs.Filters.{filter_value}
+use Rattle.node_table.specs.Kinds.{is_delay_kind, outputs, remembers}
 use Rattle.node_table.specs.declared.kinds.Kind.{Kind}
-use Rattle.node_table.specs.declared.kinds.Kind.TheVariants.{Destination, Constant, Buffer, Gain, Splitter, Merger, Shaper}
+use Rattle.node_table.specs.declared.kinds.Kind.TheVariants.{Destination, Constant, Buffer, Gain, Splitter, Merger, Shaper, Iir}
 use Rattle.conn_graph.specs.declared.edges.Edge.{Edge}
 use Rattle.conn_graph.specs.Graph.{edges_to_input, edges_to_param}
 use Rattle.conn_graph.specs.Ends.{writer_of, reader_of, ends, is_delay, input_end, arrow, muted}
@@ -26,7 +27,7 @@ use Rattle.meaning.specs.declared.world.World.{World}
 use Rattle.meaning.specs.World.{node_at, kind_of, param_id, intrinsic_value, is_k_rate, nominal, sounds_at}
 use Rattle.meaning.specs.Validity.{IsJoined}
 use Rattle.meaning.specs.Counts.{Counts, input_channels}
-use Rattle.meaning.specs.Values.{Frame, Values, seen, mixed_sum, input_value, computed_value, value_by_kind, has_channel, equation}
+use Rattle.meaning.specs.Values.{Frame, Values, seen, mixed_sum, input_value, taken_in, frames_since, frames_heard, computed_value, value_by_kind, has_channel, equation}
 
 -- an end of a node that is no delay is the one at which the node's inputs arrive
 pub plain_end : (w : World) → IsJoined w → (e : End) → IsIn e (ends w.graph.value) → is_delay_kind (kind_of w e.node.0) ≡ false → e ≡ input_end w.graph.value e.node.0
@@ -95,11 +96,17 @@ pub data LikeFor (w : World) (e : End) (x y : Frame) : Type 0 where
   same : x ≡ y → LikeFor w e x y
   alike : (m n : Counts) (s t : Values) → x ≡ record { world = w; counts = m; values = s } → y ≡ record { world = w; counts = n; values = t } → AgreeFor w e m n → AgreeFor w e s t → LikeFor w e x y
 
--- Two pasts look alike to an end: in the frames of its quantum, and in what its writer took in before, where it is a delay's.
+-- Two pasts look alike to an end: in the frames of its quantum, in what its writer took in before, where it is a delay's, and in what it heard before, where its node remembers.
 pub record SeesFor (q f : ℕ) (w : World) (e : End) (past past' : ℕ → Frame) : Type 0 where
   pub recent : (g : ℕ) → q * (f / q) ≤ g → g < f → LikeFor w e (past g) (past' g)
   pub delays : (g : ℕ) → is_delay w.graph.value e.node.0 ≡ true → (node_at w e.node.0).attrs.birth ≤ g → g < q * (f / q)
       → ((past g).counts (writer_of e.node.0) ≡ (past' g).counts (writer_of e.node.0)) × ((past g).values (writer_of e.node.0) 0 ≡ (past' g).values (writer_of e.node.0) 0)
+  pub heard : (g c : ℕ) → remembers (kind_of w e.node.0) ≡ true → (node_at w e.node.0).attrs.birth ≤ g → g < q * (f / q) → taken_in (past g) e.node.0 c ≡ taken_in (past' g) e.node.0 c
+
+-- lists of frames that are alike one by one
+pub same_since : (at at' : ℕ → ℤ) (birth k : ℕ) → ((g : ℕ) → birth ≤ g → g < birth + k → at g ≡ at' g) → frames_since at birth k ≡ frames_since at' birth k
+same_since at at' birth zero each = refl
+same_since at at' birth (suc k) each = ap₂ (λ x xs. x ∷ xs) (each (birth + k) (omega arith) (omega arith)) (same_since at at' birth k (λ g low high. each g low (omega arith)))
 
 module _ (q : ℕ) (some : 0 < q) (w : World) (joined : IsJoined w) (f : ℕ) (past past' : ℕ → Frame) (e : End) (h : IsIn e (ends w.graph.value))
     (sees : SeesFor q f w e past past') (m n : Counts) (own : m e ≡ n e) (agree_counts : AgreeFor w e m n) (s t : Values) (agree : AgreeFor w e s t) where
@@ -136,6 +143,31 @@ module _ (q : ℕ) (some : 0 < q) (w : World) (joined : IsJoined w) (f : ℕ) (p
       by_rate true = same_at (q * (f / q)) (omega arith) (omega arith)
       by_rate false = same_at f (omega arith) (omega arith)
 
+  -- what the input takes in, in frames that look alike
+  taken_like : e ≡ input_end w.graph.value e.node.0 → (c : ℕ) (x y : Frame) → LikeFor w e x y → taken_in x e.node.0 c ≡ taken_in y e.node.0 c
+  taken_like is c x y (same p) = ap (λ z. taken_in z e.node.0 c) p
+  taken_like is c x y (alike k l u v p r b a) =
+      ap (λ z. taken_in z e.node.0 c) p
+      ∙ ap (λ z. if muted w.graph.value (input_end w.graph.value e.node.0) then pos 0 else z) (input_like w joined k l u v e is b a 0 c)
+      ∙ sym (ap (λ z. taken_in z e.node.0 c) r)
+
+  -- all that it took in
+  heard_like : remembers (kind_of w e.node.0) ≡ true → e ≡ input_end w.graph.value e.node.0 → (c : ℕ) → frames_heard f past (here w m s) e.node.0 c ≡ frames_heard f past' (here w n t) e.node.0 c
+  heard_like is plain c = same_since _ _ (node_at w e.node.0).attrs.birth (f + 1 - (node_at w e.node.0).attrs.birth) (λ g low high. elim (now_or_before g) [
+    | inl now ↦ taken_like plain c _ _ (like_now g now (omega arith))
+    | inr old ↦
+        let below : g < f = let start : q * (f / q) ≤ f = omega arith in omega arith in
+        ap (λ z. taken_in z e.node.0 c) (seen_before past (here w m s) g below)
+        ∙ sees.heard g c is low old
+        ∙ sym (ap (λ z. taken_in z e.node.0 c) (seen_before past' (here w n t) g below))
+  ])
+    where
+      now_or_before : (g : ℕ) → (q * (f / q) ≤ g) ⊎ (g < q * (f / q))
+      now_or_before g = grind arith
+
+      seen_before : (before : ℕ → Frame) (x : Frame) (g : ℕ) → g < f → seen f before x g ≡ before g
+      seen_before before x g l = ap (λ b. if b then x else before g) (let other : (g == f) ≡ false = grind (arith, nat_tests) in other)
+
   by_kind : (o c : ℕ) (k : Kind) → kind_of w e.node.0 ≡ k → value_by_kind q f past (here w m s) k e o c ≡ value_by_kind q f past' (here w n t) k e o c
   by_kind o c Destination is = input_like w joined m n s t e (plain_end w joined e h (ap is_delay_kind is)) agree_counts agree 0 c
   by_kind o c (Constant offset) is = ap (λ x. if sounds_at w e.node.0 f then x else pos 0) (computed_like (plain_reader w joined e h (ap is_delay_kind is)) param.Offset)
@@ -145,6 +177,7 @@ module _ (q : ℕ) (some : 0 < q) (w : World) (joined : IsJoined w) (f : ℕ) (p
       ∙ ap (scale (input_value (here w n t) e.node.0 0 c)) (computed_like (plain_reader w joined e h (ap is_delay_kind is)) param.Gain)
   by_kind o c (Splitter ports) is = input_like w joined m n s t e (plain_end w joined e h (ap is_delay_kind is)) agree_counts agree 0 o
   by_kind o c (Merger ports) is = input_like w joined m n s t e (plain_end w joined e h (ap is_delay_kind is)) agree_counts agree c 0
+  by_kind o c (Iir forward back) is = ap (filter_value forward back) (heard_like (ap remembers is) (plain_end w joined e h (ap is_delay_kind is)) c)
   by_kind o c (Shaper curve was_set) is = ap (λ x. shaper_value curve (x ∷ [])) (input_like w joined m n s t e (plain_end w joined e h (ap is_delay_kind is)) agree_counts agree 0 c)
 
   pub equation_sees : equation q f past (here w m s) e ≡ equation q f past' (here w n t) e

@@ -8,7 +8,7 @@ use Rattle.law_base.specs.Members.{IsIn}
 use Rattle.node_table.specs.Kinds.{inputs, outputs, is_delay_kind, param_base, lasting, with_curve}
 use Rattle.node_table.specs.Nodes.{IsCreated, with_count, with_mode, with_interp, count_refusal, mode_refusal, interp_refusal, node_with_curve, curve_refusal, changed_at, refusal_at}
 use Rattle.node_table.specs.declared.kinds.Kind.{Kind}
-use Rattle.node_table.specs.declared.kinds.Kind.TheVariants.{Destination, Constant, Buffer, Gain, Splitter, Merger, Shaper}
+use Rattle.node_table.specs.declared.kinds.Kind.TheVariants.{Destination, Constant, Buffer, Gain, Splitter, Merger, Shaper, Iir}
 use Rattle.node_table.proofs.Lasting.{same_by_lasting, holds_by_lasting}
 use Rattle.node_table.proofs.Shaping.{keeps_curve}
 use Rattle.node_table.specs.declared.nodes.Node.{Node}
@@ -135,6 +135,7 @@ with_curve_lasts curve (Buffer rate) = refl
 with_curve_lasts curve (Gain gain) = refl
 with_curve_lasts curve (Splitter ports) = refl
 with_curve_lasts curve (Merger ports) = refl
+with_curve_lasts curve (Iir forward back) = refl
 with_curve_lasts curve (Shaper old was_set) = refl
 
 pub node_keeps_curve : (curve : Option (List ℤ)) → KeepsNode (curve_refusal curve) (node_with_curve curve)

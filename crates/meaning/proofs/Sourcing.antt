@@ -18,7 +18,7 @@ use Rattle.sched_source.specs.declared.content.Loop.{Loop}
 use Rattle.sched_source.specs.Playback.{unstarted, begun, absolute}
 use Rattle.sched_source.specs.Schedule.{Schedule, constant, buffer}
 use Rattle.node_table.specs.declared.kinds.Kind.{Kind}
-use Rattle.node_table.specs.declared.kinds.Kind.TheVariants.{Destination, Constant, Buffer, Gain, Splitter, Merger, Shaper}
+use Rattle.node_table.specs.declared.kinds.Kind.TheVariants.{Destination, Constant, Buffer, Gain, Splitter, Merger, Shaper, Iir}
 use Rattle.meaning.specs.declared.scheds.Play.{Play}
 use Rattle.meaning.specs.declared.sources.SourceEdit.{SourceEdit}
 use Rattle.meaning.specs.declared.sources.SourceEdit.TheVariants as edit
@@ -56,6 +56,7 @@ new_fits store node (Gain gain) p is = absurd cc
 new_fits store node (Splitter ports) p is = absurd cc
 new_fits store node (Merger ports) p is = absurd cc
 new_fits store node (Shaper curve was_set) p is = absurd cc
+new_fits store node (Iir forward back) p is = absurd cc
 
 pub new_play_is : (w : World) (kind : Kind) → IsNewPlay w kind (new_play (length w.nodes) kind)
 new_play_is w kind = record {
@@ -102,6 +103,7 @@ kept_play old new keeps (Gain gain) p is = is
 kept_play old new keeps (Splitter ports) p is = is
 kept_play old new keeps (Merger ports) p is = is
 kept_play old new keeps (Shaper curve was_set) p is = is
+kept_play old new keeps (Iir forward back) p is = is
 
 pub with_store_valid : (w : World) (store : List AudioBuffer) → KeepsFrames w.store store → AreBuffers store → IsValid w → IsValid (with_store w store)
 with_store_valid w store keeps are valid =
@@ -149,6 +151,7 @@ play_buffer store (Gain gain) p is = absurd is
 play_buffer store (Splitter ports) p is = absurd is
 play_buffer store (Merger ports) p is = absurd is
 play_buffer store (Shaper curve was_set) p is = absurd is
+play_buffer store (Iir forward back) p is = absurd is
 
 pub found_buffer : (w : World) → IsValid w → (i : ℕ) (p : Play) → slice_get w.scheds.items i ≡ Some p → IsBufferOf w.store p.buffer
 found_buffer w valid i p is = play_buffer w.store (kind_of w p.id.0) p (valid.scheds.kinds p (found_is_in w.scheds.items i p is))
@@ -247,6 +250,7 @@ module _ (w : World) (store : List AudioBuffer) (keeps : KeepsFrames w.store sto
   edit_stays e (Splitter ports) p named fine old is = absurd is
   edit_stays e (Merger ports) p named fine old is = absurd is
   edit_stays e (Shaper curve was_set) p named fine old is = absurd is
+  edit_stays e (Iir forward back) p named fine old is = absurd is
 
 frozen_keeps : (store : List AudioBuffer) (source : Option BufId) → KeepsFrames store (frozen_in store source)
 frozen_keeps store None = keeps_all store

@@ -9,7 +9,7 @@ use Rattle.law_base.proofs.Tests.{and_both}
 use Rattle.node_table.specs.Kinds.{is_delay_kind, remembers, lasting}
 use Rattle.node_table.proofs.Lasting.{same_by_lasting}
 use Rattle.node_table.specs.declared.kinds.Kind.{Kind}
-use Rattle.node_table.specs.declared.kinds.Kind.TheVariants.{Destination, Constant, Buffer, Gain, Splitter, Merger, Shaper}
+use Rattle.node_table.specs.declared.kinds.Kind.TheVariants.{Destination, Constant, Buffer, Gain, Splitter, Merger, Shaper, Iir}
 use Rattle.node_table.specs.declared.nodes.Node.{Node}
 use Rattle.conn_graph.specs.Ends.{writer_of}
 use Rattle.meaning.specs.declared.world.World.{World}
@@ -38,6 +38,7 @@ delay_remembers (Gain gain) is = absurd cc
 delay_remembers (Splitter ports) is = absurd cc
 delay_remembers (Merger ports) is = absurd cc
 delay_remembers (Shaper curve was_set) is = absurd cc
+delay_remembers (Iir forward back) is = absurd cc
 
 below_or_past : (i n : ℕ) → (i < n) ⊎ (n ≤ i)
 below_or_past i n = grind arith

@@ -24,7 +24,7 @@ module _ (q : ℕ) (some : 0 < q) (w : World) (counts : Counts) (joined : IsJoin
   -- an end's equation sees only the ends from which an arrow leads to it
   pub value_local : (e : End) (s t : Values) → IsIn e (ends w.graph.value) → AgreeFor w e s t → equation q f past (here s) e ≡ equation q f past (here t) e
   value_local e s t h agree =
-      let sees : SeesFor q f w e past past = record { recent = λ g low high. LikeFor.same refl; delays = λ g is low high. (refl, refl) } in
+      let sees : SeesFor q f w e past past = record { recent = λ g low high. LikeFor.same refl; delays = λ g is low high. (refl, refl); heard = λ g c is low high. refl } in
       equation_sees q some w joined f past past e h sees counts counts refl (λ d in_d a. refl) s t agree
 
   pub value_quiet : (e : End) (n : ℕ) → n ≤ length (ends w.graph.value) → reaches (arrow w.graph.value) (ends w.graph.value) n e e ≡ true → (s : Values)

@@ -10,7 +10,7 @@ use Rattle.law_base.specs.Members.{IsIn}
 use Rattle.node_table.specs.Kinds.{is_destination, IsInEntry}
 use Rattle.node_table.specs.Nodes.{creation_refusal, node_of, with_count, with_mode, with_interp, count_refusal, mode_refusal, interp_refusal, node_with_curve, curve_refusal, changed_at, refusal_at}
 use Rattle.node_table.specs.declared.kinds.Kind.{Kind}
-use Rattle.node_table.specs.declared.kinds.Kind.TheVariants.{Destination, Constant, Buffer, Gain, Splitter, Merger, Shaper}
+use Rattle.node_table.specs.declared.kinds.Kind.TheVariants.{Destination, Constant, Buffer, Gain, Splitter, Merger, Shaper, Iir}
 use Rattle.node_table.specs.declared.nodes.Node.{Node}
 use Rattle.conn_graph.specs.Edges.{form_node}
 use Rattle.conn_graph.specs.Graph.{Connections, with_node, connect_refusal, connected, disconnect_refusal, disconnected}
@@ -47,6 +47,7 @@ param_of (Gain gain) = Some (param.Gain, gain)
 param_of (Splitter ports) = None
 param_of (Merger ports) = None
 param_of (Shaper curve was_set) = None
+param_of (Iir forward back) = None
 
 abbrev pub new_params : ℕ → Option (ParamName × ℤ) → List Param
 new_params node None = []

@@ -4,7 +4,7 @@ use Rattle.wa_base.specs.declared.graph_names.End.{End}
 use Rattle.law_base.specs.Heights.{Scheme, at_moment}
 use Rattle.channel_mix.specs.Counts.{input_count}
 use Rattle.node_table.specs.declared.kinds.Kind.{Kind}
-use Rattle.node_table.specs.declared.kinds.Kind.TheVariants.{Destination, Constant, Buffer, Gain, Splitter, Merger, Shaper}
+use Rattle.node_table.specs.declared.kinds.Kind.TheVariants.{Destination, Constant, Buffer, Gain, Splitter, Merger, Shaper, Iir}
 use Rattle.conn_graph.specs.Graph.{edges_to_input}
 use Rattle.conn_graph.specs.Ends.{reader_of, height, muted}
 use Rattle.meaning.specs.declared.world.World.{World}
@@ -30,6 +30,7 @@ count_by_kind q w j past now (Gain gain) e = input_channels w now e.node.0 0
 count_by_kind q w j past now (Splitter outputs) e = 1
 count_by_kind q w j past now (Merger inputs) e = inputs
 count_by_kind q w j past now (Shaper curve was_set) e = input_channels w now e.node.0 0
+count_by_kind q w j past now (Iir forward back) e = input_channels w now e.node.0 0
 
 -- the counts one height up; a muted end has one channel
 unfoldable pub count_rule : ℕ → World → ℕ → (ℕ → Counts) → Counts → Counts

@@ -2,21 +2,19 @@
 use Rattle.std.specs.Prelude.{ℕ, ℤ, pos, ◌-◌, ◌*◌, ◌/◌, length, List, Bool, ◌&&◌, nat_le, nat_lt, if◌then◌else◌}
 use Rattle.node_table.specs.Kinds.{is_delay_kind, remembers}
 use Rattle.node_table.specs.declared.nodes.Node.{Node}
-use Rattle.conn_graph.specs.Ends.{writer_of, input_end, muted}
+use Rattle.conn_graph.specs.Ends.{writer_of}
 use Rattle.meaning.specs.declared.world.World.{World}
 use Rattle.meaning.specs.World.{node_at}
 use Rattle.meaning.specs.Counts.{world_in, count}
-use Rattle.meaning.specs.Values.{input_value, world_at, frame}
+use Rattle.meaning.specs.Values.{taken_in, frame}
 
 -- the world in force in the last quantum of a tape
 abbrev pub last_world : List World → World
 last_world tape = world_in tape (length tape - 1)
 
--- channel c of what the input of node n takes in at frame f; an end that is muted takes in nothing
+-- channel c of what the input of node n takes in at frame f
 abbrev pub heard : ℕ → List World → ℕ → ℕ → ℕ → ℤ
-heard q tape n f c =
-    let g = (world_at q tape f).graph.value in
-    if muted g (input_end g n) then pos 0 else input_value (frame q tape f) n 0 c
+heard q tape n f c = taken_in (frame q tape f) n c
 
 -- whether frame f lies between the birth of a node and the end of the tape
 abbrev pub is_lived : ℕ → List World → Node → ℕ → Bool

@@ -14,7 +14,7 @@ use Rattle.buffer_store.specs.Buffers.{AreBuffers}
 use Rattle.node_table.specs.Kinds.{inputs, outputs, is_delay_kind, param_base}
 use Rattle.node_table.specs.Nodes.{IsCreated}
 use Rattle.node_table.specs.declared.kinds.Kind.{Kind}
-use Rattle.node_table.specs.declared.kinds.Kind.TheVariants.{Destination, Constant, Buffer, Gain, Splitter, Merger, Shaper}
+use Rattle.node_table.specs.declared.kinds.Kind.TheVariants.{Destination, Constant, Buffer, Gain, Splitter, Merger, Shaper, Iir}
 use Rattle.node_table.specs.declared.nodes.Node.{Node}
 use Rattle.conn_graph.specs.declared.edges.Edge.{Edge}
 use Rattle.conn_graph.specs.declared.edges.Ports.{Ports}
@@ -81,6 +81,7 @@ IsPlayOf store (Gain gain) play = ⊥
 IsPlayOf store (Splitter ports) play = ⊥
 IsPlayOf store (Merger ports) play = ⊥
 IsPlayOf store (Shaper curve was_set) play = ⊥
+IsPlayOf store (Iir forward back) play = ⊥
 
 -- each source has a schedule of its kind, once, and no other node has one
 pub record HasScheds (w : World) : Type 0 where

@@ -1,5 +1,5 @@
 -- What each end carries at each frame.
-use Rattle.std.specs.Prelude.{ℕ, ℤ, pos, ◌+ℤ◌, ◌*◌, ◌/◌, List, [], ◌∷◌, map, Bool, nat_lt, ◌==◌, ◌&&◌, if◌then◌else◌}
+use Rattle.std.specs.Prelude.{ℕ, zero, suc, ◌+◌, ◌-◌, ℤ, pos, ◌+ℤ◌, ◌*◌, ◌/◌, List, [], ◌∷◌, map, Bool, nat_lt, ◌==◌, ◌&&◌, if◌then◌else◌}
 use Rattle.wa_base.specs.Numbers.{scale}
 use Rattle.wa_base.specs.declared.graph_names.End.{End}
 use Rattle.wa_base.specs.declared.graph_names.Interp.{Interp}
@@ -8,13 +8,14 @@ use Rattle.wa_base.specs.declared.graph_names.ParamId.{ParamId}
 use Rattle.wa_base.specs.declared.graph_names.ParamName.TheVariants as param
 use Rattle.law_base.specs.Heights.{Scheme, at_moment}
 use Rattle.causal_core.specs.Curves.{shaper_value}
+use Rattle.causal_core.specs.Filters.{filter_value}
 use Rattle.channel_mix.specs.Mixing.{mix, fan_in}
 use Rattle.node_table.specs.Kinds.{outputs}
 use Rattle.node_table.specs.declared.kinds.Kind.{Kind}
-use Rattle.node_table.specs.declared.kinds.Kind.TheVariants.{Destination, Constant, Buffer, Gain, Splitter, Merger, Shaper}
+use Rattle.node_table.specs.declared.kinds.Kind.TheVariants.{Destination, Constant, Buffer, Gain, Splitter, Merger, Shaper, Iir}
 use Rattle.conn_graph.specs.declared.edges.Edge.{Edge}
 use Rattle.conn_graph.specs.Graph.{edges_to_input, edges_to_param}
-use Rattle.conn_graph.specs.Ends.{reader_of, height, muted}
+use Rattle.conn_graph.specs.Ends.{reader_of, input_end, height, muted}
 use Rattle.meaning.specs.declared.world.World.{World}
 use Rattle.meaning.specs.World.{no_world, node_at, kind_of, param_id, intrinsic_value, is_k_rate, nominal, sounds_at, played_at}
 use Rattle.meaning.specs.Counts.{Counts, world_in, input_channels, count}
@@ -55,6 +56,19 @@ input_value x n i c =
     let to = input_channels x.world x.counts n i in
     if nat_lt c to then mixed_sum x (node_at x.world n).attrs.interp to c (edges_to_input x.world.graph.value n i) else pos 0
 
+-- channel c of what the input of node n takes in; an end that is muted takes in nothing
+abbrev pub taken_in : Frame → ℕ → ℕ → ℤ
+taken_in x n c = if muted x.world.graph.value (input_end x.world.graph.value n) then pos 0 else input_value x n 0 c
+
+-- so many frames from a node's birth on, the newest first
+abbrev pub frames_since : (ℕ → ℤ) → ℕ → ℕ → List ℤ
+frames_since at birth zero = []
+frames_since at birth (suc n) = at (birth + n) ∷ frames_since at birth n
+
+-- all that the input of node n took in on channel c, from its birth to frame f
+abbrev pub frames_heard : ℕ → (ℕ → Frame) → Frame → ℕ → ℕ → List ℤ
+frames_heard f past here n c = let birth = (node_at here.world n).attrs.birth in frames_since (λ g. taken_in (seen f past here g) n c) birth (f + 1 - birth)
+
 -- The computed value of a parameter (paramComputedValue): its intrinsic value plus what its connections carry, mixed to one channel, in the nominal range.
 -- At k-rate both are taken at the first frame of the quantum.
 unfoldable pub computed_value : ℕ → ℕ → (ℕ → Frame) → Frame → ParamId → ℤ
@@ -78,6 +92,8 @@ value_by_kind q f past here (Splitter outputs) e o c = input_value here e.node.0
 value_by_kind q f past here (Merger inputs) e o c = input_value here e.node.0 c 0
 -- a shaper hears its input, of which the newest frame alone counts
 value_by_kind q f past here (Shaper curve was_set) e o c = shaper_value curve (input_value here e.node.0 0 c ∷ [])
+-- a filter hears its input from its birth on
+value_by_kind q f past here (Iir forward back) e o c = filter_value forward back (frames_heard f past here e.node.0 c)
 
 -- whether an end has channel c of output o
 abbrev pub has_channel : World → Counts → End → ℕ → ℕ → Bool

@@ -16,7 +16,7 @@ use Rattle.sched_source.specs.Schedule.{Schedule, plays_at, plays_in, played, co
 use Rattle.buffer_store.specs.declared.buffers.Buffer.{Buffer as AudioBuffer}
 use Rattle.buffer_store.specs.Buffers.{channel_of}
 use Rattle.node_table.specs.declared.kinds.Kind.{Kind}
-use Rattle.node_table.specs.declared.kinds.Kind.TheVariants.{Destination, Constant, Buffer, Gain, Splitter, Merger, Shaper}
+use Rattle.node_table.specs.declared.kinds.Kind.TheVariants.{Destination, Constant, Buffer, Gain, Splitter, Merger, Shaper, Iir}
 use Rattle.node_table.specs.declared.nodes.Node.{Node}
 use Rattle.conn_graph.specs.Edges.{same_param}
 use Rattle.conn_graph.specs.Graph.{Connections, no_connections}
@@ -98,6 +98,7 @@ nominal (Gain gain) x = sat x
 nominal (Splitter ports) x = sat x
 nominal (Merger ports) x = sat x
 nominal (Shaper curve was_set) x = sat x
+nominal (Iir forward back) x = sat x
 
 -- ---- its schedules
 
@@ -113,6 +114,7 @@ first_sched (Gain gain) = None
 first_sched (Splitter ports) = None
 first_sched (Merger ports) = None
 first_sched (Shaper curve was_set) = None
+first_sched (Iir forward back) = None
 
 -- what has a schedule is a source
 abbrev pub is_source : Kind → Bool

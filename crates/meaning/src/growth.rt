@@ -91,7 +91,8 @@ fn param_of(kind: &Kind) -> Option<(ParamName, Fix)>
         | Kind::Buffer { .. }
         | Kind::Splitter { .. }
         | Kind::Merger { .. }
-        | Kind::Shaper { .. } => None,
+        | Kind::Shaper { .. }
+        | Kind::Iir { .. } => None,
         Kind::Constant { offset } => Some((ParamName::Offset, *offset)),
         Kind::Gain { gain } => Some((ParamName::Gain, *gain)),
     }
@@ -109,7 +110,8 @@ fn first_sched(kind: &Kind) -> Option<Sched>
         | Kind::Gain { .. }
         | Kind::Splitter { .. }
         | Kind::Merger { .. }
-        | Kind::Shaper { .. } => None,
+        | Kind::Shaper { .. }
+        | Kind::Iir { .. } => None,
     }
 }
 

@@ -1,7 +1,7 @@
 -- What stays as long as a node is there.
 use Rattle.std.proofs.Common.{◌≡◌, ℤ, Bool, false, Option, None, List, ◌⊎◌, inl, inr, refl, sym, ◌∙◌, ap, subst}
 use Rattle.node_table.specs.declared.kinds.Kind.{Kind}
-use Rattle.node_table.specs.declared.kinds.Kind.TheVariants.{Destination, Constant, Buffer, Gain, Splitter, Merger, Shaper}
+use Rattle.node_table.specs.declared.kinds.Kind.TheVariants.{Destination, Constant, Buffer, Gain, Splitter, Merger, Shaper, Iir}
 use Rattle.node_table.specs.Kinds.{lasting}
 
 record IsShaper (kind : Kind) : Type 0 where
@@ -17,7 +17,15 @@ lasts (Buffer rate) = inl refl
 lasts (Gain gain) = inl refl
 lasts (Splitter ports) = inl refl
 lasts (Merger ports) = inl refl
+lasts (Iir forward back) = inl refl
 lasts (Shaper curve was_set) = inr (record { curve = curve; was_set = was_set; is = refl })
+
+-- a filter lasts as it is
+pub lasting_filter : (kind : Kind) (forward back : List ℤ) → lasting kind ≡ Iir forward back → kind ≡ Iir forward back
+lasting_filter kind forward back is = elim (lasts kind) [
+  | inl same ↦ sym same ∙ is
+  | inr shaper ↦ let other : lasting (Shaper shaper.curve shaper.was_set) ≡ Iir forward back = subst (λ k. lasting k ≡ Iir forward back) shaper.is is in absurd cc
+]
 
 -- what is the same for every shaper, whatever its curve
 module _ {A : Type 0} (f : Kind → A) (shapers : (curve : Option (List ℤ)) (was_set : Bool) → f (Shaper None false) ≡ f (Shaper curve was_set)) where

@@ -10,7 +10,7 @@ use Rattle.wa_base.specs.declared.exceptions.Exc.TheVariants.{NotSupported, Inde
 use Rattle.wa_base.specs.declared.features.Feature.TheVariants.{NodeLimit, PlaybackRate}
 use Rattle.causal_core.specs.Curves.{IsCurve, curve_refusal}
 use Rattle.node_table.specs.declared.kinds.Kind.{Kind}
-use Rattle.node_table.specs.declared.kinds.Kind.TheVariants.{Destination, Constant, Buffer, Gain, Splitter, Merger, Shaper}
+use Rattle.node_table.specs.declared.kinds.Kind.TheVariants.{Destination, Constant, Buffer, Gain, Splitter, Merger, Shaper, Iir}
 use Rattle.node_table.specs.declared.nodes.Node.{Node}
 use Rattle.node_table.specs.Kinds.{is_destination, port_refusal, rate_refusal, range_refusal, IsInEntry, IsInLimits}
 use Rattle.node_table.specs.Nodes.{creation_refusal, AreNodes, IsCreated, KeepsFixed, first_attrs, node_of}
@@ -27,6 +27,7 @@ count_low (Gain gain) birth has = omega arith
 count_low (Splitter ports) birth has = has.0
 count_low (Merger ports) birth has = omega arith
 count_low (Shaper curve was_set) birth has = omega arith
+count_low (Iir forward back) birth has = omega arith
 
 count_high : (kind : Kind) (birth : ℕ) → IsInLimits kind → (first_attrs kind birth).count ≤ 32
 count_high Destination birth has = omega arith
@@ -36,6 +37,7 @@ count_high (Gain gain) birth has = omega arith
 count_high (Splitter ports) birth has = has.1
 count_high (Merger ports) birth has = omega arith
 count_high (Shaper curve was_set) birth has = omega arith
+count_high (Iir forward back) birth has = omega arith
 
 pub created_node : (kind : Kind) (birth : ℕ) → is_destination kind ≡ false → IsInEntry kind → IsInLimits kind → IsCreated (node_of kind birth)
 created_node kind birth other entry has =
@@ -71,6 +73,7 @@ in_limits (Gain gain) fine = tt
 in_limits (Splitter ports) fine = ports_allowed ports fine
 in_limits (Merger ports) fine = ports_allowed ports fine
 in_limits (Shaper curve was_set) fine = curve_allowed curve false fine
+in_limits (Iir forward back) fine = fine
 
 -- neither of two causes
 first_none : (a b : Option Exc) → option_or a b ≡ None → a ≡ None

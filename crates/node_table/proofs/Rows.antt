@@ -9,24 +9,24 @@ use Rattle.wa_base.specs.declared.graph_names.Mode.TheVariants.{Max, Explicit}
 use Rattle.wa_base.specs.declared.graph_names.ParamName.{ParamName}
 use Rattle.wa_base.specs.declared.graph_names.ParamName.TheVariants as param
 use Rattle.node_table.specs.declared.kinds.Kind.{Kind}
-use Rattle.node_table.specs.declared.kinds.Kind.TheVariants.{Destination, Constant, Buffer, Gain, Splitter, Merger, Shaper}
-use Rattle.node_table.specs.Kinds.{is_destination, fixed_count, fixed_mode, fixed_interp, inputs, outputs, is_delay_kind, param_base, lasting, with_curve, set_curve_refusal}
+use Rattle.node_table.specs.declared.kinds.Kind.TheVariants.{Destination, Constant, Buffer, Gain, Splitter, Merger, Shaper, Iir}
+use Rattle.node_table.specs.Kinds.{is_destination, fixed_count, fixed_mode, fixed_interp, inputs, outputs, is_delay_kind, param_base, lasting, remembers, with_curve, set_curve_refusal}
 use Rattle.node_table.specs.Nodes.{destination_of, node_of, creation_refusal, count_refusal, kind_at, attrs_at}
 
 abbrev kinds : List Kind
-kinds = Destination ∷ Constant (pos 5) ∷ Buffer 2 ∷ Gain (pos 7) ∷ Splitter 3 ∷ Merger 4 ∷ Shaper None false ∷ []
+kinds = Destination ∷ Constant (pos 5) ∷ Buffer 2 ∷ Gain (pos 7) ∷ Splitter 3 ∷ Merger 4 ∷ Shaper None false ∷ Iir (pos 1 ∷ []) (pos 2 ∷ []) ∷ []
 
 -- the ports of each kind
-inputs-kinds : map inputs kinds ≡ 1 ∷ 0 ∷ 0 ∷ 1 ∷ 1 ∷ 4 ∷ 1 ∷ []
+inputs-kinds : map inputs kinds ≡ 1 ∷ 0 ∷ 0 ∷ 1 ∷ 1 ∷ 4 ∷ 1 ∷ 1 ∷ []
 inputs-kinds = refl
 
-outputs-kinds : map outputs kinds ≡ 1 ∷ 1 ∷ 1 ∷ 1 ∷ 3 ∷ 1 ∷ 1 ∷ []
+outputs-kinds : map outputs kinds ≡ 1 ∷ 1 ∷ 1 ∷ 1 ∷ 3 ∷ 1 ∷ 1 ∷ 1 ∷ []
 outputs-kinds = refl
 
-is_destination-kinds : map is_destination kinds ≡ true ∷ false ∷ false ∷ false ∷ false ∷ false ∷ false ∷ []
+is_destination-kinds : map is_destination kinds ≡ true ∷ false ∷ false ∷ false ∷ false ∷ false ∷ false ∷ false ∷ []
 is_destination-kinds = refl
 
-is_delay_kind-kinds : map is_delay_kind kinds ≡ false ∷ false ∷ false ∷ false ∷ false ∷ false ∷ false ∷ []
+is_delay_kind-kinds : map is_delay_kind kinds ≡ false ∷ false ∷ false ∷ false ∷ false ∷ false ∷ false ∷ false ∷ []
 is_delay_kind-kinds = refl
 
 -- the parameters of each kind, with the values that they are created with
@@ -57,13 +57,13 @@ attrs-created : map (attrs_at (destination_of context ∷ node_of (Gain (pos 7))
 attrs-created = refl
 
 -- a source and a gain may get another count and another mode; of the destination, a splitter and a merger both are fixed, and of a splitter the interpretation too
-fixed : map fixed_count kinds ≡ true ∷ false ∷ false ∷ false ∷ true ∷ true ∷ false ∷ []
+fixed : map fixed_count kinds ≡ true ∷ false ∷ false ∷ false ∷ true ∷ true ∷ false ∷ false ∷ []
 fixed = refl
 
-fixed_modes : map fixed_mode kinds ≡ true ∷ false ∷ false ∷ false ∷ true ∷ true ∷ false ∷ []
+fixed_modes : map fixed_mode kinds ≡ true ∷ false ∷ false ∷ false ∷ true ∷ true ∷ false ∷ false ∷ []
 fixed_modes = refl
 
-fixed_interps : map fixed_interp kinds ≡ false ∷ false ∷ false ∷ false ∷ true ∷ false ∷ false ∷ []
+fixed_interps : map fixed_interp kinds ≡ false ∷ false ∷ false ∷ false ∷ true ∷ false ∷ false ∷ false ∷ []
 fixed_interps = refl
 
 kind-created : map (kind_at (destination_of context ∷ node_of (Gain (pos 7)) 1280 ∷ [])) (1 ∷ 2 ∷ []) ≡ Some (Gain (pos 7)) ∷ None ∷ []
@@ -116,3 +116,14 @@ curve-taken = refl
 -- a shaper lasts, whatever its curve
 lasting-shaper : lasting (Shaper (Some line) true) ≡ lasting (Shaper None false)
 lasting-shaper = refl
+
+-- ---- filters
+
+-- A list of no coefficient, feedforward coefficients that are all 0, and feedback[0] that is 0 are refused, in this order.
+refused-filters : map (λ kind. creation_refusal (destination_of context ∷ []) kind) (Iir [] (pos 1 ∷ []) ∷ Iir (pos 0 ∷ []) [] ∷ Iir (pos 0 ∷ []) (pos 0 ∷ []) ∷ Iir (pos 1 ∷ []) (pos 0 ∷ pos 1 ∷ []) ∷ Iir (pos 0 ∷ pos 1 ∷ []) (pos 1 ∷ []) ∷ [])
+    ≡ Some (NotSupported None) ∷ Some (NotSupported None) ∷ Some InvalidState ∷ Some InvalidState ∷ None ∷ []
+refused-filters = refl
+
+-- filters alone remember
+remembering : map remembers kinds ≡ false ∷ false ∷ false ∷ false ∷ false ∷ false ∷ false ∷ true ∷ []
+remembering = refl

@@ -1,7 +1,7 @@
 -- What holds of a list of nodes holds after a curve is set.
 use Rattle.std.proofs.Common.{◌≡◌, ℤ, Option, None, List, refl}
 use Rattle.node_table.specs.declared.kinds.Kind.{Kind}
-use Rattle.node_table.specs.declared.kinds.Kind.TheVariants.{Destination, Constant, Buffer, Gain, Splitter, Merger, Shaper}
+use Rattle.node_table.specs.declared.kinds.Kind.TheVariants.{Destination, Constant, Buffer, Gain, Splitter, Merger, Shaper, Iir}
 use Rattle.node_table.specs.declared.nodes.Attrs.{Attrs}
 use Rattle.node_table.specs.declared.nodes.Node.{Node}
 use Rattle.node_table.specs.Kinds.{with_curve, set_curve_refusal}
@@ -29,6 +29,7 @@ created_keeps curve (Buffer rate) attrs fine is = is
 created_keeps curve (Gain gain) attrs fine is = is
 created_keeps curve (Splitter ports) attrs fine is = is
 created_keeps curve (Merger ports) attrs fine is = is
+created_keeps curve (Iir forward back) attrs fine is = is
 
 -- the destination has no curve
 first_keeps : (curve : Option (List ℤ)) (n : Node) → IsFirst n → IsFirst (node_with_curve curve n)

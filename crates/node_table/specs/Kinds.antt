@@ -1,5 +1,5 @@
 -- What the kinds of nodes have.
-use Rattle.std.specs.Prelude.{ℕ, ℤ, ◌≤◌, ◌&&◌, ◌||◌, nat_le, List, Bool, true, false, if◌then◌else◌, Option, Some, None, is_some}
+use Rattle.std.specs.Prelude.{ℕ, ℤ, ◌≡◌, ◌≤◌, ◌&&◌, ◌||◌, nat_le, List, Bool, true, false, if◌then◌else◌, Option, Some, None, is_some}
 use Rattle.wa_base.specs.Numbers.{IsFix}
 use Rattle.wa_base.specs.declared.exceptions.Exc.{Exc}
 use Rattle.wa_base.specs.declared.exceptions.Exc.TheVariants.{IndexSize, NotSupported, WrongType}
@@ -13,7 +13,8 @@ use Rattle.wa_base.specs.declared.graph_names.ParamName.TheVariants as param
 use Rattle.node_table.specs.declared.kinds.Kind.{Kind}
 use Rattle.causal_core.specs.Curves as curves
 use Rattle.causal_core.specs.Curves.{IsCurve}
-use Rattle.node_table.specs.declared.kinds.Kind.TheVariants.{Destination, Constant, Buffer, Gain, Splitter, Merger, Shaper}
+use Rattle.causal_core.specs.Filters.{filter_refusal}
+use Rattle.node_table.specs.declared.kinds.Kind.TheVariants.{Destination, Constant, Buffer, Gain, Splitter, Merger, Shaper, Iir}
 
 abbrev pub is_destination : Kind → Bool
 is_destination Destination = true
@@ -23,6 +24,7 @@ is_destination (Gain gain) = false
 is_destination (Splitter ports) = false
 is_destination (Merger ports) = false
 is_destination (Shaper curve was_set) = false
+is_destination (Iir forward back) = false
 
 -- the number of inputs: a source has none
 abbrev pub inputs : Kind → ℕ
@@ -33,6 +35,7 @@ inputs (Gain gain) = 1
 inputs (Splitter ports) = 1
 inputs (Merger ports) = ports
 inputs (Shaper curve was_set) = 1
+inputs (Iir forward back) = 1
 
 -- the number of outputs
 abbrev pub outputs : Kind → ℕ
@@ -43,6 +46,7 @@ outputs (Gain gain) = 1
 outputs (Splitter ports) = ports
 outputs (Merger ports) = 1
 outputs (Shaper curve was_set) = 1
+outputs (Iir forward back) = 1
 
 -- whether each output has one channel, whatever comes in
 abbrev pub is_mono : Kind → Bool
@@ -53,6 +57,7 @@ is_mono (Gain gain) = false
 is_mono (Splitter ports) = true
 is_mono (Merger ports) = false
 is_mono (Shaper curve was_set) = false
+is_mono (Iir forward back) = false
 
 -- ---- how the channels of its inputs are mixed
 
@@ -65,6 +70,7 @@ first_count (Gain gain) = 2
 first_count (Splitter ports) = ports
 first_count (Merger ports) = 1
 first_count (Shaper curve was_set) = 2
+first_count (Iir forward back) = 2
 
 -- its channelCountMode
 abbrev pub first_mode : Kind → Mode
@@ -75,6 +81,7 @@ first_mode (Gain gain) = Max
 first_mode (Splitter ports) = Explicit
 first_mode (Merger ports) = Explicit
 first_mode (Shaper curve was_set) = Max
+first_mode (Iir forward back) = Max
 
 -- its channelInterpretation
 abbrev pub first_interp : Kind → Interp
@@ -85,6 +92,7 @@ first_interp (Gain gain) = Speakers
 first_interp (Splitter ports) = Discrete
 first_interp (Merger ports) = Speakers
 first_interp (Shaper curve was_set) = Speakers
+first_interp (Iir forward back) = Speakers
 
 abbrev pub same_mode : Mode → Mode → Bool
 same_mode Max Max = true
@@ -106,6 +114,7 @@ fixed_count (Gain gain) = false
 fixed_count (Splitter ports) = true
 fixed_count (Merger ports) = true
 fixed_count (Shaper curve was_set) = false
+fixed_count (Iir forward back) = false
 
 -- whether its channelCountMode does
 abbrev pub fixed_mode : Kind → Bool
@@ -116,6 +125,7 @@ fixed_mode (Gain gain) = false
 fixed_mode (Splitter ports) = true
 fixed_mode (Merger ports) = true
 fixed_mode (Shaper curve was_set) = false
+fixed_mode (Iir forward back) = false
 
 -- whether its channelInterpretation does
 abbrev pub fixed_interp : Kind → Bool
@@ -126,6 +136,7 @@ fixed_interp (Gain gain) = false
 fixed_interp (Splitter ports) = true
 fixed_interp (Merger ports) = false
 fixed_interp (Shaper curve was_set) = false
+fixed_interp (Iir forward back) = false
 
 -- ---- what it renders
 
@@ -137,6 +148,7 @@ is_delay_kind (Gain gain) = false
 is_delay_kind (Splitter ports) = false
 is_delay_kind (Merger ports) = false
 is_delay_kind (Shaper curve was_set) = false
+is_delay_kind (Iir forward back) = false
 
 -- what of a kind stays as long as its node is there: all but the curve of a shaper
 abbrev pub lasting : Kind → Kind
@@ -152,6 +164,7 @@ remembers (Gain gain) = false
 remembers (Splitter ports) = false
 remembers (Merger ports) = false
 remembers (Shaper curve was_set) = false
+remembers (Iir forward back) = true
 
 -- the value with which a parameter was created, where the kind has it
 abbrev pub param_base : Kind → ParamName → Option ℤ
@@ -168,6 +181,7 @@ IsInEntry (Gain gain) = IsFix gain
 IsInEntry (Splitter ports) = Unit {0}
 IsInEntry (Merger ports) = Unit {0}
 IsInEntry (Shaper curve was_set) = Unit {0}
+IsInEntry (Iir forward back) = Unit {0}
 
 -- ---- in which limits it is created
 
@@ -188,6 +202,7 @@ range_refusal (Gain gain) = None
 range_refusal (Splitter ports) = port_refusal ports
 range_refusal (Merger ports) = port_refusal ports
 range_refusal (Shaper curve was_set) = curves.curve_refusal curve false
+range_refusal (Iir forward back) = filter_refusal forward back
 
 -- what a node was created with is not refused
 abbrev pub IsInLimits : Kind → Type 0
@@ -198,6 +213,7 @@ IsInLimits (Gain gain) = Unit {0}
 IsInLimits (Splitter ports) = (1 ≤ ports) × (ports ≤ 32)
 IsInLimits (Merger ports) = (1 ≤ ports) × (ports ≤ 32)
 IsInLimits (Shaper curve was_set) = IsCurve curve
+IsInLimits (Iir forward back) = filter_refusal forward back ≡ None
 
 -- ---- the curve of a shaper
 

@@ -1,7 +1,7 @@
 ghost use Rattle.std.specs.Prelude.{◌≡◌, IfOk, option_copied};
 ghost use Rattle.node_table.specs.Kinds as spec;
 
-use causal_core::curve_refusal;
+use causal_core::{curve_refusal, filter_refusal};
 use wa_base::{Exc, Feature, Fix, NoMemory, ParamName, Samples};
 
 /// What a node is, with what it was created with.
@@ -43,6 +43,14 @@ pub enum Kind {
         /// Whether a curve was set before. It stays so where the curve is taken away.
         was_set: bool,
     },
+    /// A node that filters its input (IIRFilterNode), by 1 to 20 coefficients of each kind, in units of
+    /// 2^-24, once the node is there.
+    Iir {
+        /// Those of the inputs (feedforward), of which one is not 0.
+        forward: Samples,
+        /// Those of the outputs (feedback), of which the first is not 0.
+        back: Samples,
+    },
 }
 
 const MAX_PORTS: u32 = 32;
@@ -53,8 +61,11 @@ impl Kind {
         ensures { result ≡ spec.inputs self.now }
     {
         match self {
-            Kind::Destination | Kind::Gain { .. } | Kind::Splitter { .. } | Kind::Shaper { .. } =>
-                1,
+            Kind::Destination
+            | Kind::Gain { .. }
+            | Kind::Splitter { .. }
+            | Kind::Shaper { .. }
+            | Kind::Iir { .. } => 1,
             Kind::Constant { .. } | Kind::Buffer { .. } => 0,
             Kind::Merger { inputs } => *inputs,
         }
@@ -82,7 +93,8 @@ impl Kind {
             | Kind::Gain { .. }
             | Kind::Splitter { .. }
             | Kind::Merger { .. }
-            | Kind::Shaper { .. } => false,
+            | Kind::Shaper { .. }
+            | Kind::Iir { .. } => false,
         }
     }
 
@@ -92,8 +104,11 @@ impl Kind {
     {
         match self {
             Kind::Destination | Kind::Splitter { .. } | Kind::Merger { .. } => true,
-            Kind::Constant { .. } | Kind::Buffer { .. } | Kind::Gain { .. } | Kind::Shaper { .. } =>
-                false,
+            Kind::Constant { .. }
+            | Kind::Buffer { .. }
+            | Kind::Gain { .. }
+            | Kind::Shaper { .. }
+            | Kind::Iir { .. } => false,
         }
     }
 
@@ -103,8 +118,11 @@ impl Kind {
     {
         match self {
             Kind::Destination | Kind::Splitter { .. } | Kind::Merger { .. } => true,
-            Kind::Constant { .. } | Kind::Buffer { .. } | Kind::Gain { .. } | Kind::Shaper { .. } =>
-                false,
+            Kind::Constant { .. }
+            | Kind::Buffer { .. }
+            | Kind::Gain { .. }
+            | Kind::Shaper { .. }
+            | Kind::Iir { .. } => false,
         }
     }
 
@@ -119,12 +137,13 @@ impl Kind {
             | Kind::Buffer { .. }
             | Kind::Gain { .. }
             | Kind::Merger { .. }
-            | Kind::Shaper { .. } => false,
+            | Kind::Shaper { .. }
+            | Kind::Iir { .. } => false,
         }
     }
 
     /// The exception with which a node of the kind is refused because of what it would be created
-    /// with: the number of its ports, its rate, or its curve.
+    /// with: the number of its ports, its rate, its curve, or its coefficients.
     pub fn range_refusal(&self) -> Option<Exc>
         ensures { result ≡ spec.range_refusal self.now }
     {
@@ -135,6 +154,7 @@ impl Kind {
                 port_refusal(*ports)
             }
             Kind::Shaper { curve, .. } => curve_refusal(points_of(curve), false),
+            Kind::Iir { forward, back } => filter_refusal(forward.as_slice(), back.as_slice()),
         }
     }
 
@@ -159,7 +179,8 @@ impl Kind {
             | Kind::Buffer { .. }
             | Kind::Splitter { .. }
             | Kind::Merger { .. }
-            | Kind::Shaper { .. } => {}
+            | Kind::Shaper { .. }
+            | Kind::Iir { .. } => {}
             Kind::Constant { offset: entry } | Kind::Gain { gain: entry } => {
                 let _value = *entry;
             }
@@ -180,6 +201,10 @@ impl Kind {
             Kind::Shaper { curve, was_set } => Kind::Shaper {
                 curve: copy_of(curve)?,
                 was_set: *was_set,
+            },
+            Kind::Iir { forward, back } => Kind::Iir {
+                forward: forward.copy()?,
+                back: back.copy()?,
             },
         })
     }

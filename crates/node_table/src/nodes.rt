@@ -30,8 +30,11 @@ impl Attrs {
     {
         let (count, mode, interp) = match kind {
             Kind::Destination => (2, Mode::Explicit, Interp::Speakers),
-            Kind::Constant { .. } | Kind::Buffer { .. } | Kind::Gain { .. } | Kind::Shaper { .. } =>
-                (2, Mode::Max, Interp::Speakers),
+            Kind::Constant { .. }
+            | Kind::Buffer { .. }
+            | Kind::Gain { .. }
+            | Kind::Shaper { .. }
+            | Kind::Iir { .. } => (2, Mode::Max, Interp::Speakers),
             Kind::Splitter { outputs } => (*outputs, Mode::Explicit, Interp::Discrete),
             Kind::Merger { .. } => (1, Mode::Explicit, Interp::Speakers),
         };
@@ -124,8 +127,8 @@ impl Nodes {
     /// It is refused with IndexSizeError where a splitter would have no output or more than 32, or a
     /// merger so many inputs, with NotSupportedError and the feature `playback-rate` where a buffer
     /// source would have the rate 0, with InvalidStateError where a shaper would have a curve of fewer
-    /// than two points, and then with NotSupportedError and the feature `node-limit` where 1,024 nodes
-    /// are there, the destination among them. After a refusal, and after `NoMemory`, the nodes are as
+    /// than two points, as `filter_refusal` says for a filter, and then with NotSupportedError and the
+    /// feature `node-limit` where 1,024 nodes are there, the destination among them. After a refusal, and after `NoMemory`, the nodes are as
     /// before, and the kind is dropped.
     #[tactic(auto, using(crate::proofs::NodeLists::are_nodes_with_another))]
     pub fn create(&mut self, kind: Kind, birth: u64) -> Result<NodeId, Refusal>

@@ -24,18 +24,6 @@ use Rattle.quantum_render.specs.Blocks.{BlockView, block_of, carried, counts_in,
 use Rattle.quantum_render.specs.Connections.{into, leads_to}
 use Rattle.quantum_render.proofs.Sources.{input_sources}
 
-mapped_at : {X Y : Type 0} (f : X → Y) (xs : List X) (i : ℕ) (d : X) (y : Y) → i < length xs → option_map f (slice_get xs i) ≡ Some y → f (slice_index_or xs i d) ≡ y
-mapped_at f xs i d y l e =
-    let found : Some (f (slice_index_or xs i d)) ≡ Some y = sym (ap (option_map f) (slice_get-get_or xs i d l)) ∙ e in
-    ap (λ o. unwrap_or o y) found
-
--- the attributes and the kind that the table of nodes gives are the world's
-pub attrs_are : (w : World) (i : ℕ) (attrs : Attrs) → i < length w.nodes → attrs_at w.nodes i ≡ Some attrs → (node_at w i).attrs ≡ attrs
-attrs_are w i attrs l e = mapped_at (λ (n : Node). n.attrs) w.nodes i no_node attrs l e
-
-pub kind_is : (w : World) (i : ℕ) (kind : Kind) → i < length w.nodes → kind_at w.nodes i ≡ Some kind → kind_of w i ≡ kind
-kind_is w i kind l e = mapped_at (λ (n : Node). n.kind) w.nodes i no_node kind l e
-
 -- saturating a Fix changes nothing
 pub sat_of_fix : (x : ℤ) → FitsSigned w32 x → sat x ≡ x
 sat_of_fix (pos n) fits = let k = fits.sfits in ap pos (omega arith)

@@ -10,7 +10,7 @@ use Rattle.wa_base.specs.declared.graph_names.Interp.TheVariants.{Speakers}
 use Rattle.wa_base.specs.declared.graph_names.ParamId.{ParamId}
 use Rattle.channel_mix.specs.Mixing.{total}
 use Rattle.node_table.specs.declared.kinds.Kind.{Kind}
-use Rattle.node_table.specs.declared.kinds.Kind.TheVariants.{Destination, Constant, Buffer, Gain, Splitter, Merger, Shaper}
+use Rattle.node_table.specs.declared.kinds.Kind.TheVariants.{Destination, Constant, Buffer, Gain, Splitter, Merger, Shaper, Iir}
 use Rattle.conn_graph.specs.declared.edges.Edge.{Edge}
 use Rattle.conn_graph.specs.declared.edges.Target.{Target}
 use Rattle.conn_graph.specs.declared.edges.Target.TheVariants.{Param}
@@ -44,6 +44,7 @@ nominal_is (Gain gain) x = refl
 nominal_is (Splitter ports) x = refl
 nominal_is (Merger ports) x = refl
 nominal_is (Shaper curve was_set) x = refl
+nominal_is (Iir forward back) x = refl
 
 taken_low : (w : World) (id : ParamId) (m : ℕ) → m < 128 → taken_at w id m < 128
 taken_low w id m l = by_rate (is_k_rate w id)

@@ -17,3 +17,6 @@ pub mod OutLaws
 pub mod Rendering
 pub mod Holding
 pub mod Heard
+pub mod Listening
+pub mod Filtering
+pub mod Remembering

@@ -1,5 +1,5 @@
 -- Rendering a quantum along a legal order.
-use Rattle.std.proofs.Common.{ℕ, suc, pos, ◌≡◌, ◌+◌, ◌*◌, ◌<◌, ◌≤◌, length, List, [], ◌∷◌, ◌++◌, drop, slice_index_or, Bool, true, false, inl, inr, refl, sym, ◌∙◌, ap, arith, subst}
+use Rattle.std.proofs.Common.{ℕ, suc, ℤ, pos, ◌≡◌, ◌+◌, ◌*◌, ◌<◌, ◌≤◌, length, List, [], ◌∷◌, ◌++◌, drop, slice_index_or, Bool, true, false, inl, inr, refl, sym, ◌∙◌, ap, arith, subst}
 use mathlib.Core.Path.{fun_ext}
 use Rattle.std.specs.Prelude.{if◌then◌else◌, nat_lt}
 use Rattle.std.proofs.Math.ListN.{drop_of_length-le}
@@ -7,16 +7,20 @@ use Rattle.std.proofs.lemmas.Bool.Decides.{nat_tests}
 use Rattle.std.proofs.lemmas.List.{length-map}
 use Rattle.wa_base.specs.declared.graph_names.End.{End}
 use Rattle.law_base.specs.Members.{IsIn}
-use Rattle.node_table.specs.Kinds.{outputs}
+use Rattle.node_table.specs.Kinds.{outputs, is_delay_kind}
+use Rattle.node_table.specs.declared.kinds.Kind.TheVariants.{Iir}
 use Rattle.conn_graph.specs.declared.edges.Edge.{Edge}
 use Rattle.conn_graph.specs.Ends.{ends, muted}
 use Rattle.conn_graph.specs.Orders.{IsLegalAfter}
 use Rattle.meaning.specs.declared.world.World.{World}
-use Rattle.meaning.specs.World.{plain, kind_of}
+use Rattle.meaning.specs.World.{plain, node_at, kind_of}
 use Rattle.meaning.specs.Validity.{IsValid, IsJoined}
 use Rattle.meaning.specs.Counts.{count_rule, count_by_kind}
-use Rattle.meaning.specs.Values.{frame, value_by_kind, value}
+use Rattle.meaning.specs.Values.{taken_in, frame, value_by_kind, value}
 use Rattle.meaning.specs.Blocks.{with_drafts}
+use Rattle.conn_graph.proofs.EndLaws.{has_end}
+use Rattle.meaning.proofs.Joined.{joined}
+use Rattle.meaning.proofs.Seeing.{plain_end}
 use Rattle.meaning.proofs.OrderLaws.{all_known}
 use Rattle.meaning.proofs.QuantumLaws.{AreRight, count_right, muted_right}
 use Rattle.quantum_render.specs.Blocks.{BlockView, at, slot, block_of, lanes_of, counts_in, drafts_of, frame_of, IsSilent, Writes}
@@ -24,9 +28,13 @@ use Rattle.quantum_render.specs.Fits.{AreFit}
 use Rattle.quantum_render.specs.Plans.{IsPlan, AreCounted}
 use Rattle.automation.specs.Levels.{LevelView}
 use Rattle.quantum_render.specs.Sites.{SiteView}
-use Rattle.quantum_render.specs.Renders.{Renders}
+use Rattle.filter_bank.specs.Heard.{IsHeard}
+use Rattle.filter_bank.specs.Banks.{BankView, filter_at, IsRestedIfThere, HaveRoom}
+use Rattle.quantum_render.specs.Renders.{RendersWith, Listens, IsReadyFor, HasCount, past_of}
+use Rattle.quantum_render.specs.Listening.{HasHeard}
+use Rattle.quantum_render.proofs.Listening.{heard_like, AreHeardBy, heard_until, takes_in, not_done, now_done, other_done, this_or_other, rested_heard}
 use Rattle.quantum_render.proofs.Slots.{slot_low}
-use Rattle.quantum_render.proofs.Sources.{IsIn-get_or, end_low}
+use Rattle.quantum_render.proofs.Sources.{IsIn-get_or, end_low, same_nodes}
 use Rattle.quantum_render.proofs.Connections.{lanes_kept}
 use Rattle.quantum_render.proofs.PassLaws.{one_more_right}
 use Rattle.quantum_render.proofs.Orders.{no_end, next_in_order}
@@ -47,23 +55,29 @@ has_count w joined counts tape counted x in_x unmuted =
     ∙ sym (count_right 128 (omega arith) w joined tape (λ k e. 1) (counts_in counts) x in_x (λ d in_d a. counted d in_d))
     ∙ ap (λ b. if b then 1 else count_by_kind 128 (plain w) (length tape) (λ k e. 1) (counts_in counts) (kind_of w x.node.0) x) unmuted
 
--- after so many ends of an order the known ends have their values
-pub record Passing (w : World) (order : List End) (i : ℕ) (counts : List ℕ) (first : ℕ) (blocks : List BlockView) : Type 0 where
+-- after so many ends of an order the known ends have their values, and their filters have heard the quantum
+pub record Passing (w : World) (order : List End) (i : ℕ) (counts : List ℕ) (first : ℕ) (old bank : BankView) (blocks : List BlockView) : Type 0 where
   pub done : List End
   pub legal : IsLegalAfter w.graph.value done (drop i order)
   pub fit : AreFit w counts blocks
-  pub right : (tape : List World) → first ≡ 128 * length tape → AreCounted 128 w counts tape → AreRight 128 (tape ++ w ∷ []) (length tape) w (drafts_of blocks counts) done
+  pub rooms : HaveRoom bank counts
+  pub count : length bank.filters ≡ length old.filters
+  pub right : (tape : List World) → first ≡ 128 * length tape → AreCounted 128 w counts tape → HasHeard old w tape first → AreRight 128 (tape ++ w ∷ []) (length tape) w (drafts_of blocks counts) done
+  pub heard : (tape : List World) → first ≡ 128 * length tape → AreCounted 128 w counts tape → HasHeard old w tape first → AreHeardBy bank w tape first done
 
-pub passing_begins : (w : World) → IsJoined (plain w) → (order mute : List End) (sources : List (List Edge)) → IsPlan w order mute sources → (counts : List ℕ) (first : ℕ) (blocks : List BlockView)
-    → AreFit w counts blocks → ((i : ℕ) (d : End) → i < length mute → IsSilent blocks (slice_index_or mute i d)) → Passing w order 0 counts first blocks
-passing_begins w joined order mute sources plan counts first blocks fit silent = record {
+pub passing_begins : (w : World) → IsJoined (plain w) → (order mute : List End) (sources : List (List Edge)) → IsPlan w order mute sources → (counts : List ℕ) (first : ℕ) (bank : BankView) → HaveRoom bank counts → (blocks : List BlockView)
+    → AreFit w counts blocks → ((i : ℕ) (d : End) → i < length mute → IsSilent blocks (slice_index_or mute i d)) → Passing w order 0 counts first bank bank blocks
+passing_begins w joined order mute sources plan counts first bank rooms blocks fit silent = record {
   done = [];
   legal = plan.legal;
   fit = fit;
-  right = λ tape begins counted m l d in_d known. elim known [
+  rooms = rooms;
+  count = refl;
+  right = λ tape begins counted ready m l d in_d known. elim known [
     | inr none ↦ absurd none
     | inl k ↦ quiet d in_d k m l ∙ muted_right 128 (omega arith) w joined tape m l d in_d (inl k)
   ];
+  heard = λ tape begins counted ready. ready;
 }
   where
     at_place : (d : End) (xs : List End) → IsIn d xs → ((i : ℕ) (e : End) → i < length xs → IsSilent blocks (slice_index_or xs i e)) → IsSilent blocks d
@@ -79,8 +93,8 @@ passing_begins w joined order mute sources plan counts first blocks fit silent =
         by_lane c lane true false t = refl
         by_lane c lane true true t = at_place d mute (plan.all d in_d k) silent lane m (let low : lane < (block_of blocks d).lanes = grind (arith, nat_tests) in low) l
 
-module _ (w : World) (joined : IsJoined (plain w)) (order : List End) (i : ℕ) (counts : List ℕ) (first : ℕ) (blocks : List BlockView)
-    (c : Passing w order i counts first blocks) (l : i < length order) where
+module _ (w : World) (valid : IsValid w) (order : List End) (i : ℕ) (counts : List ℕ) (first : ℕ) (old bank : BankView) (blocks : List BlockView)
+    (c : Passing w order i counts first old bank blocks) (l : i < length order) where
   abbrev x : End
   x = slice_index_or order i no_end
 
@@ -90,26 +104,81 @@ module _ (w : World) (joined : IsJoined (plain w)) (order : List End) (i : ℕ) 
   abbrev pub site_of : List Edge → List LevelView → SiteView
   site_of edges levels = record { world = w; end = x; into = edges; counts = counts; levels = levels; first = first }
 
-  pub passing_goes_on : (edges : List Edge) (levels : List LevelView) (blocks' : List BlockView) → Writes blocks blocks' x → Renders (site_of edges levels) blocks blocks' (kind_of w x.node.0) → Passing w order (i + 1) counts first blocks'
-  passing_goes_on edges levels blocks' writes renders =
-      let fit' = still_fit w counts blocks blocks' writes.lanes c.fit in
-      record {
-        done = x ∷ c.done;
-        legal = next.4;
-        fit = fit';
-        right = λ tape begins counted.
-            one_more_right w joined tape blocks blocks' counts counted c.done (c.right tape begins counted) x next.0 next.1 next.3 (fit'.lanes x next.0) writes
-            (subst (λ f. (o k m : ℕ) → o < outputs (kind_of w x.node.0) → k < counts_in counts x → m < 128 → at (block_of blocks' x) (o * counts_in counts x + k) m
-            ≡ value_by_kind 128 (f + m) (with_drafts (frame 128 (tape ++ w ∷ [])) f (plain w) (counts_in counts) (drafts_of blocks counts)) (frame_of (plain w) blocks counts m) (kind_of w x.node.0) x o k) begins
-            (renders (length tape) (λ k e. 1) begins (has_count w joined counts tape counted x next.0 next.1) (frame 128 (tape ++ w ∷ []))));
+  there : x.node.0 < length w.nodes
+  there = end_low w valid x next.0
+
+  module _ (edges : List Edge) (levels : List LevelView) (blocks' : List BlockView) (bank' : BankView) (writes : Writes blocks blocks' x)
+      (renders : RendersWith (site_of edges levels) bank blocks blocks' (kind_of w x.node.0)) (listens : Listens (site_of edges levels) blocks bank bank') (rooms : HaveRoom bank' counts) where
+    module _ (tape : List World) (begins : first ≡ 128 * length tape) (counted : AreCounted 128 w counts tape) (ready : HasHeard old w tape first) where
+      abbrev longer : List World
+      longer = tape ++ w ∷ []
+
+      no_delay : (forward back : List ℤ) → kind_of w x.node.0 ≡ Iir forward back → is_delay_kind (kind_of w x.node.0) ≡ false
+      no_delay forward back is = ap is_delay_kind is
+
+      -- the end that is rendered next is ready
+      ready_now : IsReadyFor (site_of edges levels) bank (frame 128 longer)
+      ready_now = record {
+        unmuted = next.1;
+        heard = λ forward back is.
+            subst (λ b. IsHeard (filter_at bank x.node.0) forward back (node_at w x.node.0).attrs.birth (if b then first + 128 else first) (λ g k. taken_in (frame 128 longer g) x.node.0 k))
+            (not_done w (joined w valid) tape blocks counts counted c.done (c.right tape begins counted ready) x next.0 next.3 (plain_end (plain w) (joined w valid) x next.0 (no_delay forward back is)) (no_delay forward back is) next.2)
+            (c.heard tape begins counted ready x.node.0 forward back there is);
       }
 
-pub passing_ends : (w : World) (order : List End) (i : ℕ) (counts : List ℕ) (first : ℕ) (blocks : List BlockView) → Passing w order i counts first blocks → length order ≤ i
-    → (tape : List World) → first ≡ 128 * length tape → AreCounted 128 w counts tape → (m : ℕ) (d : End) → m < 128 → IsIn d (ends w.graph.value)
-    → drafts_of blocks counts m d ≡ value 128 (tape ++ w ∷ []) (128 * length tape + m) d
-passing_ends w order i counts first blocks c l tape begins counted m d now in_d =
-    let legal : IsLegalAfter w.graph.value c.done [] = subst (IsLegalAfter w.graph.value c.done) (drop_of_length-le order l) c.legal in
-    c.right tape begins counted m now d in_d (all_known w.graph.value c.done legal d in_d)
+      right_now : AreRight 128 longer (length tape) w (drafts_of blocks' counts) (x ∷ c.done)
+      right_now =
+          let fit' = still_fit w counts blocks blocks' writes.lanes c.fit in
+          one_more_right w (joined w valid) tape blocks blocks' counts counted c.done (c.right tape begins counted ready) x next.0 next.1 next.3 (fit'.lanes x next.0) writes
+          (subst (λ f. (o k m : ℕ) → o < outputs (kind_of w x.node.0) → k < counts_in counts x → m < 128 → at (block_of blocks' x) (o * counts_in counts x + k) m
+          ≡ value_by_kind 128 (f + m) (with_drafts (frame 128 longer) f (plain w) (counts_in counts) (drafts_of blocks counts)) (frame_of (plain w) blocks counts m) (kind_of w x.node.0) x o k) begins
+          (renders (length tape) (λ k e. 1) begins (has_count w (joined w valid) counts tape counted x next.0 next.1) (frame 128 longer) ready_now))
+
+      -- its node's filter has heard the quantum
+      own_heard : (forward back : List ℤ) → kind_of w x.node.0 ≡ Iir forward back
+          → IsHeard (filter_at bank' x.node.0) forward back (node_at w x.node.0).attrs.birth (first + 128) (λ g k. taken_in (frame 128 longer g) x.node.0 k)
+      own_heard forward back is =
+          heard_like _ forward back _ (first + 128) (λ g k. taken_in (past_of (site_of edges levels) blocks (frame 128 longer) g) x.node.0 k) _
+          (λ g k low high. subst (λ f. g < f + 128 → taken_in (with_drafts (frame 128 longer) f (plain w) (counts_in counts) (drafts_of blocks counts) g) x.node.0 k ≡ taken_in (frame 128 longer g) x.node.0 k) (sym begins)
+          (λ high. takes_in w (joined w valid) tape blocks counts counted c.done (c.right tape begins counted ready) x next.0 next.3 (plain_end (plain w) (joined w valid) x next.0 (no_delay forward back is)) g k high) high)
+          (listens.own forward back is (length tape) (λ k e. 1) begins (subst (λ kind. HasCount (site_of edges levels) (length tape) (λ k e. 1) kind) is (has_count w (joined w valid) counts tape counted x next.0 next.1)) (frame 128 longer) ready_now)
+
+      heard_now : AreHeardBy bank' w tape first (x ∷ c.done)
+      heard_now n forward back low is = elim (this_or_other n x.node.0) [
+        | inl here ↦
+            let own : kind_of w x.node.0 ≡ Iir forward back = subst (λ k. kind_of w k ≡ Iir forward back) here is in
+            subst (λ k. IsHeard (filter_at bank' k) forward back (node_at w k).attrs.birth (heard_until (x ∷ c.done) first k) (λ g r. taken_in (frame 128 longer g) k r)) (sym here)
+            (subst (λ b. IsHeard (filter_at bank' x.node.0) forward back (node_at w x.node.0).attrs.birth (if b then first + 128 else first) (λ g r. taken_in (frame 128 longer g) x.node.0 r))
+            (sym (now_done w (joined w valid) tape blocks counts counted c.done (c.right tape begins counted ready) x next.0 next.3 (plain_end (plain w) (joined w valid) x next.0 (no_delay forward back own)) (no_delay forward back own) next.2))
+            (own_heard forward back own))
+        | inr apart ↦
+            subst (λ b. IsHeard (filter_at bank' n) forward back (node_at w n).attrs.birth (if b then first + 128 else first) (λ g r. taken_in (frame 128 longer g) n r)) (sym (other_done x c.done n apart))
+            (subst (λ o. IsHeard o forward back (node_at w n).attrs.birth (heard_until c.done first n) (λ g r. taken_in (frame 128 longer g) n r)) (sym (listens.others n apart)) (c.heard tape begins counted ready n forward back low is))
+      ]
+
+    pub passing_goes_on : Passing w order (i + 1) counts first old bank' blocks'
+    passing_goes_on = record {
+      done = x ∷ c.done;
+      legal = next.4;
+      fit = still_fit w counts blocks blocks' writes.lanes c.fit;
+      rooms = rooms;
+      count = listens.count ∙ c.count;
+      right = right_now;
+      heard = heard_now;
+    }
+
+module _ (w : World) (valid : IsValid w) (order : List End) (i : ℕ) (counts : List ℕ) (first : ℕ) (old bank : BankView) (blocks : List BlockView) (c : Passing w order i counts first old bank blocks) (past : length order ≤ i)
+    (tape : List World) (begins : first ≡ 128 * length tape) (counted : AreCounted 128 w counts tape) (ready : HasHeard old w tape first) where
+  legal_end : IsLegalAfter w.graph.value c.done []
+  legal_end = subst (IsLegalAfter w.graph.value c.done) (drop_of_length-le order past) c.legal
+
+  pub passing_ends : (m : ℕ) (d : End) → m < 128 → IsIn d (ends w.graph.value) → drafts_of blocks counts m d ≡ value 128 (tape ++ w ∷ []) (128 * length tape + m) d
+  passing_ends m d now in_d = c.right tape begins counted ready m now d in_d (all_known w.graph.value c.done legal_end d in_d)
+
+  -- once those that are muted have rested, all filters have heard the quantum
+  pub all_heard : (bank' : BankView) → ((n : ℕ) → IsRestedIfThere first (filter_at bank n) (filter_at bank' n)) → HasHeard bank' w tape (first + 128)
+  all_heard bank' rested n forward back low is =
+      rested_heard w (joined w valid) tape first begins c.done legal_end n (has_end w.graph.value n (subst (λ k. n < k) (sym (same_nodes w valid)) low)) forward back (ap is_delay_kind is) (node_at w n).attrs.birth (filter_at bank n) (filter_at bank' n) (c.heard tape begins counted ready n forward back low is) (rested n)
 
 -- the muted ends of a plan have their places
 pub mute_there : (w : World) → IsValid w → (order mute : List End) (sources : List (List Edge)) → IsPlan w order mute sources → (counts : List ℕ) (blocks : List BlockView) → AreFit w counts blocks

@@ -8,23 +8,17 @@ use Rattle.channel_mix.specs.Counts.{input_count}
 use Rattle.node_table.specs.Kinds.{outputs, first_count, first_mode, fixed_count, fixed_mode, is_destination, IsInLimits}
 use Rattle.node_table.specs.Nodes.{IsCreated}
 use Rattle.node_table.specs.declared.kinds.Kind.{Kind}
-use Rattle.node_table.specs.declared.kinds.Kind.TheVariants.{Destination, Constant, Buffer, Gain, Splitter, Merger, Shaper}
+use Rattle.node_table.specs.declared.kinds.Kind.TheVariants.{Destination, Constant, Buffer, Gain, Splitter, Merger, Shaper, Iir}
 use Rattle.node_table.specs.declared.nodes.Node.{Node}
 use Rattle.meaning.specs.declared.world.World.{World}
 use Rattle.meaning.specs.World.{plain, no_node, node_at, kind_of}
 use Rattle.meaning.specs.Validity.{IsValid}
 use Rattle.meaning.specs.Counts.{Counts, input_channels}
-
-pub ports_there : (w : World) → IsValid w → (i : ℕ) → IsInLimits (kind_of w i)
-ports_there w valid zero = subst IsInLimits (sym valid.nodes.first.kind) tt
-ports_there w valid (suc i) = elim (cases_lt (suc i) (length w.nodes)) [
-  | inl there ↦ (valid.nodes.others (suc i) (omega arith) there).limits
-  | inr past ↦ subst (λ (n : Node). IsInLimits n.kind) (sym (get_or_past w.nodes (suc i) no_node past)) tt
-]
+use Rattle.meaning.proofs.NodeKinds.{limits_there}
 
 -- no node has more than 32 outputs
 pub outputs_few : (w : World) → IsValid w → (i : ℕ) → outputs (kind_of w i) ≤ 32
-outputs_few w valid i = by_ports (kind_of w i) (ports_there w valid i)
+outputs_few w valid i = by_ports (kind_of w i) (limits_there w valid i)
   where
     by_ports : (kind : Kind) → IsInLimits kind → outputs kind ≤ 32
     by_ports Destination has = omega arith
@@ -34,6 +28,7 @@ outputs_few w valid i = by_ports (kind_of w i) (ports_there w valid i)
     by_ports (Splitter ports) has = has.1
     by_ports (Merger ports) has = omega arith
     by_ports (Shaper curve was_set) has = omega arith
+    by_ports (Iir forward back) has = omega arith
 
 -- a node whose count and mode are fixed, and which is no destination
 created_at : (w : World) → IsValid w → (i : ℕ) → i < length w.nodes → is_destination (kind_of w i) ≡ false → IsCreated (node_at w i)

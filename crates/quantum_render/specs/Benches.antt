@@ -1,5 +1,5 @@
 -- What is at hand while a node is rendered.
-use Rattle.std.specs.Prelude.{◌≡◌}
+use Rattle.std.specs.Prelude.{ℕ, ◌≡◌}
 use Rattle.quantum_render.specs.Blocks.{BlockView, room_of}
 
 -- what contracts see of a bench: what an input carries, the levels of a parameter, and what several inputs carry, one lane each
@@ -7,6 +7,8 @@ pub record BenchView : Type 0 where
   pub heard : BlockView
   pub levels : BlockView
   pub merged : BlockView
+  -- for so many values of a widened input there is room
+  pub wide : ℕ
 
 -- there is room for every input, and for the one channel of a parameter
 pub record IsBench (b : BenchView) : Type 0 where
@@ -14,3 +16,4 @@ pub record IsBench (b : BenchView) : Type 0 where
   pub levels : room_of b.levels ≡ 128
   pub mono : b.levels.lanes ≡ 1
   pub merged : room_of b.merged ≡ 4096
+  pub wide : b.wide ≡ 4096

@@ -9,3 +9,4 @@ pub mod Benches
 pub mod Renders
 pub mod Plans
 pub mod Stands
+pub mod Listening

@@ -11,32 +11,35 @@ ghost use Rattle.quantum_render.specs.Fits.{AreFit};
 ghost use Rattle.quantum_render.specs.Sites.{IsLone};
 ghost use Rattle.quantum_render.specs.Renders.{past_of, here_of};
 
-use crate::block::Block;
+use crate::block::{Block, QUANTUM};
 use crate::site::{Site, reader, slot};
 use crate::sums::{CHANNELS, Inlet, Sums};
 use conn_graph::{Edge, Target};
 use std::alloc::Global;
 use std::marker::Model;
-use wa_base::{Interp, NoMemory, ParamId, ParamName, Rate};
+use wa_base::{Fix, Interp, NoMemory, ParamId, ParamName, Rate};
 
 // What is at hand while an end is rendered, one end after another: what its input carries, the
-// levels of its parameter, what its inputs carry, one lane each, and the sums that all are made of.
+// levels of its parameter, what its inputs carry, one lane each, its input with silent lanes behind it,
+// and the sums that all are made of.
 #[derive(Drop)]
 pub(crate) struct Bench {
     pub heard: Block,
     pub levels: Block,
     pub merged: Block,
+    pub wide: Vec<Fix>,
     sums: Sums,
 }
 
 impl Model for Bench {
+    ghost use Rattle.std.specs.Prelude.{length};
     ghost use Rattle.quantum_render.specs.Benches.{BenchView, IsBench};
 
     ghost Value = { BenchView };
 
-    ghost view = { λ b. record { heard = b.heard; levels = b.levels; merged = b.merged } };
+    ghost view = { λ b. record { heard = b.heard; levels = b.levels; merged = b.merged; wide = length b.wide.items } };
 
-    ghost invariant = { λ b. IsBench (record { heard = b.heard; levels = b.levels; merged = b.merged }) };
+    ghost invariant = { λ b. IsBench (record { heard = b.heard; levels = b.levels; merged = b.merged; wide = length b.wide.items }) };
 }
 
 impl Bench {
@@ -45,6 +48,7 @@ impl Bench {
             heard: Block::new(alloc, CHANNELS)?,
             levels: Block::new(alloc, 1)?,
             merged: Block::new(alloc, CHANNELS)?,
+            wide: vec![in alloc; 0; CHANNELS * QUANTUM]?,
             sums: Sums::new(alloc)?,
         })
     }

@@ -6,6 +6,8 @@ ghost use Rattle.sched_source.specs.Schedule.{is_between, played};
 ghost use Rattle.meaning.specs.World.{channels_in, samples_in};
 ghost use Rattle.channel_mix.specs.Blocks.{sample};
 ghost use Rattle.automation.specs.Levels.{HasRoom, level_at};
+ghost use Rattle.filter_bank.specs.Heard.{FilterView as a_filter, room_of as filter_room};
+ghost use Rattle.filter_bank.specs.Banks.{filter_at, Hears};
 ghost use Rattle.quantum_render.specs.Blocks.{at, shown, carried, room_of, lanes_of};
 ghost use Rattle.quantum_render.specs.Sums.{sum_at};
 ghost use Rattle.quantum_render.specs.Held.{IsHeld, IsCarried};
@@ -18,10 +20,11 @@ use crate::kernels::{
 use crate::playing::Source;
 use crate::sums::Sums;
 use automation::{Level, Values};
+use filter_bank::Filters;
 use shaper_iir::shape_all;
 use std::alloc::Global;
 use std::marker::Model;
-use wa_base::{Fix, NoMemory, Samples};
+use wa_base::{Fix, NoMemory, NodeId, Samples};
 
 // The frames of a render quantum.
 pub(crate) const QUANTUM: usize = 128;
@@ -466,5 +469,28 @@ impl Block {
                 shape_all(curve, values, &mut self.values[0..self.lanes * QUANTUM]);
             }
         }
+    }
+
+    // Becomes what a node's filter puts out for its input, which has so many lanes.
+    pub(crate) fn filter(
+        &mut self,
+        heard: &[Fix],
+        lanes: usize,
+        filters: &mut Filters,
+        node: NodeId,
+    )
+        requires length { length heard.now ≡ lanes * 128 }
+        requires few { lanes ≤ 32 }
+        requires room { lanes * 128 ≤ room_of self.old }
+        requires there { node.0 < length filters.old.filters }
+        requires wide { (f : a_filter) → filter_at filters.old node.0 ≡ Some f → lanes ≡ filter_room f }
+        ensures lanes { self.new.lanes ≡ lanes }
+        ensures room { room_of self.new ≡ room_of self.old }
+        ensures hears { Hears filters.old filters.new node.0 heard.now self.new.values }
+        ensures length { length self.new.values ≡ lanes * 128 }
+    {
+        self.lanes = lanes;
+        self.steady = false;
+        filters.hear(node, heard, &mut self.values[0..lanes * QUANTUM]);
     }
 }

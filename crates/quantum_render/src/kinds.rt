@@ -1,18 +1,20 @@
-ghost use Rattle.std.specs.Prelude.{◌≡◌, ◌<◌, ◌-◌, ◌^◌, ℕ, ℤ, Bool, Some};
+ghost use Rattle.std.specs.Prelude.{◌≡◌, ◌<◌, ◌≤◌, ◌-◌, ◌^◌, ℕ, ℤ, Bool, List, length, Some};
 ghost use Rattle.causal_core.specs.Curves.{IsCurve};
 ghost use Rattle.sched_source.specs.Schedule.{is_between};
-ghost use Rattle.node_table.specs.declared.kinds.Kind.TheVariants.{Destination, Constant, Buffer, Gain, Splitter, Merger, Shaper};
+ghost use Rattle.node_table.specs.declared.kinds.Kind.TheVariants.{Destination, Constant, Buffer, Gain, Splitter, Merger, Shaper, Iir};
 ghost use Rattle.meaning.specs.Validity.{IsValid};
 ghost use Rattle.meaning.specs.World.{kind_of, sounds_at};
 ghost use Rattle.quantum_render.specs.Blocks.{Writes};
 ghost use Rattle.quantum_render.specs.Fits.{AreFit};
-ghost use Rattle.quantum_render.specs.Renders.{Renders};
+ghost use Rattle.filter_bank.specs.Banks.{HaveRoom};
+ghost use Rattle.quantum_render.specs.Renders.{Renders, RendersWith, Listens};
 
 use crate::bench::Bench;
-use crate::block::Block;
+use crate::block::{Block, QUANTUM};
 use crate::places::play_place;
 use crate::playing::sounding;
 use crate::site::{Site, slot};
+use filter_bank::Filters;
 use node_table::Kind;
 use wa_base::{ParamName, Samples};
 
@@ -20,10 +22,14 @@ use wa_base::{ParamName, Samples};
 // and levels and leaves the block of its end.
 impl Bench {
     // Renders an end for one quantum, from the blocks of the ends that are connected to it.
-    pub(crate) fn render(&mut self, blocks: &mut [Block], site: &Site)
-        requires { AreFit site.now.world site.now.counts blocks.old }
+    pub(crate) fn render(&mut self, blocks: &mut [Block], filters: &mut Filters, site: &Site)
+        requires fit { AreFit site.now.world site.now.counts blocks.old }
+        requires count { length site.now.world.nodes ≤ length filters.old.filters }
+        requires room { HaveRoom filters.old site.now.counts }
         ensures writes { Writes blocks.old blocks.new site.now.end }
-        ensures renders { Renders site.now blocks.old blocks.new (kind_of site.now.world site.now.end.node.0) }
+        ensures renders { RendersWith site.now filters.old blocks.old blocks.new (kind_of site.now.world site.now.end.node.0) }
+        ensures listens { Listens site.now blocks.old filters.old filters.new }
+        ensures room { HaveRoom filters.new site.now.counts }
     {
         match site.world.nodes.kind(site.end.node) {
             Kind::Destination => self.render_destination(blocks, site),
@@ -33,6 +39,7 @@ impl Bench {
             Kind::Splitter { .. } => self.render_splitter(blocks, site),
             Kind::Merger { .. } => self.render_merger(blocks, site),
             Kind::Shaper { curve, .. } => self.render_shaper(blocks, site, curve),
+            Kind::Iir { .. } => self.render_filter(blocks, filters, site),
         }
     }
 
@@ -101,6 +108,27 @@ impl Bench {
     {
         self.take_input(blocks, site, 0, site.channels());
         blocks[slot(site.end)].shape(&self.heard, curve);
+    }
+
+    // Its input, filtered from its birth on.
+    fn render_filter(&mut self, blocks: &mut [Block], filters: &mut Filters, site: &Site)
+        requires fit { AreFit site.now.world site.now.counts blocks.old }
+        requires kind { (forward : List ℤ) × (back : List ℤ) × (kind_of site.now.world site.now.end.node.0 ≡ Iir forward back) }
+        requires count { length site.now.world.nodes ≤ length filters.old.filters }
+        requires room { HaveRoom filters.old site.now.counts }
+        ensures writes { Writes blocks.old blocks.new site.now.end }
+        ensures renders { (forward back : List ℤ) → kind_of site.now.world site.now.end.node.0 ≡ Iir forward back → RendersWith site.now filters.old blocks.old blocks.new (Iir forward back) }
+        ensures listens { Listens site.now blocks.old filters.old filters.new }
+        ensures room { HaveRoom filters.new site.now.counts }
+    {
+        let node = site.end.node;
+        let channels = site.channels();
+        self.take_input(blocks, site, 0, channels);
+        self.heard.copy_out(self.wide.as_mut_slice());
+        let room = filters.room(node).max(channels);
+        let wide = &self.wide[..room * QUANTUM];
+        self.merged.filter(wide, room, filters, node);
+        blocks[slot(site.end)].copy_output(&self.merged, 0, channels);
     }
 }
 

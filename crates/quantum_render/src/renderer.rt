@@ -18,6 +18,7 @@ use crate::plan::Plan;
 use crate::site::{Quantum, reader, slot};
 use crate::sums::CHANNELS;
 use automation::Automation;
+use filter_bank::Filters;
 use meaning::World;
 use std::alloc::Global;
 use std::marker::Model;
@@ -35,6 +36,7 @@ pub struct Renderer {
     quanta: u64,
     plan: Plan,
     automation: Automation,
+    filters: Filters,
     counts: Vec<u32>,
     blocks: Vec<Block>,
     bench: Bench,
@@ -54,6 +56,7 @@ impl Model for Renderer {
       muted = r.plan.muted;
       into = r.plan.into;
       automation = r.automation;
+      filters = r.filters;
       counts = r.counts.items;
       blocks = r.blocks.items;
       out = r.out.items;
@@ -76,6 +79,7 @@ impl Renderer {
             quanta: 0,
             plan: Plan::new(alloc, tie),
             automation: Automation::new(alloc),
+            filters: Filters::new(alloc)?,
             counts: Vec::new(alloc),
             blocks: Vec::new(alloc),
             bench: Bench::new(alloc)?,
@@ -102,6 +106,7 @@ impl Renderer {
         ensures quanta { self.new.quanta ≡ self.old.quanta }
     {
         self.plan.follow(self.alloc, world, steps)?;
+        self.filters.follow(world)?;
         let nodes = world.nodes.len() as usize;
         self.counts.resize(2 * nodes, 1)?;
         let first = self.quanta * QUANTUM as u64;
@@ -133,7 +138,7 @@ impl Renderer {
         );
     }
 
-    /// Takes the memory for the blocks of all nodes.
+    /// Takes the memory for the blocks of all nodes, and for what their filters remember.
     pub fn grow(&mut self, world: &World) -> Result<(), NoMemory>
         requires valid { IsValid world.now }
         requires spec { world.now.spec ≡ self.old.spec }
@@ -144,7 +149,9 @@ impl Renderer {
         ensures tie { self.new.tie ≡ self.old.tie }
         ensures quanta { self.new.quanta ≡ self.old.quanta }
     {
-        fit_blocks(self.alloc, &mut self.blocks, world, self.counts.as_slice())
+        let counts = self.counts.as_slice();
+        fit_blocks(self.alloc, &mut self.blocks, world, counts)?;
+        self.filters.grow(counts)
     }
 
     /// Renders the next quantum, which begins at frame `first`. It takes no memory, and looks at four
@@ -170,7 +177,13 @@ impl Renderer {
             first,
         };
         let blocks = self.blocks.as_mut_slice();
-        render_quantum(blocks, &mut self.bench, &self.plan, quantum);
+        render_quantum(
+            blocks,
+            &mut self.bench,
+            &mut self.filters,
+            &self.plan,
+            quantum,
+        );
         let blocks: &[Block] = &*blocks;
         blocks[slot(reader(NodeId(0)))].copy_out(self.out.as_mut_slice());
         self.quanta += 1;

@@ -9,6 +9,8 @@ mod automation_rows;
 #[cfg(test)]
 mod buffer_rows;
 #[cfg(test)]
+mod filtering;
+#[cfg(test)]
 mod graphs;
 #[cfg(test)]
 mod moving;

@@ -67,6 +67,13 @@ create_wave_shaper =
     row field.Curve kind.Fixes Null ∷
     row field.Oversample kind.Oversample (Oversample Off) ∷ []
 
+-- `createIIRFilter`
+abbrev pub create_iir_filter : List Row
+create_iir_filter =
+    row field.As kind.NewName Needed ∷
+    row field.Feedforward kind.Fixes Needed ∷
+    row field.Feedback kind.Fixes Needed ∷ []
+
 -- `createBufferSource`
 abbrev pub create_buffer_source : List Row
 create_buffer_source =

@@ -10,7 +10,7 @@ use Rattle.script_ast.specs.declared.entries.Row.{Row}
 use Rattle.script_ast.specs.declared.op_names.LeftOutName.{LeftOutName}
 use Rattle.script_ast.specs.declared.op_names.LeftOutName.TheVariants as left_out
 use Rattle.script_ast.specs.declared.op_names.OpName.{OpName}
-use Rattle.script_ast.specs.declared.op_names.OpName.TheVariants.{CreateConstantSource, CreateGain, CreateChannelSplitter, CreateChannelMerger, CreateWaveShaper, CreateBufferSource, CreateBuffer, Connect, ConnectParam, Disconnect, DisconnectParam, SetChannelCount, SetChannelCountMode, SetChannelInterpretation, SetCurve, SetOversample, SetBuffer, SetLoop, SetLoopStart, SetLoopEnd, CopyToChannel, Start, Stop, Param, Suspend, StartRendering, Resume, DecodeAudioData, ReadState, ReadTime, LeftOut}
+use Rattle.script_ast.specs.declared.op_names.OpName.TheVariants.{CreateConstantSource, CreateGain, CreateChannelSplitter, CreateChannelMerger, CreateWaveShaper, CreateIIRFilter, CreateBufferSource, CreateBuffer, Connect, ConnectParam, Disconnect, DisconnectParam, SetChannelCount, SetChannelCountMode, SetChannelInterpretation, SetCurve, SetOversample, SetBuffer, SetLoop, SetLoopStart, SetLoopEnd, CopyToChannel, Start, Stop, Param, Suspend, StartRendering, Resume, DecodeAudioData, ReadState, ReadTime, LeftOut}
 use Rattle.script_ast.specs.declared.param_ops.ParamOpName.{ParamOpName}
 use Rattle.script_ast.specs.declared.param_ops.ParamOpName.TheVariants as param
 
@@ -70,6 +70,7 @@ op_word CreateGain = codes "createGain"
 op_word CreateChannelSplitter = codes "createChannelSplitter"
 op_word CreateChannelMerger = codes "createChannelMerger"
 op_word CreateWaveShaper = codes "createWaveShaper"
+op_word CreateIIRFilter = codes "createIIRFilter"
 op_word CreateBufferSource = codes "createBufferSource"
 op_word CreateBuffer = codes "createBuffer"
 op_word Connect = codes "connect"
@@ -105,6 +106,7 @@ operations =
     CreateChannelSplitter ∷
     CreateChannelMerger ∷
     CreateWaveShaper ∷
+    CreateIIRFilter ∷
     CreateBufferSource ∷
     CreateBuffer ∷
     Connect ∷
@@ -183,6 +185,7 @@ fields_of CreateGain = entry.create_gain
 fields_of CreateChannelSplitter = entry.create_channel_splitter
 fields_of CreateChannelMerger = entry.create_channel_merger
 fields_of CreateWaveShaper = entry.create_wave_shaper
+fields_of CreateIIRFilter = entry.create_iir_filter
 fields_of CreateBufferSource = entry.create_buffer_source
 fields_of CreateBuffer = entry.create_buffer
 fields_of Connect = entry.connect

@@ -124,6 +124,12 @@ pub const CREATE_WAVE_SHAPER: [Row; 3] = [
     row!(Oversample, Oversample, Oversample(Oversample::Off)),
 ];
 
+pub const CREATE_IIR_FILTER: [Row; 3] = [
+    row!(As, NewName, Needed),
+    row!(Feedforward, Fixes, Needed),
+    row!(Feedback, Fixes, Needed),
+];
+
 pub const CREATE_BUFFER_SOURCE: [Row; 6] = [
     row!(As, NewName, Needed),
     row!(Buffer, Name, Null),

@@ -4,9 +4,10 @@ ghost use Rattle.script_ast.specs.OpNames.{left_out_word, left_out_feature, op_w
 use crate::entries::{
     CONNECT, CONNECT_PARAM, COPY_TO_CHANNEL, CREATE_BUFFER, CREATE_BUFFER_SOURCE,
     CREATE_CHANNEL_MERGER, CREATE_CHANNEL_SPLITTER, CREATE_CONSTANT_SOURCE, CREATE_GAIN,
-    CREATE_WAVE_SHAPER, DECODE_AUDIO_DATA, DISCONNECT, DISCONNECT_PARAM, Kind, Row, SET_BUFFER,
-    SET_CHANNEL_COUNT, SET_CHANNEL_COUNT_MODE, SET_CHANNEL_INTERPRETATION, SET_CURVE, SET_LOOP,
-    SET_LOOP_END, SET_LOOP_START, SET_OVERSAMPLE, START, START_RENDERING, STOP, SUSPEND,
+    CREATE_IIR_FILTER, CREATE_WAVE_SHAPER, DECODE_AUDIO_DATA, DISCONNECT, DISCONNECT_PARAM, Kind,
+    Row, SET_BUFFER, SET_CHANNEL_COUNT, SET_CHANNEL_COUNT_MODE, SET_CHANNEL_INTERPRETATION,
+    SET_CURVE, SET_LOOP, SET_LOOP_END, SET_LOOP_START, SET_OVERSAMPLE, START, START_RENDERING,
+    STOP, SUSPEND,
 };
 use crate::param_ops::ParamOpName;
 use wa_base::Feature;
@@ -89,6 +90,7 @@ pub enum OpName {
     CreateChannelSplitter,
     CreateChannelMerger,
     CreateWaveShaper,
+    CreateIIRFilter,
     CreateBufferSource,
     CreateBuffer,
     Connect,
@@ -118,12 +120,13 @@ pub enum OpName {
 }
 
 /// Every operation.
-pub const OP_NAMES: [OpName; 54] = [
+pub const OP_NAMES: [OpName; 55] = [
     OpName::CreateConstantSource,
     OpName::CreateGain,
     OpName::CreateChannelSplitter,
     OpName::CreateChannelMerger,
     OpName::CreateWaveShaper,
+    OpName::CreateIIRFilter,
     OpName::CreateBufferSource,
     OpName::CreateBuffer,
     OpName::Connect,
@@ -188,6 +191,7 @@ impl OpName {
             OpName::CreateChannelSplitter => "createChannelSplitter",
             OpName::CreateChannelMerger => "createChannelMerger",
             OpName::CreateWaveShaper => "createWaveShaper",
+            OpName::CreateIIRFilter => "createIIRFilter",
             OpName::CreateBufferSource => "createBufferSource",
             OpName::CreateBuffer => "createBuffer",
             OpName::Connect => "connect",
@@ -241,6 +245,7 @@ impl OpName {
             OpName::CreateChannelSplitter => &CREATE_CHANNEL_SPLITTER,
             OpName::CreateChannelMerger => &CREATE_CHANNEL_MERGER,
             OpName::CreateWaveShaper => &CREATE_WAVE_SHAPER,
+            OpName::CreateIIRFilter => &CREATE_IIR_FILTER,
             OpName::CreateBufferSource => &CREATE_BUFFER_SOURCE,
             OpName::CreateBuffer => &CREATE_BUFFER,
             OpName::Connect => &CONNECT,

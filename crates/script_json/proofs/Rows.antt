@@ -199,3 +199,13 @@ oversample_in_capitals = refl
 oversample_is_null : script_or_fault (read (codes "{\"version\":1,\"context\":{\"channels\":1,\"length\":1,\"rate\":1},\"calls\":[{\"op\":\"createWaveShaper\",\"as\":\"w\",\"oversample\":null}]}")) ≡ Err (WrongKind 1 field.Oversample)
 unfolding serde_json_on_literals context_in main_list calls_of head_faults script_faults placed call_faults op_named is_new_name oversample_named
 oversample_is_null = refl
+
+-- a filter's coefficients, whatever order a call has them in
+filtered : script_or_fault (read (codes "{\"version\":1,\"context\":{\"channels\":1,\"length\":1,\"rate\":1},\"calls\":[{\"op\":\"createIIRFilter\",\"as\":\"f\",\"feedback\":[-1,8],\"feedforward\":[5]}]}"))
+    ≡ Ok (record { context = record { channels = 1; length = 1; rate = 1 }; calls = record { ordinal = 1; holder = 0; op = op.CreateIIRFilter (codes "f") (pos 5 ∷ []) (neg_ℤ (pos 1) ∷ pos 8 ∷ []) } ∷ [] })
+unfolding serde_json_on_literals context_in main_list calls_of head_faults script_faults script_in placed call_faults call_of op_named is_new_name number_in text_in fixes_of
+filtered = refl
+
+feedforward_first : script_or_fault (read (codes "{\"version\":1,\"context\":{\"channels\":1,\"length\":1,\"rate\":1},\"calls\":[{\"op\":\"createIIRFilter\",\"as\":\"f\",\"feedback\":7}]}")) ≡ Err (MissingField 1 field.Feedforward)
+unfolding serde_json_on_literals context_in main_list calls_of head_faults script_faults placed call_faults op_named is_new_name
+feedforward_first = refl

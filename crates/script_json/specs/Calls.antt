@@ -9,7 +9,7 @@ use Rattle.script_ast.specs.declared.call_list.Call.{Call}
 use Rattle.script_ast.specs.declared.clocks.Clock.{Clock}
 use Rattle.script_ast.specs.declared.fields.Field.TheVariants as field
 use Rattle.script_ast.specs.declared.op_names.OpName.{OpName}
-use Rattle.script_ast.specs.declared.op_names.OpName.TheVariants.{CreateConstantSource, CreateGain, CreateChannelSplitter, CreateChannelMerger, CreateWaveShaper, CreateBufferSource, CreateBuffer, Connect, ConnectParam, Disconnect, DisconnectParam, SetChannelCount, SetChannelCountMode, SetChannelInterpretation, SetCurve, SetOversample, SetBuffer, SetLoop, SetLoopStart, SetLoopEnd, CopyToChannel, Start, Stop, Param, Suspend, StartRendering, Resume, DecodeAudioData, ReadState, ReadTime, LeftOut}
+use Rattle.script_ast.specs.declared.op_names.OpName.TheVariants.{CreateConstantSource, CreateGain, CreateChannelSplitter, CreateChannelMerger, CreateWaveShaper, CreateIIRFilter, CreateBufferSource, CreateBuffer, Connect, ConnectParam, Disconnect, DisconnectParam, SetChannelCount, SetChannelCountMode, SetChannelInterpretation, SetCurve, SetOversample, SetBuffer, SetLoop, SetLoopStart, SetLoopEnd, CopyToChannel, Start, Stop, Param, Suspend, StartRendering, Resume, DecodeAudioData, ReadState, ReadTime, LeftOut}
 use Rattle.script_ast.specs.declared.operations.Op.{Op}
 use Rattle.script_ast.specs.declared.operations.Op.TheVariants as op
 use Rattle.script_ast.specs.declared.param_ops.ParamOpName.{ParamOpName}
@@ -106,6 +106,7 @@ op_in clock CreateGain d = op.CreateGain (text_in field.As d) (fix_in entry.crea
 op_in clock CreateChannelSplitter d = op.CreateChannelSplitter (text_in field.As d) (count_in entry.create_channel_splitter field.NumberOfOutputs d)
 op_in clock CreateChannelMerger d = op.CreateChannelMerger (text_in field.As d) (count_in entry.create_channel_merger field.NumberOfInputs d)
 op_in clock CreateWaveShaper d = op.CreateWaveShaper (text_in field.As d) (fixes_or_null_in field.Curve d) (oversample_in entry.create_wave_shaper field.Oversample d)
+op_in clock CreateIIRFilter d = op.CreateIIRFilter (text_in field.As d) (fixes_in field.Feedforward d) (fixes_in field.Feedback d)
 op_in clock CreateBufferSource d = op.CreateBufferSource (text_in field.As d) (text_or_null_in field.Buffer d) (flag_in entry.create_buffer_source field.Loop d) (time_in clock entry.create_buffer_source field.LoopStart d) (time_in clock entry.create_buffer_source field.LoopEnd d) (fix_in entry.create_buffer_source field.PlaybackRate d)
 op_in clock CreateBuffer d = op.CreateBuffer (text_in field.As d) (count_in entry.create_buffer field.Channels d) (count_in entry.create_buffer field.Length d) (count_in entry.create_buffer field.Rate d)
 op_in clock Connect d = op.Connect (text_in field.From d) (count_in entry.connect field.Output d) (text_in field.To d) (count_in entry.connect field.Input d)

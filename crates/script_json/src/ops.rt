@@ -21,6 +21,7 @@ pub fn build(alloc: Global, clock: Clock, name: OpName, call: &Value) -> Result<
         OpName::CreateChannelSplitter => create_channel_splitter(alloc, call),
         OpName::CreateChannelMerger => create_channel_merger(alloc, call),
         OpName::CreateWaveShaper => create_wave_shaper(alloc, call),
+        OpName::CreateIIRFilter => create_iir_filter(alloc, call),
         OpName::CreateBufferSource => create_buffer_source(alloc, clock, call),
         OpName::CreateBuffer => create_buffer(alloc, call),
         OpName::Connect => connect(alloc, call),
@@ -91,6 +92,16 @@ fn create_channel_merger(alloc: Global, call: &Value) -> Result<Op, NoMemory>
     Ok(Op::CreateChannelMerger {
         name: text(alloc, call, Field::As)?,
         number_of_inputs: count(call, &entries::CREATE_CHANNEL_MERGER, Field::NumberOfInputs),
+    })
+}
+
+fn create_iir_filter(alloc: Global, call: &Value) -> Result<Op, NoMemory>
+    ensures { IfOk result (λ op. op ≡ op_in Clock.Frames OpName.CreateIIRFilter (view call.now)) }
+{
+    Ok(Op::CreateIIRFilter {
+        name: text(alloc, call, Field::As)?,
+        feedforward: fixes(alloc, call, Field::Feedforward)?,
+        feedback: fixes(alloc, call, Field::Feedback)?,
     })
 }
 

@@ -14,6 +14,8 @@ mod event_cases;
 #[cfg(test)]
 mod field_texts;
 #[cfg(test)]
+mod filter_cases;
+#[cfg(test)]
 mod op_texts;
 #[cfg(test)]
 mod param_cases;

@@ -40,6 +40,15 @@ fn creation_text(alloc: Global, op: &Op) -> Result<String, AllocError> {
             name,
             number_of_inputs,
         } => { format!(in alloc; "createChannelMerger {} {number_of_inputs}", text(name)) }
+        Op::CreateIIRFilter {
+            name,
+            feedforward,
+            feedback,
+        } => {
+            let feedforward = list_text(alloc, feedforward)?;
+            let feedback = list_text(alloc, feedback)?;
+            format!(in alloc; "createIIRFilter {} {feedforward} {feedback}", text(name))
+        }
         Op::CreateBuffer {
             name,
             channels,

@@ -47,7 +47,7 @@ fn finds_calls_by_their_ordinals(rt: HostRuntime) -> Result<(), Fail> {
     Ok(())
 }
 
-static BUILT: [&str; 25] = [
+static BUILT: [&str; 26] = [
     "createGain",
     "connect",
     "disconnect",
@@ -56,6 +56,7 @@ static BUILT: [&str; 25] = [
     "setChannelInterpretation",
     "createWaveShaper",
     "setCurve",
+    "createIIRFilter",
     "setOversample",
     "createBufferSource",
     "createBuffer",
@@ -79,7 +80,7 @@ static NOT_BUILT: [&str; 6] = [
     "",
     "Connect",
     "creategain",
-    "createIIRFilter",
+    "createIirFilter",
     "createDelay",
     "then",
 ];
@@ -157,6 +158,16 @@ fn a_shaper_has_the_fields_of_the_format(rt: HostRuntime) {
     ];
     assert_eq!(rt; OpName::CreateWaveShaper.fields(), made.as_slice());
     assert_eq!(rt; OpName::SetCurve.fields(), curved.as_slice());
+}
+
+#[test]
+fn a_filter_has_the_fields_of_the_format(rt: HostRuntime) {
+    let want = [
+        row(Field::As, Kind::NewName, Fallback::Needed),
+        row(Field::Feedforward, Kind::Fixes, Fallback::Needed),
+        row(Field::Feedback, Kind::Fixes, Fallback::Needed),
+    ];
+    assert_eq!(rt; OpName::CreateIIRFilter.fields(), want.as_slice());
 }
 
 #[test]

@@ -3,6 +3,7 @@ use crate::call_cases::CALLS;
 use crate::channel_cases::CHANNEL_COUNTS;
 use crate::connection_cases::{DISCONNECTS, GAINS};
 use crate::event_cases::EVENTS;
+use crate::filter_cases::FILTERS;
 use crate::param_cases::{PARAM_CONNECTIONS, VALUES};
 use crate::port_cases::PORTS;
 use crate::script_cases::SCRIPTS;
@@ -93,6 +94,13 @@ fn reads_buffers(rt: HostRuntime) -> Result<(), Fail> {
 #[test]
 fn reads_shapers(rt: HostRuntime) -> Result<(), Fail> {
     let misread = first_misread(rt.alloc(), BEFORE, AFTER, &SHAPERS)?;
+    assert_eq!(rt; misread, None);
+    Ok(())
+}
+
+#[test]
+fn reads_filters(rt: HostRuntime) -> Result<(), Fail> {
+    let misread = first_misread(rt.alloc(), BEFORE, AFTER, &FILTERS)?;
     assert_eq!(rt; misread, None);
     Ok(())
 }

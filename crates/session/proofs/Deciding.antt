@@ -17,7 +17,7 @@ use Rattle.script_ast.specs.declared.operations.Oversample.{Oversample}
 use Rattle.name_book.specs.Book.{object_of}
 use Rattle.name_book.specs.declared.book.Object.{Object}
 use Rattle.name_book.specs.declared.book.Object.TheVariants as object
-use Rattle.node_table.specs.declared.kinds.Kind.TheVariants.{Constant, Gain, Splitter, Merger, Shaper}
+use Rattle.node_table.specs.declared.kinds.Kind.TheVariants.{Constant, Gain, Splitter, Merger, Shaper, Iir}
 use Rattle.conn_graph.specs.Edges.{form_node}
 use Rattle.meaning.specs.declared.automation.ParamEdit.{ParamEdit}
 use Rattle.meaning.specs.declared.automation.ParamEdit.TheVariants as line
@@ -182,6 +182,10 @@ creates_shaper_for m steady name curve oversample =
     let e : Edit = edit.Create (Shaper curve (is_some curve)) in
     unless_for m steady o (oversample_refusal oversample) (edits m e) (λ fine. edits_for m steady o e (refl, tt) refl)
 
+creates_filter_for : (m : Machine) → IsSteady m → (name : List ℕ) (feedforward feedback : List ℤ) → IsFor m (op.CreateIIRFilter name feedforward feedback) (decided_on_shaper m (op.CreateIIRFilter name feedforward feedback))
+unfolding decided_on_shaper
+creates_filter_for m steady name feedforward feedback = edits_for m steady (op.CreateIIRFilter name feedforward feedback) (edit.Create (Iir feedforward feedback)) (refl, tt) refl
+
 sets_oversample_for : (m : Machine) → IsSteady m → (o : Op) (node : Option NodeId) (value : Oversample) → IsFor m o (sets_oversample m node value)
 sets_oversample_for m steady o None value = tt
 sets_oversample_for m steady o (Some n) value = by_kind (is_shaper (kind_of m.world n.0))
@@ -193,6 +197,7 @@ sets_oversample_for m steady o (Some n) value = by_kind (is_shaper (kind_of m.wo
 on_shaper_for : (m : Machine) → IsSteady m → (o : Op) → new_name o ≡ None → IsFor m o (decided_on_shaper m o)
 unfolding decided_on_shaper
 on_shaper_for m steady (op.CreateWaveShaper name curve oversample) none = absurd cc
+on_shaper_for m steady (op.CreateIIRFilter name feedforward feedback) none = absurd cc
 on_shaper_for m steady (op.SetCurve node curve) none =
     node_for m steady (op.SetCurve node curve) (node_named m node) (λ n. edit.SetCurve n curve) (λ a is. (node_there m steady node a is, refl))
 on_shaper_for m steady (op.SetOversample node value) none = sets_oversample_for m steady (op.SetOversample node value) (node_named m node) value
@@ -250,6 +255,7 @@ decided_for m steady op.ReadState in_range = tt
 decided_for m steady op.ReadTime in_range = tt
 decided_for m steady (op.DecodeAudioData name path) in_range = decoding_for m name path
 decided_for m steady (op.CreateWaveShaper name curve oversample) in_range = creates_shaper_for m steady name curve oversample
+decided_for m steady (op.CreateIIRFilter name feedforward feedback) in_range = creates_filter_for m steady name feedforward feedback
 decided_for m steady other in_range = on_shaper_for m steady other refl
 
 -- a new name is one that may be given
@@ -259,6 +265,7 @@ is_new (op.CreateGain new gain) name in_range is = subst (λ (x : Option (List �
 is_new (op.CreateChannelSplitter new outputs) name in_range is = subst (λ (x : Option (List ℕ)). IfSome x IsNewName) is in_range.0
 is_new (op.CreateChannelMerger new inputs) name in_range is = subst (λ (x : Option (List ℕ)). IfSome x IsNewName) is in_range.0
 is_new (op.CreateWaveShaper new curve oversample) name in_range is = subst (λ (x : Option (List ℕ)). IfSome x IsNewName) is in_range.0
+is_new (op.CreateIIRFilter new feedforward feedback) name in_range is = subst (λ (x : Option (List ℕ)). IfSome x IsNewName) is in_range.0
 is_new (op.CreateBufferSource new buffer looping loop_start loop_end rate) name in_range is = subst (λ (x : Option (List ℕ)). IfSome x IsNewName) is in_range.0
 is_new (op.CreateBuffer new channels frames rate) name in_range is = subst (λ (x : Option (List ℕ)). IfSome x IsNewName) is in_range.0
 is_new (op.DecodeAudioData new path) name in_range is = subst (λ (x : Option (List ℕ)). IfSome x IsNewName) is in_range.0

@@ -30,6 +30,7 @@ kept_base (kind.Gain gain) name has kept = has
 kept_base (kind.Splitter ports) name has kept = has
 kept_base (kind.Merger ports) name has kept = has
 kept_base (kind.Shaper curve was_set) name has kept = has
+kept_base (kind.Iir forward back) name has kept = has
 
 -- a parameter that is found is one that the kind has
 record Found (k : Kind) (node : ℕ) (id : ParamId) : Type 0 where

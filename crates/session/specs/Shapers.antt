@@ -1,11 +1,11 @@
--- What the operations on wave shapers come to (the WaveShaperNode interface).
+-- What the operations on wave shapers and IIR filters come to (the WaveShaperNode and IIRFilterNode interfaces).
 use Rattle.std.specs.Prelude.{ℤ, List, Bool, true, false, if◌then◌else◌, is_some, Option, Some, None}
 use Rattle.wa_base.specs.declared.exceptions.Exc.{Exc}
 use Rattle.wa_base.specs.declared.exceptions.Exc.TheVariants.{NotSupported, WrongType}
 use Rattle.wa_base.specs.declared.features.Feature.TheVariants as feature
 use Rattle.wa_base.specs.declared.graph_names.NodeId.{NodeId}
 use Rattle.node_table.specs.declared.kinds.Kind.{Kind}
-use Rattle.node_table.specs.declared.kinds.Kind.TheVariants.{Shaper}
+use Rattle.node_table.specs.declared.kinds.Kind.TheVariants.{Shaper, Iir}
 use Rattle.script_ast.specs.declared.operations.Op.{Op}
 use Rattle.script_ast.specs.declared.operations.Op.TheVariants as op
 use Rattle.script_ast.specs.declared.operations.Oversample.{Oversample}
@@ -38,9 +38,10 @@ abbrev pub sets_oversample : Machine → Option NodeId → Oversample → Decide
 sets_oversample machine None value = refused WrongType
 sets_oversample machine (Some node) value = if is_shaper (kind_of machine.world node.0) then unless_refused (oversample_refusal value) (comes_to.Answer answer.Ok) else refused WrongType
 
--- what an operation on a shaper comes to, or any that is in no table above
+-- what an operation on a shaper or a filter comes to, or any that is in no table above
 unfoldable pub decided_on_shaper : Machine → Op → Decided
 decided_on_shaper machine (op.CreateWaveShaper name curve oversample) = creates_shaper machine curve oversample
 decided_on_shaper machine (op.SetCurve node curve) = edits_node machine (node_named machine node) (λ n. edit.SetCurve n curve)
 decided_on_shaper machine (op.SetOversample node value) = sets_oversample machine (node_named machine node) value
+decided_on_shaper machine (op.CreateIIRFilter name feedforward feedback) = edits machine (edit.Create (Iir feedforward feedback))
 decided_on_shaper machine other = decided_on_param machine other

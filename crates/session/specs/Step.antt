@@ -42,6 +42,7 @@ new_name (op.CreateGain name gain) = Some name
 new_name (op.CreateChannelSplitter name number_of_outputs) = Some name
 new_name (op.CreateChannelMerger name number_of_inputs) = Some name
 new_name (op.CreateWaveShaper name curve oversample) = Some name
+new_name (op.CreateIIRFilter name feedforward feedback) = Some name
 new_name (op.CreateBufferSource name buffer looping loop_start loop_end playback_rate) = Some name
 new_name (op.CreateBuffer name channels frames rate) = Some name
 new_name (op.DecodeAudioData name path) = Some name

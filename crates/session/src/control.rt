@@ -302,6 +302,7 @@ fn new_name(op: &Op) -> Option<&Name>
         | Op::CreateChannelSplitter { name, .. }
         | Op::CreateChannelMerger { name, .. }
         | Op::CreateWaveShaper { name, .. }
+        | Op::CreateIIRFilter { name, .. }
         | Op::CreateBufferSource { name, .. }
         | Op::CreateBuffer { name, .. }
         | Op::DecodeAudioData { name, .. } => Some(name),

@@ -1,7 +1,8 @@
 ghost use Rattle.std.specs.Prelude.{◌≡◌, is_some, IfOk};
 ghost use Rattle.script_ast.specs.Ranges.{IsInRange};
 ghost use Rattle.session.specs.Shapers as spec;
-ghost use Rattle.session.specs.Step.{node_named, edits_node};
+ghost use Rattle.session.specs.Step.{node_named, edits, edits_node};
+ghost use Rattle.node_table.specs.declared.kinds.Kind.TheVariants as kinds;
 
 use crate::control::Control;
 use crate::decide::{Decided, refused};
@@ -11,7 +12,8 @@ use script_ast::{Op, Oversample};
 use transcript::Answer;
 use wa_base::{Exc, Feature, Name, NoMemory, Samples};
 
-// What the operations on wave shapers come to (the WaveShaperNode interface).
+// What the operations on wave shapers and IIR filters come to (the WaveShaperNode and IIRFilterNode
+// interfaces).
 impl Control {
     /// Nothing is changed.
     #[tactic(auto, unfolding(crate::specs::Shapers::decided_on_shaper))]
@@ -27,6 +29,11 @@ impl Control {
             } => self.create_shaper(curve, *oversample),
             Op::SetCurve { node, curve } => self.set_curve(node, curve),
             Op::SetOversample { node, value } => Ok(self.set_oversample(node, *value)),
+            Op::CreateIIRFilter {
+                feedforward,
+                feedback,
+                ..
+            } => self.create_filter(feedforward, feedback),
             _ => self.decide_on_param(op),
         }
     }
@@ -44,6 +51,16 @@ impl Control {
         let kind = Kind::Shaper {
             curve: copy_of(curve)?,
             was_set: curve.is_some(),
+        };
+        Ok(self.edits(Edit::Create { kind }))
+    }
+
+    fn create_filter(&self, feedforward: &Samples, feedback: &Samples) -> Result<Decided, NoMemory>
+        ensures { IfOk result (λ decided. decided ≡ edits self.now (Edit.Create (kinds.Iir feedforward.now feedback.now))) }
+    {
+        let kind = Kind::Iir {
+            forward: feedforward.copy()?,
+            back: feedback.copy()?,
         };
         Ok(self.edits(Edit::Create { kind }))
     }

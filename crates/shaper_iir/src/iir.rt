@@ -1,7 +1,7 @@
-ghost use Rattle.std.specs.Prelude.{◌≡◌, ◌<◌, ◌≤◌, ◌+◌, ◌*◌, [], ℕ, None, length, max, slice_index_or, IfOk, OnOk, OnErr};
-ghost use Rattle.causal_core.specs.Filters.{IsFilter, filter_refusal};
+ghost use Rattle.std.specs.Prelude.{◌≡◌, ◌<◌, ◌≤◌, ◌+◌, ◌*◌, [], ℕ, ℤ, List, None, length, max, slice_index_or, IfOk, OnOk, OnErr};
+ghost use Rattle.causal_core.specs.Filters.{IsFilter, filter_refusal, filter_value};
 ghost use Rattle.causal_core.specs.Frames.{item, newest};
-ghost use Rattle.shaper_iir.specs.Filter.{FilterStands};
+ghost use Rattle.shaper_iir.specs.Filter.{FilterStands, history_of};
 ghost use Rattle.shaper_iir.specs.Histories.{after, silent};
 ghost use Rattle.shaper_iir.specs.Scales.{IsScale};
 
@@ -54,6 +54,13 @@ impl Iir {
             channels: Vec::new(alloc),
         })
     }
+
+    /// The number of channels that there is room for.
+    pub fn channels(&self) -> usize
+        ensures { result ≡ length self.now.channels }
+    {
+        self.channels.len()
+    }
 }
 
 impl Causal for Iir {
@@ -66,7 +73,14 @@ impl Causal for Iir {
 
     ghost room = { λ filter. length filter.channels };
 
-    fn grow(&mut self, channels: u32) -> Result<(), NoMemory> {
+    fn grow(&mut self, channels: u32) -> Result<(), NoMemory>
+        ensures stands { (c : ℕ) (xs : List ℤ) → FilterStands self.old c xs → FilterStands self.new c xs }
+        ensures value { filter_value self.new.forward self.new.back ≡ filter_value self.old.forward self.old.back }
+        ensures ok { OnOk result (length self.new.channels ≡ max (length self.old.channels) channels) }
+        ensures err { OnErr result (length self.new.channels ≡ length self.old.channels) }
+        ensures coefficients { (self.new.forward ≡ self.old.forward) × (self.new.back ≡ self.old.back) }
+        ensures histories { (c : ℕ) → history_of self.new c ≡ history_of self.old c }
+    {
         grow_to(&mut self.channels, channels as usize)
     }
 

@@ -4,8 +4,9 @@ use Rattle.node_table.specs.declared.kinds.Kind.{Kind}
 use Rattle.meaning.specs.World.{plain, kind_of, played_channels}
 use Rattle.meaning.specs.Counts.{count_by_kind}
 use Rattle.quantum_render.specs.Blocks.{counts_in}
-use Rattle.quantum_render.proofs.InputLaws.{kind_is}
-use Rattle.quantum_render.proofs.Ports.{ports_there, outputs_few}
+use Rattle.meaning.proofs.NodeKinds.{kind_is}
+use Rattle.meaning.proofs.NodeKinds.{limits_there}
+use Rattle.quantum_render.proofs.Ports.{outputs_few}
 use Rattle.quantum_render.proofs.Sources.{end_low}
 use Rattle.quantum_render.proofs.counting.count_of.Goals as goal
 
@@ -57,13 +58,13 @@ returns-in-Merger-clause-value c j earlier time =
 pub returns-in-Merger-clause-range : goal.returns-in-Merger-clause-range
 returns-in-Merger-clause-range c =
     let table = kind_is c.args.world.now c.args.end.node.0 c.kind.result.now (end_low c.args.world.now c.requires.valid c.args.end c.requires.there) c.kind.ensures.value in
-    subst IsInLimits (table ∙ c.in-Merger.is) (ports_there c.args.world.now c.requires.valid c.args.end.node.0)
+    subst IsInLimits (table ∙ c.in-Merger.is) (limits_there c.args.world.now c.requires.valid c.args.end.node.0)
 
 pub returns-in-Merger-clause-lanes : goal.returns-in-Merger-clause-lanes
 returns-in-Merger-clause-lanes c =
     let table = kind_is c.args.world.now c.args.end.node.0 c.kind.result.now (end_low c.args.world.now c.requires.valid c.args.end c.requires.there) c.kind.ensures.value in
     let one : outputs (kind_of c.args.world.now c.args.end.node.0) ≡ 1 = ap outputs (table ∙ c.in-Merger.is) in
-    let range = subst IsInLimits (table ∙ c.in-Merger.is) (ports_there c.args.world.now c.requires.valid c.args.end.node.0) in
+    let range = subst IsInLimits (table ∙ c.in-Merger.is) (limits_there c.args.world.now c.requires.valid c.args.end.node.0) in
     rw one (let high = range.1 in omega (arith, high))
 
 pub returns-in-Merger-clause-mono : goal.returns-in-Merger-clause-mono
@@ -79,7 +80,8 @@ returns-in-Destination-clause-value c j earlier time =
     c.input_count.ensures.value ∙ elim c.in-Destination.is [
       | inl is ↦ ap counted (sym (table ∙ is))
       | inr (inl is) ↦ ap counted (sym (table ∙ is.1))
-      | inr (inr is) ↦ ap counted (sym (table ∙ is.2))
+      | inr (inr (inl is)) ↦ ap counted (sym (table ∙ is.2))
+      | inr (inr (inr is)) ↦ ap counted (sym (table ∙ is.2))
     ]
 
 -- a kind that counts its input is not always mono
@@ -89,5 +91,6 @@ returns-in-Destination-clause-mono c mono =
     elim c.in-Destination.is [
       | inl is ↦ let none : is_mono (kind_of c.args.world.now c.args.end.node.0) ≡ false = ap is_mono (table ∙ is) in absurd cc
       | inr (inl is) ↦ let none : is_mono (kind_of c.args.world.now c.args.end.node.0) ≡ false = ap is_mono (table ∙ is.1) in absurd cc
-      | inr (inr is) ↦ let none : is_mono (kind_of c.args.world.now c.args.end.node.0) ≡ false = ap is_mono (table ∙ is.2) in absurd cc
+      | inr (inr (inl is)) ↦ let none : is_mono (kind_of c.args.world.now c.args.end.node.0) ≡ false = ap is_mono (table ∙ is.2) in absurd cc
+      | inr (inr (inr is)) ↦ let none : is_mono (kind_of c.args.world.now c.args.end.node.0) ≡ false = ap is_mono (table ∙ is.2) in absurd cc
     ]

@@ -7,7 +7,7 @@ use Rattle.conn_graph.specs.Ends.{reader_of}
 use Rattle.quantum_render.specs.Blocks.{counts_in}
 use Rattle.quantum_render.specs.Connections.{leads_to}
 use Rattle.quantum_render.proofs.CountingLaws.{count_of_greatest}
-use Rattle.quantum_render.proofs.InputLaws.{attrs_are}
+use Rattle.meaning.proofs.NodeKinds.{attrs_are}
 use Rattle.quantum_render.proofs.Sources.{input_sources, into_slots}
 use Rattle.quantum_render.proofs.counting.input_count.Goals as goal
 

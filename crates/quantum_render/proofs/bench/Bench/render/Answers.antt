@@ -4,9 +4,10 @@ use Rattle.node_table.specs.Nodes.{kind_at}
 use Rattle.node_table.specs.declared.kinds.Kind.{Kind}
 use Rattle.meaning.specs.World.{kind_of}
 use Rattle.quantum_render.specs.Sites.{SiteView, IsSite}
-use Rattle.quantum_render.specs.Renders.{Renders}
-use Rattle.quantum_render.proofs.InputLaws.{kind_is}
-use Rattle.quantum_render.proofs.Ports.{ports_there}
+use Rattle.quantum_render.specs.Renders.{Renders, RendersWith}
+use Rattle.quantum_render.proofs.Listening.{with_filters}
+use Rattle.meaning.proofs.NodeKinds.{kind_is}
+use Rattle.meaning.proofs.NodeKinds.{limits_there}
 use Rattle.quantum_render.proofs.Sources.{end_low}
 use Rattle.quantum_render.proofs.Rendering.{site_is}
 use Rattle.quantum_render.proofs.bench.Bench.render.Goals as goal
@@ -71,51 +72,72 @@ render_shaper-requires-clause-curve c =
     let kind = kind_of_site c.args.site.now (site_is c.args.site.now _ _ _ _ _ _ c.site.invariant c.site.view_is) c.kind.result.now
     (subst (λ (x : SiteView). kind_at x.world.nodes x.end.node.0 ≡ Some c.kind.result.now) c.site.view_is c.kind.ensures.value) ∙ c.in-Shaper.is in
     let site = site_is c.args.site.now _ _ _ _ _ _ c.site.invariant c.site.view_is in
-    subst IsInLimits kind (ports_there c.args.site.now.world site.valid c.args.site.now.end.node.0)
+    subst IsInLimits kind (limits_there c.args.site.now.world site.valid c.args.site.now.end.node.0)
 
 pub returns-in-Shaper-clause-renders : goal.returns-in-Shaper-clause-renders
 returns-in-Shaper-clause-renders c =
-    subst (Renders c.args.site.now c.args.blocks.now c.render_shaper.new.blocks)
+    with_filters c.args.site.now c.args.filters.now c.args.blocks.now c.render_shaper.new.blocks (kind_of c.args.site.now.world c.args.site.now.end.node.0)
+    (subst (Renders c.args.site.now c.args.blocks.now c.render_shaper.new.blocks)
     (sym (kind_of_site c.args.site.now (site_is c.args.site.now _ _ _ _ _ _ c.site.invariant c.site.view_is) c.kind.result.now
     (subst (λ (x : SiteView). kind_at x.world.nodes x.end.node.0 ≡ Some c.kind.result.now) c.site.view_is c.kind.ensures.value) ∙ c.in-Shaper.is))
-    (c.render_shaper.ensures.renders c.in-Shaper.was_set)
+    (c.render_shaper.ensures.renders c.in-Shaper.was_set))
 
 pub returns-in-Destination-clause-renders : goal.returns-in-Destination-clause-renders
 returns-in-Destination-clause-renders c =
-    subst (Renders c.args.site.now c.args.blocks.now c.render_destination.new.blocks)
+    with_filters c.args.site.now c.args.filters.now c.args.blocks.now c.render_destination.new.blocks (kind_of c.args.site.now.world c.args.site.now.end.node.0)
+    (subst (Renders c.args.site.now c.args.blocks.now c.render_destination.new.blocks)
     (sym (kind_of_site c.args.site.now (site_is c.args.site.now _ _ _ _ _ _ c.site.invariant c.site.view_is) c.kind.result.now
     (subst (λ (x : SiteView). kind_at x.world.nodes x.end.node.0 ≡ Some c.kind.result.now) c.site.view_is c.kind.ensures.value) ∙ c.in-Destination.is))
-    c.render_destination.ensures.renders
+    c.render_destination.ensures.renders)
 
 pub returns-in-Constant-clause-renders : goal.returns-in-Constant-clause-renders
 returns-in-Constant-clause-renders c =
-    subst (Renders c.args.site.now c.args.blocks.now c.render_constant.new.blocks)
+    with_filters c.args.site.now c.args.filters.now c.args.blocks.now c.render_constant.new.blocks (kind_of c.args.site.now.world c.args.site.now.end.node.0)
+    (subst (Renders c.args.site.now c.args.blocks.now c.render_constant.new.blocks)
     (sym (kind_of_site c.args.site.now (site_is c.args.site.now _ _ _ _ _ _ c.site.invariant c.site.view_is) c.kind.result.now
     (subst (λ (x : SiteView). kind_at x.world.nodes x.end.node.0 ≡ Some c.kind.result.now) c.site.view_is c.kind.ensures.value) ∙ c.in-Constant.is))
-    (c.render_constant.ensures.renders c.in-Constant.offset)
+    (c.render_constant.ensures.renders c.in-Constant.offset))
 
 pub returns-in-Buffer-clause-renders : goal.returns-in-Buffer-clause-renders
 returns-in-Buffer-clause-renders c =
-    subst (Renders c.args.site.now c.args.blocks.now c.render_buffer.new.blocks)
+    with_filters c.args.site.now c.args.filters.now c.args.blocks.now c.render_buffer.new.blocks (kind_of c.args.site.now.world c.args.site.now.end.node.0)
+    (subst (Renders c.args.site.now c.args.blocks.now c.render_buffer.new.blocks)
     (sym (kind_of_site c.args.site.now (site_is c.args.site.now _ _ _ _ _ _ c.site.invariant c.site.view_is) c.kind.result.now
     (subst (λ (x : SiteView). kind_at x.world.nodes x.end.node.0 ≡ Some c.kind.result.now) c.site.view_is c.kind.ensures.value) ∙ c.in-Buffer.is))
-    (c.render_buffer.ensures.renders c.in-Buffer.rate)
+    (c.render_buffer.ensures.renders c.in-Buffer.rate))
 
 pub returns-in-Gain-clause-renders : goal.returns-in-Gain-clause-renders
 returns-in-Gain-clause-renders c =
-    subst (Renders c.args.site.now c.args.blocks.now c.render_gain.new.blocks)
+    with_filters c.args.site.now c.args.filters.now c.args.blocks.now c.render_gain.new.blocks (kind_of c.args.site.now.world c.args.site.now.end.node.0)
+    (subst (Renders c.args.site.now c.args.blocks.now c.render_gain.new.blocks)
     (sym (kind_of_site c.args.site.now (site_is c.args.site.now _ _ _ _ _ _ c.site.invariant c.site.view_is) c.kind.result.now
     (subst (λ (x : SiteView). kind_at x.world.nodes x.end.node.0 ≡ Some c.kind.result.now) c.site.view_is c.kind.ensures.value) ∙ c.in-Gain.is))
-    (c.render_gain.ensures.renders c.in-Gain.gain)
+    (c.render_gain.ensures.renders c.in-Gain.gain))
 
 pub returns-in-Splitter-clause-renders : goal.returns-in-Splitter-clause-renders
 returns-in-Splitter-clause-renders c =
     let kind = kind_of_site c.args.site.now (site_is c.args.site.now _ _ _ _ _ _ c.site.invariant c.site.view_is) c.kind.result.now
     (subst (λ (x : SiteView). kind_at x.world.nodes x.end.node.0 ≡ Some c.kind.result.now) c.site.view_is c.kind.ensures.value) ∙ c.in-Splitter.is in
-    subst (Renders c.args.site.now c.args.blocks.now c.render_splitter.new.blocks) (sym kind) (c.render_splitter.ensures.renders c.in-Splitter.outputs kind)
+    with_filters c.args.site.now c.args.filters.now c.args.blocks.now c.render_splitter.new.blocks (kind_of c.args.site.now.world c.args.site.now.end.node.0)
+    (subst (Renders c.args.site.now c.args.blocks.now c.render_splitter.new.blocks) (sym kind) (c.render_splitter.ensures.renders c.in-Splitter.outputs kind))
 
 pub returns-in-Merger-clause-renders : goal.returns-in-Merger-clause-renders
 returns-in-Merger-clause-renders c =
     let kind = kind_of_site c.args.site.now (site_is c.args.site.now _ _ _ _ _ _ c.site.invariant c.site.view_is) c.kind.result.now
     (subst (λ (x : SiteView). kind_at x.world.nodes x.end.node.0 ≡ Some c.kind.result.now) c.site.view_is c.kind.ensures.value) ∙ c.in-Merger.is in
-    subst (Renders c.args.site.now c.args.blocks.now c.render_merger.new.blocks) (sym kind) (c.render_merger.ensures.renders c.in-Merger.inputs kind)
+    with_filters c.args.site.now c.args.filters.now c.args.blocks.now c.render_merger.new.blocks (kind_of c.args.site.now.world c.args.site.now.end.node.0)
+    (subst (Renders c.args.site.now c.args.blocks.now c.render_merger.new.blocks) (sym kind) (c.render_merger.ensures.renders c.in-Merger.inputs kind))
+
+pub render_filter-requires-clause-kind : goal.render_filter-requires-clause-kind
+render_filter-requires-clause-kind c = (
+  c.in-Iir.forward,
+  c.in-Iir.back,
+  kind_of_site c.args.site.now (site_is c.args.site.now _ _ _ _ _ _ c.site.invariant c.site.view_is) c.kind.result.now
+      (subst (λ (x : SiteView). kind_at x.world.nodes x.end.node.0 ≡ Some c.kind.result.now) c.site.view_is c.kind.ensures.value) ∙ c.in-Iir.is,
+)
+
+pub returns-in-Iir-clause-renders : goal.returns-in-Iir-clause-renders
+returns-in-Iir-clause-renders c =
+    let kind = kind_of_site c.args.site.now (site_is c.args.site.now _ _ _ _ _ _ c.site.invariant c.site.view_is) c.kind.result.now
+    (subst (λ (x : SiteView). kind_at x.world.nodes x.end.node.0 ≡ Some c.kind.result.now) c.site.view_is c.kind.ensures.value) ∙ c.in-Iir.is in
+    subst (RendersWith c.args.site.now c.args.filters.now c.args.blocks.now c.render_filter.new.blocks) (sym kind) (c.render_filter.ensures.renders c.in-Iir.forward c.in-Iir.back kind)

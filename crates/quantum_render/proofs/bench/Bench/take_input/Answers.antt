@@ -14,7 +14,8 @@ use Rattle.quantum_render.specs.Fits.{AreFit, IsSource}
 use Rattle.quantum_render.specs.Sums.{sum_at}
 use Rattle.quantum_render.specs.Sites.{SiteView, IsSite, IsLone}
 use Rattle.quantum_render.proofs.Sources.{end_low, source_is}
-use Rattle.quantum_render.proofs.InputLaws.{attrs_are, input_is, lone_input}
+use Rattle.meaning.proofs.NodeKinds.{attrs_are}
+use Rattle.quantum_render.proofs.InputLaws.{input_is, lone_input}
 use Rattle.quantum_render.proofs.Rendering.{site_is}
 use Rattle.quantum_render.proofs.bench.Bench.take_input.Goals as goal
 

@@ -1,4 +1,4 @@
-use Rattle.std.proofs.Common.{rules, List, ◌*◌, sym, subst}
+use Rattle.std.proofs.Common.{rules, List, length, max, ◌*◌, sym, ◌∙◌, ap, subst}
 use Rattle.std.proofs.Math.Nat.{mul_comm}
 use Rattle.meaning.specs.declared.params.Param.{Param}
 use Rattle.automation.specs.Ready.{AreOfNodes, IsReady}
@@ -12,6 +12,10 @@ prepare-requires g c =
 
 pub returns-clause-ok : goal.returns-clause-ok
 returns-clause-ok g c = record {
+  filters = record {
+    count = c.in_ok-follow-2.ensures.count ∙ ap (λ k. max k (length c.args.world.now.nodes)) (sym c.follow-2.ensures.known);
+    fresh = c.in_ok-follow-2.ensures.fresh;
+  };
   plan = c.in_ok-follow.ensures.plan;
   places = search rules;
   automation = subst (λ (ps : List Param). IsReady ps (128 * c.self.inside.quanta) c.prepare.new.self) c.as_slice.ensures

@@ -2,8 +2,8 @@ use Rattle.std.proofs.Common.{sym, ◌∙◌, ap, subst}
 use Rattle.node_table.specs.Kinds.{outputs, IsInLimits}
 use Rattle.meaning.specs.World.{kind_of}
 use Rattle.quantum_render.specs.Sites.{SiteView}
-use Rattle.quantum_render.proofs.InputLaws.{kind_is}
-use Rattle.quantum_render.proofs.Ports.{ports_there}
+use Rattle.meaning.proofs.NodeKinds.{kind_is}
+use Rattle.meaning.proofs.NodeKinds.{limits_there}
 use Rattle.quantum_render.proofs.Sources.{end_low}
 use Rattle.quantum_render.proofs.site.Site.outputs.Goals as goal
 
@@ -17,4 +17,4 @@ returns-clause-count c =
 
 pub returns-clause-ports : goal.returns-clause-ports
 returns-clause-ports c =
-    subst (λ (x : SiteView). IsInLimits (kind_of x.world x.end.node.0)) c.self.view_is (ports_there c.self.inside.world.now c.self.invariant.valid c.self.inside.end.node.0)
+    subst (λ (x : SiteView). IsInLimits (kind_of x.world x.end.node.0)) c.self.view_is (limits_there c.self.inside.world.now c.self.invariant.valid c.self.inside.end.node.0)

@@ -8,7 +8,7 @@ use Rattle.node_table.specs.declared.kinds.Kind.{Kind}
 use Rattle.meaning.specs.declared.world.World.{World}
 use Rattle.meaning.specs.World.{kind_of, param_id}
 use Rattle.meaning.specs.Validity.{param_ids}
-use Rattle.quantum_render.proofs.InputLaws.{kind_is}
+use Rattle.meaning.proofs.NodeKinds.{kind_is}
 use Rattle.session.specs.Params.{has_param, param_of_kind, param_at}
 use Rattle.session.proofs.Parameters.{kept_base}
 use Rattle.session.proofs.control.Control.param_at.Goals as goal

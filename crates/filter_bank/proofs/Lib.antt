@@ -1,0 +1,4 @@
+pub mod Since
+pub mod Fresh
+pub mod Growing
+pub mod Same

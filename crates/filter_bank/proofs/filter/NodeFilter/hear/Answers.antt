@@ -1,0 +1,38 @@
+use Rattle.std.proofs.Common.{ℕ, ℤ, ◌^◌, ◌<◌, ◌≤◌, ◌+◌, ◌-◌, ◌*◌, ◌≡◌, List, length, sym, ◌∙◌, ap, arith, subst}
+use Rattle.causal_core.specs.Filters.{filter_value}
+use Rattle.causal_core.specs.Frames.{item}
+use Rattle.shaper_iir.specs.Filter.{FilterStands}
+use Rattle.filter_bank.specs.Heard.{FilterView, HasHeard, Brings, HasOutputs, room_of}
+use Rattle.meaning.specs.Values.{frames_since}
+use Rattle.filter_bank.proofs.Since.{heard_from}
+use Rattle.filter_bank.proofs.filter.NodeFilter.hear.Goals as goal
+
+pub returns-clause-outputs : goal.returns-clause-outputs
+returns-clause-outputs c = subst (λ (f : FilterView). HasOutputs c.block.new.self f.state.forward f.state.back) c.self.view_is (λ frames. ap (λ (g : List ℤ → ℤ). g frames) c.block.ensures.value)
+
+-- time goes on
+unsaturated : (c : goal.After-self-1) → c.self.inside.time ≤ 2 ^ 62 → c.self.inside.time + 128 ≡ c.saturating_add-self-inside.result
+unsaturated c early = let sum = c.saturating_add-self-inside.ensures in grind arith
+
+-- of one channel, one more block
+pub returns-clause-heard : goal.returns-clause-heard
+returns-clause-heard c early at heard brings channel =
+    let heard' = subst (HasHeard at) (sym c.self.view_is) heard in
+    let brings' = subst (λ (f : FilterView). Brings f.time c.args.x.now at) (sym c.self.view_is) brings in
+    let early' = subst (λ (f : FilterView). f.time ≤ 2 ^ 62) (sym c.self.view_is) early in
+    let later : c.self.inside.time + 128 ≡ c.saturating_add-self-inside.result = unsaturated c early' in
+    subst (FilterStands c.block.new.self channel)
+    (heard_from (λ g. at g channel) c.args.x.now (channel * 128) c.self.inside.birth c.self.inside.time 128 c.self.invariant.lived (λ i l. brings' channel i l)
+    ∙ ap (λ n. frames_since (λ g. at g channel) c.self.inside.birth (n - c.self.inside.birth)) later)
+    (c.block.ensures.stands channel _ (heard' channel))
+
+pub returns-clause-values : goal.returns-clause-values
+returns-clause-values c at heard brings channel k low now =
+    let heard' = subst (HasHeard at) (sym c.self.view_is) heard in
+    let brings' = subst (λ (f : FilterView). Brings f.time c.args.x.now at) (sym c.self.view_is) brings in
+    let low' = subst (λ (f : FilterView). channel < room_of f) (sym c.self.view_is) low in
+    subst (λ (f : FilterView). item c.block.new.y (channel * 128 + k) ≡ filter_value f.state.forward f.state.back (frames_since (λ g. at g channel) f.birth (f.time + k + 1 - f.birth))) c.self.view_is
+    (c.block.ensures.output channel k _ low' now (heard' channel)
+    ∙ ap (filter_value c.self.inside.state.forward c.self.inside.state.back)
+    (heard_from (λ g. at g channel) c.args.x.now (channel * 128) c.self.inside.birth c.self.inside.time (k + 1) c.self.invariant.lived (λ i l. brings' channel i (omega arith))
+    ∙ ap (frames_since (λ g. at g channel) c.self.inside.birth) (let e : c.self.inside.time + (k + 1) - c.self.inside.birth ≡ c.self.inside.time + k + 1 - c.self.inside.birth = omega arith in e)))

@@ -1,0 +1,35 @@
+use Rattle.std.proofs.Common.{ℕ, ℤ, ◌≡◌, ◌+◌, ◌-◌, ◌*◌, ◌<◌, ◌≤◌, ◌^◌, Option, Some, List, refl, sym, ◌∙◌, ap, subst}
+use Rattle.std.specs.Prelude.{unwrap_or}
+use Rattle.causal_core.specs.Filters.{filter_value}
+use Rattle.causal_core.specs.Frames.{item}
+use Rattle.meaning.specs.Values.{frames_since}
+use Rattle.filter_bank.specs.Heard.{FilterView, HasHeard, Brings, IsHeard, room_of}
+use Rattle.filter_bank.proofs.filters.hear_one.Goals as goal
+
+-- the filter that is there is the one that is asked for
+same : (c : goal.After-y-1) → (f : FilterView) → c.args.filter.now ≡ Some f → c.in-Some.filter ≡ f
+same c f is = ap (λ o. unwrap_or o f) (sym c.in-Some.is ∙ is)
+
+pub returns-in-Some-clause-heard : goal.returns-in-Some-clause-heard
+returns-in-Some-clause-heard c f is early at heard brings =
+    let here = same c f is in
+    let heard' = subst (HasHeard at) (sym here) heard in
+    let brings' = subst (λ (x : FilterView). Brings x.time c.args.x.now at) (sym here) brings in
+    let early' = subst (λ (x : FilterView). x.time ≤ 2 ^ 62) (sym here) early in
+    record {
+      filter = c.hear.new.self;
+      there = refl;
+      outputs = subst (λ (x : FilterView). (frames : List ℤ) → filter_value c.hear.new.self.state.forward c.hear.new.self.state.back frames ≡ filter_value x.state.forward x.state.back frames) here c.hear.ensures.outputs;
+      birth = c.hear.ensures.birth ∙ ap (λ (x : FilterView). x.birth) here;
+      time = c.hear.ensures.time early' ∙ ap (λ (x : FilterView). x.time + 128) here;
+      heard = c.hear.ensures.heard early' at heard' brings';
+    }
+
+pub returns-in-Some-clause-values : goal.returns-in-Some-clause-values
+returns-in-Some-clause-values c f is at heard brings channel k low now =
+    let here = same c f is in
+    subst (λ (x : FilterView). item c.hear.new.y (channel * 128 + k) ≡ filter_value x.state.forward x.state.back (frames_since (λ g. at g channel) x.birth (x.time + k + 1 - x.birth))) here
+    (c.hear.ensures.values at (subst (HasHeard at) (sym here) heard) (subst (λ (x : FilterView). Brings x.time c.args.x.now at) (sym here) brings) channel k (subst (λ (x : FilterView). channel < room_of x) (sym here) low) now)
+
+pub returns-in-Some-clause-rooms : goal.returns-in-Some-clause-rooms
+returns-in-Some-clause-rooms c g is = (c.in-Some.filter, c.in-Some.is, ap (λ o. room_of (unwrap_or o g)) (sym is) ∙ c.hear.ensures.room)

@@ -1,0 +1,138 @@
+-- A filter that hears what its input carries in a quantum.
+use Rattle.std.proofs.Common.{ℕ, ℤ, pos, ◌≡◌, ◌+◌, ◌-◌, ◌*◌, ◌^◌, ◌<◌, ◌≤◌, length, List, take, max, slice_index_or, Bool, true, false, Some, Option, inl, inr, refl, sym, ◌∙◌, ap, arith, subst}
+use Rattle.std.specs.Prelude.{if◌then◌else◌, nat_lt, ◌==◌, unwrap_or}
+use Rattle.std.proofs.lemmas.Bool.{cases_lt}
+use Rattle.std.proofs.lemmas.Bool.Decides.{nat_tests}
+use Rattle.std.proofs.lemmas.List.{get_or-take, get_or_past, length-take}
+use Rattle.channel_mix.specs.Blocks.{sample}
+use Rattle.causal_core.specs.Filters.{filter_value}
+use Rattle.causal_core.specs.Frames.{item}
+use Rattle.node_table.specs.Kinds.{is_delay_kind}
+use Rattle.node_table.specs.declared.kinds.Kind.TheVariants.{Iir}
+use Rattle.conn_graph.specs.Ends.{input_end, muted}
+use Rattle.meaning.specs.declared.world.World.{World}
+use Rattle.meaning.specs.World.{plain, node_at, kind_of}
+use Rattle.meaning.specs.Counts.{input_channels}
+use Rattle.conn_graph.specs.Graph.{edges_to_input}
+use Rattle.meaning.specs.Values.{Frame, mixed_sum, input_value, seen, taken_in, frames_since, frames_heard}
+use Rattle.meaning.proofs.Joined.{joined}
+use Rattle.meaning.proofs.Seeing.{plain_end, plain_reader, same_since}
+use Rattle.filter_bank.specs.Heard.{FilterView, HasHeard, Brings, IsHeard, room_of as filter_room}
+use Rattle.filter_bank.specs.Banks.{BankView, filter_at, HaveRoom, Hears}
+use Rattle.quantum_render.specs.Blocks.{BlockView, at, shown, slot, counts_in}
+use Rattle.quantum_render.specs.Sites.{SiteView, IsSite}
+use Rattle.quantum_render.specs.Renders.{IsReadyFor, past_of, here_of}
+use Rattle.quantum_render.proofs.Listening.{heard_like}
+use Rattle.quantum_render.proofs.Sources.{site_slot}
+
+-- a part of a widened input: the lanes that it has, and silence
+pub widened : (wide : List ℤ) (heard : BlockView) (lanes c k : ℕ) → lanes ≤ 32 → k < 128 → ((c m : ℕ) → c < 32 → m < 128 → sample 128 wide c m ≡ shown heard m c) → heard.lanes ≤ lanes
+    → item (take (lanes * 128) wide) (c * 128 + k) ≡ shown heard k c
+widened wide heard lanes c k few now each within = elim (cases_lt c lanes) [
+  | inl low ↦ get_or-take (lanes * 128) wide (c * 128 + k) (pos 0) (omega arith) ∙ each c k (omega arith) now
+  | inr past ↦ get_or_past (take (lanes * 128) wide) (c * 128 + k) (pos 0) (let short = length-take (lanes * 128) wide in omega arith) ∙ sym (nothing past)
+]
+  where
+    nothing : lanes ≤ c → shown heard k c ≡ pos 0
+    nothing past = ap (λ b. if b then at heard c k else pos 0) (let no : nat_lt c heard.lanes ≡ false = grind (arith, nat_tests) in no)
+
+module _ (s : SiteView) (site : IsSite s.world s.end s.into s.counts s.levels s.first) (forward back : List ℤ) (kind : kind_of s.world s.end.node.0 ≡ Iir forward back) where
+  -- its end has the second of the node's two places
+  own_slot : slot s.end ≡ 2 * s.end.node.0 + 1
+  own_slot = ap slot (plain_reader (plain s.world) (joined s.world site.valid) s.end site.there (ap is_delay_kind kind))
+
+  pub own_place : 2 * s.end.node.0 + 1 < length s.counts
+  own_place = subst (λ k. k < length s.counts) own_slot (site_slot s.world s.end s.into s.counts s.levels s.first site)
+
+  pub own_count : counts_in s.counts s.end ≡ slice_index_or s.counts (2 * s.end.node.0 + 1) 1
+  own_count = ap (λ k. slice_index_or s.counts k 1) own_slot
+
+  -- as many lanes are heard as the filter has room for
+  pub lanes_are : (bank : BankView) → HaveRoom bank s.counts → (f : FilterView) → filter_at bank s.end.node.0 ≡ Some f → (room channels lanes : ℕ) → room ≡ filter_room f → channels ≡ counts_in s.counts s.end
+      → lanes ≡ max room channels → lanes ≡ filter_room f
+  lanes_are bank rooms f is room channels lanes held count most =
+      let fits = rooms s.end.node.0 f is own_place in
+      let few = fits.0 in
+      let own = count ∙ own_count in
+      grind arith
+
+module _ (s : SiteView) (site : IsSite s.world s.end s.into s.counts s.levels s.first) (bank : BankView) (old : List BlockView) (forward back : List ℤ) (kind : kind_of s.world s.end.node.0 ≡ Iir forward back)
+    (before : ℕ → Frame) (ready : IsReadyFor s bank before) where
+  abbrev n : ℕ
+  n = s.end.node.0
+
+  -- what the node takes in, by the frames before and the blocks
+  abbrev pub takes : ℕ → ℕ → ℤ
+  takes g c = taken_in (past_of s old before g) n c
+
+  past_now : (k : ℕ) → past_of s old before (s.first + k) ≡ here_of s old k
+  past_now k =
+      ap (λ b. if b then before (s.first + k) else here_of s old (s.first + k - s.first)) (let no : nat_lt (s.first + k) s.first ≡ false = grind (arith, nat_tests) in no)
+      ∙ ap (here_of s old) (let e : s.first + k - s.first ≡ k = omega arith in e)
+
+  past_before : (g : ℕ) → g < s.first → past_of s old before g ≡ before g
+  past_before g low = ap (λ b. if b then before g else here_of s old (g - s.first)) (let yes : nat_lt g s.first ≡ true = grind (arith, nat_tests) in yes)
+
+  unmuted : muted s.world.graph.value (input_end s.world.graph.value n) ≡ false
+  unmuted = subst (λ e. muted s.world.graph.value e ≡ false) (plain_end (plain s.world) (joined s.world site.valid) s.end site.there (ap is_delay_kind kind)) ready.unmuted
+
+  pub takes_now : (k c : ℕ) → takes (s.first + k) c ≡ input_value (here_of s old k) n 0 c
+  takes_now k c = ap (λ x. taken_in x n c) (past_now k) ∙ ap (λ b. if b then pos 0 else input_value (here_of s old k) n 0 c) unmuted
+
+  -- the filter has heard it so far
+  pub has_heard : IsHeard (filter_at bank n) forward back (node_at s.world n).attrs.birth s.first takes
+  has_heard = heard_like _ forward back _ s.first _ takes (λ g c low high. ap (λ x. taken_in x n c) (sym (past_before g high))) (ready.heard forward back kind)
+
+  -- the block that the filter hears brings the quantum
+  pub brings : (channels lanes : ℕ) (wide : List ℤ) (heard : BlockView) → lanes ≤ 32 → heard.lanes ≡ channels → channels ≤ lanes → channels ≡ input_channels (plain s.world) (counts_in s.counts) n 0
+      → ((c m : ℕ) → c < 32 → m < 128 → sample 128 wide c m ≡ shown heard m c) → ((c m : ℕ) → c < channels → m < 128 → at heard c m ≡ input_value (here_of s old m) n 0 c)
+      → Brings s.first (take (lanes * 128) wide) takes
+  unfolding input_value
+  brings channels lanes wide heard few count within counted each input c k now =
+      takes_now k c ∙ by_test (nat_lt c channels) refl ∙ sym (widened wide heard lanes c k few now each (subst (λ m. m ≤ lanes) (sym count) within))
+    where
+      by_test : (b : Bool) → nat_lt c channels ≡ b → input_value (here_of s old k) n 0 c ≡ shown heard k c
+      by_test true t =
+          sym (input c k (let low : c < channels = grind (arith, nat_tests) in low) now)
+          ∙ ap (λ b. if b then at heard c k else pos 0) (sym (ap (nat_lt c) count ∙ t))
+      by_test false t =
+          ap (λ b. if b then mixed_sum (here_of s old k) (node_at s.world n).attrs.interp (input_channels (plain s.world) (counts_in s.counts) n 0) c (edges_to_input s.world.graph.value n 0) else pos 0) (ap (nat_lt c) (sym counted) ∙ t)
+          ∙ ap (λ b. if b then at heard c k else pos 0) (sym (ap (nat_lt c) count ∙ t))
+
+  -- all that the node takes in up to a frame of the quantum
+  pub all_taken : (m c : ℕ) → frames_since (λ g. takes g c) (node_at s.world n).attrs.birth (s.first + m + 1 - (node_at s.world n).attrs.birth) ≡ frames_heard (s.first + m) (past_of s old before) (here_of s old m) n c
+  all_taken m c = same_since _ _ (node_at s.world n).attrs.birth (s.first + m + 1 - (node_at s.world n).attrs.birth) (λ g low high. ap (λ x. taken_in x n c) (by_test g (g == s.first + m) refl))
+    where
+      by_test : (g : ℕ) (b : Bool) → (g == s.first + m) ≡ b → past_of s old before g ≡ (if b then here_of s old m else past_of s old before g)
+      by_test g true t = let here : g ≡ s.first + m = grind (arith, nat_tests) in ap (past_of s old before) here ∙ past_now m
+      by_test g false t = refl
+
+  module _ (x y : List ℤ) (bank' : BankView) (hears : Hears bank bank' n x y) (bring : Brings s.first x takes) (early : s.first ≤ 2 ^ 62) where
+    abbrev f : FilterView
+    f = has_heard.filter
+
+    bring' : Brings f.time x takes
+    bring' = subst (λ t. Brings t x takes) (sym has_heard.time) bring
+
+    -- what it puts out
+    pub puts_out : (c m : ℕ) → c < filter_room f → m < 128 → item y (c * 128 + m) ≡ filter_value forward back (frames_heard (s.first + m) (past_of s old before) (here_of s old m) n c)
+    puts_out c m low now =
+        hears.values f has_heard.there takes has_heard.heard bring' c m low now
+        ∙ has_heard.outputs _
+        ∙ ap (filter_value forward back)
+        (ap (λ b. frames_since (λ g. takes g c) b (f.time + m + 1 - b)) has_heard.birth
+        ∙ ap (λ t. frames_since (λ g. takes g c) (node_at s.world n).attrs.birth (t + m + 1 - (node_at s.world n).attrs.birth)) has_heard.time
+        ∙ all_taken m c)
+
+    -- and it has heard the quantum
+    pub hears_on : IsHeard (filter_at bank' n) forward back (node_at s.world n).attrs.birth (s.first + 128) takes
+    hears_on =
+        let next = hears.heard f has_heard.there (subst (λ t. t ≤ 2 ^ 62) (sym has_heard.time) early) takes has_heard.heard bring' in
+        record {
+          filter = next.filter;
+          there = next.there;
+          outputs = λ frames. next.outputs frames ∙ has_heard.outputs frames;
+          birth = next.birth ∙ has_heard.birth;
+          time = next.time ∙ ap (λ t. t + 128) has_heard.time;
+          heard = next.heard;
+        }

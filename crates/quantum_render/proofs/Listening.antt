@@ -1,0 +1,167 @@
+-- What filters have heard, and of whom.
+use Rattle.std.proofs.Common.{ℕ, zero, suc, ℤ, pos, ◌≡◌, ◌+◌, ◌-◌, ◌*◌, ◌<◌, ◌≤◌, length, List, [], ◌∷◌, ◌++◌, Bool, true, false, ◌||◌, Option, Some, None, ◌⊎◌, inl, inr, refl, sym, ◌∙◌, ap, ap₂, arith, subst}
+use Rattle.std.specs.Prelude.{if◌then◌else◌, nat_lt, nat_eq}
+use Rattle.std.proofs.lemmas.Bool.Decides.{nat_tests}
+use Rattle.wa_base.specs.declared.graph_names.End.{End}
+use Rattle.law_base.specs.Members.{IsIn}
+use Rattle.shaper_iir.specs.Filter.{FilterStands}
+use Rattle.node_table.specs.Kinds.{is_delay_kind}
+use Rattle.node_table.specs.declared.kinds.Kind.{Kind}
+use Rattle.node_table.specs.declared.kinds.Kind.TheVariants.{Iir}
+use Rattle.conn_graph.specs.Ends.{same_end, reader_of, input_end, ends, muted}
+use Rattle.conn_graph.specs.Orders.{IsLegalAfter}
+use Rattle.conn_graph.proofs.EndLaws.{same_end-refl, same_end_is, has_end}
+use Rattle.meaning.specs.declared.world.World.{World}
+use Rattle.meaning.specs.World.{plain, node_at, kind_of}
+use Rattle.meaning.specs.Validity.{IsJoined}
+use Rattle.meaning.specs.Values.{Frame, taken_in, frames_since, frame}
+use Rattle.meaning.specs.Blocks.{drafted, with_drafts}
+use Rattle.meaning.proofs.QuantumLaws.{AreRight, HasCounts, HasSources, taken_right, taken_muted}
+use Rattle.meaning.proofs.Seeing.{plain_end, plain_reader, same_since}
+use Rattle.filter_bank.specs.Heard.{FilterView, HasHeard, IsHeard, IsRested, IsSilentFrom}
+use Rattle.filter_bank.specs.Banks.{BankView, filter_at, IsRestedIfThere}
+use Rattle.quantum_render.specs.Blocks.{BlockView, counts_in, drafts_of}
+use Rattle.quantum_render.specs.Sites.{SiteView}
+use Rattle.quantum_render.specs.Renders.{Renders, RendersWith, Listens, IsReadyFor, past_of}
+
+-- a filter has heard whatever agrees with what it has heard
+pub heard_like : (found : Option FilterView) (forward back : List ℤ) (birth now : ℕ) (at at' : ℕ → ℕ → ℤ) → ((g c : ℕ) → birth ≤ g → g < now → at g c ≡ at' g c)
+    → IsHeard found forward back birth now at → IsHeard found forward back birth now at'
+heard_like found forward back birth now at at' same is = record {
+  filter = is.filter;
+  there = is.there;
+  outputs = is.outputs;
+  birth = is.birth;
+  time = is.time;
+  heard = λ c. subst (FilterStands is.filter.state c) (same_since (λ g. at g c) (λ g. at' g c) is.filter.birth (is.filter.time - is.filter.birth) (λ g low high. same g c (subst (λ b. b ≤ g) is.birth low) (within g low high))) (is.heard c);
+}
+  where
+    within : (g : ℕ) → is.filter.birth ≤ g → g < is.filter.birth + (is.filter.time - is.filter.birth) → g < now
+    within g low high = let t = is.time in omega arith
+
+pub this_or_other : (n node : ℕ) → (n ≡ node) ⊎ (n ≡ node → ⊥)
+this_or_other zero zero = inl refl
+this_or_other zero (suc node) = inr (λ e. absurd (omega arith))
+this_or_other (suc n) zero = inr (λ e. absurd (omega arith))
+this_or_other (suc n) (suc node) = elim (this_or_other n node) [ inl e ↦ inl (ap suc e) | inr other ↦ inr (λ e. other (omega arith)) ]
+
+-- whether the end of a node is among those that are done
+abbrev pub is_done : List End → ℕ → Bool
+is_done [] n = false
+is_done (x ∷ xs) n = same_end (reader_of n) x || is_done xs n
+
+pub done_in : (done : List End) (n : ℕ) → is_done done n ≡ true → IsIn (reader_of n) done
+done_in [] n is = absurd cc
+done_in (x ∷ xs) n is = by_test (same_end (reader_of n) x) refl is (λ later. done_in xs n later)
+  where
+    by_test : (b : Bool) → same_end (reader_of n) x ≡ b → (b || is_done xs n) ≡ true → (is_done xs n ≡ true → IsIn (reader_of n) xs) → IsIn (reader_of n) (x ∷ xs)
+    by_test true here is below = inl (same_end_is (reader_of n) x here)
+    by_test false other is below = inr (below is)
+
+pub in_done : (done : List End) (n : ℕ) → IsIn (reader_of n) done → is_done done n ≡ true
+in_done [] n is = absurd is
+in_done (x ∷ xs) n (inl is) = let here : same_end (reader_of n) x ≡ true = subst (λ y. same_end (reader_of n) y ≡ true) is (same_end-refl (reader_of n)) in ap (λ b. b || is_done xs n) here
+in_done (x ∷ xs) n (inr is) = by_test (same_end (reader_of n) x) (in_done xs n is)
+  where
+    by_test : (b : Bool) → is_done xs n ≡ true → (b || is_done xs n) ≡ true
+    by_test true is = refl
+    by_test false is = is
+
+-- up to which frame the filter of a node has heard its input, by the ends that are done
+abbrev pub heard_until : List End → ℕ → ℕ → ℕ
+heard_until done first n = if is_done done n then first + 128 else first
+
+-- each filter of a world has heard its input, as far as the ends are done
+abbrev pub AreHeardBy : BankView → World → List World → ℕ → List End → Type 0
+AreHeardBy bank w tape first done = (n : ℕ) (forward back : List ℤ) → n < length w.nodes → kind_of w n ≡ Iir forward back
+    → IsHeard (filter_at bank n) forward back (node_at w n).attrs.birth (heard_until done first n) (λ g c. taken_in (frame 128 (tape ++ w ∷ []) g) n c)
+
+-- what a kind that is no filter renders, it renders whatever filters have heard
+pub with_filters : (s : SiteView) (bank : BankView) (old new : List BlockView) (kind : Kind) → Renders s old new kind → RendersWith s bank old new kind
+with_filters s bank old new kind renders j earlier begins counted before ready = renders j earlier begins counted before
+
+-- ---- one more end of an order
+
+module _ (w : World) (joined : IsJoined (plain w)) (tape : List World) (blocks : List BlockView) (counts : List ℕ)
+    (counted : HasCounts 128 (tape ++ w ∷ []) (length tape) w (counts_in counts)) (done : List End) (right : AreRight 128 (tape ++ w ∷ []) (length tape) w (drafts_of blocks counts) done)
+    (x : End) (in_x : IsIn x (ends w.graph.value)) (sources : HasSources w done x) (plain_x : x ≡ input_end w.graph.value x.node.0) where
+  abbrev longer : List World
+  longer = tape ++ w ∷ []
+
+  abbrev first : ℕ
+  first = 128 * length tape
+
+  -- what its node takes in, by the blocks and by the tape
+  pub takes_in : (g c : ℕ) → g < first + 128 → taken_in (with_drafts (frame 128 longer) first (plain w) (counts_in counts) (drafts_of blocks counts) g) x.node.0 c ≡ taken_in (frame 128 longer g) x.node.0 c
+  takes_in g c low = by_test (nat_lt g first) refl
+    where
+      by_test : (b : Bool) → nat_lt g first ≡ b → taken_in (if b then frame 128 longer g else drafted (plain w) (counts_in counts) (drafts_of blocks counts (g - first))) x.node.0 c ≡ taken_in (frame 128 longer g) x.node.0 c
+      by_test true t = refl
+      by_test false t =
+          let high : first ≤ g = grind (arith, nat_tests) in
+          let back : first + (g - first) ≡ g = omega arith in
+          taken_right 128 (omega arith) w joined tape (counts_in counts) counted (drafts_of blocks counts) done right x in_x plain_x sources (g - first) (omega arith) c
+          ∙ ap (λ k. taken_in (frame 128 longer k) x.node.0 c) back
+
+  -- of the ends that are done, x is none yet, and then it is one
+  module _ (kind : is_delay_kind (kind_of w x.node.0) ≡ false) (new : IsIn x done → ⊥) where
+    here : x ≡ reader_of x.node.0
+    here = plain_reader (plain w) joined x in_x kind
+
+    pub not_done : is_done done x.node.0 ≡ false
+    not_done = by_test (is_done done x.node.0) refl
+      where
+        by_test : (b : Bool) → is_done done x.node.0 ≡ b → is_done done x.node.0 ≡ false
+        by_test true is = absurd (new (subst (λ e. IsIn e done) (sym here) (done_in done x.node.0 is)))
+        by_test false is = is
+
+    pub now_done : is_done (x ∷ done) x.node.0 ≡ true
+    now_done = ap (λ b. b || is_done done x.node.0) (subst (λ e. same_end (reader_of x.node.0) e ≡ true) (sym here) (same_end-refl (reader_of x.node.0)))
+
+-- an end of another node is no reader of this one
+pub other_done : (x : End) (done : List End) (n : ℕ) → (n ≡ x.node.0 → ⊥) → is_done (x ∷ done) n ≡ is_done done n
+other_done x done n apart = by_test (same_end (reader_of n) x) refl
+  where
+    by_test : (b : Bool) → same_end (reader_of n) x ≡ b → (b || is_done done n) ≡ is_done done n
+    by_test true t = absurd (apart (ap (λ (e : End). e.node.0) (same_end_is (reader_of n) x t)))
+    by_test false t = refl
+
+-- ---- after the last end
+
+-- the filter of a muted node hears silence, and the others have heard the quantum
+pub rested_heard : (w : World) → IsJoined (plain w) → (tape : List World) (first : ℕ) → first ≡ 128 * length tape → (done : List End) → IsLegalAfter w.graph.value done [] → (n : ℕ) → IsIn (reader_of n) (ends w.graph.value)
+    → (forward back : List ℤ) → is_delay_kind (kind_of w n) ≡ false → (birth : ℕ) (old new : Option FilterView) → IsHeard old forward back birth (heard_until done first n) (λ g c. taken_in (frame 128 (tape ++ w ∷ []) g) n c)
+    → IsRestedIfThere first old new → IsHeard new forward back birth (first + 128) (λ g c. taken_in (frame 128 (tape ++ w ∷ []) g) n c)
+rested_heard w joined tape first begins done legal n in_n forward back no_delay birth old new is rested = by_test (is_done done n) refl is
+  where
+    -- an end that is not done is muted
+    quiet : is_done done n ≡ false → muted w.graph.value (input_end w.graph.value n) ≡ true
+    quiet t = subst (λ e. muted w.graph.value e ≡ true) (plain_end (plain w) joined (reader_of n) in_n no_delay) (by_mute (muted w.graph.value (reader_of n)) refl)
+      where
+        by_mute : (b : Bool) → muted w.graph.value (reader_of n) ≡ b → muted w.graph.value (reader_of n) ≡ true
+        by_mute true m = m
+        by_mute false m = let yes : is_done done n ≡ true = in_done done n (legal (reader_of n) in_n m) in absurd (let no = sym t ∙ yes in cc)
+
+    -- a filter that was there has rested
+    there : (f : FilterView) (old new : Option FilterView) → old ≡ Some f → IsRestedIfThere first old new → (g : FilterView) × (new ≡ Some g) × IsRested first f g
+    there f None new at rested = absurd (let e = at in cc)
+    there f (Some x) None at rested = absurd rested
+    there f (Some x) (Some g) at rested = (g, refl, subst (λ y. IsRested first y g) (let e : x ≡ f = cc in e) rested)
+
+    by_test : (b : Bool) → is_done done n ≡ b → IsHeard old forward back birth (if b then first + 128 else first) (λ g c. taken_in (frame 128 (tape ++ w ∷ []) g) n c)
+        → IsHeard new forward back birth (first + 128) (λ g c. taken_in (frame 128 (tape ++ w ∷ []) g) n c)
+    by_test true t is =
+        let after = there is.filter old new is.there rested in
+        let kept : after.0 ≡ is.filter = after.2.kept (λ e. let time = is.time in absurd (omega arith)) in
+        subst (λ o. IsHeard o forward back birth (first + 128) (λ g c. taken_in (frame 128 (tape ++ w ∷ []) g) n c)) (is.there ∙ sym (after.1 ∙ ap (λ x. Some x) kept)) is
+    by_test false t is =
+        let after = there is.filter old new is.there rested in
+        let made = after.2.heard is.time (λ g c. taken_in (frame 128 (tape ++ w ∷ []) g) n c) is.heard (λ c k now. ap (λ f. taken_in (frame 128 (tape ++ w ∷ []) (f + k)) n c) begins ∙ taken_muted 128 (omega arith) w joined tape n (quiet t) k now c) in
+        record {
+          filter = made.filter;
+          there = after.1 ∙ made.there;
+          outputs = λ frames. made.outputs frames ∙ is.outputs frames;
+          birth = made.birth ∙ is.birth;
+          time = made.time;
+          heard = made.heard;
+        }
