@@ -96,7 +96,7 @@ def known_departures(script, kinds):
     if any(name not in edges for name in sources):
         found.append("a source that is not connected stands still in Chromium")
     if "createIIRFilter" in ops:
-        found.append("Chromium keeps the history of IIR filters in single floats")
+        found.append("Chromium keeps the history of IIR filters in single floats, and begins it anew where their channels change")
     if "lowered-biquad" in kinds:
         found.append("Chromium ends biquads at an estimated tail")
     if "lowered-target" in kinds:

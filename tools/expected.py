@@ -14,9 +14,10 @@ the folder that it runs in, as they are for the program.
                                                    hand, and with all pairs of 1 to 32 channels that
                                                    have no equation; and compares whole sessions of
                                                    splitters and mergers, of buffers, of parameters, of
-                                                   suspensions and of wave shapers, that were worked out by
-                                                   hand (tools/worked_rows.py, tools/worked_suspensions.py,
-                                                   tools/worked_shapers.py)
+                                                   suspensions, of wave shapers and of filters, that were
+                                                   worked out by hand (tools/worked_rows.py,
+                                                   tools/worked_suspensions.py, tools/worked_shapers.py,
+                                                   tools/worked_filters.py)
     python3 tools/expected.py --write FOLDER       writes the scripts of these sessions with their
                                                    transcripts and assets into a new folder, so that
                                                    tools/compare.sh FOLDER/*.json runs them

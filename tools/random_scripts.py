@@ -185,6 +185,35 @@ class Maker:
             return [2 * ONE * step // (steps - 1) - ONE for step in range(steps) for _ in range(length)]
         return self.points()
 
+    def coefficients(self):
+        """The two lists of a filter: mostly of one that comes to rest, some of them with small numbers, for the sake
+        of halves; now and then of one that swings, or with numbers from the whole range, or such that there can be
+        no filter."""
+        rng, some = self.rng, self.rng.randint(0, 19)
+        forward, back = (rng.choice([1, 1, 2, 2, 3, 3, rng.randint(1, 20), 20]) for _ in range(2))
+        if some < 11:
+            most = 9 if some < 5 else ONE
+            first = rng.choice([2, -2, 4, -4, 6, -10] if some < 5 else [ONE, -ONE, ONE, 2 * ONE, rng.randint(1, 2 * ONE)])
+            part = abs(first) // max(1, back - 1)
+            lists = [rng.randint(-most, most) for _ in range(forward)], [rng.randint(-part, part) for _ in range(back)]
+        elif some < 15:  # such as y[n] = x[n] + r y[n-1] - y[n-2], or that goes from end to end
+            first = rng.choice([ONE, -ONE, 1, 2, 3, rng.randint(1, ONE)])
+            swing = [rng.randint(-2 * abs(first), 2 * abs(first)), first, *(rng.randint(-1, 1) for _ in range(18))]
+            lists = [rng.randint(-2 * abs(first), 2 * abs(first)) for _ in range(forward)], [0, *swing[:back - 1]]
+        else:
+            first = rng.choice([*FIX, *FIX, 1, -1, 3, -3, 2**30, rng.randint(*FIX)])
+            lists = [[rng.choice([*FIX, 0, 0, 1, -1, ONE, 2**30, rng.randint(*FIX)]) for _ in range(length)]
+                     for length in (forward, back)]
+        lists[1][0] = first
+        wrong = rng.randint(0, 39)
+        if wrong < 2:
+            return [] if wrong else lists[0] * 21, lists[1]
+        if wrong < 4:
+            return lists[0], lists[1] * 21 if wrong == 2 else []
+        if wrong < 6:
+            return [0] * len(lists[0]), lists[1]
+        return lists[0], [0] + lists[1][1:] if wrong < 8 else lists[1]
+
     def span(self, name, time):
         """The duration of a curve from this time on: mostly some frames or up to the time of another edit,
         now and then one, very many, or none."""
@@ -307,6 +336,11 @@ class Maker:
 
     def set_oversample(self):
         return self.call("setOversample", [("node", self.shaper()), ("value", self.rng.choice(["none", "none", "2x", "4x"]))])
+
+    def create_filter(self):
+        forward, back = self.coefficients()
+        call = self.create("createIIRFilter")
+        return {**call, "feedforward": forward, "feedback": back}
 
     def connect(self):
         source, target = self.name(), self.target()
@@ -864,6 +898,17 @@ class Maker:
             return calls
         return calls + [{"op": "startRendering", "then": held}]
 
+    def in_a_row(self, places):
+        """Connections of nodes that stand behind one another, in some scripts also back."""
+        calls, backward = [], self.rng.choice([0, 0, 0, 0.1, 0.3])
+        for at, name in enumerate(places):
+            after = [place for place in places[at + 1:] if self.names[place].inputs]
+            after = places if self.may(backward) else after
+            for _ in range(self.rng.choice([1, 1, 2])):
+                target = self.rng.choice(after) if after and self.may(0.7) else "destination"
+                calls.append(self.joined(name, target))
+        return calls
+
     def bent(self):
         """Sources that mostly move, and shapers behind one another with a few other nodes between, some of them
         in cycles. What comes to a shaper is mostly up to 2.0. Some curves are set before the connections and some
@@ -881,13 +926,7 @@ class Maker:
             if {"offset", "gain"} & set(call) and self.may(0.7):
                 call.update(dict.fromkeys({"offset", "gain"} & set(call), self.rng.randint(-2 * ONE, 2 * ONE)))
         early = [self.set_curve(name) for name in shapers if self.may(0.3)]
-        backward = self.rng.choice([0, 0, 0, 0.1, 0.3])
-        for at, name in enumerate(places):
-            after = [place for place in places[at + 1:] if self.names[place].inputs]
-            after = places if self.may(backward) else after
-            for _ in range(self.rng.choice([1, 1, 2])):
-                target = self.rng.choice(after) if after and self.may(0.7) else "destination"
-                calls.append(self.joined(name, target))
+        calls += self.in_a_row(places)
         if shapers:
             calls.append(self.joined(shapers[-1], "destination"))
         calls += early + [call for name in sources if self.names[name].parameter and self.may(0.8)
@@ -899,6 +938,53 @@ class Maker:
         late = [self.set_curve, self.set_curve, self.set_oversample, self.any_call]
         calls += [self.rng.choice(late)() for _ in range(self.rng.choice([0, 0, 1, 4]))]
         calls += [self.stop() for _ in range(self.rng.choice([0, 0, 1]))]
+        return calls + [self.start_rendering()]
+
+    def for_a_while(self, calls, name):
+        """Suspensions that bring a node into a cycle and out of it, or that take something away from it which is
+        connected by these calls, and give it back."""
+        frames = [128 * k for k in range(1, 6) if 128 * k < self.length]
+        heard = [call for call in calls if call["op"] == "connect" and call["to"] == name]
+        changes = self.joined(name, name), {"op": "disconnect", "from": name, "to": name}
+        if heard and self.may(0.6):
+            back = self.rng.choice(heard)
+            changes = {**back, "op": "disconnect"}, back
+            if "input" in back or "output" in back:
+                changes = {"op": "disconnect", "from": back["from"], "to": name}, back
+        if len(frames) < 2:
+            return []
+        return [{"op": "suspend", "time": frame, "then": [change, {"op": "resume"}]}
+                for frame, change in zip(sorted(self.rng.sample(frames, 2)), changes)]
+
+    def filtered(self):
+        """Sources that are mostly short or move, and filters behind one another with a few other nodes between, some
+        of them in cycles. Sources of several channels start and end, so that channels come and go."""
+        calls = [self.create_source() for _ in range(self.rng.randint(1, 4))]
+        sources = [call["as"] for call in calls]
+        for _ in range(self.rng.randint(1, 6)):
+            calls.append(self.create_filter() if self.may(0.7) else self.create_place())
+        places = list(dict.fromkeys(call["as"] for call in calls))
+        filters = [name for name in places if self.names[name] is KINDS["createIIRFilter"]]
+        for call in calls:
+            if {"offset", "gain"} & set(call) and self.may(0.8):
+                call.update(dict.fromkeys({"offset", "gain"} & set(call), self.rng.randint(-ONE, ONE)))
+        calls += self.in_a_row(places)
+        if filters:
+            calls.append(self.joined(filters[-1], "destination"))
+        if filters and self.suspends:
+            calls += self.for_a_while(calls, self.rng.choice(filters))
+        for name in sources:
+            when = self.rng.choice([0, 0, 1, 127, 128, self.rng.randint(0, self.length)])
+            calls.append(self.call("start", [("node", name), ("when", when)]))
+            if self.may(0.6):
+                played = self.rng.choice([1, 1, 2, 128, self.rng.randint(1, 300)])
+                calls.append(self.call("stop", [("node", name), ("when", when + played)]))
+            elif self.names[name].parameter and self.may(0.5):
+                calls += self.timeline(name)[:4]
+        calls += [self.connect_param(name) for name in filters if self.may(0.2)]
+        calls += [self.attribute(op, name) for name in places + ["destination"] for op in self.attributes
+                  if self.may(0.1)]
+        calls += [self.any_call() for _ in range(self.rng.choice([0, 0, 0, 3]))]
         return calls + [self.start_rendering()]
 
     def sprinkled(self, calls):
@@ -991,6 +1077,7 @@ class Maker:
         needed = {Maker.wide: ATTRIBUTES, Maker.played: BUFFERS, Maker.store: BUFFERS,
                   Maker.automated: [*AUTOMATED, "connectParam", "disconnectParam"],
                   Maker.bent: [*SHAPERS, *AUTOMATED, "connectParam"],
+                  Maker.filtered: ["createIIRFilter", *AUTOMATED, "connectParam"],
                   **dict.fromkeys((Maker.woven, Maker.cables), ("createChannelSplitter", "createChannelMerger"))}
         if not self.read_ops.issuperset(needed.get(shape, ())):
             shape = Maker.graph
@@ -1000,7 +1087,7 @@ class Maker:
         channels = rng.choice([1, 1, 2, 2, 4, 6, rng.randint(1, 32), 32])
         rate = rng.choice([8000, 44100, 48000, 96000, rng.randint(8000, 96000)])
         self.channels, self.rate = channels, rate
-        often = {Maker.played: 1, Maker.crowd: 0, Maker.tangle: 0, Maker.cables: 0, Maker.store: 0}.get(shape, 0.5)
+        often = {Maker.played: 1, Maker.filtered: 0.8, Maker.crowd: 0, Maker.tangle: 0, Maker.cables: 0, Maker.store: 0}.get(shape, 0.5)
         calls = self.some_buffers() if self.has_buffers and self.may(often) else []
         made = shape(self)
         sprinkled = shape in (Maker.graph, Maker.wide, Maker.woven, Maker.played, Maker.cables, Maker.tangle)
@@ -1076,6 +1163,7 @@ KINDS = {
     "createChannelSplitter": Kind(5, Maker.create_splitter, 1, 6, False, None),
     "createChannelMerger": Kind(5, Maker.create_merger, 6, 1, False, None),
     "createWaveShaper": Kind(6, Maker.create_shaper, 1, 1, False, None),
+    "createIIRFilter": Kind(6, Maker.create_filter, 1, 1, False, None),
 }
 
 # What is kept of a buffer: what a node has, so that a call can take it for one, and its size.
@@ -1098,6 +1186,7 @@ SHAPES = [
     (1200, Maker.played),
     (2000, Maker.automated),
     (1000, Maker.bent),
+    (1500, Maker.filtered),
     (300, Maker.faulty),
     (100, Maker.unrendered),
     (2, Maker.cables),
@@ -1141,6 +1230,7 @@ REFUSALS = {
     "createChannelSplitter": ["IndexSizeError", PROFILE + "node-limit"],
     "createChannelMerger": ["IndexSizeError", PROFILE + "node-limit"],
     "createWaveShaper": [PROFILE + "oversample", "InvalidStateError", PROFILE + "node-limit"],
+    "createIIRFilter": ["NotSupportedError", "InvalidStateError", PROFILE + "node-limit"],
     "setCurve": ["TypeError", "InvalidStateError"],
     "setOversample": ["TypeError", PROFILE + "oversample"],
     "connect": ["TypeError", PROFILE + "destination-output", "IndexSizeError", PROFILE + "connection-limit"],
@@ -1324,6 +1414,16 @@ def loops_through_shapers():
     return loops_through(6, {"op": "createWaveShaper", "curve": curve})
 
 
+def loops_through_filters():
+    back = [ONE, -15 * ONE // 8, 15 * ONE // 16]  # it rings for some 30 frames
+    return loops_through(6, {"op": "createIIRFilter", "feedforward": [ONE // 64, ONE // 32, ONE // 64], "feedback": back})
+
+
+def loops_through_long_filters():
+    back = [ONE, *(ONE // (40 + k) for k in range(19))]
+    return loops_through(1, {"op": "createIIRFilter", "feedforward": [ONE // (k + 9) for k in range(20)], "feedback": back})
+
+
 def largest_asset():
     calls = [{"op": "decodeAudioData", "as": "b", "path": "largest.wav"}, joined("s", "destination")]
     calls[1:1] = [{"op": "createBufferSource", "as": "s", "buffer": "b"}, {"op": "start", "node": "s"}]
@@ -1421,6 +1521,8 @@ LOADS = {
     "m": voices_with_suspensions,           # i with 3,749 suspensions, each of which sets one gain
     "n": many_suspensions,                  # a constant and 100,000 suspensions, 1 channel, 12,800,128 frames
     "o": loops_through_shapers,             # g, each loop through 6 shapers with a curve of 129 points
+    "p": loops_through_filters,             # g, each loop through 6 filters of order 2
+    "q": loops_through_long_filters,        # g, each loop through a filter of order 19
 }
 
 

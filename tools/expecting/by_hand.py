@@ -1,11 +1,12 @@
 """Compares tools/expected.py with what was worked out by hand, which stands in tools/worked_rows.py,
-tools/worked_suspensions.py and tools/worked_shapers.py."""
+tools/worked_suspensions.py, tools/worked_shapers.py and tools/worked_filters.py."""
 
 import json
 import os
 import re
 import tempfile
 
+import worked_filters
 import worked_rows
 import worked_shapers
 import worked_suspensions
@@ -116,6 +117,7 @@ def sessions():
         "parameters": (worked_rows.AUTOMATION_SESSIONS.values(), []),
         "suspensions": ([], worked_suspensions.SESSIONS.values()),
         "wave shapers": (worked_shapers.SESSIONS.values(), worked_shapers.SUSPENDED.values()),
+        "filters": (worked_filters.SESSIONS.values(), worked_filters.SUSPENDED.values()),
     }
     return {what: [*map(worked, some), *map(worked_with_lines, others)] for what, (some, others) in of_each.items()}
 

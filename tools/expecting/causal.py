@@ -1,7 +1,10 @@
-"""Nodes that are made of what their input was up to a frame: wave shapers."""
+"""Nodes that are made of what their input was up to a frame: wave shapers and IIR filters."""
+
+import itertools
+import operator
 
 from expecting.nodes import Node
-from expecting.numbers import ONE, rounded_quotient
+from expecting.numbers import ONE, rounded_quotient, saturated
 from expecting.refusals import Refused, profile
 
 
@@ -35,3 +38,33 @@ class Shaper(Node):
         point, part = divmod((len(self.curve) - 1) * (x + ONE), 2 * ONE)
         rise = self.curve[point + 1] - self.curve[point]
         return self.curve[point] + rounded_quotient(rise * part, 2 * ONE)
+
+
+class Filter(Node):
+    """An IIR filter. Of each channel that it has heard it keeps the inputs and the outputs that its coefficients
+    reach, the newest ones first. A channel that it has not heard yet was 0 from its birth on."""
+
+    def __init__(self, call):
+        super().__init__("filter", call["as"])
+        self.forward, self.back = call["feedforward"], call["feedback"]
+        if not (1 <= len(self.forward) <= 20 and 1 <= len(self.back) <= 20):
+            raise Refused("NotSupportedError")
+        if not any(self.forward) or self.back[0] == 0:
+            raise Refused("InvalidStateError")
+        self.histories = ()
+
+    def heard(self, x, inputs, outputs):
+        """The inputs and the outputs of a channel that hears this next."""
+        inputs = (x, *inputs[:-1])
+        total = sum(map(operator.mul, self.forward, inputs)) - sum(map(operator.mul, self.back[1:], outputs))
+        divisor = self.back[0]
+        if divisor < 0:
+            total, divisor = -total, -divisor
+        return inputs, (saturated(rounded_quotient(total, divisor)), *outputs[:-1])
+
+    def filtered(self, channels):
+        """What it gives that hears these channels at a frame. Every other channel is heard as 0."""
+        silent = (0,) * len(self.forward), (0,) * len(self.back)
+        pairs = itertools.zip_longest(channels, self.histories)
+        self.histories = tuple(self.heard(x or 0, *(history or silent)) for x, history in pairs)
+        return [outputs[0] for _, outputs in self.histories[:len(channels)]]

@@ -17,6 +17,7 @@ FIXED = {
     "splitter": ("count", "mode", "interpretation"),
     "merger": ("count", "mode"),
     "shaper": (),
+    "filter": (),
 }
 
 SOURCES = ("constant", "buffer source")

@@ -26,6 +26,7 @@ OPERATIONS = {
     "createChannelSplitter": [("as", "new name"), ("numberOfOutputs", "count", 6)],
     "createChannelMerger": [("as", "new name"), ("numberOfInputs", "count", 6)],
     "createWaveShaper": [("as", "new name"), ("curve", "list", None), ("oversample", "none 2x 4x", "none")],
+    "createIIRFilter": [("as", "new name"), ("feedforward", "list"), ("feedback", "list")],
     "createBufferSource": [("as", "new name"), ("buffer", "name", None), ("loop", "bool", False), ("loopStart", "time", 0),
                            ("loopEnd", "time", 0), ("playbackRate", "fix", ONE)],
     "createBuffer": [("as", "new name"), ("channels", "count"), ("length", "count"), ("rate", "count")],

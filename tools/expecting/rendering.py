@@ -3,6 +3,8 @@
 from expecting.nodes import QUANTUM, SOURCES
 from expecting.numbers import computed_count, mixed, product, sample_of, saturated
 
+KEPT = 10000  # frames that are kept for those that are like them
+
 
 class Rendering:
     """A session's nodes and connections, as they are from one frame to another at which they may change."""
@@ -14,7 +16,10 @@ class Rendering:
         for source, output, target, place in self.edges:
             places = self.connected if isinstance(place, int) else self.controls
             places[target][place].append((source, output))
-        self.order = self.legal_order(self.muted())
+        muted = self.muted()
+        self.order = self.legal_order(muted)
+        self.filters = [node for node in self.nodes if node.kind == "filter"]
+        self.muted_filters = [self.nodes[number] for number in muted if self.nodes[number].kind == "filter"]
 
     def muted(self):
         """The nodes that reach themselves by one connection or more, those to parameters among them."""
@@ -70,6 +75,8 @@ class Rendering:
             return [[product(x, levels["gain"]) for x in heard[0]]]
         if node.kind == "shaper":
             return [[node.shaped(x) for x in heard[0]]]
+        if node.kind == "filter":
+            return [node.filtered(heard[0])]
         if node.kind == "splitter":  # its one input has as many channels as it has outputs
             return [[x] for x in heard[0]]
         if node.kind == "merger":  # each of its inputs has one channel
@@ -79,7 +86,7 @@ class Rendering:
     def frame(self, sounds, levels, held, counts):
         """The samples of a frame in which the sources sound so and the parameters have these values from
         their timelines; and the values of those at k-rate. `held` has these where the frame is not the
-        first of its quantum. A node that is muted is silent."""
+        first of its quantum. A node that is muted is silent, and a filter hears nothing then."""
         values = [[[0]] * node.outputs for node in self.nodes]
         at_first = {}
         for number in self.order:
@@ -99,11 +106,13 @@ class Rendering:
                 values[number] = [[computed["offset"] if sounds[number][0] else 0]]
             else:
                 values[number] = [sounds[number]] if number in sounds else self.carried(node, heard, computed)
+        for node in self.muted_filters:
+            node.filtered([])
         return [sample_of(v) for v in values[0][0]], at_first
 
     def samples(self, begin, end):
         """The samples from a frame that begins a quantum on, up to the one before `end`. Frames are alike in
-        which the sources sound alike and the parameters have the same values."""
+        which the sources sound alike, the parameters have the same values and the filters have heard the same."""
         counts, rows, samples = {}, {}, []
         sources = [(number, node) for number, node in enumerate(self.nodes) if node.kind in SOURCES]
         timelines = {(number, parameter): timeline for number, node in enumerate(self.nodes)
@@ -120,9 +129,14 @@ class Rendering:
             lengths = tuple(map(len, sounds.values()))
             if lengths not in counts:
                 counts[lengths] = self.counts(sounds)
-            alike = tuple(map(tuple, sounds.values())), tuple(levels[key] for key, _ in moving), tuple(held.items())
+            alike = (tuple(map(tuple, sounds.values())), tuple(levels[key] for key, _ in moving), tuple(held.items()),
+                     tuple(node.histories for node in self.filters))
             if alike not in rows:
-                rows[alike] = self.frame(sounds, levels, held, counts[lengths])
-            row, held = rows[alike]
+                if len(rows) == KEPT:
+                    rows.clear()
+                rows[alike] = *self.frame(sounds, levels, held, counts[lengths]), [node.histories for node in self.filters]
+            row, held, heard = rows[alike]
+            for node, histories in zip(self.filters, heard):
+                node.histories = histories
             samples.append(row)
         return samples

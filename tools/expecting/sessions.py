@@ -5,7 +5,7 @@ import os
 import struct
 
 from expecting.automation import EDITS, LEFT_OUT_EDITS
-from expecting.causal import Shaper, check_oversample
+from expecting.causal import Filter, Shaper, check_oversample
 from expecting.nodes import (ASSET_LIMIT, FIXED, PARAMETERS, QUANTUM, SOURCES, AssetFault, Buffer, BufferSource, Node,
                              asset)
 from expecting.numbers import ONE
@@ -288,6 +288,7 @@ class Session:
             "createChannelSplitter": lambda: self.create("splitter", call["as"], call.get("numberOfOutputs", 6)),
             "createChannelMerger": lambda: self.create("merger", call["as"], call.get("numberOfInputs", 6)),
             "createWaveShaper": lambda: self.add_node(Shaper(call)),
+            "createIIRFilter": lambda: self.add_node(Filter(call)),
             "createBufferSource": lambda: self.create_source(call),
             "createBuffer": lambda: self.create_buffer(call),
             "connect": lambda: self.connect(call),

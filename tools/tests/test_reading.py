@@ -15,7 +15,6 @@ from reporting.text import BadInput, quoted, visible
 # What the format refuses, where the program does not do the operation yet.
 REFUSALS = {
     "createDelay": ["NotSupportedError", "long-delay", "node-limit", "delay-limit"],
-    "createIIRFilter": ["NotSupportedError", "InvalidStateError", "node-limit"],
 }
 
 
@@ -201,7 +200,7 @@ class Following(unittest.TestCase):
 
     def test_worked_sessions_with_suspensions_belong_to_their_scripts(self):
         worked = by_hand.sessions()
-        for name, data, text, _ in worked["suspensions"] + worked["wave shapers"]:
+        for name, data, text, _ in worked["suspensions"] + worked["wave shapers"] + worked["filters"]:
             if not text:  # an asset can't be read
                 continue
             script = script_reading.script_of(data)
