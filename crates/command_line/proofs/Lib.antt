@@ -1,0 +1,8 @@
+mod CommandLines
+mod Dashes
+mod Faults
+mod Numbers
+mod PartRows
+mod WalkEnds
+mod WordByWord
+mod WordTurns

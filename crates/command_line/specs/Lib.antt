@@ -1,0 +1,5 @@
+pub mod Command
+pub mod Texts
+pub mod Values
+pub mod WordByWord
+pub mod Words
