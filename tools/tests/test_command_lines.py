@@ -1,0 +1,213 @@
+"""Tests of the second reading of command lines, of the random lines, and of how a program is compared."""
+
+import collections
+import itertools
+import os
+import random
+import stat
+import sys
+import tempfile
+import unittest
+
+import fixtures
+import command_lines
+from command_lines import BAD_OUT, BAD_TEXT, NO_OUT, NOT_TEXT, REPEATED, SEVERAL, UNKNOWN, WITHOUT_TEXT, NoReading
+
+PLAIN = command_lines.Reading("o", 24, "up", "render", None)
+
+# Lines with a reading, and how it differs from that of the path `o` alone. Blanks part the words.
+READ = {
+    "o": {},
+    "out.wav": {"out": "out.wav"},
+    "help": {"out": "help"},
+    "--bits 16 o": {"bits": 16},
+    "--bits=16 -- out.wav": {"bits": 16, "out": "out.wav"},
+    "--bits=24 --order=up --mode=render o": {},
+    "o --order down": {"order": "down"},
+    "--mode check o": {"mode": "check"},
+    "--gen 0 --mode check o": {"generated": 0, "mode": "check"},
+    "--gen 0012 o": {"generated": 12},
+    "--gen=9999 o": {"generated": 9999},
+    "--gen=7 o --mode=check --bits 16 --order=down": {
+        "bits": 16, "order": "down", "mode": "check", "generated": 7},
+    "o --": {},
+    "-- o": {},
+    "-- --": {"out": "--"},
+    "-- --bits=16": {"out": "--bits=16"},
+    "--bits 16 -- -x": {"bits": 16, "out": "-x"},
+}
+
+# Lines without one, and why.
+UNREAD = {
+    "": NO_OUT,
+    "--": NO_OUT,
+    "--bits 16": NO_OUT,
+    "--gen 12": NO_OUT,
+    "-": BAD_OUT,
+    "-- -": BAD_OUT,
+    "a b": SEVERAL,
+    "-- a b": SEVERAL,
+    "o -- --bits=16": SEVERAL,
+    "-- --bits 16": SEVERAL,
+    "--bits 8 out.wav": BAD_TEXT["bits"],
+    "--bits= o": BAD_TEXT["bits"],
+    "--bits -- o": BAD_TEXT["bits"],
+    "--bits --order o": BAD_TEXT["bits"],
+    "--bits==16 o": BAD_TEXT["bits"],
+    "--order sideways o": BAD_TEXT["order"],
+    "--order UP o": BAD_TEXT["order"],
+    "--mode migrate o": BAD_TEXT["mode"],
+    "--gen 12345 o": BAD_TEXT["gen"],
+    "--gen 00000 o": BAD_TEXT["gen"],
+    "--gen= o": BAD_TEXT["gen"],
+    "--gen +1 o": BAD_TEXT["gen"],
+    "--gen -1 o": BAD_TEXT["gen"],
+    "--gen \u0663 o": BAD_TEXT["gen"],
+    "o --bits": WITHOUT_TEXT,
+    "--bits 16 --bits 16 o": REPEATED,
+    "--bits=16 --bits 24 o": REPEATED,
+    "--bit 16 o": UNKNOWN,
+    "--bit=16 o": UNKNOWN,
+    "-b 16 o": UNKNOWN,
+    "-bits 16 o": UNKNOWN,
+    "---bits 16 o": UNKNOWN,
+    "--BITS 16 o": UNKNOWN,
+    "--=16 o": UNKNOWN,
+    "--help o": UNKNOWN,
+    "-h": UNKNOWN,
+    "--version": UNKNOWN,
+    "-V o": UNKNOWN,
+    "-5": UNKNOWN,
+    "-\u00e9 o": UNKNOWN,
+}
+
+# A program that reads a command line as the second reading does, but for what the test has it do otherwise.
+PROGRAM = """#!%s
+import os, sys
+sys.path.insert(0, %r)
+sys.dont_write_bytecode = True
+import command_lines
+words = [os.fsencode(word) for word in sys.argv[1:]]
+answer = command_lines.answer(words)
+%s
+status = {command_lines.READ: 3, command_lines.GENERATED: 0}.get(answer, 2)
+sys.stdout.write(command_lines.USAGE.decode() if status == 2 else "end idle\\n")
+sys.exit(status)
+"""
+
+
+def bytes_of(line):
+    return [word.encode() for word in line.split()]
+
+
+def spelled(rng, asked):
+    """A line that asks for this: each option in any of its forms, or left out where it is the default."""
+    options = [(name, text) for name, text, default in [
+        ("bits", str(asked.bits), "24"), ("order", asked.order, "up"), ("mode", asked.mode, "render")]
+        if text != default or rng.random() < 0.5]
+    if asked.generated is not None:
+        options.append(("gen", str(asked.generated).zfill(rng.randint(1, 4))))
+    rng.shuffle(options)
+    parts = [rng.choice([["--" + name, text], ["--%s=%s" % (name, text)]]) for name, text in options]
+    if asked.out.startswith("-") or rng.random() < 0.3:
+        parts.append(["--", asked.out])
+    else:
+        parts.insert(rng.randint(0, len(parts)), [asked.out])
+    return parts
+
+
+def joined(parts):
+    return [word.encode() for part in parts for word in part]
+
+
+class Lines(unittest.TestCase):
+    def reason(self, words):
+        with self.assertRaises(NoReading, msg=words) as caught:
+            command_lines.reading(words)
+        return str(caught.exception)
+
+    def test_lines_that_are_read(self):
+        for line, changes in READ.items():
+            self.assertEqual(command_lines.reading(bytes_of(line)), PLAIN._replace(**changes), line)
+
+    def test_lines_without_a_reading(self):
+        for line, why in UNREAD.items():
+            self.assertEqual(self.reason(bytes_of(line)), why, line)
+
+    def test_words_that_are_empty_or_have_blanks(self):
+        for words, why in [([b""], BAD_OUT), ([b"--", b""], BAD_OUT), ([b"", b"o"], SEVERAL),
+                           ([b"--bits", b"", b"o"], BAD_TEXT["bits"]), ([b"--gen", b"1 ", b"o"], BAD_TEXT["gen"]),
+                           ([b"--bits ", b"16", b"o"], UNKNOWN), ([b"--gen", b"1\n", b"o"], BAD_TEXT["gen"])]:
+            self.assertEqual(self.reason(words), why, words)
+        self.assertEqual(command_lines.reading([b" "]).out, " ")
+
+    def test_words_that_are_not_utf_8(self):
+        for spoiled in command_lines.NOT_UTF8:
+            for words in [[spoiled], [b"o", spoiled], [b"--", b"a" + spoiled], [b"--bits=" + spoiled, b"o"]]:
+                self.assertEqual(self.reason(words), NOT_TEXT, words)
+
+    def test_what_is_asked_for_is_read_however_it_is_spelled(self):
+        rng = random.Random("spelled lines")
+        outs = ["o", "a b", "a=b", "\u00e9", "--", "--bits=16", "-x", "up"]
+        for out, bits, order, mode, generated in itertools.product(
+                outs, [16, 24], ["up", "down"], ["render", "check"], [None, 0, 7, 9999]):
+            asked = command_lines.Reading(out, bits, order, mode, generated)
+            parts = spelled(rng, asked)
+            self.assertEqual(command_lines.reading(joined(parts)), asked, parts)
+            options = [place for place, part in enumerate(parts) if part[0] not in ("--", out)]
+            if options:
+                place = rng.choice(options)
+                self.assertEqual(self.reason(joined(parts[:place] + [parts[place]] + parts[place:])), REPEATED, parts)
+                short = [parts[place][0].replace("--", "--x", 1), *parts[place][1:]]
+                self.assertEqual(self.reason(joined(parts[:place] + [short] + parts[place + 1:])), UNKNOWN, parts)
+
+
+class RandomLines(unittest.TestCase):
+    def test_each_answer_comes_up(self):
+        times = collections.Counter(command_lines.answer(command_lines.line(1, number)) for number in range(1000))
+        for name in [command_lines.READ, command_lines.GENERATED, *command_lines.REASONS]:
+            self.assertGreater(times[name], 0, name)
+        self.assertGreater(times[command_lines.READ], 300)
+        self.assertGreater(1000 - times[command_lines.READ] - times[command_lines.GENERATED], 300)
+
+    def test_a_line_hangs_on_its_seed_and_number(self):
+        for number in range(20):
+            self.assertEqual(command_lines.line(7, number), command_lines.line(7, number))
+        self.assertNotEqual([command_lines.line(7, number) for number in range(20)],
+                            [command_lines.line(8, number) for number in range(20)])
+
+    def test_a_file_can_be_written_at_each_path(self):
+        for number in range(3000):
+            for word in command_lines.line(2, number):
+                self.assertTrue(len(word) < 255 and b"/" not in word and b"\0" not in word, word)
+                self.assertNotIn(word, [b".", b".."])
+
+
+class Comparison(unittest.TestCase):
+    def compared(self, change, count=40):
+        with tempfile.TemporaryDirectory() as work:
+            program = fixtures.write(work, "program", PROGRAM % (sys.executable, fixtures.TOOLS, change))
+            os.chmod(program, os.stat(program).st_mode | stat.S_IXUSR)
+            ran = fixtures.run("command_lines.py", "--count", str(count), "--seed", "3", "--program", program)
+        self.assertEqual(ran.stderr, b"")
+        return ran.returncode, ran.stdout.decode().splitlines()
+
+    def test_a_program_that_reads_lines_so_does_not_differ(self):
+        self.assertEqual(self.compared("")[1][-1], "0 of 40 lines differ")
+
+    def test_a_program_that_reads_them_otherwise_differs(self):
+        status, lines = self.compared("answer = command_lines.READ if answer == command_lines.UNKNOWN else answer")
+        self.assertEqual(status, 1)
+        self.assertIn(": status 3 in place of 2, no usage line: [", lines[0])
+        status, lines = self.compared("answer = command_lines.UNKNOWN if answer == command_lines.READ else answer")
+        self.assertIn(": status 2 in place of 3, the usage line: [", lines[0])
+
+    def test_a_line_is_shown_with_its_reading(self):
+        shown = [fixtures.run("command_lines.py", "--seed", "1", "--print", str(number)).stdout for number in range(8)]
+        self.assertTrue(any(b"\nReading(" in text for text in shown))
+        self.assertTrue(any(b"\nno reading: " in text for text in shown))
+
+    def test_a_program_is_wanted(self):
+        for words in [[], ["--program", os.devnull + ".none"]]:
+            ran = fixtures.run("command_lines.py", *words)
+            self.assertEqual((ran.returncode, ran.stdout), (2, b""))
