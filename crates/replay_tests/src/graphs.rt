@@ -50,7 +50,7 @@ end completed
     sums: &[-536_870_912],
 };
 
-const DIAMOND_OF_GAINS: Example = Example {
+pub(crate) const DIAMOND_OF_GAINS: Example = Example {
     script: r#"{
   "version": 1,
   "context": { "channels": 2, "length": 128, "rate": 48000 },
@@ -90,7 +90,7 @@ end completed
     sums: &[603_979_776, 603_979_776],
 };
 
-const SUM_SATURATED_ONCE: Example = Example {
+pub(crate) const SUM_SATURATED_ONCE: Example = Example {
     script: r#"{
   "version": 1,
   "context": { "channels": 1, "length": 128, "rate": 48000 },
@@ -653,7 +653,16 @@ fn is_left(left: &Left, lines: &[u8], size: usize, sums: &[i64]) -> bool {
 }
 
 pub(crate) fn is_met(alloc: Global, example: Example) -> Result<bool, NoMemory> {
-    let left = replay(alloc, &["out.wav"], example.script.as_bytes(), NONE)?;
+    is_met_with(alloc, &["out.wav"], example)
+}
+
+// The same of a run with these words.
+pub(crate) fn is_met_with(
+    alloc: Global,
+    words: &[&str],
+    example: Example,
+) -> Result<bool, NoMemory> {
+    let left = replay(alloc, words, example.script.as_bytes(), NONE)?;
     Ok(is_left(&left, example.lines.as_bytes(), example.size, example.sums))
 }
 
@@ -706,7 +715,18 @@ fn two_hundred(alloc: Global) -> Result<Vec<u8>, AllocError> {
 // Whether a script with so many accepted calls before `startRendering` is rendered with this sum, in
 // one channel and one quantum.
 fn is_heard(alloc: Global, script: &[u8], count: u32, sum: i64) -> Result<bool, NoMemory> {
-    let left = replay(alloc, &["out.wav"], script, NONE)?;
+    is_heard_with(alloc, &["out.wav"], script, count, sum)
+}
+
+// The same of a run with these words.
+pub(crate) fn is_heard_with(
+    alloc: Global,
+    words: &[&str],
+    script: &[u8],
+    count: u32,
+    sum: i64,
+) -> Result<bool, NoMemory> {
+    let left = replay(alloc, words, script, NONE)?;
     let lines = lines_of(alloc, count)?;
     Ok(is_left(&left, lines.as_slice(), 428, &[sum]))
 }

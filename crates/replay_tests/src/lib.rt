@@ -15,6 +15,8 @@ mod graphs;
 #[cfg(test)]
 mod moving;
 #[cfg(test)]
+mod options;
+#[cfg(test)]
 mod pieces;
 #[cfg(test)]
 mod routing;

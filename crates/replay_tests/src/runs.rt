@@ -4,7 +4,7 @@ use std::alloc::{AllocError, Global};
 use std::test::Fail;
 use wa_base::{Bytes, NoMemory};
 
-const CONSTANT: &str =
+pub const CONSTANT: &str =
     "{\"version\":1,\"context\":{\"channels\":1,\"length\":128,\"rate\":48000},\"calls\":[{\"op\":\"createConstantSource\",\"as\":\"c\"},{\"op\":\"connect\",\"from\":\"c\",\"to\":\"destination\"},{\"op\":\"start\",\"node\":\"c\"},{\"op\":\"startRendering\"}]}";
 
 // A source that is stopped within the second quantum.
@@ -54,9 +54,9 @@ const FIRST_OF_32: [u8; 96] = [
     0, 0, 0,
 ];
 
-const LINES: &str = "1 ok\n2 ok\n3 ok\n4 pending\n4 resolved\ncomplete 128\nend completed\n";
+pub const LINES: &str = "1 ok\n2 ok\n3 ok\n4 pending\n4 resolved\ncomplete 128\nend completed\n";
 
-const USAGE: &str =
+pub const USAGE: &str =
     "words: waplay [--bits 16|24] [--order up|down] [--mode render|check] [--gen N] OUT\n";
 
 // The 44 bytes before the samples of a file of 24 bits: the first has one channel, 48,000 frames a
@@ -223,15 +223,15 @@ fn wav(
     Ok(bytes)
 }
 
-// A session that is rendered: its script, its lines, and its file: the header, a frame so often, and
-// what follows.
-struct Rendering {
-    script: &'static str,
-    lines: &'static str,
-    header: &'static [u8],
-    count: u32,
-    frame: &'static [u8],
-    rest: &'static [u8],
+/// A session that is rendered: its script, its lines, and its file: the header, a frame so often, and
+/// what follows.
+pub struct Rendering {
+    pub script: &'static str,
+    pub lines: &'static str,
+    pub header: &'static [u8],
+    pub count: u32,
+    pub frame: &'static [u8],
+    pub rest: &'static [u8],
 }
 
 const RENDERINGS: [Rendering; 7] = [
@@ -293,8 +293,9 @@ const RENDERINGS: [Rendering; 7] = [
     },
 ];
 
-fn is_rendered(alloc: Global, want: &Rendering) -> Result<bool, NoMemory> {
-    let left = replay(alloc, &["out.wav"], want.script.as_bytes(), NONE)?;
+/// Whether a run with these words leaves the lines and the file of a session that is rendered.
+pub fn is_rendered(alloc: Global, words: &[&str], want: &Rendering) -> Result<bool, NoMemory> {
+    let left = replay(alloc, words, want.script.as_bytes(), NONE)?;
     let file = wav(alloc, want.header, want.count, want.frame, want.rest)?;
     Ok(
         left.status == Status::Rendered
@@ -315,20 +316,24 @@ const FOR_ONE_QUANTUM: Rendering = Rendering {
 #[test]
 fn a_constant_for_one_quantum(rt: HostRuntime) -> Result<(), Fail> {
     assert_eq!(rt; Status::Rendered.number(), 0);
-    assert!(rt; is_rendered(rt.alloc(), &FOR_ONE_QUANTUM)?);
+    assert!(rt; is_rendered(rt.alloc(), &["out.wav"], &FOR_ONE_QUANTUM)?);
     Ok(())
 }
 
 #[test]
 fn sessions_give_their_lines_and_their_files(rt: HostRuntime) -> Result<(), Fail> {
     for want in &RENDERINGS {
-        assert!(rt; is_rendered(rt.alloc(), want)?, "{}", want.script);
+        assert!(rt;
+            is_rendered(rt.alloc(), &["out.wav"], want)?,
+            "{}",
+            want.script
+        );
     }
     Ok(())
 }
 
-// Whether a run with these words has this status, writes this text, and touches no file.
-fn is_refused(
+/// Whether a run with these words has this status, writes this text, and touches no file.
+pub fn leaves_only_text(
     alloc: Global,
     words: &[&str],
     script: &[u8],
@@ -346,7 +351,7 @@ pub fn leaves_no_file(
     status: Status,
     text: &str,
 ) -> Result<bool, NoMemory> {
-    is_refused(alloc, &["out.wav"], script.as_bytes(), status, text)
+    leaves_only_text(alloc, &["out.wav"], script.as_bytes(), status, text)
 }
 
 // Scripts that are not rendered, and their lines.
@@ -380,7 +385,7 @@ const BAD_WORDS: [&[&str]; 4] = [&[], &["--bits", "8", "out.wav"], &["-"], &[""]
 fn bad_words_get_the_usage_line(rt: HostRuntime) -> Result<(), Fail> {
     for words in &BAD_WORDS {
         assert!(rt;
-            is_refused(
+            leaves_only_text(
                 rt.alloc(),
                 words,
                 CONSTANT.as_bytes(),
@@ -431,11 +436,17 @@ fn a_script_past_the_limit_is_too_long(rt: HostRuntime) -> Result<(), Fail> {
     let alloc = rt.alloc();
     let words = ["out.wav"];
     let script = vec![in alloc; b' '; 16_777_217]?;
-    let is_too_long = is_refused(alloc, &words, script.as_slice(), Status::ScriptTooLong, "")?;
+    let is_too_long = leaves_only_text(
+        alloc,
+        &words,
+        script.as_slice(),
+        Status::ScriptTooLong,
+        "",
+    )?;
     assert!(rt; is_too_long);
     let within = &script[1..];
     assert!(rt;
-        is_refused(
+        leaves_only_text(
             alloc,
             &words,
             within,

@@ -19,9 +19,10 @@ use Rattle.ctx_state.specs.declared.context.Turn.TheVariants.{Went, Due, Done}
 use Rattle.session.specs.Session.{Told, Played, session_of, replayed, first_told, main_list, held_by, after_turn, after_list, quanta_from, quanta_left, by_turn, ByTurn, finished, turns, has_closed, is_running}
 use Rattle.session.specs.Step.{is_start}
 use Rattle.meaning.specs.declared.world.World.{World}
+use Rattle.command_line.specs.Words.{Reading}
 use Rattle.replay_top.specs.Answer.{max_script, status_of, without_file, answer_to_script, answer_to_bytes, answer_to_reading, answer}
 use Rattle.replay_top.specs.Laws.{has_resume, EachResumes, started, Renders, IsRendered}
-use Rattle.replay_top.specs.Words.{Reading, reading}
+use Rattle.replay_top.specs.Words.{reading}
 use Rattle.replay_top.specs.declared.status.Status.TheVariants.{Rendered, ScriptTooLong}
 use Rattle.session.proofs.Starting.{calls_start, calls_time, calls_open, calls_context, calls_spec}
 use Rattle.replay_top.proofs.Turns.{closed_completes, completed_closed, listed, still, listed_still, runs_on, waits, stays_closed, listed_context}

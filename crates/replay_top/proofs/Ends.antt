@@ -1,6 +1,6 @@
 -- How the ends of a run meet the answer.
 use Rattle.std.proofs.Common.{◌≡◌, ◌≤◌, ◌<◌, ℕ, List, [], length, Option, ◌∷◌, Some, None, Bool, true, false, if◌then◌else◌, Result, Ok, Err, nat_lt, arith, refl, sym, inl, inr, ◌∙◌}
-use Rattle.std.specs.Prelude.{unwrap_or, take, IsTrue}
+use Rattle.std.specs.Prelude.{unwrap_or, option_and_then, take, IsTrue}
 use Rattle.std.specs.Io.KnownBytes.{IsAtEnd}
 use Rattle.std.proofs.lemmas.Bool.Decides.{nat_tests}
 use Rattle.io_edge.specs.Paths.{Paths, SamePaths, Sets}
@@ -10,11 +10,12 @@ use Rattle.script_json.specs.Script.{script_of}
 use Rattle.script_json.specs.declared.faults.ScriptErr.{ScriptErr}
 use Rattle.transcript.specs.declared.lines.EndWord.{EndWord}
 use Rattle.transcript.specs.declared.lines.EndWord.TheVariants.{Completed, Stalled, Idle, Refused}
+use Rattle.command_line.specs.Words.{Reading, reading_by_word}
 use Rattle.session.specs.Assets.{Folder}
 use Rattle.session.specs.Session.{session_of}
 use Rattle.replay_top.specs.Answer.{Answer, File, status_of, without_file, answer_to_bytes, answer_to_script}
 use Rattle.replay_top.specs.Run.{Outside, outside, SameFiles, HasFile, HasFrontOfFile, IsWhole, IsCutShort, Answers, Replays, Counts, Ran, IsReadToEnd, TextEnds}
-use Rattle.replay_top.specs.Words.{Reading, asks_source, is_out, plain_reading, reading}
+use Rattle.replay_top.specs.Words.{reads_source, without_generator, reading, asks_source}
 use Rattle.replay_top.specs.declared.status.Status.{Status}
 use Rattle.replay_top.specs.declared.status.Status.TheVariants.{Rendered, Unrendered, BadWords, BadScript, ScriptTooLong, ScriptFault, AssetFault, TranscriptFault, WavFault, NoMemory}
 
@@ -121,13 +122,15 @@ reads_script asked folder (Err fault) is = cc
 
 -- a reading that words have asks for the source
 pub reading_asks : (words : List (List ℕ)) (asked : Reading) → reading words ≡ Some asked → asks_source (reading words) ≡ true
-reading_asks [] asked is = absurd cc
-reading_asks (word ∷ []) asked is = by_test (is_out word) refl is
+reading_asks words asked is = by_word (reading_by_word words) is
   where
-    by_test : (b : Bool) → is_out word ≡ b → (if b then Some (plain_reading word) else None) ≡ Some asked → asks_source (if b then Some (plain_reading word) else None) ≡ true
-    by_test true t found = refl
-    by_test false t found = absurd cc
-reading_asks (word ∷ second ∷ more) asked is = absurd cc
+    by_test : (read : Reading) (b : Bool) → reads_source read ≡ b → (if b then Some read else None) ≡ Some asked → asks_source (if b then Some read else None) ≡ true
+    by_test read true t found = t
+    by_test read false t found = absurd cc
+
+    by_word : (read : Option Reading) → option_and_then without_generator read ≡ Some asked → asks_source (option_and_then without_generator read) ≡ true
+    by_word None found = absurd cc
+    by_word (Some read) found = by_test read (reads_source read) refl found
 
 -- where the script's bytes were read to their end, the source is at its end
 pub IsReadToEnd-answered : (status : Status) (asked : Reading) (folder : Folder) (script : Result Script ScriptErr) (decodes : Type 0) (read_faults read_now : ℕ) (old new : Outside) (left now : Option (List ℕ))

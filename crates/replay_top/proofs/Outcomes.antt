@@ -17,11 +17,11 @@ use Rattle.session.specs.Rows.{sample_in, samples_of}
 use Rattle.session.specs.Assets.{Folder}
 use Rattle.session.specs.Session.{session_of}
 use Rattle.meaning.specs.declared.world.World.{World}
+use Rattle.command_line.specs.Words.{Reading, renders}
 use Rattle.session.proofs.Interleaving.{interleaved_rendered}
 use Rattle.replay_top.specs.Answer.{File, status_of, wav_of_tape, answer_to_session}
 use Rattle.replay_top.specs.Outcome.{answer_to_rendering}
 use Rattle.replay_top.specs.WavFile.{IsWritable}
-use Rattle.replay_top.specs.Words.{Reading, renders}
 use Rattle.replay_top.proofs.FrameRows.{wav-rows}
 
 pub length-samples_of : (tape : List World) (spec : ContextSpec) → length (samples_of tape spec) ≡ spec.channels * spec.length

@@ -9,6 +9,7 @@ use Rattle.transcript.specs.Text.{text_of}
 use Rattle.transcript.specs.declared.lines.EndWord.{EndWord}
 use Rattle.transcript.specs.declared.lines.EndWord.TheVariants.{Completed, Stalled, Idle, Refused}
 use Rattle.wav_io.specs.WavText.{wav_bytes}
+use Rattle.command_line.specs.Words.{Reading, renders, usage}
 use Rattle.session.specs.Rendering.{completes}
 use Rattle.session.specs.Assets.{Folder}
 use Rattle.session.specs.Session as session
@@ -16,7 +17,7 @@ use Rattle.session.specs.Session.{Played, session_of}
 use Rattle.meaning.specs.declared.world.World.{World}
 use Rattle.meaning.specs.Rendered.{rows}
 use Rattle.replay_top.specs.FaultLine.{fault_line}
-use Rattle.replay_top.specs.Words.{Reading, reading, renders, usage}
+use Rattle.replay_top.specs.Words.{reading}
 use Rattle.replay_top.specs.declared.status.Status.{Status}
 use Rattle.replay_top.specs.declared.status.Status.TheVariants.{Rendered, Unrendered, BadWords, BadScript, ScriptTooLong}
 
@@ -78,7 +79,7 @@ answer_to_bytes asked folder bytes = if nat_lt max_script (length bytes) then wi
 
 -- ---- words
 
--- every reading so far reads the source
+-- every reading reads the source, until the generator of scripts is built
 abbrev pub answer_to_reading : Option Reading → Folder → List ℕ → Answer
 answer_to_reading None folder bytes = without_file BadWords usage
 answer_to_reading (Some asked) folder bytes = answer_to_bytes asked folder bytes

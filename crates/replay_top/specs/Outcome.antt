@@ -3,9 +3,9 @@ use Rattle.std.specs.Prelude.{ℕ, List, Option, Some, None}
 use Rattle.transcript.specs.declared.lines.EndWord.{EndWord}
 use Rattle.session.specs.Rows.{interleaved}
 use Rattle.session.specs.declared.rendered.Rendered.{Rendered}
+use Rattle.command_line.specs.Words.{Reading}
 use Rattle.replay_top.specs.Answer.{Answer, file_at_out, status_of, without_file}
 use Rattle.replay_top.specs.WavFile.{wav_of}
-use Rattle.replay_top.specs.Words.{Reading}
 use Rattle.replay_top.specs.declared.status.Status.TheVariants as status
 
 -- the answer with the WAV file of what was rendered

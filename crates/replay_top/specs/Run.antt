@@ -4,8 +4,9 @@ use Rattle.std.specs.Io.KnownBytes.{Appends, Keeps, IsAtEnd}
 use Rattle.io_edge.specs.Faults.{Rose}
 use Rattle.io_edge.specs.Paths.{Paths, SamePaths, Sets}
 use Rattle.io_edge.specs.Told.{AppendsFront, AppendsProperFront}
+use Rattle.command_line.specs.Words.{Reading}
 use Rattle.replay_top.specs.Answer.{Answer, File}
-use Rattle.replay_top.specs.Words.{Reading, asks_source}
+use Rattle.replay_top.specs.Words.{asks_source}
 use Rattle.replay_top.specs.declared.status.Status.{Status}
 use Rattle.replay_top.specs.declared.status.Status.TheVariants.{Rendered, Unrendered, BadWords, BadScript, ScriptTooLong, ScriptFault, AssetFault, TranscriptFault, WavFault, NoMemory}
 

@@ -15,19 +15,21 @@ ghost use Rattle.replay_top.specs.Words.{asks_source, reading as reading_in};
 use crate::fault_line::fault_line;
 use crate::status::Status;
 use crate::wav_file::write_wav;
-use crate::words::{Reading, USAGE, reading_of};
+use crate::words::reading_of;
+use command_line::{Reading, USAGE};
 use io_edge::{EdgeErr, Files, ReadErr, Sink, Source, read_all, write_all};
 use script_ast::Script;
 use script_json::{ScriptErr, read};
 use session::{Options, Outcome, Rendered, Stop};
 use std::alloc::Global;
 use transcript::{EndWord, text};
+use wa_base::NoMemory;
 
 const MAX_SCRIPT: usize = 16_777_216;
 
 /// Replays a session: reads the words of a command line and a script, and the assets that the script
-/// decodes; writes the transcript into the sink and, where the session completes, a WAV file at the path
-/// that the words name.
+/// decodes; writes the transcript into the sink and, where the session completes and samples are rendered,
+/// a WAV file at the path that the words name.
 ///
 /// There are bytes, those of the source at entry where it tells them, and a folder of assets, that of the
 /// store at entry where it tells it, such that the run ended as the program's answer to the words, these
@@ -53,8 +55,10 @@ pub fn run<S: Source, F: Files, T: Sink>(
     ensures read_later { F.read_faults files.old ≤ F.read_faults files.new }
     ensures store_later { F.write_faults files.old ≤ F.write_faults files.new }
 {
-    let Some(reading) = reading_of(words) else {
-        return answer_text(transcript, USAGE, Status::BadWords);
+    let reading = match reading_of(alloc, words) {
+        Ok(Some(reading)) => reading,
+        Ok(None) => return answer_text(transcript, USAGE, Status::BadWords),
+        Err(NoMemory) => return Status::NoMemory,
     };
     match read_all(alloc, script, MAX_SCRIPT) {
         Ok(bytes) => replay_bytes(alloc, &reading, bytes.as_slice(), files, transcript),

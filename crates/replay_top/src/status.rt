@@ -3,7 +3,7 @@ ghost use Rattle.std.specs.Prelude.{◌≡◌};
 /// How a run ended.
 #[derive(Clone, Copy, Debug, PartialEq, Eq)]
 pub enum Status {
-    /// The session completed; its transcript and its WAV file are written.
+    /// The session completed; its transcript is written and, where samples are rendered, its WAV file.
     Rendered,
     /// The session did not complete; its transcript is written, and no file is touched.
     Unrendered,

@@ -5,7 +5,7 @@ ghost use Rattle.session.specs.Rows.{interleaved};
 ghost use Rattle.wav_io.specs.WavText as text;
 ghost use Rattle.replay_top.specs.WavFile.{IsWritable, wav_of};
 
-use crate::words::Reading;
+use command_line::Reading;
 use io_edge::{EdgeErr, Files, append_all};
 use session::Rendered;
 use wa_base::Fix;

@@ -1,5 +1,5 @@
 //! Reads a session's script from the standard input, writes its transcript to the standard output
-//! and its samples into the WAV file OUT.
+//! and its samples into the WAV file OUT, as the options of the command line ask for them.
 #![tactic(auto)]
 
 use io_edge::{DirFiles, ReadSource, WriteSink};

@@ -1,6 +1,6 @@
 use Rattle.std.proofs.Common.{refl, ap, inl}
 use Rattle.std.proofs.KnownBytes.{Appends-nil}
-use Rattle.replay_top.specs.Words.{renders}
+use Rattle.command_line.specs.Words.{renders}
 use Rattle.replay_top.proofs.Ends.{replays, answers_since}
 use Rattle.replay_top.proofs.Outcomes.{writable, rendering_answered}
 use Rattle.replay_top.proofs.replay.replay_script.Goals as goal
