@@ -41,6 +41,22 @@ run() {
     saw $? "$program $*, status $status: the file is not as before"
 }
 
+# Runs the program on the file `in`, with all but the first of these words. It must end with 0, write
+# what the file `wanted` has, and make out.wav what the file has that the first names.
+writes() {
+    file=$1
+    shift
+    echo before >out.wav
+    "$program" "$@" <in >lines 2>&1
+    found=$?
+    [ "$found" -eq 0 ]
+    saw $? "$program $*: status $found in place of 0"
+    cmp -s lines wanted
+    saw $? "$program $*: another text than wanted"
+    cmp -s out.wav "$file"
+    saw $? "$program $*: another file than wanted"
+}
+
 usage='words: waplay [--bits 16|24] [--order up|down] [--mode render|check] [--gen N] OUT'
 constant=$top/examples/constant
 programs=0
@@ -68,7 +84,23 @@ END
         saw $? "$program, $script: $(cat differences)"
     done
 
-    # Status 2: words that have no reading.
+    # Status 0: the options. Samples of 16 bits, the transcript alone, and the same file in the other order.
+    cp "$constant.json" in
+    cp "$constant.txt" wanted
+    python3 -c 'import sys
+header = "524946462401000057415645666d7420100000000100010080bb000000770100020010006461746100010000"
+sys.stdout.buffer.write(bytes.fromhex(header) + 128 * b"\xff\x7f")' >short.wav
+    writes short.wav --bits=16 -- out.wav
+    writes short.wav out.wav --bits 16
+    run 0 --mode check out.wav
+    run 0 out.wav --mode=check --bits 16 --order down
+    cp "$top/examples/sum_saturated_once.json" in
+    cp "$top/examples/sum_saturated_once.txt" wanted
+    "$program" up.wav <in >lines
+    writes up.wav --order down out.wav
+    writes up.wav --order=up --mode=render --bits=24 out.wav
+
+    # Status 2: words that have no reading, and, until the generator is built, a number.
     cp "$constant.json" in
     echo "$usage" >wanted
     run 2
@@ -76,6 +108,13 @@ END
     run 2 -
     run 2 --bits
     run 2 out.wav out.wav
+    run 2 --bits 8 out.wav
+    run 2 --bits 16 --bits 16 out.wav
+    run 2 --order sideways out.wav
+    run 2 --help
+    run 2 -- --mode=check out.wav
+    run 2 "$(printf '\377')"
+    run 2 --gen 0 out.wav
 
     # Status 3: rendering is not started; the context is refused.
     echo '{"version":1,"context":{"channels":1,"length":128,"rate":48000},"calls":[{"op":"readTime"}]}' >in

@@ -9,12 +9,15 @@ word, whatever it is. The word `--` ends the options. OUT is not empty and not `
     python3 tools/command_lines.py --program FILE        runs a program on 1,000 lines
     python3 tools/command_lines.py --count 5000 --seed 7 --program FILE
                                                          on so many, of this seed
+    python3 tools/command_lines.py --without-generator --program FILE
+                                                         a program that generates no scripts
     python3 tools/command_lines.py --seed 7 --print 12   the line with the number 12, and its reading
 
 The program is run in a folder of its own, over a script that starts no rendering. So it has to end
 with 2 and the usage line where the line has no reading, with 0 where a script is generated, and else
-with 3. It prints a line for each difference, then how often each answer came up, and last how many
-lines differ. The status is 0 where none does and each answer came up.
+with 3. One that generates no scripts has to end with 2 where a script would be generated. It prints a
+line for each difference, then how often each answer came up, and last how many lines differ. The status
+is 0 where none does and each answer came up.
 """
 
 import argparse
@@ -214,9 +217,14 @@ def line(seed, number):
 # The comparison.
 
 
-def differences(program, words, folder):
+def status_for(words, generates):
+    """The status that a program has to end with, which generates scripts or has no generator."""
+    return {READ: 3, GENERATED: 0 if generates else 2}.get(answer(words), 2)
+
+
+def differences(program, words, generates, folder):
     """What differs where the program is run on these words in this folder."""
-    wanted = {READ: 3, GENERATED: 0}.get(answer(words), 2)
+    wanted = status_for(words, generates)
     ran = subprocess.run([os.fsencode(program), *words], input=IDLE, stdout=subprocess.PIPE, cwd=folder, timeout=600)
     wrong = []
     if ran.returncode != wanted:
@@ -226,20 +234,19 @@ def differences(program, words, folder):
     return wrong
 
 
-def compare(program, seed, count, folder):
-    """Runs the program on so many lines, tells what differs, and gives the status."""
+def compare(program, lines, generates, folder):
+    """Runs the program on the lines, tells what differs, and gives the status."""
     wrong, times = 0, collections.Counter()
-    for number in range(count):
-        words = line(seed, number)
+    for number, words in enumerate(lines):
         times[answer(words)] += 1
-        found = differences(program, words, folder)
+        found = differences(program, words, generates, folder)
         if found:
             wrong += 1
             print("line %d: %s: %r" % (number, ", ".join(found), words))
     answers = [READ, GENERATED, *REASONS]
     for name in answers:
         print("%s: %d" % (name, times[name]))
-    print("%d of %d lines differ" % (wrong, count))
+    print("%d of %d lines differ" % (wrong, len(lines)))
     return 1 if wrong or not all(times[name] for name in answers) else 0
 
 
@@ -257,6 +264,7 @@ def main():
     parser.add_argument("--count", type=int, default=1000)
     parser.add_argument("--seed", type=int, default=1)
     parser.add_argument("--program", metavar="FILE")
+    parser.add_argument("--without-generator", action="store_true")
     parser.add_argument("--print", type=int, metavar="NUMBER")
     given = parser.parse_args()
     if given.print is not None:
@@ -265,8 +273,9 @@ def main():
     if given.program is None or not os.access(given.program, os.X_OK):
         print("command_lines: --program FILE has to name a program", file=sys.stderr)
         return 2
+    lines = [line(given.seed, number) for number in range(given.count)]
     with tempfile.TemporaryDirectory() as work:
-        return compare(os.path.abspath(given.program), given.seed, given.count, work)
+        return compare(os.path.abspath(given.program), lines, not given.without_generator, work)
 
 
 if __name__ == "__main__":

@@ -184,11 +184,11 @@ class RandomLines(unittest.TestCase):
 
 
 class Comparison(unittest.TestCase):
-    def compared(self, change, count=40):
+    def compared(self, change, *words, count=40):
         with tempfile.TemporaryDirectory() as work:
             program = fixtures.write(work, "program", PROGRAM % (sys.executable, fixtures.TOOLS, change))
             os.chmod(program, os.stat(program).st_mode | stat.S_IXUSR)
-            ran = fixtures.run("command_lines.py", "--count", str(count), "--seed", "3", "--program", program)
+            ran = fixtures.run("command_lines.py", "--count", str(count), "--seed", "3", "--program", program, *words)
         self.assertEqual(ran.stderr, b"")
         return ran.returncode, ran.stdout.decode().splitlines()
 
@@ -201,6 +201,12 @@ class Comparison(unittest.TestCase):
         self.assertIn(": status 3 in place of 2, no usage line: [", lines[0])
         status, lines = self.compared("answer = command_lines.UNKNOWN if answer == command_lines.READ else answer")
         self.assertIn(": status 2 in place of 3, the usage line: [", lines[0])
+
+    def test_a_program_without_a_generator_is_told_so(self):
+        change = "answer = command_lines.UNKNOWN if answer == command_lines.GENERATED else answer"
+        self.assertEqual(self.compared(change, "--without-generator")[1][-1], "0 of 40 lines differ")
+        self.assertIn(": status 2 in place of 0, the usage line: [", self.compared(change)[1][0])
+        self.assertIn(": status 0 in place of 2, no usage line: [", self.compared("", "--without-generator")[1][0])
 
     def test_a_line_is_shown_with_its_reading(self):
         shown = [fixtures.run("command_lines.py", "--seed", "1", "--print", str(number)).stdout for number in range(8)]
