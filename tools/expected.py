@@ -8,6 +8,11 @@ the folder that it runs in, as they are for the program.
     python3 tools/expected.py SCRIPT               the transcript, the sum of each channel's samples,
                                                    and the SHA-256 of the WAV file
     python3 tools/expected.py SCRIPT --lines       the transcript alone
+    python3 tools/expected.py SCRIPT --summary     in place of the transcript a line with its numbers: of calls that
+                                                   were run, of quanta that were rendered, of lines that tell an end
+                                                   and of refusals, and of the rendered values, in units of 2^-24,
+                                                   the greatest one without its sign and the sum; and the
+                                                   transcript's last line
     python3 tools/expected.py SCRIPT --check WAV   no output and status 0 where WAV is the file to the
                                                    byte, else a line on what differs and status 1
     python3 tools/expected.py --rows               compares mixing with rows that were worked out by
@@ -39,13 +44,14 @@ import sys
 
 sys.dont_write_bytecode = True
 from expecting.by_hand import rows_are_met, write_sessions
-from expecting.sessions import replayed, wav_bytes
+from expecting.sessions import replayed, summary_of, wav_bytes
 
 
 def main():
     words = argparse.ArgumentParser(usage=__doc__)
     words.add_argument("script", nargs="?")
     words.add_argument("--lines", action="store_true")
+    words.add_argument("--summary", action="store_true")
     words.add_argument("--check", metavar="WAV")
     words.add_argument("--rows", action="store_true")
     words.add_argument("--write", metavar="FOLDER")
@@ -60,6 +66,9 @@ def main():
         return 0 if rows_are_met() else 1
     with open(words.script, "rb") as file:
         status, text, session = replayed(file.read())
+    if words.summary and session:
+        print(summary_of(session), text.splitlines()[-1], sep="\n")
+        return 0
     wav = wav_bytes(session) if status == 0 else b""
     if words.check:
         with open(words.check, "rb") as file:

@@ -1,6 +1,7 @@
 """The timelines of parameters: their edits, what these are refused with, and the values that they give."""
 
 import collections
+import itertools
 
 from expecting.numbers import rounded_quotient
 from expecting.refusals import Refused
@@ -11,18 +12,14 @@ Ramp = collections.namedtuple("Ramp", "time value")
 Curve = collections.namedtuple("Curve", "time points duration end")
 
 
-def between(first, last, part, whole):
-    """The value of a straight line after so much of its whole way."""
-    return first + rounded_quotient((last - first) * part, whole)
-
-
 def curve_value(curve, frame):
     """The value of a curve that was not cut, at its time or later."""
     way = (len(curve.points) - 1) * (frame - curve.time)
     point, part = divmod(way, curve.duration)
     if point >= len(curve.points) - 1:
         return curve.points[-1]
-    return between(curve.points[point], curve.points[point + 1], part, curve.duration)
+    rise = curve.points[point + 1] - curve.points[point]
+    return curve.points[point] + rounded_quotient(rise * part, curve.duration)
 
 
 def has_in_it(event, time):
@@ -52,16 +49,27 @@ class Timeline:
 
     def value(self, frame):
         """The value at a frame, without what is connected to the parameter, and in no range."""
-        last, following = self.around(frame)
+        return self.values(frame, 1)[0]
+
+    def values(self, first, count):
+        """The same at so many frames from one on."""
+        places = {event.time for event in self.events} | {event.end for event in self.events if isinstance(event, Curve)}
+        bounds = sorted({first, first + count, *(place for place in places if first < place < first + count)})
+        parts = [self.values_of_part(range(begin, end)) for begin, end in itertools.pairwise(bounds)]
+        return list(itertools.chain(*parts))
+
+    def values_of_part(self, frames):
+        """The same at these frames. Events and ends of curves lie only at the first of them, or outside."""
+        last, following = self.around(frames.start)
         if last is None:
-            return self.base
-        if isinstance(last, Curve):
-            start, value = last.end, curve_value(last, min(frame, last.end))
-        else:
-            start, value = last.time, last.value
-        if isinstance(following, Ramp) and frame >= start:
-            return between(value, following.value, frame - start, following.time - start)
-        return value
+            return [self.base] * len(frames)
+        if has_in_it(last, frames.start):
+            return [curve_value(last, frame) for frame in frames]
+        start, value = (last.end, curve_value(last, last.end)) if isinstance(last, Curve) else (last.time, last.value)
+        if isinstance(following, Ramp):
+            rise, whole = following.value - value, following.time - start
+            return [value + rounded_quotient(rise * (frame - start), whole) for frame in frames]
+        return [value] * len(frames)
 
     # Edits. Each is made at the frame `now`, before which nothing can be put.
 

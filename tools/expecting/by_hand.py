@@ -10,8 +10,7 @@ import worked_filters
 import worked_rows
 import worked_shapers
 import worked_suspensions
-from expecting.nodes import QUANTUM
-from expecting.numbers import mixed
+from expecting.numbers import QUANTUM, mixed
 from expecting.sessions import replayed
 
 

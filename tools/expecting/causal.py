@@ -4,7 +4,7 @@ import itertools
 import operator
 
 from expecting.nodes import Node
-from expecting.numbers import ONE, rounded_quotient, saturated
+from expecting.numbers import ONE, SILENCE, rounded_quotient, saturated
 from expecting.refusals import Refused, profile
 
 
@@ -62,9 +62,16 @@ class Filter(Node):
             total, divisor = -total, -divisor
         return inputs, (saturated(rounded_quotient(total, divisor)), *outputs[:-1])
 
-    def filtered(self, channels):
-        """What it gives that hears these channels at a frame. Every other channel is heard as 0."""
+    def filtered(self, blocks):
+        """What it gives that hears these channels in a quantum. Every other channel is heard as 0."""
         silent = (0,) * len(self.forward), (0,) * len(self.back)
-        pairs = itertools.zip_longest(channels, self.histories)
-        self.histories = tuple(self.heard(x or 0, *(history or silent)) for x, history in pairs)
-        return [outputs[0] for _, outputs in self.histories[:len(channels)]]
+        given, histories = [], []
+        for block, history in itertools.zip_longest(blocks, self.histories):
+            history, outputs = history or silent, []
+            for x in block or SILENCE:
+                history = self.heard(x, *history)
+                outputs.append(history[1][0])
+            given.append(outputs)
+            histories.append(history)
+        self.histories = histories
+        return given[:len(blocks)]

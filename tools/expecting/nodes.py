@@ -3,9 +3,8 @@
 import os
 
 from expecting.automation import Timeline
-from expecting.numbers import ONE
+from expecting.numbers import FIX, ONE, QUANTUM, SILENCE
 
-QUANTUM = 128
 ASSET_LIMIT = 2**26  # bytes of a file
 
 # The attributes of each kind of node that cannot change.
@@ -14,6 +13,7 @@ FIXED = {
     "constant": (),
     "buffer source": (),
     "gain": (),
+    "delay": (),
     "splitter": ("count", "mode", "interpretation"),
     "merger": ("count", "mode"),
     "shaper": (),
@@ -27,12 +27,15 @@ PARAMETERS = {
     "constant": {"offset": None},
     "buffer source": {"playbackRate": "playback-rate-automation", "detune": "detune"},
     "gain": {"gain": None},
+    "delay": {"delayTime": None},
 }
 
 
 class Node:
-    """A node. The value is the first one of a constant's offset or a gain's gain, the number of a
-    splitter's outputs or of a merger's inputs, and the number of the destination's channels."""
+    """A node. The value is the first one of a constant's offset, a gain's gain or a delay's delayTime, the number
+    of a splitter's outputs or of a merger's inputs, and the number of the destination's channels."""
+
+    nominal = FIX  # the range of the values of its parameters
 
     def __init__(self, kind, name, value=None):
         self.kind, self.name = kind, name
@@ -51,14 +54,12 @@ class Node:
     def end(self):
         return None if self.stop is None else max(self.start, self.stop)
 
-    def plays_at(self, frame):
-        if self.start is None or frame < self.start:
-            return False
-        return self.end() is None or frame < self.end()
-
-    def plays_from(self, first):
-        """Whether it plays in some frame of the quantum that begins here."""
-        return any(self.plays_at(frame) for frame in range(first, first + QUANTUM))
+    def played_from(self, first):
+        """The frames in which it plays of the quantum that begins here."""
+        end = self.end()
+        if self.start is None:
+            return range(first, first)
+        return range(max(self.start, first), first + QUANTUM if end is None else min(end, first + QUANTUM))
 
     def times(self, call):
         """The times of a call that starts or stops it."""
@@ -67,10 +68,18 @@ class Node:
     def started(self, frame, call):
         self.start = frame
 
-    def sound(self, frame, is_playing):
-        """The channels that a source has at a frame, which is in a quantum in which it plays or not. Of a
-        constant it tells whether it plays."""
-        return [self.plays_at(frame)]
+    def sound(self, first, levels):
+        """The channels of a source in the quantum that begins here, in which its parameters have these values. One
+        that plays in no frame of it has one, which is silent."""
+        played = self.played_from(first)
+        if not played:
+            return [SILENCE]
+        before, after = SILENCE[:played.start - first], SILENCE[played.stop - first:]
+        return [[*before, *part, *after] for part in self.content(played, first, levels)]
+
+    def content(self, played, first, levels):
+        """What the channels of a source have in the frames in which it plays."""
+        return [levels["offset"][played.start - first:played.stop - first]]
 
 
 class BufferSource(Node):
@@ -134,11 +143,9 @@ class BufferSource(Node):
         first, last = self.loop()
         return first + (place - first) % (last - first) if self.is_looping and place >= last else place
 
-    def sound(self, frame, is_playing):
-        channels = range(self.buffer.channels if is_playing else 1)
-        if not self.plays_at(frame):
-            return [0 for _ in channels]
-        return [self.buffer.sample(channel, self.position(frame)) for channel in channels]
+    def content(self, played, first, levels):
+        places = [self.position(frame) for frame in played]
+        return [[self.buffer.sample(channel, place) for place in places] for channel in range(self.buffer.channels)]
 
 
 class Buffer:

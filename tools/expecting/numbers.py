@@ -1,8 +1,12 @@
-"""Numbers and mixing, by the rules of docs/PROFILE.md."""
+"""Numbers and mixing, by the rules of docs/PROFILE.md. A block has one value for each frame of a quantum."""
 
+import functools
 import math
 
 ONE = 2**24
+FIX = -(2**31), 2**31 - 1  # the ends of the range of values
+QUANTUM = 128
+SILENCE = (0,) * QUANTUM
 
 
 def rounded_quotient(a, b):
@@ -10,11 +14,27 @@ def rounded_quotient(a, b):
 
 
 def saturated(x):
-    return max(-(2**31), min(2**31 - 1, x))
+    return max(FIX[0], min(FIX[1], x))
 
 
-def product(x, g):
-    return saturated(rounded_quotient(x * g, ONE))
+def bounded(block, low, high):
+    """The block, where each value that is out of this range is the end of the range that is next to it."""
+    if low <= min(block) and max(block) <= high:
+        return block
+    return [max(low, min(high, x)) for x in block]
+
+
+def products(block, levels):
+    """What becomes of a block by a gain of these levels."""
+    if block is SILENCE:
+        return SILENCE
+    return bounded([rounded_quotient(x * g, ONE) for x, g in zip(block, levels)], *FIX)
+
+
+def summed(blocks):
+    """The exact sum of blocks, saturated once; silence where there is none."""
+    total = blocks[0] if len(blocks) == 1 else [sum(values) for values in zip(SILENCE, *blocks)]
+    return bounded(total, *FIX)
 
 
 def sample_of(value):
@@ -51,6 +71,25 @@ def mixed(channels, count, interpretation):
     if interpretation == "discrete" or equation is None:
         return (channels + [0] * count)[:count]
     return [rounded_quotient(sum_of_products, ONE) for sum_of_products in equation(*channels)]
+
+
+@functools.lru_cache(maxsize=None)
+def moved(several, count, interpretation):
+    """Where mixing so many channels to a count leaves each of them as it is: of each channel that comes of it,
+    which one it is, or None where it is silent. Elsewhere it is None as a whole."""
+    alone = [mixed([ONE if c == one else 0 for c in range(several)], count, interpretation) for one in range(several)]
+    parts = [[one for one in range(several) if alone[one][c] != 0] for c in range(count)]
+    if any(len(part) > 1 or part and alone[part[0]][c] != ONE for c, part in enumerate(parts)):
+        return None
+    return [part[0] if part else None for part in parts]
+
+
+def mixed_blocks(blocks, count, interpretation):
+    """The same of channels that are blocks."""
+    places = moved(len(blocks), count, interpretation)
+    if places is not None:
+        return [SILENCE if place is None else blocks[place] for place in places]
+    return list(zip(*(mixed(list(frame), count, interpretation) for frame in zip(*blocks))))
 
 
 def computed_count(mode, channel_count, counts):

@@ -23,6 +23,7 @@ HELD = ("then", "calls", [])
 OPERATIONS = {
     "createConstantSource": [("as", "new name"), ("offset", "fix", ONE)],
     "createGain": [("as", "new name"), ("gain", "fix", ONE)],
+    "createDelay": [("as", "new name"), ("maxDelayTime", "fix", ONE), ("delayTime", "fix", 0)],
     "createChannelSplitter": [("as", "new name"), ("numberOfOutputs", "count", 6)],
     "createChannelMerger": [("as", "new name"), ("numberOfInputs", "count", 6)],
     "createWaveShaper": [("as", "new name"), ("curve", "list", None), ("oversample", "none 2x 4x", "none")],
@@ -63,6 +64,9 @@ OPERATIONS = {
     "readState": [],
     "readTime": [],
 }
+
+# The operations of these that the program does not read yet.
+AHEAD = ("createDelay",)
 
 RANGES = {"fix": (-(2**31), 2**31 - 1), "time": (-(2**40), 2**40), "count": (0, 2**32 - 1)}
 

@@ -1,142 +1,103 @@
-"""Rendering: the samples of a session, by the rules of docs/PROFILE.md."""
+"""Rendering: the values that come to the destination, quantum after quantum, by the rules of docs/PROFILE.md."""
 
-from expecting.nodes import QUANTUM, SOURCES
-from expecting.numbers import computed_count, mixed, product, sample_of, saturated
+from expecting.graph import Graph
+from expecting.nodes import SOURCES
+from expecting.numbers import QUANTUM, SILENCE, bounded, computed_count, mixed_blocks, products, summed
 
-KEPT = 10000  # frames that are kept for those that are like them
+
+def input_of(node, sources):
+    """The channels of an input of a node, to which outputs with these channels are connected."""
+    count = computed_count(node.mode, node.count, [len(blocks) for blocks in sources])
+    mixes = [mixed_blocks(blocks, count, node.interpretation) for blocks in sources]
+    return [summed([mix[c] for mix in mixes]) for c in range(count)]
+
+
+def computed(nominal, own, sources):
+    """The values of a parameter, which are these without what is connected to it, and are to be in this range."""
+    added = summed([mixed_blocks(blocks, 1, "speakers")[0] for blocks in sources])
+    return bounded([value + more for value, more in zip(own, added)], *nominal)
+
+
+def outputs_of(node, heard, levels):
+    """What each output of a node carries that is no source and remembers nothing, where it hears this on each of
+    its inputs and its parameters have these values."""
+    if node.kind == "gain":
+        return [[products(block, levels["gain"]) for block in heard[0]]]
+    if node.kind == "shaper":
+        return [[[node.shaped(x) for x in block] for block in heard[0]]]
+    if node.kind == "splitter":  # its one input has as many channels as it has outputs
+        return [[block] for block in heard[0]]
+    if node.kind == "merger":  # each of its inputs has one channel
+        return [[block for blocks in heard for block in blocks]]
+    return heard
 
 
 class Rendering:
     """A session's nodes and connections, as they are from one frame to another at which they may change."""
 
     def __init__(self, session):
-        self.nodes, self.edges = session.nodes, session.edges
+        self.nodes = session.nodes
+        self.graph = Graph(session.nodes, session.edges)
         self.connected = [[[] for _ in range(node.inputs)] for node in self.nodes]
         self.controls = [{parameter: [] for parameter in node.timelines} for node in self.nodes]
-        for source, output, target, place in self.edges:
+        for source, output, target, place in session.edges:
             places = self.connected if isinstance(place, int) else self.controls
             places[target][place].append((source, output))
-        muted = self.muted()
-        self.order = self.legal_order(muted)
-        self.filters = [node for node in self.nodes if node.kind == "filter"]
-        self.muted_filters = [self.nodes[number] for number in muted if self.nodes[number].kind == "filter"]
+        muted = [self.nodes[end.node] for end in self.graph.muted]
+        self.muted_filters = [node for node in muted if node.kind == "filter"]
+        # Of each node its outputs, and of each output the blocks of its channels. A node that is muted is silent.
+        self.carried = [[[SILENCE]] * node.outputs for node in self.nodes]
+        self.made = {}
 
-    def muted(self):
-        """The nodes that reach themselves by one connection or more, those to parameters among them."""
-        targets = {number: set() for number in range(len(self.nodes))}
-        for source, _, target, _ in self.edges:
-            targets[source].add(target)
-        found = set()
-        for number in targets:
-            reached, to_do = set(), [number]
-            while to_do:
-                new = targets[to_do.pop()] - reached
-                reached |= new
-                to_do.extend(new)
-            if number in reached:
-                found.add(number)
-        return found
+    def made_of(self, key, make, *inputs):
+        """What is made of these inputs. It is made once for quanta behind one another in which they are the same."""
+        if key not in self.made or self.made[key][0] != inputs:
+            self.made[key] = inputs, make(*inputs)
+        return self.made[key][1]
 
-    def legal_order(self, muted):
-        """The nodes that are not muted, each behind all that are connected to it."""
-        sources = [set() for _ in self.nodes]
-        for source, _, target, _ in self.edges:
-            sources[target].add(source)
-        order, there = [], set(muted)
-        while len(there) < len(self.nodes):
-            ready = [number for number in range(len(self.nodes))
-                     if number not in there and sources[number] <= there]
-            order += ready
-            there.update(ready)
-        return order
+    def sources_of(self, edges):
+        return [self.carried[source][output] for source, output in edges]
 
-    def input_count(self, node, edges, counts):
-        """How many channels an input of a node has, to which these outputs are connected. The counts are
-        those of the outputs of each node."""
-        return computed_count(node.mode, node.count, [counts[source] for source, _ in edges])
+    def heard(self, number):
+        """The channels of each input of a node."""
+        return [self.made_of((number, place), input_of, self.nodes[number], self.sources_of(edges))
+                for place, edges in enumerate(self.connected[number])]
 
-    def counts(self, sounds):
-        """How many channels each output of a node has. A node that is muted has one."""
-        counts = [1] * len(self.nodes)
-        for number in self.order:
-            node = self.nodes[number]
-            if number in sounds:
-                counts[number] = len(sounds[number])
-            elif node.kind == "merger":
-                counts[number] = node.inputs
-            elif node.kind != "splitter":
-                counts[number] = self.input_count(node, self.connected[number][0], counts)
-        return counts
+    def levels(self, number, parameter, first):
+        """The values of a parameter in the quantum that begins here. At k-rate its first one is that of all frames."""
+        node, sources = self.nodes[number], self.sources_of(self.controls[number][parameter])
+        timeline = node.timelines[parameter]
+        own = timeline.values(first, 1 if timeline.is_k_rate else QUANTUM)
+        levels = self.made_of((number, parameter), computed, node.nominal, own, sources)
+        return levels * QUANTUM if timeline.is_k_rate else levels
 
-    def carried(self, node, heard, levels):
-        """What each output of a node carries, which hears this on each of its inputs, where its parameters
-        have these values."""
-        if node.kind == "gain":
-            return [[product(x, levels["gain"]) for x in heard[0]]]
-        if node.kind == "shaper":
-            return [[node.shaped(x) for x in heard[0]]]
+    def outputs(self, end, first):
+        """What each output of an end carries in the quantum that begins here."""
+        node = self.nodes[end.node]
+        levels = {parameter: self.levels(end.node, parameter, first) for parameter in node.timelines}
+        if node.kind in SOURCES:
+            return [node.sound(first, levels)]
+        if node.kind == "delay":
+            return [node.read(first, levels["delayTime"], end.node in self.graph.in_cycle)]
+        heard = self.heard(end.node)
         if node.kind == "filter":
             return [node.filtered(heard[0])]
-        if node.kind == "splitter":  # its one input has as many channels as it has outputs
-            return [[x] for x in heard[0]]
-        if node.kind == "merger":  # each of its inputs has one channel
-            return [[x for channels in heard for x in channels]]
-        return heard
+        return self.made_of((end.node, "outputs"), outputs_of, node, heard, levels)
 
-    def frame(self, sounds, levels, held, counts):
-        """The samples of a frame in which the sources sound so and the parameters have these values from
-        their timelines; and the values of those at k-rate. `held` has these where the frame is not the
-        first of its quantum. A node that is muted is silent, and a filter hears nothing then."""
-        values = [[[0]] * node.outputs for node in self.nodes]
-        at_first = {}
-        for number in self.order:
-            node, heard = self.nodes[number], []
-            for edges in self.connected[number]:
-                count = self.input_count(node, edges, counts)
-                mixes = [mixed(values[source][output], count, node.interpretation) for source, output in edges]
-                heard.append([saturated(sum(mix[c] for mix in mixes)) for c in range(count)])
-            computed = {}
-            for parameter, timeline in node.timelines.items():
-                key, edges = (number, parameter), self.controls[number][parameter]
-                mixes = [mixed(values[source][output], 1, "speakers")[0] for source, output in edges]
-                computed[parameter] = saturated(levels[key] + saturated(sum(mixes)))
-                if timeline.is_k_rate:
-                    computed[parameter] = at_first[key] = held.get(key, computed[parameter])
-            if node.kind == "constant":
-                values[number] = [[computed["offset"] if sounds[number][0] else 0]]
-            else:
-                values[number] = [sounds[number]] if number in sounds else self.carried(node, heard, computed)
-        for node in self.muted_filters:
-            node.filtered([])
-        return [sample_of(v) for v in values[0][0]], at_first
+    def render(self, end, first):
+        """Renders an end in the quantum that begins here, in which all that leads to it was rendered."""
+        if end.is_writer:
+            self.nodes[end.node].write(first, self.heard(end.node)[0])
+            return
+        outputs = self.outputs(end, first)
+        if outputs != self.carried[end.node]:
+            self.carried[end.node] = outputs
 
-    def samples(self, begin, end):
-        """The samples from a frame that begins a quantum on, up to the one before `end`. Frames are alike in
-        which the sources sound alike, the parameters have the same values and the filters have heard the same."""
-        counts, rows, samples = {}, {}, []
-        sources = [(number, node) for number, node in enumerate(self.nodes) if node.kind in SOURCES]
-        timelines = {(number, parameter): timeline for number, node in enumerate(self.nodes)
-                     for parameter, timeline in node.timelines.items()}
-        levels = {key: timeline.base for key, timeline in timelines.items()}  # which those without events keep
-        moving = [(key, timeline) for key, timeline in timelines.items() if timeline.events]
-        for frame in range(begin, end):
-            if frame % QUANTUM == 0:
-                first, held = frame, {}
-                playing = {number for number, node in sources if node.plays_from(first)}
-            sounds = {number: node.sound(frame, number in playing) for number, node in sources}
-            for key, timeline in moving:
-                levels[key] = timeline.value(first if timeline.is_k_rate else frame)
-            lengths = tuple(map(len, sounds.values()))
-            if lengths not in counts:
-                counts[lengths] = self.counts(sounds)
-            alike = (tuple(map(tuple, sounds.values())), tuple(levels[key] for key, _ in moving), tuple(held.items()),
-                     tuple(node.histories for node in self.filters))
-            if alike not in rows:
-                if len(rows) == KEPT:
-                    rows.clear()
-                rows[alike] = *self.frame(sounds, levels, held, counts[lengths]), [node.histories for node in self.filters]
-            row, held, heard = rows[alike]
-            for node, histories in zip(self.filters, heard):
-                node.histories = histories
-            samples.append(row)
-        return samples
+    def quanta(self, begin, end):
+        """Of each quantum from one frame to another the blocks of the destination's channels."""
+        for first in range(begin, end, QUANTUM):
+            for it in self.graph.order:
+                self.render(it, first)
+            for node in self.muted_filters:  # which hear nothing then
+                node.filtered([])
+            yield self.carried[0][0]

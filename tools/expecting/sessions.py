@@ -1,14 +1,15 @@
 """Sessions: what each call of a script does, and the lines and the file that come of it. The rules are
 those of docs/PROFILE.md and docs/FORMATS.md."""
 
+import itertools
 import os
 import struct
 
 from expecting.automation import EDITS, LEFT_OUT_EDITS
 from expecting.causal import Filter, Shaper, check_oversample
-from expecting.nodes import (ASSET_LIMIT, FIXED, PARAMETERS, QUANTUM, SOURCES, AssetFault, Buffer, BufferSource, Node,
-                             asset)
-from expecting.numbers import ONE
+from expecting.delay import Delay
+from expecting.nodes import ASSET_LIMIT, FIXED, PARAMETERS, SOURCES, AssetFault, Buffer, BufferSource, Node, asset
+from expecting.numbers import ONE, QUANTUM, sample_of
 from expecting.reading import LEFT_OUT, Fault, numbered, script_of
 from expecting.refusals import Refused, profile
 from expecting.rendering import Rendering
@@ -17,6 +18,8 @@ from wav_reading import WavFault, recording_of
 NODE_LIMIT = 1024
 CONNECTION_LIMIT = 8192
 BUFFER_LIMIT = 2**27  # samples of all buffers
+DELAY_LIMIT = 2**22  # frames of all delays
+KEPT = 10000  # frames that are kept for those that are like them
 
 
 # The attributes that a call sets.
@@ -41,7 +44,9 @@ class Session:
         self.rendering = None  # the accepted startRendering: its ordinal and its list
         self.suspensions = {}  # those to come, by their frames: of each its ordinal and its list
         self.lines = []
-        self.samples = None
+        self.calls_run = 0
+        self.samples = None  # of each frame those of its channels, when it is through
+        self.peak = self.sum = 0  # of all values that were rendered: the greatest one without its sign, and their sum
 
     def find(self, name, kinds=tuple(FIXED)):
         number = self.names.get(name)
@@ -56,9 +61,12 @@ class Session:
             raise Refused("TypeError")
         return buffer
 
-    def add_node(self, node):
+    def check_node_limit(self):
         if len(self.nodes) >= NODE_LIMIT:
             raise profile("node-limit")
+
+    def add_node(self, node):
+        self.check_node_limit()
         self.nodes.append(node)
         self.names[node.name] = len(self.nodes) - 1
         return "ok"
@@ -77,6 +85,13 @@ class Session:
         if kind in ("splitter", "merger") and not 1 <= value <= 32:
             raise Refused("IndexSizeError")
         return self.add_node(Node(kind, name, value))
+
+    def create_delay(self, call):
+        delay = Delay(call, self.rate, self.now)
+        self.check_node_limit()
+        if sum(node.capacity for node in self.nodes + [delay] if node.kind == "delay") > DELAY_LIMIT:
+            raise profile("delay-limit")
+        return self.add_node(delay)
 
     def create_source(self, call):
         buffer, rate = self.find_buffer(call.get("buffer")), call.get("playbackRate", ONE)
@@ -285,6 +300,7 @@ class Session:
         return {
             "createConstantSource": lambda: self.create("constant", call["as"], call.get("offset", ONE)),
             "createGain": lambda: self.create("gain", call["as"], call.get("gain", ONE)),
+            "createDelay": lambda: self.create_delay(call),
             "createChannelSplitter": lambda: self.create("splitter", call["as"], call.get("numberOfOutputs", 6)),
             "createChannelMerger": lambda: self.create("merger", call["as"], call.get("numberOfInputs", 6)),
             "createWaveShaper": lambda: self.add_node(Shaper(call)),
@@ -314,6 +330,7 @@ class Session:
 
     def run(self, calls):
         for ordinal, call, held in calls:
+            self.calls_run += 1
             try:
                 text = self.answer(ordinal, call, held)
             except Refused as refused:
@@ -336,6 +353,21 @@ class Session:
                 node.ended = True
                 self.lines.append("ended %d %s" % (number, node.name))
 
+    def rendered(self, end):
+        """The samples from now on up to a frame. Of frames that are alike one is kept."""
+        alike, samples = {}, []
+        for first, blocks in enumerate(Rendering(self).quanta(self.now, end)):
+            frames = list(zip(*blocks))[:end - self.now - QUANTUM * first]
+            for frame in frames:
+                if frame not in alike:
+                    if len(alike) == KEPT:
+                        alike.clear()
+                    alike[frame] = [sample_of(value) for value in frame]
+                samples.append(alike[frame])
+            self.peak = max(self.peak, *map(abs, itertools.chain(*frames)))
+            self.sum += sum(itertools.chain(*frames))
+        return samples
+
     def replay(self, calls):
         """The last line. The other lines and the samples stand in the session afterwards. Nothing is changed
         between two suspensions, so what lies between them is rendered at once."""
@@ -348,7 +380,7 @@ class Session:
         samples = []
         while self.now < self.length:
             following = min(self.suspensions, default=self.length)
-            samples += Rendering(self).samples(self.now, following)
+            samples += self.rendered(following)
             while self.now < following:
                 self.pass_quantum()
             if self.now < self.length:
@@ -369,6 +401,18 @@ def wav_bytes(session):
     return (b"RIFF" + struct.pack("<I", 36 + len(body) + padding) + b"WAVEfmt "
             + struct.pack("<IHHIIHH", 16, 1, channels, rate, rate * channels * 3, channels * 3, 24)
             + b"data" + struct.pack("<I", len(body)) + body + b"\0" * padding)
+
+
+def summary_of(session):
+    """What is told in place of the lines: how many calls were run, quanta rendered, sources ended and calls refused,
+    and, where the session is through, what the rendered values come to."""
+    words = [line.split() for line in session.lines]
+    numbers = {"calls": session.calls_run, "quanta": session.now // QUANTUM,
+               "ended": sum(first == "ended" for first, *_ in words),
+               "refused": sum(second in ("throw", "rejected") for _, second, *_ in words)}
+    if session.samples is not None:
+        numbers.update(peak=session.peak, sum=session.sum)
+    return " ".join(["summary", *("%s %d" % it for it in numbers.items())])
 
 
 def replayed(data, folder=os.curdir):
