@@ -8,31 +8,35 @@ the folder that it runs in, as they are for the program.
     python3 tools/expected.py SCRIPT               the transcript, the sum of each channel's samples,
                                                    and the SHA-256 of the WAV file
     python3 tools/expected.py SCRIPT --lines       the transcript alone
-    python3 tools/expected.py SCRIPT --summary     in place of the transcript a line with its numbers: of calls that
-                                                   were run, of quanta that were rendered, of lines that tell an end
-                                                   and of refusals, and of the rendered values, in units of 2^-24,
-                                                   the greatest one without its sign and the sum; and the
-                                                   transcript's last line
+    python3 tools/expected.py SCRIPT --summary     a line with numbers, and the transcript's last line:
+                                                   how many calls were run, quanta rendered, sources
+                                                   ended and calls refused, and of all rendered values,
+                                                   in units of 2^-24, the greatest one without its sign
+                                                   and the sum
     python3 tools/expected.py SCRIPT --check WAV   no output and status 0 where WAV is the file to the
                                                    byte, else a line on what differs and status 1
     python3 tools/expected.py --rows               compares mixing with rows that were worked out by
                                                    hand, and with all pairs of 1 to 32 channels that
                                                    have no equation; and compares whole sessions of
                                                    splitters and mergers, of buffers, of parameters, of
-                                                   suspensions, of wave shapers and of filters, that were
-                                                   worked out by hand (tools/worked_rows.py,
-                                                   tools/worked_suspensions.py, tools/worked_shapers.py,
-                                                   tools/worked_filters.py)
+                                                   suspensions, of wave shapers, of filters and of
+                                                   delays, that were worked out by hand
+                                                   (tools/worked_rows.py, tools/worked_suspensions.py,
+                                                   tools/worked_shapers.py, tools/worked_filters.py,
+                                                   tools/worked_delays.py)
     python3 tools/expected.py --write FOLDER       writes the scripts of these sessions with their
                                                    transcripts and assets into a new folder, so that
-                                                   tools/compare.sh FOLDER/*.json runs them
+                                                   tools/compare.sh FOLDER/*.json runs them; with
+                                                   --delays also those that the program of today does
+                                                   not read
 
 The sums are of samples as the WAV file has them: whole numbers of 24 bits, in units of 2^-23. They
 are not sums of rendered values, which are in units of 2^-24 and are rounded for the file.
 
-The operations are those of docs/FORMATS.md that are built, and those that are left out. Of a script
-with a fault of reading, the transcript is the fault's line. Where an asset cannot be read there is no
-transcript, and nothing is printed. Only a script that is too long is not told.
+The operations are those of docs/FORMATS.md that are built, those that are left out, and createDelay,
+which the program does not read yet. Of a script with a fault of reading, the transcript is the fault's
+line. Where an asset cannot be read there is no transcript, and nothing is printed. Only a script that is
+too long is not told.
 
 Its parts are the modules of tools/expecting/, each of one subject.
 """
@@ -55,12 +59,13 @@ def main():
     words.add_argument("--check", metavar="WAV")
     words.add_argument("--rows", action="store_true")
     words.add_argument("--write", metavar="FOLDER")
+    words.add_argument("--delays", action="store_true")
     words = words.parse_args()
     if words.script is None and not words.rows and not words.write:
         print("a SCRIPT, --rows or --write is wanted")
         return 2
     if words.write:
-        write_sessions(words.write)
+        write_sessions(words.write, words.delays)
         return 0
     if words.rows:
         return 0 if rows_are_met() else 1

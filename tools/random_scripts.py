@@ -26,6 +26,10 @@ itself. It needs Python 3, and for --measure GNU time.
     python3 tools/random_scripts.py --measure FOLDER      runs the scripts of a folder, and prints the
                                                           least user time of three runs and the peak
                                                           memory of each
+    python3 tools/random_scripts.py --delays ..           the same with what the program of today does not
+                                                          read: delays (see AHEAD in
+                                                          tools/expecting/reading.py). The scripts are others
+                                                          then, of a program that reads it
 
 A comparison prints a line for each difference, then how often each answer came up and which of those
 that can come up did not, and last how many scripts differ. The status is 0 where none does.
@@ -57,7 +61,7 @@ import wav_check
 import worked_rows
 from expecting.automation import EDITS, LEFT_OUT_EDITS
 from expecting.by_hand import write_asset
-from expecting.reading import LEFT_OUT, OPERATIONS as FIELDS, numbered
+from expecting.reading import AHEAD, LEFT_OUT, OPERATIONS as FIELDS, numbered
 from expecting.sessions import ATTRIBUTES, LOOPS, PROMISES, replayed, wav_bytes
 
 TOP = os.path.dirname(os.path.dirname(os.path.abspath(__file__)))
@@ -85,6 +89,7 @@ class Maker:
         self.names = {}  # of a name, its kind, with the inputs and outputs that it was given
         self.assets = {}  # of a path, what stands there (see write_assets)
         self.controls = []  # the connections to parameters that were made
+        self.loops = []  # connections that bring a delay into a cycle
         self.instants = {}  # of a name, times that edits of its parameter had, and ends of curves
         self.made = 0
         self.depth = 0  # of the lists of calls
@@ -120,6 +125,9 @@ class Maker:
 
     def shaper(self):
         return self.name(lambda kind: kind is KINDS["createWaveShaper"])
+
+    def delay(self):
+        return self.name(lambda kind: kind is KINDS["createDelay"])
 
     def buffer(self):
         return self.name(lambda kind: isinstance(kind, Sound))
@@ -165,12 +173,27 @@ class Maker:
             return self.rng.choice([0, 0, 1, -1, ONE, -ONE, ONE // 2, 2 * ONE])
         return self.rng.choice([*FIX, FIX[0] + 1, FIX[1] - 1, self.rng.randint(*FIX), self.rng.randint(-9, 9)])
 
-    def points(self):
+    def points(self, value=None):
         """Those of a curve: two, three or some, now and then many or too few."""
         some = self.rng.randint(0, 19)
         count = self.rng.choice([2, 2, 3]) if some < 12 else self.rng.randint(4, 12) if some < 17 else self.rng.choice(
             [0, 1, 1, 60, 200])
-        return [self.value() for _ in range(count)]
+        return [(value or self.value)() for _ in range(count)]
+
+    def seconds(self, frames):
+        """So many frames in units of 2^-24 of a second. With a half of a frame it is near where rounding turns."""
+        return int(frames * ONE // self.rate)
+
+    def delayed_by(self):
+        """A time of a delay. Most are some quanta at most; some lie where rounding turns, or past the ends."""
+        some, frames = self.rng.randint(0, 19), self.rng.choice([0, 1, 2, 127, 128, 129, 255, 256, 257])
+        if some < 8:
+            frames = self.rng.choice([self.rng.randint(0, 40), self.rng.randint(0, 400)])
+        if some < 14:
+            return self.seconds(frames) + self.rng.choice([0, 1])
+        if some < 17:
+            return self.seconds(frames + 0.5) + self.rng.choice([-1, 0, 1, 1, 2])
+        return self.rng.choice([0, 0, ONE, -1, 16 * ONE, *FIX, self.seconds(-frames), self.seconds(self.length)])
 
     def bend(self):
         """The curve of a shaper, or none. Some have points at the ends of the range, and some many of them, as
@@ -342,6 +365,17 @@ class Maker:
         call = self.create("createIIRFilter")
         return {**call, "feedforward": forward, "feedback": back}
 
+    def create_delay(self):
+        """A delay: mostly one of some quanta or a second at most; now and then one that there cannot be."""
+        some, call = self.rng.randint(0, 39), self.create("createDelay", delayTime=self.delayed_by())
+        if some < 20:
+            call["maxDelayTime"] = self.seconds(self.rng.randint(1, 500) + self.rng.choice([0, 0.5])) + self.rng.choice([0, 1])
+        elif some < 28:
+            call["maxDelayTime"] = self.rng.choice([1, 1, ONE, 2 * ONE, 16 * ONE, self.rng.randint(1, 16 * ONE)])
+        elif some < 30:
+            call["maxDelayTime"] = self.rng.choice([0, -1, 16 * ONE + 1, *FIX])
+        return call
+
     def connect(self):
         source, target = self.name(), self.target()
         return self.call("connect", [("from", source), ("to", target)],
@@ -399,6 +433,7 @@ class Maker:
         """A call of this operation on a parameter, that of this node and at this time where they are told."""
         node, parameter = self.parameter(name)
         needed = [("node", node), ("param", parameter)]
+        value = self.delayed_by if self.names.get(node) is KINDS["createDelay"] else self.value
         fields = [field for field, *_ in FIELDS[op][2:]]
         if "time" in fields:
             time = self.instant(node) if time is None else time
@@ -407,14 +442,14 @@ class Maker:
             if field == "time":
                 needed.append((field, time))
             elif field == "values":
-                needed.append((field, self.points()))
+                needed.append((field, self.points(value)))
             elif field == "duration":
                 needed.append((field, self.span(node, time)))
                 self.instants[node].append(time + needed[-1][1])
             elif op == "setAutomationRate":
                 needed.append((field, self.rng.choice(["a-rate", "k-rate", "k-rate"])))
             else:
-                needed.append((field, self.value()))
+                needed.append((field, value()))
         return self.call(op, needed)
 
     def any_edit(self, name=None):
@@ -987,6 +1022,184 @@ class Maker:
         calls += [self.any_call() for _ in range(self.rng.choice([0, 0, 0, 3]))]
         return calls + [self.start_rendering()]
 
+    # Delays, and what is made around them.
+
+    def kept_quiet(self, calls, most=ONE):
+        """Gives constants and gains of these calls mostly a value of this size at most."""
+        for call in calls:
+            for field in ("offset", "gain"):
+                if field in call and self.may(0.9):
+                    call[field] = self.rng.randint(-most, most)
+        return calls
+
+    def looped(self, name=None):
+        """Connections by which a delay mostly comes into a cycle: with itself, with a gain, of which it may reach the
+        parameter alone, or with any node."""
+        name, some = name or self.delay(), self.rng.randint(0, 9)
+        if some < 2:
+            calls = [self.joined(name, name)]
+        elif some < 8:
+            calls = self.kept_quiet([self.create_gain()], ONE * 3 // 4)
+            between = calls[0]["as"]
+            there = self.joined(name, between) if some < 6 else self.connect_param(name, between)
+            calls += [there, self.joined(between, name)]
+            calls += [self.joined(self.source(), between)] if some >= 6 else []
+        else:
+            between = self.name(lambda kind: kind.inputs and kind.outputs)
+            calls = [self.joined(name, between), self.joined(between, name)]
+        self.loops += [call for call in calls if call["op"] == "connect"][:2]
+        return calls
+
+    def unlooped(self):
+        """A connection that brings a delay into a cycle is taken away, or all of a delay."""
+        loop = self.rng.choice(self.loops) if self.loops and self.may(0.8) else {"from": self.delay()}
+        return {"op": "disconnect", **{field: loop[field] for field in ("from", "to") if field in loop}}
+
+    def moving(self, name, sources):
+        """What moves the time of a delay: edits, a source by a gain that makes some frames of it, or any node."""
+        some, calls = self.rng.randint(0, 9), []
+        if some < 5:
+            calls = self.timeline(name)[:self.rng.choice([2, 4, 8])]
+        elif some < 8:
+            calls = [self.create_gain()]
+            calls[0]["gain"] = self.seconds(self.rng.choice([1, 10, 128, 400, -40]))
+            calls += [self.joined(self.rng.choice(sources), calls[0]["as"]), self.connect_param(calls[0]["as"], name)]
+        else:
+            calls = [self.connect_param(name if self.may(0.4) else None, name)]
+        calls += [self.edit("setAutomationRate", name)] if self.may(0.3) else []
+        return calls + ([self.edit("readValue", name)] if self.may(0.3) else [])
+
+    def widened(self, name=None):
+        """Constants that come to a delay on several channels."""
+        name, merger = name or self.delay(), self.create_merger()
+        calls, place = [merger], merger["as"]
+        for at in range(min(self.names[place].inputs, 6)):
+            if self.may(0.8):
+                calls += self.kept_quiet([self.create_constant()])
+                source = calls[-1]["as"]
+                calls += [{**self.joined(source, place), "input": at}, self.call("start", [("node", source)])]
+        self.loops.append(self.joined(place, name))
+        return calls + self.loops[-1:]
+
+    def passing(self, name=None):
+        """A source of several channels that comes to a delay for some quanta at most."""
+        name, channels, length = name or self.delay(), self.rng.choice([2, 2, 3, 4, 6]), self.rng.randint(1, 200)
+        buffer, source, player = self.new_name(), self.new_name(), KINDS["createBufferSource"]
+        self.names[buffer], self.names[source] = Sound(0, 0, False, channels, length), player
+        calls = [{"op": "createBuffer", "as": buffer, "channels": channels, "length": length, "rate": self.rate}]
+        calls += [{"op": "copyToChannel", "buffer": buffer, "channel": channel,
+                   "samples": [self.rng.randint(-ONE, ONE) for _ in range(length)]} for channel in range(channels)]
+        calls += [{"op": "createBufferSource", "as": source, "buffer": buffer}, self.joined(source, name)]
+        when = self.rng.choice([0, self.rng.randint(self.now, max(self.now, self.length))])
+        return calls + [{"op": "start", "node": source, "when": when}]
+
+    def split(self, name=None):
+        """A splitter behind a delay, so that it is heard how many channels the delay has."""
+        call = self.create_splitter()
+        outputs = range(min(self.names[call["as"]].outputs, 6))
+        heard = [{**self.joined(call["as"], "destination"), "output": output} for output in outputs if self.may(0.7)]
+        return [call, self.joined(name or self.delay(), call["as"]), *heard]
+
+    def for_some_quanta(self, name):
+        """Suspensions between which a delay is in a cycle, is muted by its own time, or has another interpretation."""
+        frames = [128 * k for k in range(1, 6) if 128 * k < self.length]
+        gain = {"op": "createGain", "as": "between", "gain": self.rng.randint(-ONE // 2, ONE)}
+        control = {"from": name, "to": name, "param": "delayTime"}
+        changes = [
+            ([self.joined(name, name)], [{"op": "disconnect", "from": name, "to": name}]),
+            ([gain, self.joined(name, "between"), self.joined("between", name)], [{"op": "disconnect", "from": "between"}]),
+            ([{"op": "connectParam", **control}], [{"op": "disconnectParam", **control}])]
+        if "setChannelInterpretation" in self.attributes:
+            changes.append([[{"op": "setChannelInterpretation", "node": name, "value": word}]
+                            for word in ("discrete", "speakers")])
+        if len(frames) < 2:
+            return []
+        return [{"op": "suspend", "time": frame, "then": [*calls, {"op": "resume"}]}
+                for frame, calls in zip(sorted(self.rng.sample(frames, 2)), self.rng.choice(changes))]
+
+    def swaying(self):
+        """A constant source whose values go up and down along a curve, so that each frame has its own, and starts."""
+        calls = self.kept_quiet([self.create_constant()])
+        points = [self.rng.randint(-ONE, ONE) for _ in range(self.rng.choice([2, 3, 9, 40]))]
+        curve = {"op": "setValueCurveAtTime", "node": calls[0]["as"], "param": "offset", "values": points,
+                 "time": self.rng.choice([0, 0, 1, 100]), "duration": self.rng.randint(1, 2 * self.length)}
+        return calls + [curve, self.call("start", [("node", calls[0]["as"])])]
+
+    def begun(self, sources):
+        """The sources start, and most of them are short or move."""
+        calls = []
+        for name in sources:
+            when = self.rng.choice([0, 0, 0, 1, 127, 128, self.rng.randint(0, self.length)])
+            calls.append(self.call("start", [("node", name), ("when", when)]))
+            if self.may(0.6):
+                played = self.rng.choice([1, 1, 2, 100, 128, self.rng.randint(1, 300)])
+                calls.append(self.call("stop", [("node", name), ("when", when + played)]))
+            elif self.names[name].parameter and self.may(0.6):
+                calls += self.timeline(name)[:4]
+        return calls
+
+    def delayed(self):
+        """Sources, and delays behind one another with a few other nodes between, many of them in cycles and some in
+        cycles without a delay. Numbers of channels grow, and times of delays move."""
+        calls = self.kept_quiet([self.create_source() for _ in range(self.rng.randint(1, 4))])
+        sources = [call["as"] for call in calls]
+        for _ in range(self.rng.randint(1, 5)):
+            make = self.create_delay if self.may(0.6) else self.rng.choice([self.create_gain, self.create_place])
+            calls += self.kept_quiet([make()])
+        places = list(dict.fromkeys(call["as"] for call in calls))
+        delays = [name for name in places if self.names[name] is KINDS["createDelay"]]
+        calls += self.in_a_row(places)
+        if delays:
+            swaying = self.swaying()
+            calls += swaying + [self.joined(swaying[0]["as"], delays[0]), self.joined(delays[-1], "destination")]
+        for name in delays:
+            for make, chance in (self.looped, 0.4), (self.widened, 0.15), (self.passing, 0.25), (self.split, 0.4):
+                calls += make(name) if self.may(chance) else []
+            if "setChannelInterpretation" in self.attributes and self.may(0.25):
+                calls.append({"op": "setChannelInterpretation", "node": name, "value": "discrete"})
+            calls += self.moving(name, sources) if self.may(0.5) else []
+            calls += self.for_some_quanta(name) if self.suspends and self.may(0.4) else []
+        calls += [self.attribute(op, name) for name in places + ["destination"] for op in self.attributes
+                  if self.may(0.1)]
+        calls += self.begun(sources)
+        calls += [self.any_call() for _ in range(self.rng.choice([0, 0, 0, 3]))]
+        return calls + [self.start_rendering()]
+
+    def crossed(self):
+        """A splitter whose outputs go through delays into a merger, and from each delay back to a delay, as in echoes
+        that go from side to side."""
+        calls = self.kept_quiet([self.create_source() for _ in range(self.rng.randint(1, 3))])
+        sources = [call["as"] for call in calls]
+        swaying = self.swaying()
+        calls += swaying + [self.create_splitter(), self.create_merger()]
+        splitter, merger = (call["as"] for call in calls[-2:])
+        calls += [self.joined(name, splitter) for name in [*sources, swaying[0]["as"]]]
+        sides = [self.create_delay() for _ in range(self.rng.randint(2, 4))]
+        calls += sides
+        for at, side in enumerate(sides):
+            name, other = side["as"], sides[(at + self.rng.choice([0, 1, 1])) % len(sides)]["as"]
+            calls += [self.joined(splitter, name), self.joined(name, merger)]
+            back = self.kept_quiet([self.create_gain()], ONE * 3 // 4)
+            calls += back + [self.joined(name, back[0]["as"])]
+            if self.may(0.8):
+                calls.append(self.joined(back[0]["as"], other))
+                self.loops.append(calls[-1])
+            calls += self.moving(name, sources) if self.may(0.2) else []
+        calls.append(self.joined(merger, "destination"))
+        calls += [self.disconnect() for _ in range(self.rng.choice([0, 0, 0, 1, 3]))]
+        return calls + self.begun(sources) + [self.start_rendering()]
+
+    def lines(self):
+        """Delays of as many frames as there may be in all or nearly so, then more of them, and any calls."""
+        capacities, calls = 0, []
+        while capacities < 2**22:
+            frames = min(self.rng.randint(1, 16 * self.rate), 2**22 - capacities + self.rng.choice([0, 0, 0, 1]))
+            calls.append({**self.create_delay(), "maxDelayTime": min(16 * ONE, self.seconds(frames) + 1)})
+            capacities += max(frames, 128)
+        calls += [self.create_delay() for _ in range(10)] + self.kept_quiet([self.create_constant()])
+        self.length = min(self.length, 300)
+        return calls + [self.connect() for _ in range(60)] + [self.any_call() for _ in range(20)] + [self.start_rendering()]
+
     def sprinkled(self, calls):
         """The calls with some more between them that have to do with parameters."""
         calls = list(calls)
@@ -1030,7 +1243,8 @@ class Maker:
 
     def crowd(self):
         """More nodes than there may be, and then any calls."""
-        calls = [self.create_node() for _ in range(1030)]
+        count = 1500 if "createDelay" in self.kinds else 1030  # there may not be so many delays
+        calls = [self.create_node() for _ in range(count)]
         calls += [self.connect() for _ in range(300)] + [self.start() for _ in range(100)]
         self.length = min(self.length, 130)
         return calls + [self.any_call() for _ in range(30)] + [self.start_rendering()]
@@ -1073,11 +1287,14 @@ class Maker:
 
     def script(self):
         rng = self.rng
-        shape = rng.choices([shape for _, shape in SHAPES], [often for often, _ in SHAPES])[0]
+        shapes = SHAPES + DELAY_SHAPES if "createDelay" in self.read_ops else SHAPES
+        shape = rng.choices([shape for _, shape in shapes], [often for often, _ in shapes])[0]
         needed = {Maker.wide: ATTRIBUTES, Maker.played: BUFFERS, Maker.store: BUFFERS,
                   Maker.automated: [*AUTOMATED, "connectParam", "disconnectParam"],
                   Maker.bent: [*SHAPERS, *AUTOMATED, "connectParam"],
                   Maker.filtered: ["createIIRFilter", *AUTOMATED, "connectParam"],
+                  Maker.delayed: [*BUFFERS, *AUTOMATED, "connectParam", "createChannelSplitter", "createChannelMerger"],
+                  Maker.crossed: [*AUTOMATED, "connectParam", "createChannelSplitter", "createChannelMerger"],
                   **dict.fromkeys((Maker.woven, Maker.cables), ("createChannelSplitter", "createChannelMerger"))}
         if not self.read_ops.issuperset(needed.get(shape, ())):
             shape = Maker.graph
@@ -1087,7 +1304,8 @@ class Maker:
         channels = rng.choice([1, 1, 2, 2, 4, 6, rng.randint(1, 32), 32])
         rate = rng.choice([8000, 44100, 48000, 96000, rng.randint(8000, 96000)])
         self.channels, self.rate = channels, rate
-        often = {Maker.played: 1, Maker.filtered: 0.8, Maker.crowd: 0, Maker.tangle: 0, Maker.cables: 0, Maker.store: 0}.get(shape, 0.5)
+        often = {Maker.played: 1, Maker.filtered: 0.8, Maker.crowd: 0, Maker.tangle: 0, Maker.cables: 0, Maker.store: 0,
+                 Maker.delayed: 0.8, Maker.lines: 0}.get(shape, 0.5)
         calls = self.some_buffers() if self.has_buffers and self.may(often) else []
         made = shape(self)
         sprinkled = shape in (Maker.graph, Maker.wide, Maker.woven, Maker.played, Maker.cables, Maker.tangle)
@@ -1151,6 +1369,10 @@ CHANGES = [
     (3, Maker.read),
     (4, Maker.suspend, "suspend"),
     (8, Maker.any_call),
+    (8, Maker.looped, "createDelay"),
+    (6, Maker.unlooped, "createDelay"),
+    (2, Maker.widened, "createDelay", "createChannelMerger"),
+    (4, Maker.passing, "createDelay", *BUFFERS),
 ]
 
 # The kinds of nodes, by the operation that makes them: how often one is made, and by what; how many
@@ -1164,6 +1386,7 @@ KINDS = {
     "createChannelMerger": Kind(5, Maker.create_merger, 6, 1, False, None),
     "createWaveShaper": Kind(6, Maker.create_shaper, 1, 1, False, None),
     "createIIRFilter": Kind(6, Maker.create_filter, 1, 1, False, None),
+    "createDelay": Kind(12, Maker.create_delay, 1, 1, False, "delayTime"),
 }
 
 # What is kept of a buffer: what a node has, so that a call can take it for one, and its size.
@@ -1193,6 +1416,13 @@ SHAPES = [
     (4, Maker.crowd),
     (2, Maker.tangle),
     (3, Maker.store),
+]
+
+# The same of shapes that want delays. The last one takes long to make.
+DELAY_SHAPES = [
+    (6000, Maker.delayed),
+    (1500, Maker.crossed),
+    (60, Maker.lines),
 ]
 
 # The answers that are to come up, as they stand behind an ordinal or at the end, without numbers.
@@ -1231,6 +1461,7 @@ REFUSALS = {
     "createChannelMerger": ["IndexSizeError", PROFILE + "node-limit"],
     "createWaveShaper": [PROFILE + "oversample", "InvalidStateError", PROFILE + "node-limit"],
     "createIIRFilter": ["NotSupportedError", "InvalidStateError", PROFILE + "node-limit"],
+    "createDelay": ["NotSupportedError", PROFILE + "long-delay", PROFILE + "node-limit", PROFILE + "delay-limit"],
     "setCurve": ["TypeError", "InvalidStateError"],
     "setOversample": ["TypeError", PROFILE + "oversample"],
     "connect": ["TypeError", PROFILE + "destination-output", "IndexSizeError", PROFILE + "connection-limit"],
@@ -1282,10 +1513,15 @@ def write_assets(folder, assets):
             write_asset(path, it)
 
 
-def read_by(program):
-    """The operations that are built, as far as the program reads them."""
+def operations(delays):
+    """The operations of random scripts, with those that are ahead of the program of today or without them."""
+    return [op for op in FIELDS if delays or op not in AHEAD]
+
+
+def read_by(program, wanted):
+    """Which of these operations the program reads."""
     read = []
-    for op in FIELDS:
+    for op in wanted:
         script = {"version": 1, "context": {"channels": 1, "length": 1, "rate": 8000}, "calls": [{"op": op}]}
         ran = subprocess.run([program, os.devnull], input=json.dumps(script).encode(), stdout=subprocess.PIPE)
         if ran.stdout != b"script: 1 op UnknownOp\n":
@@ -1634,8 +1870,8 @@ def shrunk(program, script):
     return script
 
 
-def compare(program, seed, count, jobs):
-    wrong, answers, read = 0, collections.Counter(), read_by(program)
+def compare(program, seed, count, jobs, wanted):
+    wrong, answers, read = 0, collections.Counter(), read_by(program, wanted)
     with tempfile.TemporaryDirectory() as work:
         with multiprocessing.Pool(jobs, enter, [work]) as pool:
             jobs = ((program, seed, read, number) for number in range(count))
@@ -1652,7 +1888,7 @@ def compare(program, seed, count, jobs):
             for op, refusals in REFUSALS.items() if op in read or op in LEFT_OUT for refusal in refusals]:
         if answer not in answers:
             print("     none %s" % answer)
-    for op in FIELDS:
+    for op in wanted:
         if op not in read:
             print("%s is not read by this program, and is in no script" % op)
     print("%d scripts, %d differences" % (count, wrong))
@@ -1679,10 +1915,11 @@ def main():
     words.add_argument("--folder", metavar="FOLDER")
     words.add_argument("--loads", metavar="FOLDER")
     words.add_argument("--measure", metavar="FOLDER")
+    words.add_argument("--delays", action="store_true")
     words = words.parse_args()
-    program = os.path.abspath(words.program)
+    program, wanted = os.path.abspath(words.program), operations(words.delays)
     if words.print is not None:
-        read = read_by(program) if os.access(program, os.X_OK) else list(FIELDS)
+        read = read_by(program, wanted) if os.access(program, os.X_OK) else wanted
         give(words.folder, *script_of(words.seed, words.print, read))
     elif words.loads:
         write_loads(words.loads)
@@ -1692,7 +1929,7 @@ def main():
     elif words.measure:
         measure(program, words.measure)
     elif words.shrink is not None:
-        script, assets = script_of(words.seed, words.shrink, read_by(program))
+        script, assets = script_of(words.seed, words.shrink, read_by(program, wanted))
         folder = words.folder and os.path.abspath(words.folder)
         with tempfile.TemporaryDirectory() as work:
             enter(work)
@@ -1700,7 +1937,7 @@ def main():
             script = shrunk(program, script)
         give(folder, script, assets)
     else:
-        return compare(program, words.seed, words.count, words.jobs)
+        return compare(program, words.seed, words.count, words.jobs, wanted)
     return 0
 
 

@@ -144,6 +144,9 @@ SESSIONS = [
 TWO_FRAMES = bytes.fromhex("""52494646 ffffffff 57415645 4c495354 03000000 41424300 666d7420 28000000
     feff 0100 80bb0000 00770100 0200 1000 1600 1000 04000000 0100000000001000800000aa00389b71
     64617461 ffffffff 004000c001""")
+# Two channels of 16 bits, 96,000 frames, each sample of which is 8,192.
+LOOP = bytes.fromhex("""52494646 24dc0500 57415645 666d7420 10000000 0100 0200 80bb0000 00ee0200 0400 1000
+    64617461 00dc0500""") + b"\x00\x20" * 192000
 ASSETS = {
     "two.wav": TWO_FRAMES,
     "of-44100.wav": TWO_FRAMES[:36] + (44100).to_bytes(4, "little") + TWO_FRAMES[40:],
@@ -153,6 +156,7 @@ ASSETS = {
     "past-the-limit.wav": 67108865,
     "folder": None,
     "folder/two.wav": TWO_FRAMES,
+    "loop.wav": LOOP,
 }
 
 # Sessions of buffers, and of assets that become buffers, that were worked out by hand: the calls, the

@@ -12,11 +12,6 @@ from reporting import entries, rules, script_reading, transcript_reading, wav_sa
 from reporting.following import Session
 from reporting.text import BadInput, quoted, visible
 
-# What the format refuses, where the program does not do the operation yet.
-REFUSALS = {
-    "createDelay": ["NotSupportedError", "long-delay", "node-limit", "delay-limit"],
-}
-
 
 def fault_of(data):
     """The fault of a script as tools/expecting/reading.py tells it."""
@@ -98,7 +93,7 @@ class Reading(unittest.TestCase):
 class Rules(unittest.TestCase):
     def test_every_refusal_has_its_rule(self):
         built = {op: [it.rsplit("profile:", 1)[-1] for it in refusals] for op, refusals in random_scripts.REFUSALS.items()}
-        for op, refusals in {**built, **REFUSALS}.items():
+        for op, refusals in built.items():
             for refusal in refusals:
                 is_feature = refusal not in transcript_reading.EXCEPTIONS
                 told = rules.rule(op, "NotSupportedError" if is_feature else refusal, refusal if is_feature else None)
@@ -107,8 +102,7 @@ class Rules(unittest.TestCase):
                 self.assertNotEqual(told, "The profile leaves this out.", (op, refusal))
 
     def test_every_operation_that_may_be_refused_is_looked_at(self):
-        looked_at = {*random_scripts.REFUSALS, *REFUSALS}
-        self.assertEqual(set(entries.OPERATIONS) - looked_at, {"readState", "readTime"})
+        self.assertEqual(set(entries.OPERATIONS) - {*random_scripts.REFUSALS}, {"readState", "readTime"})
 
 
 class Samples(unittest.TestCase):
@@ -200,7 +194,7 @@ class Following(unittest.TestCase):
 
     def test_worked_sessions_with_suspensions_belong_to_their_scripts(self):
         worked = by_hand.sessions()
-        for name, data, text, _ in worked["suspensions"] + worked["wave shapers"] + worked["filters"]:
+        for name, data, text, _ in worked["suspensions"] + worked["wave shapers"] + worked["filters"] + worked["delays"]:
             if not text:  # an asset can't be read
                 continue
             script = script_reading.script_of(data)

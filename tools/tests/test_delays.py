@@ -1,0 +1,432 @@
+"""Tests of how tools/expected.py works out delays and cycles, and of the load that has delays.
+
+The rules are tried one by one, on sessions whose samples are told by hand, and together on random sessions, against
+a calculation by recursion from one frame to another (meaning.py)."""
+
+import itertools
+import json
+import os
+import random
+import shutil
+import tempfile
+import types
+import unittest
+import unittest.mock
+
+import fixtures
+import load_script
+import meaning
+import random_scripts
+import worked_delays
+from expecting import automation, by_hand, delay, graph, numbers, reading, refusals, sessions
+from expecting.graph import End
+from worked_suspensions import mono, quanta
+
+RATE = 16384  # 1,024 is the time of one frame, and 131,072 that of a quantum
+COUNT = 150  # random sessions
+NUMBERS = worked_delays.NUMBERS  # a constant c whose sample at each frame is the frame's number
+LONG = "an echo that is faded in and out"  # of 30 seconds, which --rows alone replays
+
+
+def session_of(text, channels=1, length=384):
+    """The session of calls that are written OP FIELD=VALUE, and of startRendering behind them."""
+    script = by_hand.script_with(by_hand.calls_of(text) + [{"op": "startRendering"}], (channels, length, RATE))
+    return sessions.replayed(script)[2]
+
+
+def samples_of(text, **context):
+    return session_of(text, **context).samples
+
+
+def answer_of(text):
+    """The answer to the last of the calls that are written."""
+    session = session_of(text, length=1)
+    return next(line.split(" ", 1)[1] for line in session.lines if line.startswith("%d " % (session.calls_run - 1)))
+
+
+def delays_and_others(*kinds):
+    """Nodes of these kinds behind a destination."""
+    return [types.SimpleNamespace(kind=kind) for kind in ("destination", *kinds)]
+
+
+class Creations(unittest.TestCase):
+    def test_refusals_come_in_their_order(self):
+        fill = "createDelay as=d maxDelayTime=268435456; " * 16
+        nodes = "createGain as=g; " * 1007
+        for before, call, wanted in [
+                ("", "maxDelayTime=0", "throw NotSupportedError"), ("", "maxDelayTime=-2147483648", "throw NotSupportedError"),
+                ("", "maxDelayTime=268435457", "throw NotSupportedError profile:long-delay"),
+                ("", "maxDelayTime=268435456", "ok"), ("", "maxDelayTime=1", "ok"), ("", "delayTime=-1", "ok"),
+                ("", "delayTime=2147483647", "ok"), (fill, "maxDelayTime=1", "throw NotSupportedError profile:delay-limit"),
+                (fill, "maxDelayTime=0", "throw NotSupportedError"),
+                (fill, "maxDelayTime=268435457", "throw NotSupportedError profile:long-delay"),
+                (fill + nodes, "maxDelayTime=1", "throw NotSupportedError profile:node-limit"),
+                (fill + nodes, "maxDelayTime=0", "throw NotSupportedError")]:
+            self.assertEqual(answer_of(before + "createDelay as=e " + call), wanted, (len(before), call))
+
+    def test_the_capacity_is_the_longest_time_and_a_quantum_at_least(self):
+        for longest, rate, wanted in [(2**24, 48000, 48000), (1, 96000, 128), (2**28, 96000, 1536000), (2**28, 8000, 128000),
+                                      (130 * 1024, 16384, 130), (130 * 1024 + 511, 16384, 130), (130 * 1024 + 512, 16384, 131),
+                                      (128 * 1024 + 512, 16384, 129), (127 * 1024, 16384, 128)]:
+            self.assertEqual(delay.Delay({"as": "d", "maxDelayTime": longest}, rate, 0).capacity, wanted)
+
+    def test_what_a_refused_delay_would_have_is_free(self):
+        fill = "createDelay as=d maxDelayTime=268435456; " * 15 + "createDelay as=d maxDelayTime=268304384; "  # 128 are left
+        self.assertEqual(answer_of(fill + "createDelay as=e maxDelayTime=132096"), "throw NotSupportedError profile:delay-limit")
+        self.assertEqual(answer_of(fill + "createDelay as=e maxDelayTime=132096; createDelay as=e maxDelayTime=131072"), "ok")
+
+    def test_faults_of_reading_are_those_of_the_fields(self):
+        for fields, wanted in [({}, "1 as MissingField"), ({"as": "d", "maxDelayTime": 1.0}, "1 maxDelayTime WrongKind"),
+                               ({"as": "d", "maxDelayTime": 2**31, "delayTime": None}, "1 maxDelayTime OutOfRange"),
+                               ({"as": "d", "delayTime": -(2**31) - 1}, "1 delayTime OutOfRange"), ({"as": "d"}, None)]:
+            data = fixtures.script([{"op": "createDelay", **fields}])
+            try:
+                reading.script_of(data)
+                found = None
+            except reading.Fault as fault:
+                found = str(fault)
+            self.assertEqual(found, wanted)
+
+
+class Graphs(unittest.TestCase):
+    def test_parameters_count_for_cycles(self):
+        nodes = delays_and_others("delay", "gain")
+        for edges, in_cycle in [({(1, 0, 0, 0)}, set()), ({(1, 0, 1, 0)}, {1}), ({(1, 0, 1, "delayTime")}, {1}),
+                                ({(1, 0, 2, "gain"), (2, 0, 1, 0)}, {1}), ({(2, 0, 2, 0), (2, 0, 1, 0)}, set())]:
+            self.assertEqual(graph.Graph(nodes, edges).in_cycle, in_cycle, edges)
+
+    def test_ends_that_reach_themselves_are_muted(self):
+        nodes = delays_and_others("delay", "gain", "delay")
+        reader, other, gain = End(1, False), End(3, False), End(2, False)
+        for edges, muted in [
+                ({(1, 0, 1, 0)}, set()), ({(1, 0, 1, "delayTime")}, {reader}), ({(1, 0, 2, 0), (2, 0, 1, 0)}, set()),
+                ({(1, 0, 2, 0), (2, 0, 1, "delayTime")}, {reader, gain}), ({(2, 0, 2, "gain"), (2, 0, 1, 0)}, {gain}),
+                ({(1, 0, 3, "delayTime"), (3, 0, 1, "delayTime")}, {reader, other}),
+                ({(1, 0, 3, "delayTime"), (3, 0, 1, 0)}, set())]:
+            self.assertEqual(graph.Graph(nodes, edges).muted, muted, edges)
+
+    def test_random_graphs_are_those_of_all_paths(self):
+        rng = random.Random("graphs")
+        cycles = muted = 0
+        for _ in range(600):
+            kinds = [rng.choice(["delay", "gain"]) for _ in range(rng.randint(1, 7))]
+            nodes = delays_and_others(*kinds)
+            parameters = {"delay": "delayTime", "gain": "gain"}
+            edges = set()
+            for _ in range(rng.randint(0, 10)):
+                source, target = rng.randint(1, len(kinds)), rng.randint(0, len(kinds))
+                edges.add((source, 0, target, parameters[kinds[target - 1]] if target and rng.random() < 0.3 else 0))
+            found = graph.Graph(nodes, edges)
+            world = meaning.World(types.SimpleNamespace(nodes=nodes, edges=edges))
+            self.assertEqual((found.in_cycle, found.muted), (world.in_cycle, world.muted), edges)
+            self.assertFalse([end for end in found.muted if end.is_writer])
+            self.assertEqual(sorted([*found.order, *found.muted]), sorted(found.arrows))
+            places = {end: place for place, end in enumerate(found.order)}
+            for end, following in found.arrows.items():
+                for it in following - found.muted:
+                    self.assertTrue(end in found.muted or places[end] < places[it], edges)
+            cycles += len(found.in_cycle)
+            muted += len(found.muted)
+        self.assertGreater(min(cycles, muted), 300)
+
+
+class Times(unittest.TestCase):
+    def heard(self, delay_of_n, more="", first=0):
+        """Compares what a delay gives, whose time is set by more calls, with its delay in frames at each frame."""
+        found = samples_of(NUMBERS + worked_delays.THROUGH % "" + more)
+        wanted = [max(0, n - delay_of_n(n)) for n in range(384)]
+        self.assertEqual(found, mono(*wanted))
+
+    def test_halves_of_a_frame_go_up(self):
+        for time, frames in (0, 0), (511, 0), (512, 1), (1535, 1), (1536, 2), (-1, 0), (131072, 128), (131071, 128), (130559, 127):
+            self.heard(lambda _: frames, "setValue node=d param=delayTime value=%d" % time)
+
+    def test_the_computed_value_is_within_its_range_and_the_slot_is_not(self):
+        text = NUMBERS + "createDelay as=d delayTime=%d maxDelayTime=2048; readValue node=d param=delayTime"
+        for time, frames in (-5000, 0), (2049, 2), (2**31 - 1, 2), (1024, 1):
+            session = session_of(text % time + "; connect from=c to=d; connect from=d to=destination", length=20)
+            self.assertIn("6 value %d" % time, session.lines)
+            self.assertEqual(session.samples, mono(*(max(0, n - frames) for n in range(20))))
+
+    def test_rates(self):
+        ramp = """setValueAtTime node=d param=delayTime value=0 time=0
+            linearRampToValueAtTime node=d param=delayTime value=393216 time=384"""
+        self.heard(lambda n: n, ramp)
+        self.heard(lambda n: n - n % 128, ramp + "; setAutomationRate node=d param=delayTime value=k-rate")
+
+    def test_nodes_that_are_connected(self):
+        ramp = """createConstantSource as=k; setValueAtTime node=k param=offset value=0 time=0; start node=k
+            linearRampToValueAtTime node=k param=offset value=393216 time=384; connectParam from=k to=d param=delayTime"""
+        self.heard(lambda n: n, ramp)
+        self.heard(lambda n: n - n % 128, ramp + "; setAutomationRate node=d param=delayTime value=k-rate")
+        self.heard(lambda n: max(0, n - 5), ramp + "; setValue node=d param=delayTime value=-5120")
+
+    def test_every_operation_on_a_parameter_is_there(self):
+        operations = [*automation.EDITS, *automation.LEFT_OUT_EDITS, "readValue"]
+        fields = {"value": "0", "values": "[0,0]", "time": "0", "duration": "5"}
+        for op in operations:
+            given = {name: fields[name] for name, *_ in reading.OPERATIONS[op][2:]}
+            given.update({"value": "k-rate"} if op == "setAutomationRate" else {})
+            call = "%s node=d param=delayTime %s" % (op, " ".join("%s=%s" % it for it in given.items()))
+            wanted = automation.LEFT_OUT_EDITS.get(op)
+            wanted = "throw NotSupportedError profile:" + wanted if wanted else "value 7" if op == "readValue" else "ok"
+            self.assertEqual(answer_of("createDelay as=d delayTime=7; " + call), wanted)
+        self.assertEqual(answer_of("createDelay as=d; setValue node=d param=gain value=0"), "throw TypeError")
+        self.assertEqual(answer_of("createGain as=g; setValue node=g param=delayTime value=0"), "throw TypeError")
+
+    def test_values_of_many_frames_are_those_of_each(self):
+        rng = random.Random("timelines")
+        for _ in range(400):
+            timeline = automation.Timeline(rng.randint(-99, 99))
+            for _ in range(rng.randint(0, 9)):
+                call = {"value": rng.randint(-9999, 9999), "time": rng.randint(0, 300), "duration": rng.randint(1, 90),
+                        "values": [rng.randint(-999, 999) for _ in range(rng.randint(2, 5))]}
+                edits = [edit for op, edit in automation.EDITS.items() if op != "setAutomationRate"]
+                try:
+                    rng.choice(edits)(timeline, call, rng.randint(0, 60))
+                except refusals.Refused:
+                    pass
+            first = rng.randint(0, 300)
+            self.assertEqual(timeline.values(first, 128), [self.value(timeline, frame) for frame in range(first, first + 128)])
+
+    def value(self, timeline, frame):
+        """The value of a timeline at a frame, by its rule."""
+        until = [event for event in timeline.events if event.time <= frame]
+        after = timeline.events[len(until):]
+        if not until:
+            return timeline.base
+        last, start = until[-1], until[-1].time
+        if isinstance(last, automation.Curve):
+            start = last.end
+            value = automation.curve_value(last, min(frame, last.end))
+            if frame < last.end:
+                return value
+        else:
+            value = last.value
+        if after and isinstance(after[0], automation.Ramp):
+            rise, whole = after[0].value - value, after[0].time - start
+            return value + numbers.rounded_quotient(rise * (frame - start), whole)
+        return value
+
+
+class Channels(unittest.TestCase):
+    def test_blocks_are_mixed_as_frames_are(self):
+        rng = random.Random("blocks")
+        for several, count, word in itertools.product([*range(1, 9), 31, 32], [*range(1, 9), 31, 32], ["speakers", "discrete"]):
+            blocks = [[rng.randint(-(2**31), 2**31 - 1) for _ in range(128)] for _ in range(several)]
+            found = list(zip(*numbers.mixed_blocks(blocks, count, word)))
+            self.assertEqual([list(frame) for frame in found], [numbers.mixed(list(it), count, word) for it in zip(*blocks)])
+
+    def test_what_a_writer_had_its_reader_keeps(self):
+        it = delay.Delay({"as": "d"}, RATE, 256)
+        times, block = [0] * 128, [0] * 128
+        self.assertEqual(len(it.read(256, times, True)), 1)
+        for first, written, in_cycle, in_none in [(256, 1, 1, 1), (384, 4, 1, 4), (512, 2, 4, 4), (640, 6, 4, 6), (768, 1, 6, 6)]:
+            it.write(first, [block] * written)
+            self.assertEqual(len(it.read(first, times, True)), in_cycle)
+            self.assertEqual(len(it.read(first, times, False)), in_none)
+
+    def test_what_may_be_asked_for_is_kept_and_no_more(self):
+        for capacity, kept in (128, 3), (129, 4), (200, 4), (256, 4), (257, 5), (1000, 10):
+            it = delay.Delay({"as": "d", "maxDelayTime": 1024 * capacity}, RATE, 0)
+            for first in range(0, 128 * 40, 128):
+                it.write(first, [list(range(first, first + 128))])
+                for frames in 0, 1, 127, 128, capacity - 1, capacity:
+                    found = it.read(first, [1024 * frames] * 128, False)[0]
+                    self.assertEqual(found, [max(0, n - frames) for n in range(first, first + 128)])
+            self.assertLessEqual(len(it.written), kept)
+
+    def test_what_is_mixed_up_goes_by_the_interpretation_when_it_is_read(self):
+        it = delay.Delay({"as": "d"}, RATE, 0)
+        it.write(0, [[7] * 128])
+        it.write(128, [[1] * 128, [2] * 128])
+        for word, wanted in ("speakers", [7, 7]), ("discrete", [7, 0]):
+            it.interpretation = word
+            self.assertEqual([block[0] for block in it.read(128, [131072] * 128, False)], wanted)
+            self.assertEqual([block[0] for block in it.read(128, [0] * 128, False)], [1, 2])
+
+    def test_before_its_birth_a_delay_is_silent(self):
+        it = delay.Delay({"as": "d"}, RATE, 128)
+        it.write(128, [[5] * 128])
+        self.assertEqual(it.read(128, [1024 * 3] * 128, False), [[0, 0, 0] + [5] * 125])
+        self.assertEqual(it.read(128, [1024 * 3] * 128, True), [[0] * 128])
+        self.assertEqual(it.read(256, [1024 * 3] * 128, True), [[5] * 128])
+
+
+class Cycles(unittest.TestCase):
+    LOOP = NUMBERS + "createDelay as=d delayTime=%d; connect from=c to=d; connect from=d to=destination; "
+
+    def test_a_delay_in_a_cycle_lasts_a_quantum_at_least(self):
+        gain = "createGain as=g gain=0; connect from=d to=g; connect from=g to=d"
+        for frames in 0, 1, 127, 128, 129, 200:
+            found = samples_of(self.LOOP % (1024 * frames) + gain)
+            self.assertEqual(found, mono(*(max(0, n - max(128, frames)) for n in range(384))))
+            found = samples_of(self.LOOP % (1024 * frames) + gain + "; disconnect from=g")
+            self.assertEqual(found, mono(*(max(0, n - frames) for n in range(384))))
+
+    def test_a_cycle_by_a_parameter_is_one(self):
+        for text, is_one in [("connectParam from=d to=c param=offset", True), ("connectParam from=d to=g param=gain", False),
+                             ("connectParam from=d to=g param=gain; connect from=g to=d", True)]:
+            found = samples_of(self.LOOP % 0 + "createGain as=g gain=0; " + text, length=128)
+            self.assertEqual(found, mono(0) * 128 if is_one else mono(*range(128)), text)
+
+    def test_a_cycle_lasts_for_the_quanta_in_which_it_is_there(self):
+        for first, last in itertools.combinations(range(1, 4), 2):
+            text = self.LOOP % 0 + """createGain as=g gain=0; suspend time=%d {connect from=d to=g; connect from=g to=d; resume}
+                suspend time=%d {disconnect from=d to=g; resume}""" % (128 * first, 128 * last)
+            late = range(128 * first, 128 * last)
+            self.assertEqual(samples_of(text, length=512), mono(*(n - 128 if n in late else n for n in range(512))))
+
+    def test_a_muted_delay_is_silent_and_writes(self):
+        text = self.LOOP % 131072 + """connectParam from=d to=d param=delayTime
+            suspend time=256 {disconnectParam from=d to=d param=delayTime; resume}"""
+        self.assertEqual(samples_of(text), mono(*[0] * 256, *range(128, 256)))
+
+    def test_a_muted_delay_has_one_channel(self):
+        muted = "connectParam from=d to=d param=delayTime; "
+        text = worked_delays.SIDES + "createDelay as=d; connect from=m to=d; " + worked_delays.COUNTED + "connect from=d to=h; "
+        self.assertEqual(samples_of(text, channels=6, length=1), [[5, 6, 0, 0, 0, 0]])
+        self.assertEqual(samples_of(text + muted, channels=6, length=1), [[0, 0, 4, 0, 0, 0]])
+
+    def test_nodes_behind_a_cycle_are_not_muted(self):
+        text = NUMBERS + """createGain as=g; createDelay as=d; connect from=g to=g; connect from=g to=d; connect from=c to=d
+            connect from=c to=g; connect from=d to=destination"""
+        self.assertEqual(samples_of(text), mono(*range(384)))
+
+
+class Worked(unittest.TestCase):
+    def test_sessions_that_were_worked_out_by_hand(self):
+        worked = [by_hand.worked(it) for it in worked_delays.SESSIONS.values()]
+        worked += [by_hand.worked_with_lines(it) for name, it in worked_delays.SUSPENDED.items() if name != LONG]
+        self.assertEqual(by_hand.sessions_that_differ(worked), [])
+
+    def test_a_long_session_is_compared_at_some_frames(self):
+        _, script, text, samples = by_hand.worked(("createGain as=g", (1, 9, RATE), {}, [], {3: [0]}))
+        self.assertEqual(by_hand.sessions_that_differ([("", script, text, samples)]), [])
+        self.assertEqual(len(by_hand.sessions_that_differ([("", script, text, {3: [1]})])), 1)
+        self.assertEqual(len(by_hand.sessions_that_differ([("", script.replace(b"9", b"8", 1), text, samples)])), 1)
+
+
+class Meaning(unittest.TestCase):
+    def scripts(self, count=COUNT):
+        """Random scripts with delays whose assets stand in a folder of their own."""
+        shapes = [(1, random_scripts.Maker.delayed), (1, random_scripts.Maker.crossed)]
+        for number in range(count):
+            with unittest.mock.patch.multiple(random_scripts, SHAPES=[], DELAY_SHAPES=shapes):
+                script, assets = random_scripts.script_of(99, number, random_scripts.operations(True))
+            if len(script["calls"]) <= 70:
+                folder = tempfile.mkdtemp()
+                self.addCleanup(shutil.rmtree, folder)
+                random_scripts.write_assets(folder, assets)
+                yield number, json.dumps(script).encode(), folder
+
+    def test_random_sessions_are_those_of_the_recursion(self):
+        compared, moving, cycles, muted = 0, 0, 0, 0
+        for number, data, folder in self.scripts():
+            session, tape, values = meaning.values_of(data, folder)
+            if values is None:
+                continue
+            self.assertEqual(session.samples, [[numbers.sample_of(value) for value in frame] for frame in values], number)
+            flat = list(itertools.chain(*values))
+            self.assertEqual((session.peak, session.sum), (max(map(abs, flat)), sum(flat)), number)
+            compared += 1
+            moving += len(set(flat)) > 20
+            cycles += any(world.in_cycle for world in tape)
+            muted += any(number in world.delays for world in tape for number, _ in world.muted)
+        self.assertGreater(compared, COUNT // 2)
+        for some in moving, cycles, 4 * muted:
+            self.assertGreater(some, COUNT // 5)
+
+    def test_every_legal_order_gives_the_same(self):
+        rng = random.Random("orders")
+
+        def legal_order(self):
+            """The ends that are not muted, in a random order of those that are legal."""
+            order, there = [], set(self.muted)
+            while len(there) < len(self.arrows):
+                ready = [end for end in self.arrows if end not in there
+                         and all(it in there for it in self.arrows if end in self.arrows[it])]
+                order.append(rng.choice(ready))
+                there.add(order[-1])
+            return order
+
+        for number, data, folder in self.scripts(60):
+            plain = sessions.replayed(data, folder)
+            for _ in range(2):
+                with unittest.mock.patch.object(graph.Graph, "legal_order", legal_order):
+                    mixed = sessions.replayed(data, folder)
+                self.assertEqual(mixed[:2], plain[:2], number)
+                self.assertEqual(mixed[2] and mixed[2].samples, plain[2] and plain[2].samples, number)
+
+
+class RandomScripts(unittest.TestCase):
+    def test_delays_come_where_they_are_wanted_alone(self):
+        for delays in False, True:
+            texts = [json.dumps(random_scripts.script_of(3, number, random_scripts.operations(delays))[0]) for number in range(80)]
+            found = sum('"createDelay"' in text for text in texts)
+            self.assertTrue(found > 30 if delays else found == 0, found)
+
+    def test_every_answer_of_a_creation_comes_up(self):
+        answers = set()
+        for number, shape in enumerate([random_scripts.Maker.lines] * 4 + [random_scripts.Maker.crowd] * 2):
+            with unittest.mock.patch.multiple(random_scripts, SHAPES=[], DELAY_SHAPES=[(1, shape)]):
+                script, _ = random_scripts.script_of(5, number, random_scripts.operations(True))
+            _, text, _ = sessions.replayed(json.dumps(script).encode())
+            answers.update(random_scripts.answers_of(script, text))
+        wanted = {"createDelay throw " + refusal for refusal in random_scripts.REFUSALS["createDelay"]}
+        self.assertEqual(wanted - answers, set())
+
+
+class Loads(unittest.TestCase):
+    def test_the_numbers_of_a_load(self):
+        for number in 0, 1, 9999:
+            script = load_script.script(number)
+            _, following = reading.numbered(script["calls"], 1)
+            creations = [call["op"] for call in script["calls"] if call["op"].startswith("create")]
+            self.assertEqual((following - 1, len(creations) + 1, creations.count("createDelay")), (1768, 451, 25))
+            self.assertEqual(script["context"], {"channels": 2, "length": 480000, "rate": 48000})
+            reading.script_of(json.dumps(script).encode())
+
+    def test_the_first_draws_of_0(self):
+        draws = load_script.Draws(0)
+        self.assertEqual([draws.draw(most) for most in (2048, 32768, 4096, 240)], [0, 21468, 1796, 37])
+        draws = load_script.Draws(0)
+        self.assertEqual([draws.draw(2**15) for _ in range(4)], [0, 21468, 9988, 22117])
+        source, _, _, ramp = load_script.script(0)["calls"][:4]
+        self.assertEqual((source["offset"], ramp["value"], ramp["time"]), (-65536, 5495808, 114945))
+
+    def test_what_is_no_number_of_a_load(self):
+        for word in "-1", "10000", "x", "1.0":
+            self.assertEqual(fixtures.run("load_script.py", word).returncode, 2)
+
+    def test_the_summary_is_that_of_each_voice_by_itself(self):
+        length = 3000
+        script = {**load_script.script(7), "context": {"channels": 2, "length": length, "rate": 48000}}
+        script["calls"] = [call for call in script["calls"] if call["op"] != "suspend"]
+        total = [0] * length
+        for voice in range(load_script.VOICES):
+            calls = [call for call in script["calls"] if str(voice) in [it[1:] for it in call.values() if isinstance(it, str)]]
+            total = [a + b for a, b in zip(total, self.voice(calls, length))]
+        with tempfile.TemporaryDirectory() as folder:
+            path = fixtures.write(folder, "load.json", json.dumps(script))
+            found = fixtures.run("expected.py", path, "--summary").stdout.decode()
+        self.assertEqual(found, "summary calls 1726 quanta 24 ended 0 refused 0 peak %d sum %d\nend completed\n"
+                         % (max(map(abs, total)), 2 * sum(total)))
+
+    def voice(self, calls, length):
+        """The values that a voice brings to the destination."""
+        fields = {call["op"]: call for call in calls}
+        offset, ramp = fields["createConstantSource"]["offset"], fields["linearRampToValueAtTime"]
+        levels = [numbers.rounded_quotient(ramp["value"] * min(n, ramp["time"]), ramp["time"]) for n in range(length)]
+        heard = [numbers.rounded_quotient(offset * level, 2**24) if n >= fields["start"]["when"] else 0
+                 for n, level in enumerate(levels)]
+        if "createDelay" not in fields:
+            return heard
+        late, given = max(128, numbers.rounded_quotient(fields["createDelay"]["delayTime"] * 48000, 2**24)), []
+        for n in range(length):
+            given.append(heard[n - late] + numbers.rounded_quotient(given[n - late] * 2**23, 2**24) if n >= late else 0)
+        return given
+
+
+if __name__ == "__main__":
+    unittest.main()
