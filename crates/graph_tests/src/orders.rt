@@ -113,7 +113,7 @@ fn is_legal_list<L: Ledger>(
 }
 
 // What a survey and both orders say of a graph: a reader is its node's number, a writer has a `w`.
-fn told(alloc: Global, graph: &Graph) -> Result<String, NoMemory> {
+pub(crate) fn told(alloc: Global, graph: &Graph) -> Result<String, NoMemory> {
     let answers = ask::<Brand>(alloc, graph, Blank::new(1))?;
     let text = text_of(alloc, &answers);
     drop(answers);

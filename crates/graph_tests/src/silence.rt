@@ -16,7 +16,7 @@ const SPEC: ContextSpec = ContextSpec {
     rate: 48_000,
 };
 
-fn render<L: Ledger>(
+pub(crate) fn render<L: Ledger>(
     renderer: &mut Renderer,
     world: &World,
     first: u64,
