@@ -25,36 +25,36 @@ saw() {
     fi
 }
 
-# Runs the program on the file `in`, with all but the first of these words. It must end with the
-# first, write what the file `wanted` has, and leave out.wav as it is, which holds the word `before`.
-run() {
+# Runs the program on the file `in`, with all but the first two of these words. It must end with the
+# first and write what the file `wanted` has; then out.wav must have what the file has that the second
+# names. Before the run it holds the word `before`, and so does the file `before`.
+looks() {
     status=$1
-    shift
-    echo before >out.wav
+    file=$2
+    shift 2
+    echo before | tee before >out.wav
     "$program" "$@" <in >lines 2>&1
     found=$?
     [ "$found" -eq "$status" ]
     saw $? "$program $*: status $found in place of $status"
     cmp -s lines wanted
     saw $? "$program $*, status $status: another text than wanted"
-    [ "$(cat out.wav)" = before ]
-    saw $? "$program $*, status $status: the file is not as before"
+    cmp -s out.wav "$file"
+    saw $? "$program $*, status $status: another file than wanted, which is $file"
 }
 
-# Runs the program on the file `in`, with all but the first of these words. It must end with 0, write
-# what the file `wanted` has, and make out.wav what the file has that the first names.
+# The same, where out.wav is to be left as it is, and the first word is the status.
+run() {
+    status=$1
+    shift
+    looks "$status" before "$@"
+}
+
+# The same, where out.wav is to be written with status 0, and the first word names the file wanted.
 writes() {
     file=$1
     shift
-    echo before >out.wav
-    "$program" "$@" <in >lines 2>&1
-    found=$?
-    [ "$found" -eq 0 ]
-    saw $? "$program $*: status $found in place of 0"
-    cmp -s lines wanted
-    saw $? "$program $*: another text than wanted"
-    cmp -s out.wav "$file"
-    saw $? "$program $*: another file than wanted"
+    looks 0 "$file" "$@"
 }
 
 usage='words: waplay [--bits 16|24] [--order up|down] [--mode render|check] [--gen N] OUT'
