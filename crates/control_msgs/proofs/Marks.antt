@@ -9,7 +9,7 @@ use Rattle.wa_base.specs.declared.graph_names.NodeId.{NodeId}
 use Rattle.buffer_store.specs.declared.buffers.Buffer.{Buffer}
 use Rattle.node_table.specs.declared.kinds.Kind.{Kind}
 use Rattle.node_table.specs.declared.kinds.Kind.TheVariants as kinds
-use Rattle.node_table.specs.declared.kinds.Kind.TheVariants.{Destination, Constant, Gain, Splitter, Merger, Shaper, Iir}
+use Rattle.node_table.specs.declared.kinds.Kind.TheVariants.{Destination, Constant, Gain, Delay, Splitter, Merger, Shaper, Iir}
 use Rattle.meaning.specs.declared.world.World.{World}
 use Rattle.meaning.specs.Lists.{Listed}
 use Rattle.meaning.specs.World.{kind_of, plain}
@@ -62,6 +62,7 @@ mark_plays store Destination p true is = is
 mark_plays store (Constant offset) p true is = record { content = is.content; buffer = is.buffer }
 mark_plays store (kinds.Buffer rate) p true is = record { content = is.content; plays = is.plays; rate_of = is.rate_of; there = is.there; length_of = is.length_of }
 mark_plays store (Gain gain) p true is = is
+mark_plays store (Delay longest time capacity) p true is = is
 mark_plays store (Splitter ports) p true is = is
 mark_plays store (Merger ports) p true is = is
 mark_plays store (Shaper curve was_set) p true is = is

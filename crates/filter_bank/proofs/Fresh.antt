@@ -3,8 +3,8 @@ use Rattle.std.proofs.Common.{ℕ, ℤ, pos, ◌≡◌, ◌-◌, List, [], Optio
 use Rattle.shaper_iir.specs.Filter.{FilterStands}
 use Rattle.shaper_iir.proofs.Recalling.{born_stands}
 use Rattle.node_table.specs.declared.kinds.Kind.{Kind}
-use Rattle.node_table.specs.declared.kinds.Kind.TheVariants.{Destination, Constant, Buffer, Gain, Splitter, Merger, Shaper, Iir}
-use Rattle.meaning.specs.Values.{frames_since}
+use Rattle.node_table.specs.declared.kinds.Kind.TheVariants.{Destination, Constant, Buffer, Gain, Delay, Splitter, Merger, Shaper, Iir}
+use Rattle.meaning.specs.Lists.{since}
 use Rattle.filter_bank.specs.Heard.{FilterView, IsHeard, first_filter}
 
 -- a kind that is no filter has none
@@ -13,6 +13,7 @@ none_for Destination birth not = refl
 none_for (Constant offset) birth not = refl
 none_for (Buffer rate) birth not = refl
 none_for (Gain gain) birth not = refl
+none_for (Delay longest time capacity) birth not = refl
 none_for (Splitter ports) birth not = refl
 none_for (Merger ports) birth not = refl
 none_for (Shaper curve was_set) birth not = refl
@@ -26,5 +27,5 @@ fresh_heard found forward back birth at is = record {
   outputs = λ frames. refl;
   birth = refl;
   time = refl;
-  heard = λ c. subst (λ k. FilterStands (record { forward = forward; back = back; channels = [] }) c (frames_since (λ g. at g c) birth k)) (let e : 0 ≡ birth - birth = omega arith in e) (born_stands forward back);
+  heard = λ c. subst (λ k. FilterStands (record { forward = forward; back = back; channels = [] }) c (since (λ g. at g c) birth k)) (let e : 0 ≡ birth - birth = omega arith in e) (born_stands forward back);
 }

@@ -6,7 +6,7 @@ use Rattle.causal_core.specs.Filters.{filter_value}
 use Rattle.shaper_iir.specs.Filter.{history_of}
 use Rattle.shaper_iir.specs.Histories.{StandsFor}
 use Rattle.meaning.specs.declared.world.World.{World}
-use Rattle.meaning.specs.Values.{frames_since}
+use Rattle.meaning.specs.Lists.{since}
 use Rattle.filter_bank.specs.Heard.{FilterView, IsHeard, IsSame}
 use Rattle.filter_bank.specs.Banks.{BankView, filter_at, AreHeard, AreNew, AreSame, IsSameIfThere}
 
@@ -21,12 +21,12 @@ one_heard f g forward back born now at same is = record {
   birth = same.birth ∙ ap (λ (x : FilterView). x.birth) own ∙ is.birth;
   time = same.time ∙ ap (λ (x : FilterView). x.time) own ∙ is.time;
   heard = λ c.
-      let base : StandsFor f.state.forward f.state.back (history_of f.state c) (frames_since (λ k. at k c) f.birth (f.time - f.birth)) = subst (λ (x : FilterView). StandsFor x.state.forward x.state.back (history_of x.state c) (frames_since (λ k. at k c) x.birth (x.time - x.birth))) (sym own) (is.heard c) in
-      let by_forward = subst (λ a. StandsFor a f.state.back (history_of f.state c) (frames_since (λ k. at k c) f.birth (f.time - f.birth))) (sym same.forward) base in
-      let by_back = subst (λ a. StandsFor g.state.forward a (history_of f.state c) (frames_since (λ k. at k c) f.birth (f.time - f.birth))) (sym same.back) by_forward in
-      let by_history = subst (λ h. StandsFor g.state.forward g.state.back h (frames_since (λ k. at k c) f.birth (f.time - f.birth))) (sym (same.histories c)) by_back in
-      let by_birth = subst (λ b. StandsFor g.state.forward g.state.back (history_of g.state c) (frames_since (λ k. at k c) b (f.time - b))) (sym same.birth) by_history in
-      subst (λ t. StandsFor g.state.forward g.state.back (history_of g.state c) (frames_since (λ k. at k c) g.birth (t - g.birth))) (sym same.time) by_birth;
+      let base : StandsFor f.state.forward f.state.back (history_of f.state c) (since (λ k. at k c) f.birth (f.time - f.birth)) = subst (λ (x : FilterView). StandsFor x.state.forward x.state.back (history_of x.state c) (since (λ k. at k c) x.birth (x.time - x.birth))) (sym own) (is.heard c) in
+      let by_forward = subst (λ a. StandsFor a f.state.back (history_of f.state c) (since (λ k. at k c) f.birth (f.time - f.birth))) (sym same.forward) base in
+      let by_back = subst (λ a. StandsFor g.state.forward a (history_of f.state c) (since (λ k. at k c) f.birth (f.time - f.birth))) (sym same.back) by_forward in
+      let by_history = subst (λ h. StandsFor g.state.forward g.state.back h (since (λ k. at k c) f.birth (f.time - f.birth))) (sym (same.histories c)) by_back in
+      let by_birth = subst (λ b. StandsFor g.state.forward g.state.back (history_of g.state c) (since (λ k. at k c) b (f.time - b))) (sym same.birth) by_history in
+      subst (λ t. StandsFor g.state.forward g.state.back (history_of g.state c) (since (λ k. at k c) g.birth (t - g.birth))) (sym same.time) by_birth;
 }
   where
     own : f ≡ is.filter

@@ -2,7 +2,7 @@
 use Rattle.std.specs.Prelude.{ℕ, ℤ, pos, ◌≡◌, ◌<◌, ◌≤◌, ◌+◌, ◌-◌, ◌*◌, ◌^◌, length, take, List, slice_index_or, Option, None, Some}
 use Rattle.causal_core.specs.Filters.{filter_value}
 use Rattle.causal_core.specs.Frames.{item}
-use Rattle.meaning.specs.Values.{frames_since}
+use Rattle.meaning.specs.Lists.{since}
 use Rattle.node_table.specs.declared.kinds.Kind.TheVariants.{Iir}
 use Rattle.meaning.specs.declared.world.World.{World}
 use Rattle.meaning.specs.World.{node_at, kind_of}
@@ -56,7 +56,7 @@ pub record Hears (old new : BankView) (node : ℕ) (x y : List ℤ) : Type 0 whe
   pub rooms : (g : FilterView) → filter_at new node ≡ Some g → (f : FilterView) × (filter_at old node ≡ Some f) × (room_of g ≡ room_of f)
   pub heard : (f : FilterView) → filter_at old node ≡ Some f → f.time ≤ 2 ^ 62 → (at : ℕ → ℕ → ℤ) → HasHeard at f → Brings f.time x at → IsHeard (filter_at new node) f.state.forward f.state.back f.birth (f.time + 128) at
   pub values : (f : FilterView) → filter_at old node ≡ Some f → (at : ℕ → ℕ → ℤ) → HasHeard at f → Brings f.time x at → (c k : ℕ) → c < room_of f → k < 128 →
-      item y (c * 128 + k) ≡ filter_value f.state.forward f.state.back (frames_since (λ g. at g c) f.birth (f.time + k + 1 - f.birth))
+      item y (c * 128 + k) ≡ filter_value f.state.forward f.state.back (since (λ g. at g c) f.birth (f.time + k + 1 - f.birth))
 
 -- there is room for the channels of each node's end, which stands at the second of its two places
 abbrev pub HaveRoom : BankView → List ℕ → Type 0

@@ -6,7 +6,7 @@ use Rattle.shaper_iir.specs.Filter.{Filter, FilterStands, history_of}
 use Rattle.node_table.specs.declared.kinds.Kind.{Kind}
 use Rattle.node_table.specs.declared.kinds.Kind.TheVariants.{Iir}
 use Rattle.node_table.specs.declared.nodes.Node.{Node}
-use Rattle.meaning.specs.Values.{frames_since}
+use Rattle.meaning.specs.Lists.{since}
 
 -- What contracts see of a node's filter: when the node was born, before which frame it has heard its input, and its state.
 pub record FilterView : Type 0 where
@@ -25,7 +25,7 @@ room_of f = length f.state.channels
 
 -- of each channel it has heard the frames from its birth up to its time, where at has frame g of channel c
 abbrev pub HasHeard : (ℕ → ℕ → ℤ) → FilterView → Type 0
-HasHeard at f = (c : ℕ) → FilterStands f.state c (frames_since (λ g. at g c) f.birth (f.time - f.birth))
+HasHeard at f = (c : ℕ) → FilterStands f.state c (since (λ g. at g c) f.birth (f.time - f.birth))
 
 -- a block, channel after channel, has 128 frames from a frame on
 abbrev pub Brings : ℕ → List ℤ → (ℕ → ℕ → ℤ) → Type 0

@@ -1,7 +1,7 @@
 ghost use Rattle.std.specs.Prelude.{◌≡◌, ◌<◌, ◌≤◌, ◌+◌, ◌-◌, ◌*◌, ◌^◌, ℕ, ℤ, pos, None, [], length, slice_index_or, IfOk, OnOk};
 ghost use Rattle.causal_core.specs.Filters.{filter_refusal, filter_value};
 ghost use Rattle.causal_core.specs.Frames.{item};
-ghost use Rattle.meaning.specs.Values.{frames_since};
+ghost use Rattle.meaning.specs.Lists.{since};
 ghost use Rattle.filter_bank.specs.Heard.{room_of, HasHeard, Brings, HasOutputs, IsRested, IsSame};
 
 use causal_core::Causal;
@@ -77,7 +77,7 @@ impl NodeFilter {
         ensures outputs { HasOutputs self.new.state self.old.state.forward self.old.state.back }
         ensures heard { self.old.time ≤ 2 ^ 62 → (at : ℕ → ℕ → ℤ) → HasHeard at self.old → Brings self.old.time x.now at → HasHeard at self.new }
         ensures values { (at : ℕ → ℕ → ℤ) → HasHeard at self.old → Brings self.old.time x.now at → (c k : ℕ) → c < room_of self.old → k < 128 →
-            item y.new (c * 128 + k) ≡ filter_value self.old.state.forward self.old.state.back (frames_since (λ g. at g c) self.old.birth (self.old.time + k + 1 - self.old.birth)) }
+            item y.new (c * 128 + k) ≡ filter_value self.old.state.forward self.old.state.back (since (λ g. at g c) self.old.birth (self.old.time + k + 1 - self.old.birth)) }
         ensures length { length y.new ≡ length y.old }
     {
         self.state.block(x, y, QUANTUM);

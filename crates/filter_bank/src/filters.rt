@@ -2,7 +2,7 @@ ghost use Rattle.std.specs.Prelude.{◌≡◌, ◌<◌, ◌≤◌, ◌+◌, ◌-
 ghost use Rattle.causal_core.specs.Filters.{filter_value};
 ghost use Rattle.causal_core.specs.Frames.{item};
 ghost use Rattle.meaning.specs.Validity.{IsValid};
-ghost use Rattle.meaning.specs.Values.{frames_since};
+ghost use Rattle.meaning.specs.Lists.{since};
 ghost use Rattle.filter_bank.specs.Heard.{FilterView as a_filter, room_of, HasHeard, Brings, IsHeard, first_filter};
 ghost use Rattle.meaning.specs.World.{node_at, kind_of};
 ghost use Rattle.filter_bank.specs.Banks.{filter_at, AreNew, AreSame, IsSameIfThere, IsRestedIfThere, HaveRoom, Hears};
@@ -182,7 +182,7 @@ fn hear_one(filter: &mut Option<NodeFilter>, x: &[Fix], y: &mut [Fix])
     ensures rooms { (g : a_filter) → filter.new ≡ Some g → (f : a_filter) × (filter.old ≡ Some f) × (room_of g ≡ room_of f) }
     ensures heard { (f : a_filter) → filter.old ≡ Some f → f.time ≤ 2 ^ 62 → (at : ℕ → ℕ → ℤ) → HasHeard at f → Brings f.time x.now at → IsHeard filter.new f.state.forward f.state.back f.birth (f.time + 128) at }
     ensures values { (f : a_filter) → filter.old ≡ Some f → (at : ℕ → ℕ → ℤ) → HasHeard at f → Brings f.time x.now at → (c k : ℕ) → c < room_of f → k < 128 →
-        item y.new (c * 128 + k) ≡ filter_value f.state.forward f.state.back (frames_since (λ g. at g c) f.birth (f.time + k + 1 - f.birth)) }
+        item y.new (c * 128 + k) ≡ filter_value f.state.forward f.state.back (since (λ g. at g c) f.birth (f.time + k + 1 - f.birth)) }
     ensures length { length y.new ≡ length y.old }
 {
     if let Some(filter) = filter {

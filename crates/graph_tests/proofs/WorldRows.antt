@@ -1,5 +1,5 @@
 -- What no timeline is, what a gain's parameter keeps to, and when a tape is regular, on small lists and worlds, in quanta of 2 frames.
-use Rattle.std.proofs.Common.{ℕ, zero, suc, ◌+◌, ◌*◌, ℤ, pos, negsuc, neg_ℤ, ◌≡◌, ◌<◌, ◌≤◌, List, [], ◌∷◌, length, map, Some, inl, inr, refl, arith}
+use Rattle.std.proofs.Common.{ℕ, zero, suc, ◌+◌, ◌*◌, ℤ, pos, negsuc, neg_ℤ, ◌≡◌, ◌<◌, ◌≤◌, List, [], ◌∷◌, length, map, All, Some, inl, inr, refl, arith}
 use Rattle.std.proofs.lemmas.List.Elements.{All-cons}
 use Rattle.wa_base.specs.declared.contexts.ContextSpec.{ContextSpec}
 use Rattle.wa_base.specs.declared.graph_names.ParamName.{ParamName}
@@ -28,6 +28,7 @@ use Rattle.meaning.specs.Counts.{world_in, count_rule, count_at, count}
 use Rattle.meaning.specs.Values.{input_value, computed_value, equation, value_at, value}
 use Rattle.meaning.specs.Rendered.{sample}
 use Rattle.meaning.specs.Worlds.{IsRegular, Stays, IsNewIn}
+use Rattle.meaning.proofs.NodeKinds.{no_capacity_in}
 
 -- ---- timelines
 
@@ -131,8 +132,12 @@ births (suc (suc j)) i l new = absurd (omega arith)
 in_time : IsValid alone → IsValid (joined 2) → IsRegular 2 grown
 unfolding grown alone context world
 in_time first second = record {
-  valid = All-cons IsValid alone (joined 2 ∷ []) first (All-cons IsValid (joined 2) [] second (λ k d l. absurd (omega arith)));
+  valid = each_valid;
+  capacity = λ j i l. no_capacity_in 2 grown each_valid j i;
   spec = one_context;
   stays = nodes_stay;
   born = births;
 }
+  where
+    each_valid : All IsValid grown
+    each_valid = All-cons IsValid alone (joined 2 ∷ []) first (All-cons IsValid (joined 2) [] second (λ k d l. absurd (omega arith)))

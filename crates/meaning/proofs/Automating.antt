@@ -36,7 +36,7 @@ same_nodes params params' same = sym (through params') ∙ ap (map (λ (id : Par
 pub with_params_valid : (w : World) (params : List Param) → map (λ (p : Param). p.id) params ≡ param_ids w → ((p : Param) → IsIn p params → IsTimeline p.line.events) → IsValid w → IsValid (with_params w params)
 with_params_valid w params same lines valid = record {
   spec = valid.spec;
-  nodes = record { some = valid.nodes.some; few = valid.nodes.few; first = valid.nodes.first; others = valid.nodes.others };
+  nodes = record { some = valid.nodes.some; few = valid.nodes.few; kept = valid.nodes.kept; first = valid.nodes.first; others = valid.nodes.others };
   graph = valid.graph;
   ports = valid.ports;
   params = record {
@@ -48,6 +48,7 @@ with_params_valid w params same lines valid = record {
   };
   scheds = record { each = valid.scheds.each; once = valid.scheds.once; kinds = valid.scheds.kinds };
   store = valid.store;
+  no_delay = valid.no_delay;
 }
 
 -- ---- an edit of a parameter

@@ -3,7 +3,7 @@ use Rattle.std.proofs.Common.{ℕ, ◌≡◌, ◌+◌, ◌<◌, length, List, []
 use Rattle.std.specs.Prelude.{◌↔◌, IsSome, is_some}
 use Rattle.std.specs.List.Sorted.{IsStrictlyIncreasing}
 use Rattle.std.proofs.lemmas.Bool.{cases_lt}
-use Rattle.std.proofs.lemmas.List.{append-nil, get_or_append_left, length-map, map-append}
+use Rattle.std.proofs.lemmas.List.{append-nil, get_or_past, get_or_append_left, length-map, map-append}
 use Rattle.std.proofs.Math.Seq.{get_or-append_seam}
 use Rattle.wa_base.specs.declared.graph_names.ParamId.{ParamId}
 use Rattle.wa_base.specs.declared.graph_names.ParamName.{ParamName}
@@ -11,12 +11,12 @@ use Rattle.wa_base.specs.declared.graph_names.ParamName.TheVariants as param
 use Rattle.law_base.specs.Members.{IsIn, AreDistinct}
 use Rattle.law_base.proofs.Members.{IsIn-append, IsIn-append_first, IsIn-append_second}
 use Rattle.param_events.specs.Timeline.{IsTimeline}
-use Rattle.node_table.specs.Kinds.{is_destination, param_base, IsInEntry}
+use Rattle.node_table.specs.Kinds.{is_destination, is_delay_kind, param_base, IsInEntry}
 use Rattle.node_table.specs.Nodes.{creation_refusal, node_of}
 use Rattle.node_table.specs.declared.kinds.Kind.{Kind}
-use Rattle.node_table.specs.declared.kinds.Kind.TheVariants.{Destination, Constant, Buffer, Gain, Splitter, Merger, Shaper, Iir}
+use Rattle.node_table.specs.declared.kinds.Kind.TheVariants.{Destination, Constant, Buffer, Gain, Delay, Splitter, Merger, Shaper, Iir}
 use Rattle.node_table.specs.declared.nodes.Node.{Node}
-use Rattle.node_table.proofs.NodeLists.{room_left, ports_of_accepted, created_node}
+use Rattle.node_table.proofs.NodeLists.{room_left, ports_of_accepted, created_node, capacities_with, kept_with}
 use Rattle.conn_graph.proofs.Graphs.{IsGraph-with_node}
 use Rattle.meaning.specs.declared.world.World.{World}
 use Rattle.meaning.specs.declared.params.Param.{Param}
@@ -68,11 +68,7 @@ none_there h = cc
 
 -- a new node has the parameters of its kind
 new_each : (node : ℕ) (kind : Kind) (name : ParamName) → IsIn (param_id node name) (new_ids node (param_of kind)) ↔ IsSome (param_base kind name)
-new_each node Destination param.Offset = ((λ h. absurd h), (λ h. absurd (none_there h)))
-new_each node Destination param.Gain = ((λ h. absurd h), (λ h. absurd (none_there h)))
-new_each node Destination param.DelayTime = ((λ h. absurd h), (λ h. absurd (none_there h)))
-new_each node Destination param.PlaybackRate = ((λ h. absurd h), (λ h. absurd (none_there h)))
-new_each node Destination param.Detune = ((λ h. absurd h), (λ h. absurd (none_there h)))
+new_each node Destination name = ((λ h. absurd h), (λ h. absurd (none_there h)))
 new_each node (Constant offset) param.Offset = ((λ h. refl), (λ h. inl refl))
 new_each node (Constant offset) param.Gain = ((λ h. let e = new_id_name node param.Offset param.Gain offset h in absurd cc), (λ h. absurd (none_there h)))
 new_each node (Constant offset) param.DelayTime = ((λ h. let e = new_id_name node param.Offset param.DelayTime offset h in absurd cc), (λ h. absurd (none_there h)))
@@ -83,31 +79,16 @@ new_each node (Gain gain) param.Gain = ((λ h. refl), (λ h. inl refl))
 new_each node (Gain gain) param.DelayTime = ((λ h. let e = new_id_name node param.Gain param.DelayTime gain h in absurd cc), (λ h. absurd (none_there h)))
 new_each node (Gain gain) param.PlaybackRate = ((λ h. let e = new_id_name node param.Gain param.PlaybackRate gain h in absurd cc), (λ h. absurd (none_there h)))
 new_each node (Gain gain) param.Detune = ((λ h. let e = new_id_name node param.Gain param.Detune gain h in absurd cc), (λ h. absurd (none_there h)))
-new_each node (Buffer rate) param.Offset = ((λ h. absurd h), (λ h. absurd (none_there h)))
-new_each node (Buffer rate) param.Gain = ((λ h. absurd h), (λ h. absurd (none_there h)))
-new_each node (Buffer rate) param.DelayTime = ((λ h. absurd h), (λ h. absurd (none_there h)))
-new_each node (Buffer rate) param.PlaybackRate = ((λ h. absurd h), (λ h. absurd (none_there h)))
-new_each node (Buffer rate) param.Detune = ((λ h. absurd h), (λ h. absurd (none_there h)))
-new_each node (Splitter ports) param.Offset = ((λ h. absurd h), (λ h. absurd (none_there h)))
-new_each node (Splitter ports) param.Gain = ((λ h. absurd h), (λ h. absurd (none_there h)))
-new_each node (Splitter ports) param.DelayTime = ((λ h. absurd h), (λ h. absurd (none_there h)))
-new_each node (Splitter ports) param.PlaybackRate = ((λ h. absurd h), (λ h. absurd (none_there h)))
-new_each node (Splitter ports) param.Detune = ((λ h. absurd h), (λ h. absurd (none_there h)))
-new_each node (Merger ports) param.Offset = ((λ h. absurd h), (λ h. absurd (none_there h)))
-new_each node (Merger ports) param.Gain = ((λ h. absurd h), (λ h. absurd (none_there h)))
-new_each node (Merger ports) param.DelayTime = ((λ h. absurd h), (λ h. absurd (none_there h)))
-new_each node (Merger ports) param.PlaybackRate = ((λ h. absurd h), (λ h. absurd (none_there h)))
-new_each node (Merger ports) param.Detune = ((λ h. absurd h), (λ h. absurd (none_there h)))
-new_each node (Shaper curve was_set) param.Offset = ((λ h. absurd h), (λ h. absurd (none_there h)))
-new_each node (Shaper curve was_set) param.Gain = ((λ h. absurd h), (λ h. absurd (none_there h)))
-new_each node (Shaper curve was_set) param.DelayTime = ((λ h. absurd h), (λ h. absurd (none_there h)))
-new_each node (Shaper curve was_set) param.PlaybackRate = ((λ h. absurd h), (λ h. absurd (none_there h)))
-new_each node (Shaper curve was_set) param.Detune = ((λ h. absurd h), (λ h. absurd (none_there h)))
-new_each node (Iir forward back) param.Offset = ((λ h. absurd h), (λ h. absurd (none_there h)))
-new_each node (Iir forward back) param.Gain = ((λ h. absurd h), (λ h. absurd (none_there h)))
-new_each node (Iir forward back) param.DelayTime = ((λ h. absurd h), (λ h. absurd (none_there h)))
-new_each node (Iir forward back) param.PlaybackRate = ((λ h. absurd h), (λ h. absurd (none_there h)))
-new_each node (Iir forward back) param.Detune = ((λ h. absurd h), (λ h. absurd (none_there h)))
+new_each node (Delay longest time capacity) param.Offset = ((λ h. let e = new_id_name node param.DelayTime param.Offset time h in absurd cc), (λ h. absurd (none_there h)))
+new_each node (Delay longest time capacity) param.Gain = ((λ h. let e = new_id_name node param.DelayTime param.Gain time h in absurd cc), (λ h. absurd (none_there h)))
+new_each node (Delay longest time capacity) param.DelayTime = ((λ h. refl), (λ h. inl refl))
+new_each node (Delay longest time capacity) param.PlaybackRate = ((λ h. let e = new_id_name node param.DelayTime param.PlaybackRate time h in absurd cc), (λ h. absurd (none_there h)))
+new_each node (Delay longest time capacity) param.Detune = ((λ h. let e = new_id_name node param.DelayTime param.Detune time h in absurd cc), (λ h. absurd (none_there h)))
+new_each node (Buffer rate) name = ((λ h. absurd h), (λ h. absurd (none_there h)))
+new_each node (Splitter ports) name = ((λ h. absurd h), (λ h. absurd (none_there h)))
+new_each node (Merger ports) name = ((λ h. absurd h), (λ h. absurd (none_there h)))
+new_each node (Shaper curve was_set) name = ((λ h. absurd h), (λ h. absurd (none_there h)))
+new_each node (Iir forward back) name = ((λ h. absurd h), (λ h. absurd (none_there h)))
 
 new_line : (node : ℕ) (p : Option (ParamName × ℤ)) (x : Param) → IsIn x (new_params node p) → IsTimeline x.line.events
 new_line node None x is = absurd is
@@ -155,7 +136,8 @@ pub record IsNewPlay (w : World) (kind : Kind) (play : Option Play) : Type 0 whe
   pub sources : is_some play ≡ is_source kind
   pub fits : (p : Play) → play ≡ Some p → IsPlayOf w.store kind p
 
-module _ (w : World) (kind : Kind) (play : Option Play) (new : IsNewPlay w kind play) (now : ℕ) (valid : IsValid w) (other : is_destination kind ≡ false) (entry : IsInEntry kind) (accepted : creation_refusal w.nodes kind ≡ None) where
+module _ (w : World) (kind : Kind) (play : Option Play) (new : IsNewPlay w kind play) (now : ℕ) (valid : IsValid w) (other : is_destination kind ≡ false) (entry : IsInEntry kind)
+    (no_delay : is_delay_kind kind ≡ false) (accepted : creation_refusal w.nodes kind ≡ None) where
   abbrev count : ℕ
   count = length w.nodes
 
@@ -178,6 +160,7 @@ module _ (w : World) (kind : Kind) (play : Option Play) (new : IsNewPlay w kind 
   created_nodes = record {
     some = let l = valid.nodes.some in omega (arith, long);
     few = omega (arith, long, few);
+    kept = let kept = kept_with w.nodes kind valid.nodes.kept accepted in omega (arith, capacities_with w.nodes kind now);
     first = rw (kept 0 valid.nodes.some) valid.nodes.first;
     others = λ i low high. elim (place_of w.nodes (node_of kind now) i high) [
       | there l ↦ rw (kept i l) (valid.nodes.others i low l)
@@ -248,6 +231,15 @@ module _ (w : World) (kind : Kind) (play : Option Play) (new : IsNewPlay w kind 
     kinds = created_kinds;
   }
 
+  created_delays : (i : ℕ) → is_delay_kind (slice_index_or more i no_node).kind ≡ false
+  created_delays i = elim (cases_lt i (length more)) [
+    | inl below ↦ elim (place_of w.nodes (node_of kind now) i below) [
+      | there l ↦ rw (kept i l) (valid.no_delay i)
+      | newest is ↦ rw (last i is) no_delay
+    ]
+    | inr past ↦ ap (λ (n : Node). is_delay_kind n.kind) (get_or_past more i no_node past)
+  ]
+
   pub created_valid : IsValid (created w kind play now)
   created_valid = record {
     spec = valid.spec;
@@ -257,4 +249,5 @@ module _ (w : World) (kind : Kind) (play : Option Play) (new : IsNewPlay w kind 
     params = created_params;
     scheds = created_scheds;
     store = valid.store;
+    no_delay = created_delays;
   }

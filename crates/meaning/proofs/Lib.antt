@@ -2,6 +2,7 @@ pub mod Joined
 pub mod NodeKinds
 pub mod Seeing
 pub mod CountLaws
+pub mod MixedUp
 pub mod ValueLaws
 pub mod OrderLaws
 pub mod BlockLaws
@@ -9,6 +10,7 @@ pub mod TapeLaws
 pub mod Successors
 pub mod PastLaws
 pub mod QuantumLaws
+pub mod Asking
 pub mod Ranges
 pub mod Valid
 pub mod Creating
@@ -22,4 +24,5 @@ pub mod Automating
 pub mod Loops
 pub mod Changing
 pub mod Rows
+pub mod DelayRows
 pub mod BufferRows

@@ -1,17 +1,22 @@
 -- What the table of nodes says of a world's nodes.
-use Rattle.std.proofs.Common.{ℕ, zero, suc, ◌≡◌, ◌<◌, length, List, Some, inl, inr, sym, ◌∙◌, ap, arith, subst}
+use Rattle.std.proofs.Common.{ℕ, zero, suc, ◌≡◌, ◌<◌, length, List, [], ◌∷◌, All, false, Some, inl, inr, sym, ◌∙◌, ap, arith, subst}
 use Rattle.std.specs.Prelude.{option_map, unwrap_or, slice_get, slice_index_or}
 use Rattle.std.proofs.lemmas.Bool.{cases_lt}
 use Rattle.std.proofs.lemmas.List.{get_or_past}
+use Rattle.std.proofs.lemmas.List.Elements.{All-head, All-tail}
 use Rattle.std.proofs.lemmas.Option.{slice_get-get_or}
-use Rattle.node_table.specs.Kinds.{IsInLimits}
+use Rattle.wa_base.specs.declared.contexts.ContextSpec.{ContextSpec}
+use Rattle.node_table.specs.Kinds.{is_delay_kind, IsInEntry, IsInLimits}
 use Rattle.node_table.specs.Nodes.{attrs_at, kind_at}
 use Rattle.node_table.specs.declared.kinds.Kind.{Kind}
+use Rattle.node_table.specs.declared.kinds.Kind.TheVariants.{Destination, Constant, Buffer, Gain, Delay, Splitter, Merger, Shaper, Iir}
 use Rattle.node_table.specs.declared.nodes.Attrs.{Attrs}
 use Rattle.node_table.specs.declared.nodes.Node.{Node}
 use Rattle.meaning.specs.declared.world.World.{World}
 use Rattle.meaning.specs.World.{no_node, node_at, kind_of}
 use Rattle.meaning.specs.Validity.{IsValid}
+use Rattle.meaning.specs.Counts.{world_in}
+use Rattle.meaning.specs.Worlds.{HasCapacity}
 
 mapped_at : {X Y : Type 0} (f : X → Y) (xs : List X) (i : ℕ) (d : X) (y : Y) → i < length xs → option_map f (slice_get xs i) ≡ Some y → f (slice_index_or xs i d) ≡ y
 mapped_at f xs i d y l e =
@@ -32,3 +37,30 @@ limits_there w valid (suc i) = elim (cases_lt (suc i) (length w.nodes)) [
   | inl there ↦ (valid.nodes.others (suc i) (omega arith) there).limits
   | inr past ↦ subst (λ (n : Node). IsInLimits n.kind) (sym (get_or_past w.nodes (suc i) no_node past)) tt
 ]
+
+-- what it was created with is in the ranges of its kind
+pub entry_there : (w : World) → IsValid w → (i : ℕ) → IsInEntry (kind_of w i)
+entry_there w valid zero = subst IsInEntry (sym valid.nodes.first.kind) tt
+entry_there w valid (suc i) = elim (cases_lt (suc i) (length w.nodes)) [
+  | inl there ↦ (valid.nodes.others (suc i) (omega arith) there).entry
+  | inr past ↦ subst (λ (n : Node). IsInEntry n.kind) (sym (get_or_past w.nodes (suc i) no_node past)) tt
+]
+
+-- ---- what holds as long as no world has a delay
+
+-- what is kept is no matter of other nodes
+no_capacity : (q : ℕ) (spec : ContextSpec) (kind : Kind) → is_delay_kind kind ≡ false → HasCapacity q spec kind
+no_capacity q spec Destination is = tt
+no_capacity q spec (Constant offset) is = tt
+no_capacity q spec (Buffer rate) is = tt
+no_capacity q spec (Gain gain) is = tt
+no_capacity q spec (Delay longest time capacity) is = absurd cc
+no_capacity q spec (Splitter ports) is = tt
+no_capacity q spec (Merger ports) is = tt
+no_capacity q spec (Shaper curve was_set) is = tt
+no_capacity q spec (Iir forward back) is = tt
+
+pub no_capacity_in : (q : ℕ) (tape : List World) → All IsValid tape → (j i : ℕ) → HasCapacity q (world_in tape j).spec (node_at (world_in tape j) i).kind
+no_capacity_in q [] all j i = tt
+no_capacity_in q (w ∷ ws) all zero i = let valid = All-head IsValid w ws all in no_capacity q w.spec (kind_of w i) (valid.no_delay i)
+no_capacity_in q (w ∷ ws) all (suc j) i = no_capacity_in q ws (All-tail IsValid w ws all) j i

@@ -12,32 +12,20 @@ use Rattle.law_base.specs.Heights.{at_height, at_moment, before}
 use Rattle.law_base.proofs.SchemeLaws.{moment-zero}
 use Rattle.node_table.specs.Kinds.{is_delay_kind, remembers}
 use Rattle.node_table.specs.declared.kinds.Kind.{Kind}
-use Rattle.node_table.specs.declared.kinds.Kind.TheVariants.{Destination, Constant, Buffer, Gain, Splitter, Merger, Shaper, Iir}
 use Rattle.conn_graph.specs.Graph.{Connections}
 use Rattle.conn_graph.specs.Ends.{writer_of, reader_of, input_end, ends, is_delay, height, muted}
-use Rattle.conn_graph.proofs.EndLaws.{has_end}
+use Rattle.conn_graph.proofs.EndLaws.{has_end, has_writer}
 use Rattle.meaning.specs.declared.world.World.{World}
 use Rattle.meaning.specs.World.{plain, node_at, kind_of}
 use Rattle.meaning.specs.Validity.{IsJoined}
 use Rattle.meaning.specs.Counts.{Counts, world_in, count_rule, count_scheme, count_at, count}
 use Rattle.meaning.specs.Values.{Frame, Values, no_frame, world_at, known_at, taken_in, computed_value, equation, value_scheme, value_at, value, frame, frames_before, param_value}
-use Rattle.meaning.specs.Pasts.{last_world, heard, past}
-use Rattle.meaning.proofs.CountLaws.{count_rule_alike}
+use Rattle.meaning.specs.Pasts.{last_world, heard, written, past}
+use Rattle.meaning.proofs.CountLaws.{SameBefore, count_rule_alike, counts_before_are}
 use Rattle.meaning.proofs.Seeing.{LikeFor, SeesFor, input_like, computed_like, equation_sees}
-use Rattle.meaning.proofs.Successors.{div-le-div, delay_remembers, SamePast}
+use Rattle.meaning.proofs.Successors.{div-le-div, SamePast}
 use Rattle.meaning.proofs.ValueLaws.{value_suc}
 use Rattle.meaning.proofs.TapeLaws.{world_after, count_before, quantum_below, frame_before}
-
--- what the writer of a delay carries is what the delay takes in
-writer_carries : (q : ℕ) (kind : Kind) → is_delay_kind kind ≡ true → (tape : List World) (i f : ℕ) → value q tape f (writer_of i) 0 ≡ heard q tape i f
-writer_carries q Destination is tape i f = absurd cc
-writer_carries q (Constant offset) is tape i f = absurd cc
-writer_carries q (Buffer rate) is tape i f = absurd cc
-writer_carries q (Gain gain) is tape i f = absurd cc
-writer_carries q (Splitter ports) is tape i f = absurd cc
-writer_carries q (Merger ports) is tape i f = absurd cc
-writer_carries q (Shaper curve was_set) is tape i f = absurd cc
-writer_carries q (Iir forward back) is tape i f = absurd cc
 
 module _ (q : ℕ) (some : 0 < q) (w : World) (joined : IsJoined (plain w)) (tape tape' : List World) (same : SamePast q w tape tape') where
   abbrev g : Connections
@@ -55,13 +43,26 @@ module _ (q : ℕ) (some : 0 < q) (w : World) (joined : IsJoined (plain w)) (tap
   world_new' : world_in longer' (length tape) ≡ plain w
   world_new' = world_after tape' w (length tape) same.quanta
 
+  -- the writers of the delays had as many channels before
+  counted_before : (u : List World) (k : ℕ) → k < length tape → before (count_scheme q) (world_in u) (length tape) k ≡ count q u k
+  counted_before u k l = ap (λ (p : ℕ → Counts). p k) (counts_before_are q u (length tape)) ∙ ap (λ b. if b then count q u k else λ e. 1) (below k (length tape) l)
+    where
+      below : (a b : ℕ) → a < b → nat_lt a b ≡ true
+      below a b l = grind (arith, nat_tests)
+
+  same_before : SameBefore q (plain w) (length tape) (before (count_scheme q) (world_in longer) (length tape)) (before (count_scheme q) (world_in longer') (length tape))
+  same_before n k is low high =
+      ap (λ (c : Counts). c (writer_of n)) (counted_before longer k high ∙ count_before q tape w k high)
+      ∙ same.counts n k is low high
+      ∙ sym (ap (λ (c : Counts). c (writer_of n)) (counted_before longer' k high ∙ count_before q tape' w k (subst (λ j. k < j) same.quanta high)))
+
   counts_new : count q longer (length tape) ≡ count q longer' (length tape)
   unfolding count count_at at_moment height
   counts_new =
       let past : ℕ → Counts = before (count_scheme q) (world_in longer) (length tape) in
       let past' : ℕ → Counts = before (count_scheme q) (world_in longer') (length tape) in
       ap (λ x. at_height (λ e. 1) (count_rule q x (length tape) past) (height x.graph.value)) world_new
-      ∙ ap (λ r. at_height (λ e. 1) r (height g)) (count_rule_alike q (plain w) (length tape) past past')
+      ∙ ap (λ r. at_height (λ e. 1) r (height g)) (count_rule_alike q (plain w) (length tape) past past' same_before)
       ∙ sym (ap (λ x. at_height (λ e. 1) (count_rule q x (length tape) past') (height x.graph.value)) world_new')
 
   -- a frame of the new quantum in the one tape and in the other
@@ -108,9 +109,7 @@ module _ (q : ℕ) (some : 0 < q) (w : World) (joined : IsJoined (plain w)) (tap
       let born : (node_at w i).attrs.birth / q ≤ n / q = div-le-div (node_at w i).attrs.birth n q some low in (
         ap (λ (x : Frame). x.counts (writer_of i)) frames.0 ∙ same.counts i (n / q) delay born quantum ∙ sym (ap (λ (x : Frame). x.counts (writer_of i)) frames.1),
         ap (λ (x : Frame). x.values (writer_of i) 0) frames.0
-            ∙ writer_carries q (kind_of w i) delay tape i n
-            ∙ fun_ext (λ c. same.heard i n c (delay_remembers (kind_of w i) delay) low l)
-            ∙ sym (writer_carries q (kind_of w i) delay tape' i n)
+            ∙ fun_ext (λ c. same.written i n c delay low l)
             ∙ sym (ap (λ (x : Frame). x.values (writer_of i) 0) frames.1),
       )
 
@@ -203,6 +202,14 @@ module _ (q : ℕ) (some : 0 < q) (w : World) (joined : IsJoined (plain w)) (tap
   next_length : q * length longer ≡ q * length tape + q
   next_length = ap (λ n. q * n) (length-append tape (w ∷ [])) ∙ mul_comm q (length tape + 1) ∙ omega (arith, add-mul (length tape) 1 q, mul_comm q (length tape))
 
+  old_or_new : (f : ℕ) → (f < q * length tape) ⊎ (q * length tape ≤ f)
+  old_or_new f = grind arith
+
+  new_quantum : (f : ℕ) → q * length tape ≤ f → f < q * length longer → f / q ≡ length tape
+  new_quantum f low high =
+      subst (λ k. k / q ≡ length tape) (let back : q * length tape + (f - q * length tape) ≡ f = omega arith in back)
+      (quantum_new (f - q * length tape) (let short = subst (λ k. f < k) next_length high in omega arith))
+
   -- what an input takes in is the same in the frames before, and in those of the new quantum
   heard_new : (n f c : ℕ) → remembers (kind_of w n) ≡ true → (node_at w n).attrs.birth ≤ f → f < q * length longer → heard q longer n f c ≡ heard q longer' n f c
   heard_new n f c is low high = elim (old_or_new f) [
@@ -210,16 +217,22 @@ module _ (q : ℕ) (some : 0 < q) (w : World) (joined : IsJoined (plain w)) (tap
         let frames = old_frames f l in
         ap (λ x. taken_in x n c) frames.0 ∙ same.heard n f c is low l ∙ sym (ap (λ x. taken_in x n c) frames.1)
     | inr l ↦
-        let here : f / q ≡ length tape = subst (λ k. k / q ≡ length tape) (let back : q * length tape + (f - q * length tape) ≡ f = omega arith in back) (quantum_new (f - q * length tape) (let short = subst (λ k. f < k) next_length high in omega arith)) in
+        let here : f / q ≡ length tape = new_quantum f l high in
         let e : End = input_end g n in
         ap (λ x. taken_in x n c) (frame_new f here (value q longer f))
         ∙ ap (λ x. if muted g e then pos 0 else x)
         (input_like (plain w) joined (count q longer (length tape)) (count q longer (length tape)) (value q longer f) (value q longer' f) e refl (λ d in_d a. refl) (λ d in_d a. value_new f d here in_d) 0 c)
         ∙ sym (ap (λ x. taken_in x n c) (frame_new' f here (value q longer' f)))
   ]
-    where
-      old_or_new : (f : ℕ) → (f < q * length tape) ⊎ (q * length tape ≤ f)
-      old_or_new f = grind arith
+
+  -- and what the writer of a delay took in
+  written_new : (n f c : ℕ) → is_delay_kind (kind_of w n) ≡ true → (node_at w n).attrs.birth ≤ f → f < q * length longer → written q longer n f c ≡ written q longer' n f c
+  written_new n f c is low high = elim (old_or_new f) [
+    | inl l ↦
+        let frames = old_frames f l in
+        ap (λ (x : Frame). x.values (writer_of n) 0 c) frames.0 ∙ same.written n f c is low l ∙ sym (ap (λ (x : Frame). x.values (writer_of n) 0 c) frames.1)
+    | inr l ↦ ap (λ (v : ℕ → ℕ → ℤ). v 0 c) (value_new f (writer_of n) (new_quantum f l high) (has_writer g n (joined.delays n ∙ is)))
+  ]
 
   counts_old_or_new : (n k : ℕ) → is_delay_kind (kind_of w n) ≡ true → (node_at w n).attrs.birth / q ≤ k → k < length longer → count q longer k (writer_of n) ≡ count q longer' k (writer_of n)
   counts_old_or_new n k is low high = elim (quantum_old_or_new k high) [
@@ -235,8 +248,8 @@ module _ (q : ℕ) (some : 0 < q) (w : World) (joined : IsJoined (plain w)) (tap
   same_length = length-append tape (w ∷ []) ∙ ap (λ n. n + 1) same.quanta ∙ sym (length-append tape' (w ∷ []))
 
   -- what a past has of a node, by the last world, the length, and what there is to have
-  abbrev kept_heard : World → ℕ → (ℕ → ℕ → ℕ → ℤ) → ℕ → ℕ → ℕ → ℤ
-  kept_heard x k h n f c = let node = node_at x n in if remembers node.kind && (nat_le node.attrs.birth f && nat_lt f (q * k)) then h n f c else pos 0
+  abbrev kept_frames : (Kind → Bool) → World → ℕ → (ℕ → ℕ → ℕ → ℤ) → ℕ → ℕ → ℕ → ℤ
+  kept_frames test x k h n f c = let node = node_at x n in if test node.kind && (nat_le node.attrs.birth f && nat_lt f (q * k)) then h n f c else pos 0
 
   abbrev kept_counts : World → ℕ → (ℕ → ℕ → ℕ) → ℕ → ℕ → ℕ
   kept_counts x k h n j = let node = node_at x n in if is_delay_kind node.kind && (nat_le (node.attrs.birth / q) j && nat_lt j k) then h n j else 1
@@ -247,16 +260,18 @@ module _ (q : ℕ) (some : 0 < q) (w : World) (joined : IsJoined (plain w)) (tap
   last_is' : last_world longer' ≡ plain w
   last_is' = world_after tape' w (length longer' - 1) (omega (arith, length-append tape' (w ∷ [])))
 
-  heard_same : (past q longer).heard ≡ (past q longer').heard
-  heard_same = fun_ext (λ n. fun_ext (λ f. fun_ext (λ c.
-      ap (λ x. kept_heard x (length longer) (heard q longer) n f c) last_is
-      ∙ by_test n f c (remembers (kind_of w n)) (nat_le (node_at w n).attrs.birth f) (nat_lt f (q * length longer)) refl refl refl
-      ∙ ap (λ k. kept_heard (plain w) k (heard q longer') n f c) same_length
-      ∙ sym (ap (λ x. kept_heard x (length longer') (heard q longer') n f c) last_is'))))
+  frames_same : (test : Kind → Bool) (h h' : ℕ → ℕ → ℕ → ℤ)
+      → ((n f c : ℕ) → test (kind_of w n) ≡ true → (node_at w n).attrs.birth ≤ f → f < q * length longer → h n f c ≡ h' n f c)
+      → kept_frames test (last_world longer) (length longer) h ≡ kept_frames test (last_world longer') (length longer') h'
+  frames_same test h h' each = fun_ext (λ n. fun_ext (λ f. fun_ext (λ c.
+      ap (λ x. kept_frames test x (length longer) h n f c) last_is
+      ∙ by_test n f c (test (kind_of w n)) (nat_le (node_at w n).attrs.birth f) (nat_lt f (q * length longer)) refl refl refl
+      ∙ ap (λ k. kept_frames test (plain w) k h' n f c) same_length
+      ∙ sym (ap (λ x. kept_frames test x (length longer') h' n f c) last_is'))))
     where
-      by_test : (n f c : ℕ) (a b d : Bool) → remembers (kind_of w n) ≡ a → nat_le (node_at w n).attrs.birth f ≡ b → nat_lt f (q * length longer) ≡ d
-          → (if a && (b && d) then heard q longer n f c else pos 0) ≡ (if a && (b && d) then heard q longer' n f c else pos 0)
-      by_test n f c true true true is low high = heard_new n f c is (let l : (node_at w n).attrs.birth ≤ f = grind (arith, nat_tests) in l) (let h : f < q * length longer = grind (arith, nat_tests) in h)
+      by_test : (n f c : ℕ) (a b d : Bool) → test (kind_of w n) ≡ a → nat_le (node_at w n).attrs.birth f ≡ b → nat_lt f (q * length longer) ≡ d
+          → (if a && (b && d) then h n f c else pos 0) ≡ (if a && (b && d) then h' n f c else pos 0)
+      by_test n f c true true true is low high = each n f c is (let l : (node_at w n).attrs.birth ≤ f = grind (arith, nat_tests) in l) (let h : f < q * length longer = grind (arith, nat_tests) in h)
       by_test n f c true true false is low high = refl
       by_test n f c true false d is low high = refl
       by_test n f c false b d is low high = refl
@@ -277,4 +292,9 @@ module _ (q : ℕ) (some : 0 < q) (w : World) (joined : IsJoined (plain w)) (tap
 
   -- Both pasts are longer by the same quantum.
   pub past_new : past q longer ≡ past q longer'
-  past_new i = record { quanta = same_length i; heard = heard_same i; counts = counts_same i }
+  past_new i = record {
+    quanta = same_length i;
+    heard = frames_same remembers (heard q longer) (heard q longer') heard_new i;
+    written = frames_same is_delay_kind (written q longer) (written q longer') written_new i;
+    counts = counts_same i;
+  }

@@ -6,11 +6,11 @@ use Rattle.conn_graph.specs.Ends.{ends, input_end, arrow, muted}
 use Rattle.meaning.specs.declared.world.World.{World}
 use Rattle.meaning.specs.World.{plain}
 use Rattle.meaning.specs.Validity.{IsJoined}
-use Rattle.meaning.specs.Counts.{Counts, world_in, count_rule, count}
+use Rattle.meaning.specs.Counts.{Counts, world_in, count_rule, count, counts_before}
 use Rattle.meaning.specs.Values.{silence, taken_in, frame, value}
 use Rattle.meaning.specs.Blocks.{Drafts, drafted, block}
 use Rattle.meaning.proofs.Seeing.{AgreeFor}
-use Rattle.meaning.proofs.CountLaws.{count_gives, muted_count}
+use Rattle.meaning.proofs.CountLaws.{SameBefore, count_gives, muted_count}
 use Rattle.meaning.proofs.BlockLaws as blocks
 use Rattle.meaning.proofs.OrderLaws.{IsKnown}
 use Rattle.meaning.proofs.TapeLaws.{world_after}
@@ -60,12 +60,12 @@ module _ (q : ℕ) (some : 0 < q) (w : World) (joined : IsJoined (plain w)) (tap
   muted_right = subst (λ x. AreRight q longer j x (λ m. silence) []) there
       (blocks.muted_right q some longer j (subst IsJoined (sym there) joined) (count q longer j) (λ d in_d. refl))
 
-  -- The rule gives an end's count, wherever the ends that it sees have theirs.
-  pub count_right : (past : ℕ → Counts) (counts : Counts) (e : End) → IsIn e (ends w.graph.value) → AgreeFor w e counts (count q longer j)
+  -- The rule gives an end's count, wherever the ends that it sees have theirs, and the quanta before too.
+  pub count_right : (past : ℕ → Counts) → SameBefore q (plain w) j past (counts_before q longer j) → (counts : Counts) (e : End) → IsIn e (ends w.graph.value) → AgreeFor w e counts (count q longer j)
       → count_rule q (plain w) j past counts e ≡ count q longer j e
-  count_right = subst (λ x. (past : ℕ → Counts) (counts : Counts) (e : End) → IsIn e (ends x.graph.value) → AgreeFor x e counts (count q longer j)
+  count_right = subst (λ x. (past : ℕ → Counts) → SameBefore q x j past (counts_before q longer j) → (counts : Counts) (e : End) → IsIn e (ends x.graph.value) → AgreeFor x e counts (count q longer j)
       → count_rule q x j past counts e ≡ count q longer j e)
-      there (λ past counts e is agree. count_gives q longer j (subst IsJoined (sym there) joined) past counts e is agree)
+      there (λ past before counts e is agree. count_gives q longer j (subst IsJoined (sym there) joined) past before counts e is agree)
 
   -- a muted end has one channel
   pub muted_one : (e : End) → IsIn e (ends w.graph.value) → muted w.graph.value e ≡ true → count q longer j e ≡ 1

@@ -1,5 +1,6 @@
 -- Every value is a Fix.
-use Rattle.std.proofs.Common.{ℕ, zero, suc, ◌+◌, ◌-◌, ◌*◌, ◌/◌, ◌+ℤ◌, ◌-ℤ◌, length, ℤ, pos, negsuc, List, [], ◌∷◌, take, drop, All, Bool, true, false, Option, None, Some, slice_index_or, subst, sym, arith}
+use Rattle.std.proofs.Common.{ℕ, zero, suc, ◌+◌, ◌-◌, ◌*◌, ◌/◌, ◌+ℤ◌, ◌-ℤ◌, ◌≡◌, ◌<◌, ◌≤◌, ◌==◌, ◌⊎◌, inl, inr, refl, ap, length, ℤ, pos, negsuc, List, [], ◌∷◌, take, drop, All, Bool, true, false, Option, None, Some, slice_index_or, subst, sym, arith}
+use Rattle.std.proofs.lemmas.Bool.Decides.{nat_tests}
 use Rattle.std.proofs.lemmas.Int.{ints}
 use Rattle.std.proofs.lemmas.List.Elements.{All-head, All-tail, All-nil}
 use Rattle.std.specs.Prelude.{if◌then◌else◌, nat_lt, nat_le, slice_get}
@@ -19,16 +20,25 @@ use Rattle.buffer_store.specs.Buffers.{channel_of}
 use Rattle.sched_source.specs.declared.content.Content.{Content}
 use Rattle.sched_source.specs.Playback.{position}
 use Rattle.sched_source.specs.Schedule.{plays_at, sample_at}
+use Rattle.channel_mix.specs.Mixing.{mix}
+use Rattle.node_table.specs.Kinds.{is_delay_kind, IsInEntry}
 use Rattle.node_table.specs.declared.kinds.Kind.{Kind}
 use Rattle.node_table.specs.declared.kinds.Kind.TheVariants as kinds
-use Rattle.node_table.specs.declared.kinds.Kind.TheVariants.{Destination, Constant, Gain, Splitter, Merger, Shaper, Iir}
-use Rattle.conn_graph.specs.Ends.{height, muted}
+use Rattle.node_table.specs.declared.kinds.Kind.TheVariants.{Destination, Constant, Gain, Delay, Splitter, Merger, Shaper, Iir}
+use Rattle.node_table.specs.declared.nodes.Node.{Node}
+use Rattle.conn_graph.specs.Ends.{writer_of, reader_of, height, muted}
 use Rattle.meaning.specs.declared.world.World.{World}
 use Rattle.meaning.specs.declared.scheds.Play.{Play}
-use Rattle.meaning.specs.World.{kind_of, param_id, nominal, sounds_at, find_play, samples_in, played_at}
-use Rattle.meaning.specs.Counts.{world_in, input_channels}
+use Rattle.meaning.specs.World.{node_at, kind_of, param_id, up_to, nominal, sounds_at, find_play, samples_in, played_at}
+use Rattle.meaning.specs.Validity.{IsValid}
+use Rattle.meaning.specs.Counts.{world_in, input_channels, count}
 use Rattle.meaning.specs.Laws.{HasFixes, HasFixPoints}
-use Rattle.meaning.specs.Values.{Frame, Values, input_value, frames_heard, computed_value, value_by_kind, has_channel, equation, value_scheme, world_at, known_at, value_at, value, frames_before, frame_at}
+use Rattle.meaning.specs.Values.{Frame, Values, no_frame, seen, input_value, frames_heard, computed_value, delay_frames, delayed, value_by_kind, has_channel, equation, value_scheme, world_at, known_at, value_at, value, frame, frames_before, frame_at}
+use Rattle.meaning.proofs.Asking.{asked_count, delay_long}
+use Rattle.meaning.proofs.Joined.{joined_in}
+use Rattle.meaning.proofs.MixedUp.{mix_fix}
+use Rattle.meaning.proofs.NodeKinds.{entry_there}
+use Rattle.meaning.proofs.Seeing.{reader_end}
 use Rattle.meaning.proofs.ValueLaws.{value_suc}
 
 sat_fix : (x : ℤ) → IsFix (sat x)
@@ -46,19 +56,25 @@ input_fix : (x : Frame) (n i c : ℕ) → IsFix (input_value x n i c)
 unfolding input_value
 input_fix x n i c = either_fix (nat_lt c (input_channels x.world x.counts n i)) _ (pos 0) (sat_fix _) zero_fix
 
-nominal_fix : (kind : Kind) (x : ℤ) → IsFix (nominal kind x)
-nominal_fix Destination x = sat_fix x
-nominal_fix (Constant offset) x = sat_fix x
-nominal_fix (kinds.Buffer rate) x = sat_fix x
-nominal_fix (Gain gain) x = sat_fix x
-nominal_fix (Splitter ports) x = sat_fix x
-nominal_fix (Merger ports) x = sat_fix x
-nominal_fix (Shaper curve was_set) x = sat_fix x
-nominal_fix (Iir forward back) x = sat_fix x
+up_to_fix : (most x : ℤ) → IsFix most → IsFix (up_to most x)
+up_to_fix (pos most) (pos x) is = omega (arith, ints)
+up_to_fix (pos most) (negsuc x) is = zero_fix
+up_to_fix (negsuc most) x is = zero_fix
 
-computed_fix : (q f : ℕ) (past : ℕ → Frame) (here : Frame) (id : ParamId) → IsFix (computed_value q f past here id)
+nominal_fix : (kind : Kind) (x : ℤ) → IsInEntry kind → IsFix (nominal kind x)
+nominal_fix Destination x entry = sat_fix x
+nominal_fix (Constant offset) x entry = sat_fix x
+nominal_fix (kinds.Buffer rate) x entry = sat_fix x
+nominal_fix (Gain gain) x entry = sat_fix x
+nominal_fix (Delay longest time capacity) x entry = up_to_fix longest x entry.0
+nominal_fix (Splitter ports) x entry = sat_fix x
+nominal_fix (Merger ports) x entry = sat_fix x
+nominal_fix (Shaper curve was_set) x entry = sat_fix x
+nominal_fix (Iir forward back) x entry = sat_fix x
+
+computed_fix : (q f : ℕ) (past : ℕ → Frame) (here : Frame) (id : ParamId) → IsInEntry (kind_of here.world id.node.0) → IsFix (computed_value q f past here id)
 unfolding computed_value
-computed_fix q f past here id = nominal_fix (kind_of here.world id.node.0) _
+computed_fix q f past here id entry = nominal_fix (kind_of here.world id.node.0) _ entry
 
 -- ---- the points of curves, and the samples of buffers
 
@@ -123,22 +139,62 @@ filter_fix : (forward back frames : List ℤ) → IsFix (filter_value forward ba
 filter_fix forward back [] = zero_fix
 filter_fix forward back (x ∷ xs) = quotient_fix (dot forward (x ∷ xs) -ℤ dot (drop 1 back) (filtered forward back xs)) (item back 0)
 
-kind_fix : (q f : ℕ) (past : ℕ → Frame) (here : Frame) → HasFixes here.world → (kind : Kind) → HasFixPoints kind → (e : End) (o c : ℕ) → IsFix (value_by_kind q f past here kind e o c)
-kind_fix q f past here fixes Destination points e o c = input_fix here e.node.0 0 c
-kind_fix q f past here fixes (Constant offset) points e o c = either_fix (sounds_at here.world e.node.0 f) _ (pos 0) (computed_fix q f past here (param_id e.node.0 param.Offset)) zero_fix
-kind_fix q f past here fixes (kinds.Buffer rate) points e o c = played_fix here.world e.node.0 c f fixes
-kind_fix q f past here fixes (Gain gain) points e o c = sat_fix _
-kind_fix q f past here fixes (Splitter ports) points e o c = input_fix here e.node.0 0 o
-kind_fix q f past here fixes (Merger ports) points e o c = input_fix here e.node.0 c 0
-kind_fix q f past here fixes (Iir forward back) points e o c = filter_fix forward back (frames_heard f past here e.node.0 c)
-kind_fix q f past here fixes (Shaper None was_set) points e o c = input_fix here e.node.0 0 c
-kind_fix q f past here fixes (Shaper (Some curve) was_set) points e o c = curve_fix curve (input_value here e.node.0 0 c +ℤ pos 16777216) (all_at curve points)
+-- ---- each end
 
-equation_fix : (q f : ℕ) (past : ℕ → Frame) (here : Frame) → HasFixes here.world → (e : End) (o c : ℕ) → IsFix (equation q f past here e o c)
+-- what a frame has at the first output of the writer of a delay
+abbrev WriterIsFixed : Frame → ℕ → Type 0
+WriterIsFixed x n = (c : ℕ) → IsFix (x.values (writer_of n) 0 c)
+
+-- what is known of what the reader of a delay asks for: its writer had no more channels then, and carried Fixes
+abbrev AsksFixes : ℕ → ℕ → (ℕ → Frame) → Frame → ℕ → Type 0
+AsksFixes q f past here n = (node_at here.world n).attrs.birth + delay_frames q f past here n ≤ f
+    → (let x = seen f past here (f - delay_frames q f past here n) in (x.counts (writer_of n) ≤ here.counts (reader_of n)) × WriterIsFixed x n)
+
+delayed_fix : (q f : ℕ) (past : ℕ → Frame) (here : Frame) (n c : ℕ) → AsksFixes q f past here n → IsFix (delayed q f past here n c)
+delayed_fix q f past here n c asked = by_birth (nat_lt f (node.attrs.birth + d)) refl
+  where
+    node : Node
+    node = node_at here.world n
+
+    d : ℕ
+    d = delay_frames q f past here n
+
+    x : Frame
+    x = seen f past here (f - d)
+
+    by_birth : (b : Bool) → nat_lt f (node.attrs.birth + d) ≡ b → IsFix (if b then pos 0 else mix node.attrs.interp (x.counts (writer_of n)) (here.counts (reader_of n)) (x.values (writer_of n) 0) c)
+    by_birth true unborn = zero_fix
+    by_birth false born =
+        let there = asked (grind (arith, nat_tests)) in
+        mix_fix (x.values (writer_of n) 0) there.1 node.attrs.interp (x.counts (writer_of n)) (here.counts (reader_of n)) c there.0
+
+kind_fix : (q f : ℕ) (past : ℕ → Frame) (here : Frame) → HasFixes here.world → (kind : Kind) → HasFixPoints kind → (e : End) → IsInEntry (kind_of here.world e.node.0)
+    → (is_delay_kind kind ≡ true → e.writer ≡ false → AsksFixes q f past here e.node.0) → (o c : ℕ) → IsFix (value_by_kind q f past here kind e o c)
+kind_fix q f past here fixes Destination points e entry asks o c = input_fix here e.node.0 0 c
+kind_fix q f past here fixes (Constant offset) points e entry asks o c = either_fix (sounds_at here.world e.node.0 f) _ (pos 0) (computed_fix q f past here (param_id e.node.0 param.Offset) entry) zero_fix
+kind_fix q f past here fixes (kinds.Buffer rate) points e entry asks o c = played_fix here.world e.node.0 c f fixes
+kind_fix q f past here fixes (Gain gain) points e entry asks o c = sat_fix _
+kind_fix q f past here fixes (Delay longest time capacity) points e entry asks o c = by_end e.writer refl
+  where
+    by_end : (b : Bool) → e.writer ≡ b → IsFix (if b then input_value here e.node.0 0 c else delayed q f past here e.node.0 c)
+    by_end true writer = input_fix here e.node.0 0 c
+    by_end false reader = delayed_fix q f past here e.node.0 c (asks refl reader)
+kind_fix q f past here fixes (Splitter ports) points e entry asks o c = input_fix here e.node.0 0 o
+kind_fix q f past here fixes (Merger ports) points e entry asks o c = input_fix here e.node.0 c 0
+kind_fix q f past here fixes (Iir forward back) points e entry asks o c = filter_fix forward back (frames_heard f past here e.node.0 c)
+kind_fix q f past here fixes (Shaper None was_set) points e entry asks o c = input_fix here e.node.0 0 c
+kind_fix q f past here fixes (Shaper (Some curve) was_set) points e entry asks o c = curve_fix curve (input_value here e.node.0 0 c +ℤ pos 16777216) (all_at curve points)
+
+equation_fix : (q f : ℕ) (past : ℕ → Frame) (here : Frame) → HasFixes here.world → (e : End) → IsInEntry (kind_of here.world e.node.0)
+    → (is_delay_kind (kind_of here.world e.node.0) ≡ true → e.writer ≡ false → muted here.world.graph.value e ≡ false → AsksFixes q f past here e.node.0) → (o c : ℕ) → IsFix (equation q f past here e o c)
 unfolding equation
-equation_fix q f past here fixes e o c =
-    either_fix (muted here.world.graph.value e) (pos 0) _ zero_fix
-    (either_fix (has_channel here.world here.counts e o c) _ (pos 0) (kind_fix q f past here fixes (kind_of here.world e.node.0) (fixes.points e.node.0) e o c) zero_fix)
+equation_fix q f past here fixes e entry asks o c = by_muted (muted here.world.graph.value e) refl
+  where
+    by_muted : (b : Bool) → muted here.world.graph.value e ≡ b → IsFix (if b then pos 0 else if has_channel here.world here.counts e o c then value_by_kind q f past here (kind_of here.world e.node.0) e o c else pos 0)
+    by_muted true silent = zero_fix
+    by_muted false heard =
+        either_fix (has_channel here.world here.counts e o c) _ (pos 0)
+        (kind_fix q f past here fixes (kind_of here.world e.node.0) (fixes.points e.node.0) e entry (λ delay reader. asks delay reader heard) o c) zero_fix
 
 -- so are those of every world of a tape, and of the one past its end
 fixes_in : (tape : List World) (j : ℕ) → All HasFixes tape → HasFixes (world_in tape j)
@@ -146,12 +202,63 @@ fixes_in [] j all = record { samples = All-nil IsSampled; points = λ i. tt }
 fixes_in (w ∷ ws) zero all = let fixes = All-head HasFixes w ws all in record { samples = fixes.samples; points = fixes.points }
 fixes_in (w ∷ ws) (suc j) all = fixes_in ws j (All-tail HasFixes w ws all)
 
-height_fix : (q : ℕ) (tape : List World) → All HasFixes tape → (f h : ℕ) (e : End) (o c : ℕ) → IsFix (value_at q tape f h e o c)
-unfolding value_at
-height_fix q tape all f zero e o c = subst (λ (v : Values). IsFix (v e o c)) (sym (moment-zero (value_scheme q) (known_at q tape) f)) zero_fix
-height_fix q tape all f (suc h) e o c =
-    subst (λ (v : Values). IsFix (v e o c)) (sym (value_suc q tape f h)) (equation_fix q f (frames_before q tape f) (frame_at q tape f h) (fixes_in tape (f / q) all) e o c)
+-- what its nodes were created with is in the ranges of their kinds
+entries_in : (tape : List World) (j : ℕ) → All IsValid tape → (i : ℕ) → IsInEntry (kind_of (world_in tape j) i)
+entries_in [] j all i = tt
+entries_in (w ∷ ws) zero all i = entry_there w (All-head IsValid w ws all) i
+entries_in (w ∷ ws) (suc j) all i = entries_in ws j (All-tail IsValid w ws all) i
 
-pub value_fix : (q : ℕ) (tape : List World) → All HasFixes tape → (f : ℕ) (e : End) (o c : ℕ) → IsFix (value q tape f e o c)
-unfolding value
-value_fix q tape all f e o c = height_fix q tape all f (height (world_at q tape f).graph.value) e o c
+module _ (q : ℕ) (some : 0 < q) (tape : List World) (valid : All IsValid tape) (fixes : All HasFixes tape) where
+  abbrev AreFixes : ℕ → Values → Type 0
+  AreFixes f values = (e : End) (o c : ℕ) → IsFix (values e o c)
+
+  -- what the reader of a delay sees, where the frames before are Fixes and those of this frame one height below
+  asks_fixes : (f h : ℕ) → ((g : ℕ) → g < f → AreFixes g (value q tape g)) → AreFixes f (value_at q tape f h) → (n : ℕ) → is_delay_kind (kind_of (world_at q tape f) n) ≡ true
+      → muted (world_at q tape f).graph.value (reader_of n) ≡ false → AsksFixes q f (frames_before q tape f) (frame_at q tape f h) n
+  asks_fixes f h earlier below n delay heard born = by_now (g == f) refl
+    where
+      d : ℕ
+      d = delay_frames q f (frames_before q tape f) (frame_at q tape f h) n
+
+      g : ℕ
+      g = f - d
+
+      few : count q tape (g / q) (writer_of n) ≤ count q tape (f / q) (reader_of n)
+      few = asked_count q some tape f (joined_in tape valid (f / q)) n d delay heard (delay_long q f (frames_before q tape f) (frame_at q tape f h) n) born
+
+      Asked : Frame → Type 0
+      Asked x = (x.counts (writer_of n) ≤ count q tape (f / q) (reader_of n)) × WriterIsFixed x n
+
+      by_now : (b : Bool) → (g == f) ≡ b → Asked (if b then frame_at q tape f h else frames_before q tape f g)
+      by_now true now =
+          let same : g ≡ f = grind (arith, nat_tests) in
+          (subst (λ k. count q tape (k / q) (writer_of n) ≤ count q tape (f / q) (reader_of n)) same few, (λ c. below (writer_of n) 0 c))
+      by_now false other =
+          let old : g < f = grind (arith, nat_tests) in
+          let there : frames_before q tape f g ≡ frame q tape g = ap (λ b. if b then frame q tape g else no_frame) (let l : nat_lt g f ≡ true = grind (arith, nat_tests) in l) in
+          subst Asked (sym there) (few, (λ c. earlier g old (writer_of n) 0 c))
+
+  height_fix : (f : ℕ) → ((g : ℕ) → g < f → AreFixes g (value q tape g)) → (h : ℕ) → AreFixes f (value_at q tape f h)
+  unfolding value_at
+  height_fix f earlier zero e o c = subst (λ (v : Values). IsFix (v e o c)) (sym (moment-zero (value_scheme q) (known_at q tape) f)) zero_fix
+  height_fix f earlier (suc h) e o c =
+      subst (λ (v : Values). IsFix (v e o c)) (sym (value_suc q tape f h))
+      (equation_fix q f (frames_before q tape f) (frame_at q tape f h) (fixes_in tape (f / q) fixes) e (entries_in tape (f / q) valid e.node.0)
+      (λ delay reader heard. asks_fixes f h earlier (height_fix f earlier h) e.node.0 delay (subst (λ x. muted (world_at q tape f).graph.value x ≡ false) (reader_end e reader) heard)) o c)
+
+  full_fix : (f : ℕ) → ((g : ℕ) → g < f → AreFixes g (value q tape g)) → AreFixes f (value q tape f)
+  unfolding value
+  full_fix f earlier e o c = height_fix f earlier (height (world_at q tape f).graph.value) e o c
+
+  below_fix : (f g : ℕ) → g < f → AreFixes g (value q tape g)
+  below_fix zero g l = absurd (omega arith)
+  below_fix (suc f) g l = elim (before_or_last f g l) [
+    | inl before ↦ below_fix f g before
+    | inr last ↦ subst (λ k. AreFixes k (value q tape k)) (sym last) (full_fix f (below_fix f))
+  ]
+    where
+      before_or_last : (f g : ℕ) → g < suc f → (g < f) ⊎ (g ≡ f)
+      before_or_last f g l = grind arith
+
+  pub value_fix : (f : ℕ) → AreFixes f (value q tape f)
+  value_fix f = below_fix (suc f) f (omega arith)

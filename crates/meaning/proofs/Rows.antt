@@ -32,26 +32,26 @@ use Rattle.meaning.specs.Rendered.{sample, rows}
 
 -- ---- how the worlds are written
 
-context : ℕ → ContextSpec
+unfoldable pub context : ℕ → ContextSpec
 context channels = record { channels = channels; length = 4; rate = 48000 }
 
-constant : ℤ → Node
+unfoldable pub constant : ℤ → Node
 constant offset = node_of (Constant offset) 0
 
-gain : ℤ → Node
+unfoldable pub gain : ℤ → Node
 gain g = node_of (Gain g) 0
 
 -- a gain of 1 with two channels
-wide : Interp → Node
+unfoldable pub wide : Interp → Node
 wide interp = record { kind = Gain (pos 16777216); attrs = record { count = 2; mode = Explicit; interp = interp; birth = 0 } }
 
-to_input : ℕ → ℕ → Edge
+unfoldable pub to_input : ℕ → ℕ → Edge
 to_input a b = record { from = record { 0 = a }; output = 0; to = Input (record { 0 = b }) 0 }
 
-to_gain : ℕ → ℕ → Edge
+unfoldable pub to_gain : ℕ → ℕ → Edge
 to_gain a b = record { from = record { 0 = a }; output = 0; to = Parameter (param_id b param.Gain) }
 
-line : ℕ → ParamName → ℤ → Param
+unfoldable pub line : ℕ → ParamName → ℤ → Param
 line n name base = record { id = param_id n name; line = record { base = base; slot = base; events = [] }; rate = A }
 
 -- a source with a start and a stop
@@ -59,14 +59,14 @@ abbrev begun : ℕ → Option ℕ → Option ℕ → Play
 begun n start stop = not_started n (record unstarted { start = start; stop = stop })
 
 -- a source that starts, and one that stops too
-started : ℕ → ℕ → Play
+unfoldable pub started : ℕ → ℕ → Play
 started n start = begun n (Some start) None
 
-stopped : ℕ → ℕ → ℕ → Play
+unfoldable pub stopped : ℕ → ℕ → ℕ → Play
 stopped n start stop = begun n (Some start) (Some stop)
 
 -- a destination of so many channels, and then the nodes
-world : ℕ → List Node → List Edge → List Param → List Play → World
+unfoldable pub world : ℕ → List Node → List Edge → List Param → List Play → World
 world channels nodes edges params plays = record no_world {
   spec = context channels;
   nodes = destination_of (context channels) ∷ nodes;

@@ -1,7 +1,7 @@
 -- What the equation of one end sees, of its own frame, of its own quantum, and of the quanta before.
 use Rattle.std.proofs.Common.{ℕ, zero, suc, ℤ, pos, ◌≡◌, ◌+◌, ◌-◌, ◌⊎◌, inl, inr, ap₂, ◌*◌, ◌/◌, ◌<◌, ◌≤◌, ◌+ℤ◌, List, [], ◌∷◌, Bool, true, false, refl, sym, ◌∙◌, ap, arith, subst}
 use mathlib.Core.Path.{fun_ext}
-use Rattle.std.specs.Prelude.{if◌then◌else◌, nat_lt, ◌==◌, ◌&&◌}
+use Rattle.std.specs.Prelude.{if◌then◌else◌, nat_lt, ◌==◌, ◌&&◌, max}
 use Rattle.std.proofs.lemmas.Bool.Decides.{nat_tests}
 use Rattle.wa_base.specs.Numbers.{scale}
 use Rattle.wa_base.specs.declared.graph_names.End.{End}
@@ -16,18 +16,21 @@ use Rattle.channel_mix.specs.Counts.{input_count}
 use Rattle.channel_mix.specs.Mixing.{mix, fan_in}
 use Rattle.causal_core.specs.Curves.{shaper_value}
 use Rattle.causal_core.specs.Filters.{filter_value}
+use Rattle.node_table.specs.Delays.{frames_of}
 use Rattle.node_table.specs.Kinds.{is_delay_kind, outputs, remembers}
 use Rattle.node_table.specs.declared.kinds.Kind.{Kind}
-use Rattle.node_table.specs.declared.kinds.Kind.TheVariants.{Destination, Constant, Buffer, Gain, Splitter, Merger, Shaper, Iir}
+use Rattle.node_table.specs.declared.kinds.Kind.TheVariants.{Destination, Constant, Buffer, Gain, Delay, Splitter, Merger, Shaper, Iir}
+use Rattle.node_table.specs.declared.nodes.Node.{Node}
 use Rattle.conn_graph.specs.declared.edges.Edge.{Edge}
 use Rattle.conn_graph.specs.Graph.{edges_to_input, edges_to_param}
-use Rattle.conn_graph.specs.Ends.{writer_of, reader_of, ends, is_delay, input_end, arrow, muted}
-use Rattle.conn_graph.proofs.EndLaws.{end_is, has_end, input_arrow, param_arrow}
+use Rattle.conn_graph.specs.Ends.{writer_of, reader_of, ends, is_delay, input_end, in_cycle, arrow, muted}
+use Rattle.conn_graph.proofs.EndLaws.{end_is, has_end, has_writer, input_arrow, param_arrow, writer_arrow}
 use Rattle.meaning.specs.declared.world.World.{World}
 use Rattle.meaning.specs.World.{node_at, kind_of, param_id, intrinsic_value, is_k_rate, nominal, sounds_at}
 use Rattle.meaning.specs.Validity.{IsJoined}
 use Rattle.meaning.specs.Counts.{Counts, input_channels}
-use Rattle.meaning.specs.Values.{Frame, Values, seen, mixed_sum, input_value, taken_in, frames_since, frames_heard, computed_value, value_by_kind, has_channel, equation}
+use Rattle.meaning.specs.Lists.{since}
+use Rattle.meaning.specs.Values.{Frame, Values, seen, mixed_sum, input_value, taken_in, frames_heard, computed_value, delay_frames, delayed, value_by_kind, has_channel, equation}
 
 -- an end of a node that is no delay is the one at which the node's inputs arrive
 pub plain_end : (w : World) → IsJoined w → (e : End) → IsIn e (ends w.graph.value) → is_delay_kind (kind_of w e.node.0) ≡ false → e ≡ input_end w.graph.value e.node.0
@@ -40,6 +43,13 @@ plain_end w joined e h k = ap (λ b. let x : End = record { node = e.node; write
 -- and it is no writer
 pub plain_reader : (w : World) → IsJoined w → (e : End) → IsIn e (ends w.graph.value) → is_delay_kind (kind_of w e.node.0) ≡ false → e ≡ reader_of e.node.0
 plain_reader w joined e h k = plain_end w joined e h k ∙ ap (λ b. let x : End = record { node = e.node; writer = b } in x) (joined.delays e.node.0 ∙ k)
+
+-- the writer of a delay is the end at which its input arrives
+pub writer_end : (w : World) → IsJoined w → (e : End) → is_delay_kind (kind_of w e.node.0) ≡ true → e.writer ≡ true → e ≡ input_end w.graph.value e.node.0
+writer_end w joined e k is = ap (λ b. let x : End = record { node = e.node; writer = b } in x) (is ∙ sym (joined.delays e.node.0 ∙ k))
+
+pub reader_end : (e : End) → e.writer ≡ false → e ≡ reader_of e.node.0
+reader_end e is = ap (λ b. let x : End = record { node = e.node; writer = b } in x) is
 
 -- what is said of ends agrees on each end from which an arrow leads to e
 abbrev pub AgreeFor : {A : Type 0} → World → End → (End → A) → (End → A) → Type 0
@@ -104,7 +114,7 @@ pub record SeesFor (q f : ℕ) (w : World) (e : End) (past past' : ℕ → Frame
   pub heard : (g c : ℕ) → remembers (kind_of w e.node.0) ≡ true → (node_at w e.node.0).attrs.birth ≤ g → g < q * (f / q) → taken_in (past g) e.node.0 c ≡ taken_in (past' g) e.node.0 c
 
 -- lists of frames that are alike one by one
-pub same_since : (at at' : ℕ → ℤ) (birth k : ℕ) → ((g : ℕ) → birth ≤ g → g < birth + k → at g ≡ at' g) → frames_since at birth k ≡ frames_since at' birth k
+pub same_since : {A : Type 0} (at at' : ℕ → A) (birth k : ℕ) → ((g : ℕ) → birth ≤ g → g < birth + k → at g ≡ at' g) → since at birth k ≡ since at' birth k
 same_since at at' birth zero each = refl
 same_since at at' birth (suc k) each = ap₂ (λ x xs. x ∷ xs) (each (birth + k) (omega arith) (omega arith)) (same_since at at' birth k (λ g low high. each g low (omega arith)))
 
@@ -117,6 +127,13 @@ module _ (q : ℕ) (some : 0 < q) (w : World) (joined : IsJoined w) (f : ℕ) (p
       by_test : (b : Bool) → (g == f) ≡ b → LikeFor w e (if b then here w m s else past g) (if b then here w n t else past' g)
       by_test true now = alike m n s t refl refl agree_counts agree
       by_test false other = sees.recent g low (grind (arith, nat_tests))
+
+  -- a frame is one of this quantum, or older
+  now_or_before : (g : ℕ) → (q * (f / q) ≤ g) ⊎ (g < q * (f / q))
+  now_or_before g = grind arith
+
+  seen_before : (before : ℕ → Frame) (x : Frame) (g : ℕ) → g < f → seen f before x g ≡ before g
+  seen_before before x g l = ap (λ b. if b then x else before g) (let other : (g == f) ≡ false = grind (arith, nat_tests) in other)
 
   sum_like : (interp : Interp) (to c : ℕ) (xs : List Edge) → ((x : Edge) → IsIn x xs → IsIn (reader_of x.from.0) (ends w.graph.value) × (arrow w.graph.value (reader_of x.from.0) e ≡ true))
       → (x y : Frame) → LikeFor w e x y → mixed_sum x interp to c xs ≡ mixed_sum y interp to c xs
@@ -161,12 +178,77 @@ module _ (q : ℕ) (some : 0 < q) (w : World) (joined : IsJoined w) (f : ℕ) (p
         ∙ sees.heard g c is low old
         ∙ sym (ap (λ z. taken_in z e.node.0 c) (seen_before past' (here w n t) g below))
   ])
-    where
-      now_or_before : (g : ℕ) → (q * (f / q) ≤ g) ⊎ (g < q * (f / q))
-      now_or_before g = grind arith
 
-      seen_before : (before : ℕ → Frame) (x : Frame) (g : ℕ) → g < f → seen f before x g ≡ before g
-      seen_before before x g l = ap (λ b. if b then x else before g) (let other : (g == f) ≡ false = grind (arith, nat_tests) in other)
+  abbrev node : Node
+  node = node_at w e.node.0
+
+  -- so many frames a delay lasts
+  frames_like : e ≡ reader_of e.node.0 → delay_frames q f past (here w m s) e.node.0 ≡ delay_frames q f past' (here w n t) e.node.0
+  frames_like is = ap (λ x. let frames = frames_of x w.spec.rate in if in_cycle w.graph.value e.node.0 then max q frames else frames) (computed_like is param.DelayTime)
+
+  -- in a cycle it lasts a quantum
+  quantum_long : (b : Bool) (frames : ℕ) → b ≡ true → q ≤ (if b then max q frames else frames)
+  quantum_long true frames is = omega arith
+  quantum_long false frames is = absurd cc
+
+  -- what the writer of a delay took in, in frames that look alike to its reader
+  writer_like : is_delay_kind (kind_of w e.node.0) ≡ true → arrow w.graph.value (writer_of e.node.0) e ≡ true → (x y : Frame) → LikeFor w e x y
+      → (x.counts (writer_of e.node.0) ≡ y.counts (writer_of e.node.0)) × (x.values (writer_of e.node.0) 0 ≡ y.values (writer_of e.node.0) 0)
+  writer_like is a x y (same p) = (ap (λ (z : Frame). z.counts (writer_of e.node.0)) p, ap (λ (z : Frame). z.values (writer_of e.node.0) 0) p)
+  writer_like is a x y (alike k l u v p r b c) =
+      let there : IsIn (writer_of e.node.0) (ends w.graph.value) = has_writer w.graph.value e.node.0 (joined.delays e.node.0 ∙ is) in (
+        ap (λ (z : Frame). z.counts (writer_of e.node.0)) p ∙ b (writer_of e.node.0) there a ∙ sym (ap (λ (z : Frame). z.counts (writer_of e.node.0)) r),
+        ap (λ (z : Frame). z.values (writer_of e.node.0) 0) p ∙ ap (λ (z : ℕ → ℕ → ℤ). z 0) (c (writer_of e.node.0) there a) ∙ sym (ap (λ (z : Frame). z.values (writer_of e.node.0) 0) r),
+      )
+
+  -- what it took in at the frame that the reader asks for
+  asked_like : is_delay_kind (kind_of w e.node.0) ≡ true → e ≡ reader_of e.node.0 → (d : ℕ) → (in_cycle w.graph.value e.node.0 ≡ true → q ≤ d) → node.attrs.birth + d ≤ f
+      → ((seen f past (here w m s) (f - d)).counts (writer_of e.node.0) ≡ (seen f past' (here w n t) (f - d)).counts (writer_of e.node.0))
+      × ((seen f past (here w m s) (f - d)).values (writer_of e.node.0) 0 ≡ (seen f past' (here w n t) (f - d)).values (writer_of e.node.0) 0)
+  asked_like is reader d long born = elim (now_or_before (f - d)) [
+    | inl now ↦ by_cycle now (in_cycle w.graph.value e.node.0) refl
+    | inr old ↦
+        let below : f - d < f = let start : q * (f / q) ≤ f = omega arith in omega arith in
+        let there = sees.delays (f - d) (joined.delays e.node.0 ∙ is) (omega arith) old in (
+          ap (λ (z : Frame). z.counts (writer_of e.node.0)) (seen_before past (here w m s) (f - d) below) ∙ there.0
+              ∙ sym (ap (λ (z : Frame). z.counts (writer_of e.node.0)) (seen_before past' (here w n t) (f - d) below)),
+          ap (λ (z : Frame). z.values (writer_of e.node.0) 0) (seen_before past (here w m s) (f - d) below) ∙ there.1
+              ∙ sym (ap (λ (z : Frame). z.values (writer_of e.node.0) 0) (seen_before past' (here w n t) (f - d) below)),
+        )
+  ]
+    where
+      by_cycle : q * (f / q) ≤ f - d → (b : Bool) → in_cycle w.graph.value e.node.0 ≡ b
+          → ((seen f past (here w m s) (f - d)).counts (writer_of e.node.0) ≡ (seen f past' (here w n t) (f - d)).counts (writer_of e.node.0))
+          × ((seen f past (here w m s) (f - d)).values (writer_of e.node.0) 0 ≡ (seen f past' (here w n t) (f - d)).values (writer_of e.node.0) 0)
+      by_cycle now true cycle = let l = long cycle in let high : f < q * (f / q) + q = omega arith in absurd (omega arith)
+      by_cycle now false none =
+          let a : arrow w.graph.value (writer_of e.node.0) e ≡ true = subst (λ x. arrow w.graph.value (writer_of e.node.0) x ≡ true) (sym reader) (writer_arrow w.graph.value e.node.0 (joined.delays e.node.0 ∙ is) none) in
+          writer_like is a _ _ (like_now (f - d) now (omega arith))
+
+  -- and what the reader gives
+  delayed_like : is_delay_kind (kind_of w e.node.0) ≡ true → e ≡ reader_of e.node.0 → (c : ℕ) → delayed q f past (here w m s) e.node.0 c ≡ delayed q f past' (here w n t) e.node.0 c
+  delayed_like is reader c = ap (given past (here w m s)) (frames_like reader) ∙ by_birth (nat_lt f (node.attrs.birth + d)) refl
+    where
+      d : ℕ
+      d = delay_frames q f past' (here w n t) e.node.0
+
+      given : (ℕ → Frame) → Frame → ℕ → ℤ
+      given before now k =
+          let x = seen f before now (f - k) in
+          if nat_lt f (node.attrs.birth + k) then pos 0 else mix node.attrs.interp (x.counts (writer_of e.node.0)) (now.counts (reader_of e.node.0)) (x.values (writer_of e.node.0) 0) c
+
+      mixed : (ℕ → Frame) → Frame → ℤ
+      mixed before now =
+          let x = seen f before now (f - d) in
+          mix node.attrs.interp (x.counts (writer_of e.node.0)) (now.counts (reader_of e.node.0)) (x.values (writer_of e.node.0) 0) c
+
+      by_birth : (b : Bool) → nat_lt f (node.attrs.birth + d) ≡ b → (if b then pos 0 else mixed past (here w m s)) ≡ (if b then pos 0 else mixed past' (here w n t))
+      by_birth true unborn = refl
+      by_birth false born =
+          let asked = asked_like is reader d (λ cycle. quantum_long (in_cycle w.graph.value e.node.0) _ cycle) (grind (arith, nat_tests)) in
+          ap (λ from. mix node.attrs.interp from (m (reader_of e.node.0)) ((seen f past (here w m s) (f - d)).values (writer_of e.node.0) 0) c) asked.0
+          ∙ ap (λ to. mix node.attrs.interp ((seen f past' (here w n t) (f - d)).counts (writer_of e.node.0)) to ((seen f past (here w m s) (f - d)).values (writer_of e.node.0) 0) c) (subst (λ x. m x ≡ n x) reader own)
+          ∙ ap (λ (values : ℕ → ℤ). mix node.attrs.interp ((seen f past' (here w n t) (f - d)).counts (writer_of e.node.0)) (n (reader_of e.node.0)) values c) asked.1
 
   by_kind : (o c : ℕ) (k : Kind) → kind_of w e.node.0 ≡ k → value_by_kind q f past (here w m s) k e o c ≡ value_by_kind q f past' (here w n t) k e o c
   by_kind o c Destination is = input_like w joined m n s t e (plain_end w joined e h (ap is_delay_kind is)) agree_counts agree 0 c
@@ -175,6 +257,12 @@ module _ (q : ℕ) (some : 0 < q) (w : World) (joined : IsJoined w) (f : ℕ) (p
   by_kind o c (Gain gain) is =
       ap (λ x. scale x (computed_value q f past (here w m s) (param_id e.node.0 param.Gain))) (input_like w joined m n s t e (plain_end w joined e h (ap is_delay_kind is)) agree_counts agree 0 c)
       ∙ ap (scale (input_value (here w n t) e.node.0 0 c)) (computed_like (plain_reader w joined e h (ap is_delay_kind is)) param.Gain)
+  by_kind o c (Delay longest time capacity) is = by_end e.writer refl
+    where
+      by_end : (b : Bool) → e.writer ≡ b → (if b then input_value (here w m s) e.node.0 0 c else delayed q f past (here w m s) e.node.0 c)
+          ≡ (if b then input_value (here w n t) e.node.0 0 c else delayed q f past' (here w n t) e.node.0 c)
+      by_end true writer = input_like w joined m n s t e (writer_end w joined e (ap is_delay_kind is) writer) agree_counts agree 0 c
+      by_end false reader = delayed_like (ap is_delay_kind is) (reader_end e reader) c
   by_kind o c (Splitter ports) is = input_like w joined m n s t e (plain_end w joined e h (ap is_delay_kind is)) agree_counts agree 0 o
   by_kind o c (Merger ports) is = input_like w joined m n s t e (plain_end w joined e h (ap is_delay_kind is)) agree_counts agree c 0
   by_kind o c (Iir forward back) is = ap (filter_value forward back) (heard_like (ap remembers is) (plain_end w joined e h (ap is_delay_kind is)) c)

@@ -5,14 +5,14 @@ use Rattle.wa_base.specs.declared.exceptions.Exc.{Exc}
 use Rattle.wa_base.specs.declared.graph_names.Mode.{Mode}
 use Rattle.wa_base.specs.declared.graph_names.Interp.{Interp}
 use Rattle.law_base.specs.Members.{IsIn}
-use Rattle.node_table.specs.Kinds.{inputs, outputs, is_delay_kind, param_base, lasting, with_curve}
+use Rattle.node_table.specs.Kinds.{inputs, outputs, is_delay_kind, capacity_of, param_base, lasting, with_curve}
 use Rattle.node_table.specs.Nodes.{IsCreated, with_count, with_mode, with_interp, count_refusal, mode_refusal, interp_refusal, node_with_curve, curve_refusal, changed_at, refusal_at}
 use Rattle.node_table.specs.declared.kinds.Kind.{Kind}
-use Rattle.node_table.specs.declared.kinds.Kind.TheVariants.{Destination, Constant, Buffer, Gain, Splitter, Merger, Shaper, Iir}
+use Rattle.node_table.specs.declared.kinds.Kind.TheVariants.{Destination, Constant, Buffer, Gain, Delay, Splitter, Merger, Shaper, Iir}
 use Rattle.node_table.proofs.Lasting.{same_by_lasting, holds_by_lasting}
 use Rattle.node_table.proofs.Shaping.{keeps_curve}
 use Rattle.node_table.specs.declared.nodes.Node.{Node}
-use Rattle.node_table.proofs.Setting.{count_free, mode_kept, keeps_count, keeps_mode, keeps_interp, length-changed}
+use Rattle.node_table.proofs.Setting.{count_free, mode_kept, keeps_count, keeps_mode, keeps_interp, length-changed, capacities-changed}
 use Rattle.conn_graph.specs.declared.edges.Ports.{Ports}
 use Rattle.wa_base.specs.declared.contexts.ContextSpec.{ContextSpec}
 use Rattle.meaning.specs.declared.world.World.{World}
@@ -66,6 +66,7 @@ set_valid w node refusal change keeps fine valid = record {
   nodes = record {
     some = rw same valid.nodes.some;
     few = rw same valid.nodes.few;
+    kept = rw (capacities-changed change (λ n. same_by_lasting capacity_of (λ curve was_set. refl) (change n).kind n.kind (keeps.kind n)) node w.nodes) valid.nodes.kept;
     first = changed_holds (IsDestination w.spec) refusal change (keeps.destination w.spec) node w.nodes fine 0 valid.nodes.first;
     others = λ i low high. changed_holds IsCreated refusal change keeps.created node w.nodes fine i (valid.nodes.others i low (rw same at high));
   };
@@ -84,6 +85,7 @@ set_valid w node refusal change keeps fine valid = record {
     kinds = λ p is. holds_by_lasting (λ k. IsPlayOf w.store k p) (λ curve curve' was_set was_set' none. absurd none) _ _ (sym (kinds p.id.0)) (valid.scheds.kinds p is);
   };
   store = valid.store;
+  no_delay = λ i. same_by_lasting is_delay_kind (λ curve was_set. refl) _ _ (kinds i) ∙ valid.no_delay i;
 }
   where
     same : length (changed_at node change w.nodes) ≡ length w.nodes
@@ -133,6 +135,7 @@ with_curve_lasts curve Destination = refl
 with_curve_lasts curve (Constant offset) = refl
 with_curve_lasts curve (Buffer rate) = refl
 with_curve_lasts curve (Gain gain) = refl
+with_curve_lasts curve (Delay longest time capacity) = refl
 with_curve_lasts curve (Splitter ports) = refl
 with_curve_lasts curve (Merger ports) = refl
 with_curve_lasts curve (Iir forward back) = refl

@@ -18,7 +18,7 @@ use Rattle.sched_source.specs.declared.content.Loop.{Loop}
 use Rattle.sched_source.specs.Playback.{unstarted, begun, absolute}
 use Rattle.sched_source.specs.Schedule.{Schedule, constant, buffer}
 use Rattle.node_table.specs.declared.kinds.Kind.{Kind}
-use Rattle.node_table.specs.declared.kinds.Kind.TheVariants.{Destination, Constant, Buffer, Gain, Splitter, Merger, Shaper, Iir}
+use Rattle.node_table.specs.declared.kinds.Kind.TheVariants.{Destination, Constant, Buffer, Gain, Delay, Splitter, Merger, Shaper, Iir}
 use Rattle.meaning.specs.declared.scheds.Play.{Play}
 use Rattle.meaning.specs.declared.sources.SourceEdit.{SourceEdit}
 use Rattle.meaning.specs.declared.sources.SourceEdit.TheVariants as edit
@@ -53,6 +53,7 @@ new_fits store node (Buffer rate) p is =
     by_some (IsBufferPlay store rate) (not_started node (buffer rate no_loop)) p is
     (record { content = unstarted rate no_loop; plays = refl; rate_of = refl; there = tt; length_of = λ none. let never : false ≡ true = none in absurd cc })
 new_fits store node (Gain gain) p is = absurd cc
+new_fits store node (Delay longest time capacity) p is = absurd cc
 new_fits store node (Splitter ports) p is = absurd cc
 new_fits store node (Merger ports) p is = absurd cc
 new_fits store node (Shaper curve was_set) p is = absurd cc
@@ -100,6 +101,7 @@ kept_play old new keeps (Buffer rate) p is = record {
   length_of = λ begun. is.length_of begun ∙ sym (same_frames old new keeps p.buffer is.there);
 }
 kept_play old new keeps (Gain gain) p is = is
+kept_play old new keeps (Delay longest time capacity) p is = is
 kept_play old new keeps (Splitter ports) p is = is
 kept_play old new keeps (Merger ports) p is = is
 kept_play old new keeps (Shaper curve was_set) p is = is
@@ -148,6 +150,7 @@ play_buffer store Destination p is = absurd is
 play_buffer store (Constant offset) p is = rw is.buffer tt
 play_buffer store (Buffer rate) p is = is.there
 play_buffer store (Gain gain) p is = absurd is
+play_buffer store (Delay longest time capacity) p is = absurd is
 play_buffer store (Splitter ports) p is = absurd is
 play_buffer store (Merger ports) p is = absurd is
 play_buffer store (Shaper curve was_set) p is = absurd is
@@ -247,6 +250,7 @@ module _ (w : World) (store : List AudioBuffer) (keeps : KeepsFrames w.store sto
   edit_stays e (Constant offset) p named fine old is = constant_stays e (frames_in w.store p.buffer) p fine is
   edit_stays e (Buffer rate) p named fine old is = source_stays e rate p named fine old.there is
   edit_stays e (Gain gain) p named fine old is = absurd is
+  edit_stays e (Delay longest time capacity) p named fine old is = absurd is
   edit_stays e (Splitter ports) p named fine old is = absurd is
   edit_stays e (Merger ports) p named fine old is = absurd is
   edit_stays e (Shaper curve was_set) p named fine old is = absurd is

@@ -30,6 +30,7 @@ valid_of w w' spec nodes graph params plays kinds store valid = record {
   nodes = record {
     some = rw nodes valid.nodes.some;
     few = rw nodes valid.nodes.few;
+    kept = rw nodes valid.nodes.kept;
     first = rw (spec, nodes) valid.nodes.first;
     others = λ i low high. rw nodes (valid.nodes.others i low (rw nodes at high));
   };
@@ -44,6 +45,7 @@ valid_of w w' spec nodes graph params plays kinds store valid = record {
   };
   scheds = record { each = λ i. rw (plays, nodes) (valid.scheds.each i); once = rw plays valid.scheds.once; kinds = kinds };
   store = store;
+  no_delay = λ i. rw nodes (valid.no_delay i);
 }
 
 pub plain_valid : (w : World) → IsValid w → IsValid (plain w)
@@ -93,12 +95,13 @@ pub with_graph_valid : (w : World) (g : Connections) → IsValid w → IsGraph g
     → ((e : Edge) (id : ParamId) → IsIn e g.edges → e.to ≡ to_param id → IsIn id (param_ids w)) → IsValid (with_graph w g)
 with_graph_valid w g valid graph nodes targets = record {
   spec = valid.spec;
-  nodes = record { some = valid.nodes.some; few = valid.nodes.few; first = valid.nodes.first; others = valid.nodes.others };
+  nodes = record { some = valid.nodes.some; few = valid.nodes.few; kept = valid.nodes.kept; first = valid.nodes.first; others = valid.nodes.others };
   graph = graph;
   ports = nodes ∙ valid.ports;
   params = record { each = valid.params.each; there = valid.params.there; order = valid.params.order; lines = valid.params.lines; targets = targets };
   scheds = record { each = valid.scheds.each; once = valid.scheds.once; kinds = valid.scheds.kinds };
   store = valid.store;
+  no_delay = valid.no_delay;
 }
 
 -- a graph has a node for each node of its world

@@ -7,10 +7,10 @@ use Rattle.wa_base.specs.declared.graph_names.ParamName.{ParamName}
 use Rattle.wa_base.specs.declared.graph_names.ParamName.TheVariants as param
 use Rattle.wa_base.specs.declared.graph_names.Rate.TheVariants.{A}
 use Rattle.law_base.specs.Members.{IsIn}
-use Rattle.node_table.specs.Kinds.{is_destination, IsInEntry}
+use Rattle.node_table.specs.Kinds.{is_destination, is_delay_kind, IsInEntry}
 use Rattle.node_table.specs.Nodes.{creation_refusal, node_of, with_count, with_mode, with_interp, count_refusal, mode_refusal, interp_refusal, node_with_curve, curve_refusal, changed_at, refusal_at}
 use Rattle.node_table.specs.declared.kinds.Kind.{Kind}
-use Rattle.node_table.specs.declared.kinds.Kind.TheVariants.{Destination, Constant, Buffer, Gain, Splitter, Merger, Shaper, Iir}
+use Rattle.node_table.specs.declared.kinds.Kind.TheVariants.{Destination, Constant, Buffer, Gain, Delay, Splitter, Merger, Shaper, Iir}
 use Rattle.node_table.specs.declared.nodes.Node.{Node}
 use Rattle.conn_graph.specs.Edges.{form_node}
 use Rattle.conn_graph.specs.Graph.{Connections, with_node, connect_refusal, connected, disconnect_refusal, disconnected}
@@ -44,6 +44,7 @@ param_of Destination = None
 param_of (Constant offset) = Some (param.Offset, offset)
 param_of (Buffer rate) = None
 param_of (Gain gain) = Some (param.Gain, gain)
+param_of (Delay longest time capacity) = Some (param.DelayTime, time)
 param_of (Splitter ports) = None
 param_of (Merger ports) = None
 param_of (Shaper curve was_set) = None
@@ -143,9 +144,9 @@ abbrev pub IsTarget : World → Target → Type 0
 IsTarget w (Input node input) = node.0 < length w.nodes
 IsTarget w (to_param id) = IsIn id (param_ids w)
 
--- what an edit names is there, and a node that it creates is no destination and in its kind's ranges
+-- what an edit names is there, and a node that it creates is no destination, in its kind's ranges, and no delay yet
 abbrev pub IsNamed : World → Edit → Type 0
-IsNamed w (edit.Create kind) = (is_destination kind ≡ false) × IsInEntry kind
+IsNamed w (edit.Create kind) = (is_destination kind ≡ false) × IsInEntry kind × (is_delay_kind kind ≡ false)
 IsNamed w (edit.CreateBufferSource rate buffer points) = IsBufferOf w.store buffer
 IsNamed w (edit.Connect edge) = (edge.from.0 < length w.nodes) × IsTarget w edge.to
 IsNamed w (edit.Disconnect from form) = (from.0 < length w.nodes) × IfSome (form_node form) (λ node. node < length w.nodes)

@@ -1,13 +1,14 @@
 -- How many channels each end has in each quantum.
-use Rattle.std.specs.Prelude.{ℕ, ◌*◌, List, map, slice_index_or, nat_lt, if◌then◌else◌}
+use Rattle.std.specs.Prelude.{ℕ, ◌+◌, ◌-◌, ◌*◌, ◌/◌, ◌==◌, List, map, slice_index_or, nat_lt, if◌then◌else◌}
 use Rattle.wa_base.specs.declared.graph_names.End.{End}
 use Rattle.law_base.specs.Heights.{Scheme, at_moment}
-use Rattle.channel_mix.specs.Counts.{input_count}
+use Rattle.channel_mix.specs.Counts.{greatest, input_count}
 use Rattle.node_table.specs.declared.kinds.Kind.{Kind}
-use Rattle.node_table.specs.declared.kinds.Kind.TheVariants.{Destination, Constant, Buffer, Gain, Splitter, Merger, Shaper, Iir}
+use Rattle.node_table.specs.declared.kinds.Kind.TheVariants.{Destination, Constant, Buffer, Gain, Delay, Splitter, Merger, Shaper, Iir}
 use Rattle.conn_graph.specs.Graph.{edges_to_input}
-use Rattle.conn_graph.specs.Ends.{reader_of, height, muted}
+use Rattle.conn_graph.specs.Ends.{writer_of, reader_of, in_cycle, height, muted}
 use Rattle.meaning.specs.declared.world.World.{World}
+use Rattle.meaning.specs.Lists.{since}
 use Rattle.meaning.specs.World.{plain, no_world, node_at, kind_of, played_channels}
 
 -- the world in force in a quantum
@@ -21,12 +22,24 @@ Counts = End → ℕ
 abbrev pub input_channels : World → Counts → ℕ → ℕ → ℕ
 input_channels w counts n i = input_count (node_at w n).attrs.mode (node_at w n).attrs.count (map (λ e. counts (reader_of e.from.0)) (edges_to_input w.graph.value n i))
 
+-- the counts of quantum k, as the rule of quantum j sees them
+abbrev pub seen_counts : ℕ → (ℕ → Counts) → Counts → ℕ → Counts
+seen_counts j past now k = if k == j then now else past k
+
+-- How many channels the reader of a delay has in quantum j: the most that its writer had in a quantum from the delay's birth up to this one, and in a cycle up to the one before.
+abbrev pub reader_channels : ℕ → World → ℕ → (ℕ → Counts) → Counts → ℕ → ℕ
+reader_channels q w j past now n =
+    let birth = (node_at w n).attrs.birth / q in
+    let end = if in_cycle w.graph.value n then j else j + 1 in
+    greatest (since (λ k. seen_counts j past now k (writer_of n)) birth (end - birth))
+
 -- by the kind of an end's node, in quantum j of q frames, from the counts of the quanta before and of this one
 abbrev pub count_by_kind : ℕ → World → ℕ → (ℕ → Counts) → Counts → Kind → End → ℕ
 count_by_kind q w j past now Destination e = input_channels w now e.node.0 0
 count_by_kind q w j past now (Constant offset) e = 1
 count_by_kind q w j past now (Buffer rate) e = played_channels w e.node.0 q (q * j)
 count_by_kind q w j past now (Gain gain) e = input_channels w now e.node.0 0
+count_by_kind q w j past now (Delay longest time capacity) e = if e.writer then input_channels w now e.node.0 0 else reader_channels q w j past now e.node.0
 count_by_kind q w j past now (Splitter outputs) e = 1
 count_by_kind q w j past now (Merger inputs) e = inputs
 count_by_kind q w j past now (Shaper curve was_set) e = input_channels w now e.node.0 0

@@ -1,19 +1,20 @@
 -- What is said of the definitions. Each law holds for every size of a quantum from 1 to 1,024 frames.
-use Rattle.std.specs.Prelude.{ℕ, suc, ◌+◌, ◌*◌, ◌/◌, ◌≡◌, ◌<◌, ◌≤◌, length, List, [], ◌∷◌, ◌++◌, All, Some}
+use Rattle.std.specs.Prelude.{ℕ, suc, ◌+◌, ◌-◌, ◌*◌, ◌/◌, ◌≡◌, ◌<◌, ◌≤◌, length, List, [], ◌∷◌, ◌++◌, All, true, false, Some}
 use Rattle.wa_base.specs.Numbers.{IsFix}
 use Rattle.wa_base.specs.declared.graph_names.End.{End}
 use Rattle.wa_base.specs.declared.graph_names.ParamId.{ParamId}
 use Rattle.law_base.specs.Members.{IsIn}
 use Rattle.buffer_store.specs.declared.buffers.Buffer.{Buffer}
+use Rattle.node_table.specs.Kinds.{is_delay_kind, capacity_of}
 use Rattle.node_table.specs.declared.kinds.Kind.{Kind}
 use Rattle.node_table.specs.declared.kinds.Kind.TheVariants.{Shaper}
-use Rattle.conn_graph.specs.Ends.{ends, height}
+use Rattle.conn_graph.specs.Ends.{writer_of, reader_of, ends, in_cycle, height, muted}
 use Rattle.conn_graph.specs.Orders.{IsLegalOrder}
 use Rattle.meaning.specs.declared.world.World.{World}
-use Rattle.meaning.specs.World.{kind_of}
+use Rattle.meaning.specs.World.{node_at, kind_of}
 use Rattle.meaning.specs.Validity.{IsValid}
 use Rattle.meaning.specs.Counts.{world_in, count_rule, count_at, count, counts_before}
-use Rattle.meaning.specs.Values.{silence, equation, world_at, value_at, value, frame, frames_before, frame_at, param_value}
+use Rattle.meaning.specs.Values.{silence, delay_frames, equation, world_at, value_at, value, frame, frames_before, frame_at, param_value}
 use Rattle.meaning.specs.Orders.{values_by}
 use Rattle.meaning.specs.Blocks.{blocks_along}
 use Rattle.meaning.specs.Worlds.{IsRegular}
@@ -55,7 +56,7 @@ pub record HasFixes (w : World) : Type 0 where
 
 -- Every value is a Fix, where the samples of the buffers and the points of the curves are.
 abbrev pub RangeLaw : Type 0
-RangeLaw = (q : ℕ) (tape : List World) → All HasFixes tape → (f : ℕ) (e : End) (o c : ℕ) → IsFix (value q tape f e o c)
+RangeLaw = (q : ℕ) → 0 < q → q ≤ 1024 → (tape : List World) → All IsValid tape → All HasFixes tape → (f : ℕ) (e : End) (o c : ℕ) → IsFix (value q tape f e o c)
 
 -- Going once along any legal order gives the values.
 abbrev pub OrderLaw : Type 0
@@ -75,3 +76,19 @@ PastLaw = (q : ℕ) → 0 < q → q ≤ 1024 → (w : World) (tape tape' : List 
     × ((f : ℕ) (e : End) → f / q ≡ length tape → IsIn e (ends w.graph.value) → value q (tape ++ w ∷ []) f e ≡ value q (tape' ++ w ∷ []) f e)
     × ((f : ℕ) (id : ParamId) → f / q ≡ length tape → id.node.0 < length w.graph.value.nodes → param_value q (tape ++ w ∷ []) f id ≡ param_value q (tape' ++ w ∷ []) f id)
     × (past q (tape ++ w ∷ []) ≡ past q (tape' ++ w ∷ []))
+
+-- how many frames a delay lasts at frame f of a tape
+abbrev pub frames_back : ℕ → List World → ℕ → ℕ → ℕ
+frames_back q tape f n = delay_frames q f (frames_before q tape f) (frame q tape f) n
+
+-- What the reader of delay n asks for at frame f is kept: so many frames back lie among the last ones, as many as the delay keeps and a quantum has, once the writer has written its own quantum.
+-- In a cycle it lies before this quantum. Where it is not before the delay's birth and the reader is not muted, the writer had no more channels then than the reader has now.
+pub record IsAsked (q : ℕ) (tape : List World) (f n : ℕ) : Type 0 where
+  pub kept : q * (f / q) + q ≤ f - frames_back q tape f n + (capacity_of (kind_of (world_at q tape f) n) + q)
+  pub earlier : in_cycle (world_at q tape f).graph.value n ≡ true → (node_at (world_at q tape f) n).attrs.birth + frames_back q tape f n ≤ f → f - frames_back q tape f n < q * (f / q)
+  pub channels : muted (world_at q tape f).graph.value (reader_of n) ≡ false → (node_at (world_at q tape f) n).attrs.birth + frames_back q tape f n ≤ f
+      → count q tape ((f - frames_back q tape f n) / q) (writer_of n) ≤ count q tape (f / q) (reader_of n)
+
+-- Of a regular tape each reader asks only for what its delay keeps.
+abbrev pub ReachLaw : Type 0
+ReachLaw = (q : ℕ) → 0 < q → q ≤ 1024 → (tape : List World) → IsRegular q tape → (f n : ℕ) → f / q < length tape → is_delay_kind (kind_of (world_at q tape f) n) ≡ true → IsAsked q tape f n

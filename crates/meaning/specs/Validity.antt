@@ -1,5 +1,5 @@
 -- What holds of every world of a session.
-use Rattle.std.specs.Prelude.{ℕ, ◌≡◌, ◌↔◌, ◌<◌, ◌≤◌, List, length, map, None, Some, IsSome, IfSome, true}
+use Rattle.std.specs.Prelude.{ℕ, ◌≡◌, ◌↔◌, ◌<◌, ◌≤◌, List, length, map, None, Some, IsSome, IfSome, true, false}
 use Rattle.std.specs.List.Sorted.{IsStrictlyIncreasing}
 use Rattle.wa_base.specs.Contexts.{IsSupported}
 use Rattle.wa_base.specs.declared.contexts.ContextSpec.{ContextSpec}
@@ -12,9 +12,9 @@ use Rattle.sched_source.specs.declared.content.Content.{Content}
 use Rattle.buffer_store.specs.declared.buffers.Buffer.{Buffer as AudioBuffer}
 use Rattle.buffer_store.specs.Buffers.{AreBuffers}
 use Rattle.node_table.specs.Kinds.{inputs, outputs, is_delay_kind, param_base}
-use Rattle.node_table.specs.Nodes.{IsCreated}
+use Rattle.node_table.specs.Nodes.{capacities, IsCreated}
 use Rattle.node_table.specs.declared.kinds.Kind.{Kind}
-use Rattle.node_table.specs.declared.kinds.Kind.TheVariants.{Destination, Constant, Buffer, Gain, Splitter, Merger, Shaper, Iir}
+use Rattle.node_table.specs.declared.kinds.Kind.TheVariants.{Destination, Constant, Buffer, Gain, Delay, Splitter, Merger, Shaper, Iir}
 use Rattle.node_table.specs.declared.nodes.Node.{Node}
 use Rattle.conn_graph.specs.declared.edges.Edge.{Edge}
 use Rattle.conn_graph.specs.declared.edges.Ports.{Ports}
@@ -36,6 +36,7 @@ pub record IsDestination (spec : ContextSpec) (node : Node) : Type 0 where
 pub record HasNodes (w : World) : Type 0 where
   pub some : 1 ≤ length w.nodes
   pub few : length w.nodes ≤ 1024
+  pub kept : capacities w.nodes ≤ 4194304
   pub first : IsDestination w.spec (node_at w 0)
   pub others : (i : ℕ) → 0 < i → i < length w.nodes → IsCreated (node_at w i)
 
@@ -78,6 +79,7 @@ IsPlayOf store Destination play = ⊥
 IsPlayOf store (Constant offset) play = IsConstantPlay play
 IsPlayOf store (Buffer rate) play = IsBufferPlay store rate play
 IsPlayOf store (Gain gain) play = ⊥
+IsPlayOf store (Delay longest time capacity) play = ⊥
 IsPlayOf store (Splitter ports) play = ⊥
 IsPlayOf store (Merger ports) play = ⊥
 IsPlayOf store (Shaper curve was_set) play = ⊥
@@ -89,6 +91,10 @@ pub record HasScheds (w : World) : Type 0 where
   pub once : AreDistinct (play_nodes w)
   pub kinds : (p : Play) → IsIn p w.scheds.items → IsPlayOf w.store (kind_of w p.id.0) p
 
+-- It has no delay yet. No law rests on it.
+abbrev pub HasNoDelay : World → Type 0
+HasNoDelay w = (i : ℕ) → is_delay_kind (kind_of w i) ≡ false
+
 pub record IsValid (w : World) : Type 0 where
   pub spec : IsSupported w.spec
   pub nodes : HasNodes w
@@ -97,6 +103,7 @@ pub record IsValid (w : World) : Type 0 where
   pub params : HasParams w
   pub scheds : HasScheds w
   pub store : AreBuffers w.store
+  pub no_delay : HasNoDelay w
 
 -- What the laws use of it: each connection has its place, and the delays are those of the graph.
 pub record IsJoined (w : World) : Type 0 where

@@ -1,5 +1,5 @@
 -- What each end carries at each frame.
-use Rattle.std.specs.Prelude.{ℕ, zero, suc, ◌+◌, ◌-◌, ℤ, pos, ◌+ℤ◌, ◌*◌, ◌/◌, List, [], ◌∷◌, map, Bool, nat_lt, ◌==◌, ◌&&◌, if◌then◌else◌}
+use Rattle.std.specs.Prelude.{ℕ, ◌+◌, ◌-◌, max, ℤ, pos, ◌+ℤ◌, ◌*◌, ◌/◌, List, [], ◌∷◌, map, Bool, nat_lt, ◌==◌, ◌&&◌, if◌then◌else◌}
 use Rattle.wa_base.specs.Numbers.{scale}
 use Rattle.wa_base.specs.declared.graph_names.End.{End}
 use Rattle.wa_base.specs.declared.graph_names.Interp.{Interp}
@@ -10,13 +10,15 @@ use Rattle.law_base.specs.Heights.{Scheme, at_moment}
 use Rattle.causal_core.specs.Curves.{shaper_value}
 use Rattle.causal_core.specs.Filters.{filter_value}
 use Rattle.channel_mix.specs.Mixing.{mix, fan_in}
+use Rattle.node_table.specs.Delays.{frames_of}
 use Rattle.node_table.specs.Kinds.{outputs}
 use Rattle.node_table.specs.declared.kinds.Kind.{Kind}
-use Rattle.node_table.specs.declared.kinds.Kind.TheVariants.{Destination, Constant, Buffer, Gain, Splitter, Merger, Shaper, Iir}
+use Rattle.node_table.specs.declared.kinds.Kind.TheVariants.{Destination, Constant, Buffer, Gain, Delay, Splitter, Merger, Shaper, Iir}
 use Rattle.conn_graph.specs.declared.edges.Edge.{Edge}
 use Rattle.conn_graph.specs.Graph.{edges_to_input, edges_to_param}
-use Rattle.conn_graph.specs.Ends.{reader_of, input_end, height, muted}
+use Rattle.conn_graph.specs.Ends.{writer_of, reader_of, input_end, in_cycle, height, muted}
 use Rattle.meaning.specs.declared.world.World.{World}
+use Rattle.meaning.specs.Lists.{since}
 use Rattle.meaning.specs.World.{no_world, node_at, kind_of, param_id, intrinsic_value, is_k_rate, nominal, sounds_at, played_at}
 use Rattle.meaning.specs.Counts.{Counts, world_in, input_channels, count}
 
@@ -60,14 +62,9 @@ input_value x n i c =
 abbrev pub taken_in : Frame → ℕ → ℕ → ℤ
 taken_in x n c = if muted x.world.graph.value (input_end x.world.graph.value n) then pos 0 else input_value x n 0 c
 
--- so many frames from a node's birth on, the newest first
-abbrev pub frames_since : (ℕ → ℤ) → ℕ → ℕ → List ℤ
-frames_since at birth zero = []
-frames_since at birth (suc n) = at (birth + n) ∷ frames_since at birth n
-
 -- all that the input of node n took in on channel c, from its birth to frame f
 abbrev pub frames_heard : ℕ → (ℕ → Frame) → Frame → ℕ → ℕ → List ℤ
-frames_heard f past here n c = let birth = (node_at here.world n).attrs.birth in frames_since (λ g. taken_in (seen f past here g) n c) birth (f + 1 - birth)
+frames_heard f past here n c = let birth = (node_at here.world n).attrs.birth in since (λ g. taken_in (seen f past here g) n c) birth (f + 1 - birth)
 
 -- The computed value of a parameter (paramComputedValue): its intrinsic value plus what its connections carry, mixed to one channel, in the nominal range.
 -- At k-rate both are taken at the first frame of the quantum.
@@ -77,9 +74,25 @@ computed_value q f past here id =
     nominal (kind_of here.world id.node.0)
     (intrinsic_value here.world id g +ℤ mixed_sum (seen f past here g) Speakers 1 0 (edges_to_param here.world.graph.value id))
 
+-- ---- delays
+
+-- how many frames a delay lasts at frame f: its delayTime at the context's rate, and in a cycle at least a quantum
+abbrev pub delay_frames : ℕ → ℕ → (ℕ → Frame) → Frame → ℕ → ℕ
+delay_frames q f past here n =
+    let frames = frames_of (computed_value q f past here (param_id n param.DelayTime)) here.world.spec.rate in
+    if in_cycle here.world.graph.value n then max q frames else frames
+
+-- Channel c of what a delay's reader gives at frame f: what its writer took in so many frames before. It is mixed from the channels that the writer had then to those that the reader has, by the interpretation in force now. Before the delay's birth there was silence.
+abbrev pub delayed : ℕ → ℕ → (ℕ → Frame) → Frame → ℕ → ℕ → ℤ
+delayed q f past here n c =
+    let node = node_at here.world n in
+    let d = delay_frames q f past here n in
+    let x = seen f past here (f - d) in
+    if nat_lt f (node.attrs.birth + d) then pos 0 else mix node.attrs.interp (x.counts (writer_of n)) (here.counts (reader_of n)) (x.values (writer_of n) 0) c
+
 -- ---- the equations
 
--- channel c of output o of an end, by the kind of its node
+-- channel c of output o of an end, by the kind of its node; the writer of a delay takes in what its reader gives later
 abbrev pub value_by_kind : ℕ → ℕ → (ℕ → Frame) → Frame → Kind → End → ℕ → ℕ → ℤ
 value_by_kind q f past here Destination e o c = input_value here e.node.0 0 c
 value_by_kind q f past here (Constant offset) e o c =
@@ -87,6 +100,7 @@ value_by_kind q f past here (Constant offset) e o c =
 value_by_kind q f past here (Buffer rate) e o c = played_at here.world e.node.0 c f
 value_by_kind q f past here (Gain gain) e o c =
     scale (input_value here e.node.0 0 c) (computed_value q f past here (param_id e.node.0 param.Gain))
+value_by_kind q f past here (Delay longest time capacity) e o c = if e.writer then input_value here e.node.0 0 c else delayed q f past here e.node.0 c
 -- an output of a splitter is a channel of its input, and a channel of a merger is one of its inputs, mixed to one channel
 value_by_kind q f past here (Splitter outputs) e o c = input_value here e.node.0 0 o
 value_by_kind q f past here (Merger inputs) e o c = input_value here e.node.0 c 0

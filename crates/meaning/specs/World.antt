@@ -1,5 +1,5 @@
 -- What is in force in one render quantum.
-use Rattle.std.specs.Prelude.{ℕ, ℤ, pos, List, [], slice_index_or, Bool, true, false, ◌==◌, if◌then◌else◌, slice_get, option_and_then, Option, None, Some, is_some}
+use Rattle.std.specs.Prelude.{ℕ, ℤ, pos, List, [], slice_index_or, Bool, true, false, ◌==◌, if◌then◌else◌, slice_get, option_and_then, min, Option, None, Some, is_some}
 use Rattle.std.specs.List.{position}
 use Rattle.std.specs.Option.{option_map_or}
 use Rattle.wa_base.specs.Numbers.{sat}
@@ -16,7 +16,7 @@ use Rattle.sched_source.specs.Schedule.{Schedule, plays_at, plays_in, played, co
 use Rattle.buffer_store.specs.declared.buffers.Buffer.{Buffer as AudioBuffer}
 use Rattle.buffer_store.specs.Buffers.{channel_of}
 use Rattle.node_table.specs.declared.kinds.Kind.{Kind}
-use Rattle.node_table.specs.declared.kinds.Kind.TheVariants.{Destination, Constant, Buffer, Gain, Splitter, Merger, Shaper, Iir}
+use Rattle.node_table.specs.declared.kinds.Kind.TheVariants.{Destination, Constant, Buffer, Gain, Delay, Splitter, Merger, Shaper, Iir}
 use Rattle.node_table.specs.declared.nodes.Node.{Node}
 use Rattle.conn_graph.specs.Edges.{same_param}
 use Rattle.conn_graph.specs.Graph.{Connections, no_connections}
@@ -89,12 +89,18 @@ is_k K = true
 abbrev pub is_k_rate : World → ParamId → Bool
 is_k_rate w id = option_map_or (λ p. is_k p.rate) (find_param w.params.items id) false
 
--- a value clamped to the nominal range of the parameter that a kind has
+-- the number nearest to x from 0 up to another
+abbrev pub up_to : ℤ → ℤ → ℤ
+up_to (pos most) (pos x) = pos (min x most)
+up_to most x = pos 0
+
+-- a value clamped to the nominal range of the parameter that a kind has: that of delayTime goes from 0 up to maxDelayTime
 abbrev pub nominal : Kind → ℤ → ℤ
 nominal Destination x = sat x
 nominal (Constant offset) x = sat x
 nominal (Buffer rate) x = sat x
 nominal (Gain gain) x = sat x
+nominal (Delay longest time capacity) x = up_to longest x
 nominal (Splitter ports) x = sat x
 nominal (Merger ports) x = sat x
 nominal (Shaper curve was_set) x = sat x
@@ -111,6 +117,7 @@ first_sched Destination = None
 first_sched (Constant offset) = Some constant
 first_sched (Buffer rate) = Some (buffer rate no_loop)
 first_sched (Gain gain) = None
+first_sched (Delay longest time capacity) = None
 first_sched (Splitter ports) = None
 first_sched (Merger ports) = None
 first_sched (Shaper curve was_set) = None

@@ -95,6 +95,7 @@ fn param_of(kind: &Kind) -> Option<(ParamName, Fix)>
         | Kind::Iir { .. } => None,
         Kind::Constant { offset } => Some((ParamName::Offset, *offset)),
         Kind::Gain { gain } => Some((ParamName::Gain, *gain)),
+        Kind::Delay { time, .. } => Some((ParamName::DelayTime, *time)),
     }
 }
 
@@ -108,6 +109,7 @@ fn first_sched(kind: &Kind) -> Option<Sched>
         Kind::Buffer { rate } => Some(Sched::buffer(*rate, NO_LOOP)),
         Kind::Destination
         | Kind::Gain { .. }
+        | Kind::Delay { .. }
         | Kind::Splitter { .. }
         | Kind::Merger { .. }
         | Kind::Shaper { .. }

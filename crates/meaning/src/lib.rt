@@ -2,7 +2,7 @@
 //! carries at each frame, and the laws of these values.
 #![tactic(auto)]
 
-ghost use Rattle.meaning.specs.Laws.{RecursionLaw, HeightLaw, FixpointLaw, RangeLaw, OrderLaw, BlockLaw, PastLaw};
+ghost use Rattle.meaning.specs.Laws.{RecursionLaw, HeightLaw, FixpointLaw, RangeLaw, OrderLaw, BlockLaw, PastLaw, ReachLaw};
 ghost use Rattle.meaning.specs.Changes.{ChangeLaw};
 
 mod automation;
@@ -61,6 +61,12 @@ pub fn block_law()
 /// the same counts, values and parameters, and it leaves one past.
 pub fn past_law()
     ensures { PastLaw }
+{}
+
+/// The reader of a delay asks only for frames that the delay keeps, and in a cycle only for frames of
+/// earlier quanta. What it asks for was written with no more channels than it has.
+pub fn reach_law()
+    ensures { ReachLaw }
 {}
 
 /// A valid world stays valid by each change that it accepts. It keeps its context and its nodes, and

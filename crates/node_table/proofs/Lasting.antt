@@ -1,13 +1,31 @@
 -- What stays as long as a node is there.
-use Rattle.std.proofs.Common.{◌≡◌, ℤ, Bool, false, Option, None, List, ◌⊎◌, inl, inr, refl, sym, ◌∙◌, ap, subst}
+use Rattle.std.proofs.Common.{◌≡◌, ℕ, ℤ, Bool, true, false, Option, None, List, ◌⊎◌, inl, inr, refl, sym, ◌∙◌, ap, subst}
 use Rattle.node_table.specs.declared.kinds.Kind.{Kind}
-use Rattle.node_table.specs.declared.kinds.Kind.TheVariants.{Destination, Constant, Buffer, Gain, Splitter, Merger, Shaper, Iir}
-use Rattle.node_table.specs.Kinds.{lasting}
+use Rattle.node_table.specs.declared.kinds.Kind.TheVariants.{Destination, Constant, Buffer, Gain, Delay, Splitter, Merger, Shaper, Iir}
+use Rattle.node_table.specs.Kinds.{is_delay_kind, lasting}
 
 record IsShaper (kind : Kind) : Type 0 where
   curve : Option (List ℤ)
   was_set : Bool
   is : kind ≡ Shaper curve was_set
+
+-- what a delay was created with
+pub record IsDelay (kind : Kind) : Type 0 where
+  pub longest : ℤ
+  pub time : ℤ
+  pub capacity : ℕ
+  pub is : kind ≡ Delay longest time capacity
+
+pub the_delay : (kind : Kind) → is_delay_kind kind ≡ true → IsDelay kind
+the_delay Destination is = absurd cc
+the_delay (Constant offset) is = absurd cc
+the_delay (Buffer rate) is = absurd cc
+the_delay (Gain gain) is = absurd cc
+the_delay (Delay longest time capacity) is = record { longest = longest; time = time; capacity = capacity; is = refl }
+the_delay (Splitter ports) is = absurd cc
+the_delay (Merger ports) is = absurd cc
+the_delay (Shaper curve was_set) is = absurd cc
+the_delay (Iir forward back) is = absurd cc
 
 -- all of a kind lasts, but for a shaper's curve
 lasts : (kind : Kind) → (lasting kind ≡ kind) ⊎ IsShaper kind
@@ -15,6 +33,7 @@ lasts Destination = inl refl
 lasts (Constant offset) = inl refl
 lasts (Buffer rate) = inl refl
 lasts (Gain gain) = inl refl
+lasts (Delay longest time capacity) = inl refl
 lasts (Splitter ports) = inl refl
 lasts (Merger ports) = inl refl
 lasts (Iir forward back) = inl refl

@@ -3,30 +3,30 @@ use Rattle.std.specs.Prelude.{neg_ℤ, is_some}
 use Rattle.std.proofs.Common.{ℤ, pos, ◌≡◌, List, [], ◌∷◌, None, Some, map, true, false, refl}
 use Rattle.wa_base.specs.declared.contexts.ContextSpec.{ContextSpec}
 use Rattle.wa_base.specs.declared.exceptions.Exc.TheVariants.{NotSupported, InvalidState, IndexSize, WrongType}
-use Rattle.wa_base.specs.declared.features.Feature.TheVariants.{PlaybackRate}
+use Rattle.wa_base.specs.declared.features.Feature.TheVariants.{PlaybackRate, LongDelay, DelayLimit}
 use Rattle.wa_base.specs.declared.graph_names.Interp.TheVariants.{Speakers, Discrete}
 use Rattle.wa_base.specs.declared.graph_names.Mode.TheVariants.{Max, Explicit}
 use Rattle.wa_base.specs.declared.graph_names.ParamName.{ParamName}
 use Rattle.wa_base.specs.declared.graph_names.ParamName.TheVariants as param
 use Rattle.node_table.specs.declared.kinds.Kind.{Kind}
-use Rattle.node_table.specs.declared.kinds.Kind.TheVariants.{Destination, Constant, Buffer, Gain, Splitter, Merger, Shaper, Iir}
+use Rattle.node_table.specs.declared.kinds.Kind.TheVariants.{Destination, Constant, Buffer, Gain, Delay, Splitter, Merger, Shaper, Iir}
 use Rattle.node_table.specs.Kinds.{is_destination, fixed_count, fixed_mode, fixed_interp, inputs, outputs, is_delay_kind, param_base, lasting, remembers, with_curve, set_curve_refusal}
 use Rattle.node_table.specs.Nodes.{destination_of, node_of, creation_refusal, count_refusal, kind_at, attrs_at}
 
 abbrev kinds : List Kind
-kinds = Destination ∷ Constant (pos 5) ∷ Buffer 2 ∷ Gain (pos 7) ∷ Splitter 3 ∷ Merger 4 ∷ Shaper None false ∷ Iir (pos 1 ∷ []) (pos 2 ∷ []) ∷ []
+kinds = Destination ∷ Constant (pos 5) ∷ Buffer 2 ∷ Gain (pos 7) ∷ Delay (pos 16777216) (pos 9) 48000 ∷ Splitter 3 ∷ Merger 4 ∷ Shaper None false ∷ Iir (pos 1 ∷ []) (pos 2 ∷ []) ∷ []
 
 -- the ports of each kind
-inputs-kinds : map inputs kinds ≡ 1 ∷ 0 ∷ 0 ∷ 1 ∷ 1 ∷ 4 ∷ 1 ∷ 1 ∷ []
+inputs-kinds : map inputs kinds ≡ 1 ∷ 0 ∷ 0 ∷ 1 ∷ 1 ∷ 1 ∷ 4 ∷ 1 ∷ 1 ∷ []
 inputs-kinds = refl
 
-outputs-kinds : map outputs kinds ≡ 1 ∷ 1 ∷ 1 ∷ 1 ∷ 3 ∷ 1 ∷ 1 ∷ 1 ∷ []
+outputs-kinds : map outputs kinds ≡ 1 ∷ 1 ∷ 1 ∷ 1 ∷ 1 ∷ 3 ∷ 1 ∷ 1 ∷ 1 ∷ []
 outputs-kinds = refl
 
-is_destination-kinds : map is_destination kinds ≡ true ∷ false ∷ false ∷ false ∷ false ∷ false ∷ false ∷ false ∷ []
+is_destination-kinds : map is_destination kinds ≡ true ∷ false ∷ false ∷ false ∷ false ∷ false ∷ false ∷ false ∷ false ∷ []
 is_destination-kinds = refl
 
-is_delay_kind-kinds : map is_delay_kind kinds ≡ false ∷ false ∷ false ∷ false ∷ false ∷ false ∷ false ∷ false ∷ []
+is_delay_kind-kinds : map is_delay_kind kinds ≡ false ∷ false ∷ false ∷ false ∷ true ∷ false ∷ false ∷ false ∷ false ∷ []
 is_delay_kind-kinds = refl
 
 -- the parameters of each kind, with the values that they are created with
@@ -57,13 +57,13 @@ attrs-created : map (attrs_at (destination_of context ∷ node_of (Gain (pos 7))
 attrs-created = refl
 
 -- a source and a gain may get another count and another mode; of the destination, a splitter and a merger both are fixed, and of a splitter the interpretation too
-fixed : map fixed_count kinds ≡ true ∷ false ∷ false ∷ false ∷ true ∷ true ∷ false ∷ false ∷ []
+fixed : map fixed_count kinds ≡ true ∷ false ∷ false ∷ false ∷ false ∷ true ∷ true ∷ false ∷ false ∷ []
 fixed = refl
 
-fixed_modes : map fixed_mode kinds ≡ true ∷ false ∷ false ∷ false ∷ true ∷ true ∷ false ∷ false ∷ []
+fixed_modes : map fixed_mode kinds ≡ true ∷ false ∷ false ∷ false ∷ false ∷ true ∷ true ∷ false ∷ false ∷ []
 fixed_modes = refl
 
-fixed_interps : map fixed_interp kinds ≡ false ∷ false ∷ false ∷ false ∷ true ∷ false ∷ false ∷ false ∷ []
+fixed_interps : map fixed_interp kinds ≡ false ∷ false ∷ false ∷ false ∷ false ∷ true ∷ false ∷ false ∷ false ∷ []
 fixed_interps = refl
 
 kind-created : map (kind_at (destination_of context ∷ node_of (Gain (pos 7)) 1280 ∷ [])) (1 ∷ 2 ∷ []) ≡ Some (Gain (pos 7)) ∷ None ∷ []
@@ -124,6 +124,25 @@ refused-filters : map (λ kind. creation_refusal (destination_of context ∷ [])
     ≡ Some (NotSupported None) ∷ Some (NotSupported None) ∷ Some InvalidState ∷ Some InvalidState ∷ None ∷ []
 refused-filters = refl
 
--- filters alone remember
-remembering : map remembers kinds ≡ false ∷ false ∷ false ∷ false ∷ false ∷ false ∷ false ∷ true ∷ []
+-- filters alone remember all that they took in
+remembering : map remembers kinds ≡ false ∷ false ∷ false ∷ false ∷ false ∷ false ∷ false ∷ false ∷ true ∷ []
 remembering = refl
+
+-- ---- delays
+
+-- a delay has one parameter
+param_base-delay : map (param_base (Delay (pos 16777216) (pos 9) 48000)) names ≡ None ∷ None ∷ Some (pos 9) ∷ None ∷ None ∷ []
+param_base-delay = refl
+
+-- A longest delay of 0 or less is refused, and one above 16 seconds by its feature; whether the value of delayTime is longer, or below 0, is no matter.
+refused-delays : map (λ longest. creation_refusal (destination_of context ∷ []) (Delay longest (pos 536870912) 128)) (pos 0 ∷ neg_ℤ (pos 1) ∷ pos 1 ∷ pos 268435456 ∷ pos 268435457 ∷ [])
+    ≡ Some (NotSupported None) ∷ Some (NotSupported None) ∷ None ∷ None ∷ Some (NotSupported (Some LongDelay)) ∷ []
+refused-delays = refl
+
+-- beside two delays of 1,536,000 frames there is room for 1,122,304 frames and no more; other nodes need none
+abbrev long_delay : Kind
+long_delay = Delay (pos 268435456) (pos 0) 1536000
+
+refused-capacities : map (creation_refusal (destination_of context ∷ node_of long_delay 0 ∷ node_of (Gain (pos 7)) 0 ∷ node_of long_delay 0 ∷ [])) (Delay (pos 1) (pos 0) 1122304 ∷ Delay (pos 1) (pos 0) 1122305 ∷ long_delay ∷ Gain (pos 7) ∷ [])
+    ≡ None ∷ Some (NotSupported (Some DelayLimit)) ∷ Some (NotSupported (Some DelayLimit)) ∷ None ∷ []
+refused-capacities = refl

@@ -1,5 +1,5 @@
 -- What holds of a list of nodes holds after an attribute of one of them is set.
-use Rattle.std.proofs.Common.{◌≡◌, ◌≤◌, ◌==◌, ◌&&◌, [], ◌∷◌, ℕ, zero, suc, Bool, true, false, not, Option, Some, None, List, length, slice_index_or, All, refl, sym, ◌∙◌, ap, arith}
+use Rattle.std.proofs.Common.{◌≡◌, ◌≤◌, ◌==◌, ◌&&◌, [], ◌∷◌, ◌+◌, ℕ, zero, suc, Bool, true, false, not, Option, Some, None, List, length, slice_index_or, All, refl, sym, ◌∙◌, ap, subst, arith}
 use Rattle.std.specs.Prelude.{slice_get, slice_set, nat_le, if◌then◌else◌}
 use Rattle.std.proofs.lemmas.Bool.Decides.{nat_tests}
 use Rattle.std.proofs.lemmas.List.Elements.{All-cons, All-head, All-tail}
@@ -10,13 +10,15 @@ use Rattle.wa_base.specs.declared.graph_names.Mode.TheVariants.{Max, ClampedMax,
 use Rattle.wa_base.specs.declared.graph_names.Interp.{Interp}
 use Rattle.wa_base.specs.declared.graph_names.Interp.TheVariants.{Speakers, Discrete}
 use Rattle.node_table.specs.declared.nodes.Node.{Node}
-use Rattle.node_table.specs.Kinds.{same_mode, same_interp, fixed_count, fixed_mode, fixed_interp}
-use Rattle.node_table.specs.Nodes.{with_count, with_mode, with_interp, fixed_refusal, count_refusal, mode_refusal, interp_refusal, changed_at, refusal_at, AreNodes, IsFirst, IsCreated}
+use Rattle.node_table.specs.Kinds.{capacity_of, same_mode, same_interp, fixed_count, fixed_mode, fixed_interp}
+use Rattle.node_table.proofs.NodeLists.{capacities-cons}
+use Rattle.node_table.specs.Nodes.{with_count, with_mode, with_interp, fixed_refusal, count_refusal, mode_refusal, interp_refusal, changed_at, refusal_at, capacities, AreNodes, IsFirst, IsCreated}
 
 -- a node that stays first, or created, by a change that is not refused
 pub record Keeps (refusal : Node → Option Exc) (change : Node → Node) : Type 0 where
   pub first : (n : Node) → refusal n ≡ None → IsFirst n → IsFirst (change n)
   pub created : (n : Node) → refusal n ≡ None → IsCreated n → IsCreated (change n)
+  pub capacity : (n : Node) → capacity_of (change n).kind ≡ capacity_of n.kind
 
 All-changed : (P : Node → Type 0) (change : Node → Node) (i : ℕ) (ns : List Node) → ((n : Node) → slice_get ns i ≡ Some n → P n → P (change n)) → All P ns → All P (changed_at i change ns)
 All-changed P change i [] kept each = each
@@ -37,15 +39,39 @@ set_is_changed (suc i) change (m ∷ ns) n is = ap (λ xs. m ∷ xs) (set_is_cha
 unrefused : (ns : List Node) (i : ℕ) (refusal : Node → Option Exc) (n : Node) → refusal_at ns i refusal ≡ None → slice_get ns i ≡ Some n → refusal n ≡ None
 unrefused ns i refusal n fine is = rw is at fine
 
-pub are_nodes_changed : (refusal : Node → Option Exc) (change : Node → Node) → Keeps refusal change → (i : ℕ) (ns : List Node) → refusal_at ns i refusal ≡ None → AreNodes ns → AreNodes (changed_at i change ns)
+-- the delays keep as much as before
+pub capacities-changed : (change : Node → Node) → ((n : Node) → capacity_of (change n).kind ≡ capacity_of n.kind) → (i : ℕ) (ns : List Node) → capacities (changed_at i change ns) ≡ capacities ns
+capacities-changed change same i [] = refl
+capacities-changed change same zero (n ∷ ns) = capacities-cons (change n) ns ∙ ap (λ k. k + capacities ns) (same n) ∙ sym (capacities-cons n ns)
+capacities-changed change same (suc i) (n ∷ ns) = capacities-cons n (changed_at i change ns) ∙ ap (λ k. capacity_of n.kind + k) (capacities-changed change same i ns) ∙ sym (capacities-cons n ns)
+
+kept_changed : (change : Node → Node) → ((n : Node) → capacity_of (change n).kind ≡ capacity_of n.kind) → (i : ℕ) (ns : List Node) → capacities ns ≤ 4194304 → capacities (changed_at i change ns) ≤ 4194304
+kept_changed change same i ns few = subst (λ k. k ≤ 4194304) (sym (capacities-changed change same i ns)) few
+
+are_nodes_changed : (refusal : Node → Option Exc) (change : Node → Node) → Keeps refusal change → (i : ℕ) (ns : List Node) → refusal_at ns i refusal ≡ None → AreNodes ns → AreNodes (changed_at i change ns)
 are_nodes_changed refusal change keeps i [] fine are = are
-are_nodes_changed refusal change keeps zero (n ∷ ns) fine are = record { some = are.some; few = are.few; first = keeps.first n fine are.first; others = are.others }
+are_nodes_changed refusal change keeps zero (n ∷ ns) fine are = record {
+  some = are.some;
+  few = are.few;
+  kept = kept_changed change keeps.capacity zero (n ∷ ns) are.kept;
+  first = keeps.first n fine are.first;
+  others = are.others;
+}
 are_nodes_changed refusal change keeps (suc i) (n ∷ ns) fine are = record {
   some = omega arith;
   few = let few = are.few in let same = length-changed i change ns in omega arith;
+  kept = kept_changed change keeps.capacity (suc i) (n ∷ ns) are.kept;
   first = are.first;
   others = All-changed IsCreated change i ns (λ m is created. keeps.created m (unrefused ns i refusal m fine is) created) are.others;
 }
+
+-- what is known of a table of nodes stays
+pub table_changed : (refusal : Node → Option Exc) (change : Node → Node) → Keeps refusal change → (i : ℕ) (ns ms : List Node) (frames : ℕ) → ms ≡ changed_at i change ns
+    → refusal_at ns i refusal ≡ None → AreNodes ns × (frames ≡ capacities ns) → AreNodes ms × (frames ≡ capacities ms)
+table_changed refusal change keeps i ns ms frames is fine has = (
+  subst AreNodes (sym is) (are_nodes_changed refusal change keeps i ns fine has.0),
+  has.1 ∙ sym (ap capacities is ∙ capacities-changed change keeps.capacity i ns),
+)
 
 -- ---- a value that is not refused takes the place of no other fixed one
 
@@ -89,6 +115,7 @@ count_free count n fine = by_range (nat_le 1 count && nat_le count 32) refl fine
 
 pub keeps_count : (count : ℕ) → Keeps (count_refusal count) (with_count count)
 keeps_count count = record {
+  capacity = λ n. refl;
   first = λ n fine is.
       let free = count_free count n fine in
       record { kind = is.kind; count_low = free.low; count_high = free.high; mode = is.mode; birth = is.birth };
@@ -109,6 +136,7 @@ mode_kept mode n fine fixed = same_mode_is n.attrs.mode mode (kept_if_fixed (fix
 
 pub keeps_mode : (mode : Mode) → Keeps (mode_refusal mode) (with_mode mode)
 keeps_mode mode = record {
+  capacity = λ n. refl;
   first = λ n fine is.
       let same = mode_kept mode n fine (rw is.kind refl) in
       record { kind = is.kind; count_low = is.count_low; count_high = is.count_high; mode = sym same ∙ is.mode; birth = is.birth };
@@ -128,6 +156,7 @@ keeps_mode mode = record {
 
 pub keeps_interp : (interp : Interp) → Keeps (interp_refusal interp) (with_interp interp)
 keeps_interp interp = record {
+  capacity = λ n. refl;
   first = λ n fine is. record { kind = is.kind; count_low = is.count_low; count_high = is.count_high; mode = is.mode; birth = is.birth };
   created = λ n fine is. record {
     kind = is.kind;

@@ -1,9 +1,9 @@
 -- What the kinds of nodes have.
-use Rattle.std.specs.Prelude.{ℕ, ℤ, ◌≡◌, ◌≤◌, ◌&&◌, ◌||◌, nat_le, List, Bool, true, false, if◌then◌else◌, Option, Some, None, is_some}
+use Rattle.std.specs.Prelude.{ℕ, ℤ, ◌≡◌, ◌≤◌, ◌&&◌, ◌||◌, nat_le, int_le, int_lt, pos, List, Bool, true, false, if◌then◌else◌, Option, Some, None, is_some}
 use Rattle.wa_base.specs.Numbers.{IsFix}
 use Rattle.wa_base.specs.declared.exceptions.Exc.{Exc}
 use Rattle.wa_base.specs.declared.exceptions.Exc.TheVariants.{IndexSize, NotSupported, WrongType}
-use Rattle.wa_base.specs.declared.features.Feature.TheVariants.{PlaybackRate}
+use Rattle.wa_base.specs.declared.features.Feature.TheVariants.{PlaybackRate, LongDelay}
 use Rattle.wa_base.specs.declared.graph_names.Interp.{Interp}
 use Rattle.wa_base.specs.declared.graph_names.Interp.TheVariants.{Speakers, Discrete}
 use Rattle.wa_base.specs.declared.graph_names.Mode.{Mode}
@@ -14,13 +14,14 @@ use Rattle.node_table.specs.declared.kinds.Kind.{Kind}
 use Rattle.causal_core.specs.Curves as curves
 use Rattle.causal_core.specs.Curves.{IsCurve}
 use Rattle.causal_core.specs.Filters.{filter_refusal}
-use Rattle.node_table.specs.declared.kinds.Kind.TheVariants.{Destination, Constant, Buffer, Gain, Splitter, Merger, Shaper, Iir}
+use Rattle.node_table.specs.declared.kinds.Kind.TheVariants.{Destination, Constant, Buffer, Gain, Delay, Splitter, Merger, Shaper, Iir}
 
 abbrev pub is_destination : Kind → Bool
 is_destination Destination = true
 is_destination (Constant offset) = false
 is_destination (Buffer rate) = false
 is_destination (Gain gain) = false
+is_destination (Delay longest time capacity) = false
 is_destination (Splitter ports) = false
 is_destination (Merger ports) = false
 is_destination (Shaper curve was_set) = false
@@ -32,6 +33,7 @@ inputs Destination = 1
 inputs (Constant offset) = 0
 inputs (Buffer rate) = 0
 inputs (Gain gain) = 1
+inputs (Delay longest time capacity) = 1
 inputs (Splitter ports) = 1
 inputs (Merger ports) = ports
 inputs (Shaper curve was_set) = 1
@@ -43,6 +45,7 @@ outputs Destination = 1
 outputs (Constant offset) = 1
 outputs (Buffer rate) = 1
 outputs (Gain gain) = 1
+outputs (Delay longest time capacity) = 1
 outputs (Splitter ports) = ports
 outputs (Merger ports) = 1
 outputs (Shaper curve was_set) = 1
@@ -54,6 +57,7 @@ is_mono Destination = false
 is_mono (Constant offset) = true
 is_mono (Buffer rate) = false
 is_mono (Gain gain) = false
+is_mono (Delay longest time capacity) = false
 is_mono (Splitter ports) = true
 is_mono (Merger ports) = false
 is_mono (Shaper curve was_set) = false
@@ -67,6 +71,7 @@ first_count Destination = 2
 first_count (Constant offset) = 2
 first_count (Buffer rate) = 2
 first_count (Gain gain) = 2
+first_count (Delay longest time capacity) = 2
 first_count (Splitter ports) = ports
 first_count (Merger ports) = 1
 first_count (Shaper curve was_set) = 2
@@ -78,6 +83,7 @@ first_mode Destination = Explicit
 first_mode (Constant offset) = Max
 first_mode (Buffer rate) = Max
 first_mode (Gain gain) = Max
+first_mode (Delay longest time capacity) = Max
 first_mode (Splitter ports) = Explicit
 first_mode (Merger ports) = Explicit
 first_mode (Shaper curve was_set) = Max
@@ -89,6 +95,7 @@ first_interp Destination = Speakers
 first_interp (Constant offset) = Speakers
 first_interp (Buffer rate) = Speakers
 first_interp (Gain gain) = Speakers
+first_interp (Delay longest time capacity) = Speakers
 first_interp (Splitter ports) = Discrete
 first_interp (Merger ports) = Speakers
 first_interp (Shaper curve was_set) = Speakers
@@ -111,6 +118,7 @@ fixed_count Destination = true
 fixed_count (Constant offset) = false
 fixed_count (Buffer rate) = false
 fixed_count (Gain gain) = false
+fixed_count (Delay longest time capacity) = false
 fixed_count (Splitter ports) = true
 fixed_count (Merger ports) = true
 fixed_count (Shaper curve was_set) = false
@@ -122,6 +130,7 @@ fixed_mode Destination = true
 fixed_mode (Constant offset) = false
 fixed_mode (Buffer rate) = false
 fixed_mode (Gain gain) = false
+fixed_mode (Delay longest time capacity) = false
 fixed_mode (Splitter ports) = true
 fixed_mode (Merger ports) = true
 fixed_mode (Shaper curve was_set) = false
@@ -133,6 +142,7 @@ fixed_interp Destination = false
 fixed_interp (Constant offset) = false
 fixed_interp (Buffer rate) = false
 fixed_interp (Gain gain) = false
+fixed_interp (Delay longest time capacity) = false
 fixed_interp (Splitter ports) = true
 fixed_interp (Merger ports) = false
 fixed_interp (Shaper curve was_set) = false
@@ -145,6 +155,7 @@ is_delay_kind Destination = false
 is_delay_kind (Constant offset) = false
 is_delay_kind (Buffer rate) = false
 is_delay_kind (Gain gain) = false
+is_delay_kind (Delay longest time capacity) = true
 is_delay_kind (Splitter ports) = false
 is_delay_kind (Merger ports) = false
 is_delay_kind (Shaper curve was_set) = false
@@ -155,12 +166,18 @@ abbrev pub lasting : Kind → Kind
 lasting (Shaper curve was_set) = Shaper None false
 lasting kind = kind
 
--- whether what the input of a node took in matters to later quanta
+-- how many frames a node keeps of what it wrote: a delay keeps as many as its longest delay has
+abbrev pub capacity_of : Kind → ℕ
+capacity_of (Delay longest time capacity) = capacity
+capacity_of other = 0
+
+-- whether all that the input of a node took in since its birth matters to later quanta; of a delay what it wrote matters
 abbrev pub remembers : Kind → Bool
 remembers Destination = false
 remembers (Constant offset) = false
 remembers (Buffer rate) = false
 remembers (Gain gain) = false
+remembers (Delay longest time capacity) = false
 remembers (Splitter ports) = false
 remembers (Merger ports) = false
 remembers (Shaper curve was_set) = false
@@ -170,6 +187,7 @@ remembers (Iir forward back) = true
 abbrev pub param_base : Kind → ParamName → Option ℤ
 param_base (Constant offset) param.Offset = Some offset
 param_base (Gain gain) param.Gain = Some gain
+param_base (Delay longest time capacity) param.DelayTime = Some time
 param_base kind name = None
 
 -- the ranges of the values that a node of a kind is created with
@@ -178,6 +196,7 @@ IsInEntry Destination = Unit {0}
 IsInEntry (Constant offset) = IsFix offset
 IsInEntry (Buffer rate) = Unit {0}
 IsInEntry (Gain gain) = IsFix gain
+IsInEntry (Delay longest time capacity) = IsFix longest × IsFix time
 IsInEntry (Splitter ports) = Unit {0}
 IsInEntry (Merger ports) = Unit {0}
 IsInEntry (Shaper curve was_set) = Unit {0}
@@ -193,12 +212,20 @@ port_refusal ports = if nat_le 1 ports && nat_le ports 32 then None else Some In
 abbrev pub rate_refusal : ℕ → Option Exc
 rate_refusal rate = if nat_le 1 rate then None else Some (NotSupported (Some PlaybackRate))
 
+-- a delay has a longest delay of more than nothing, and of at most 16 seconds
+abbrev pub delay_refusal : ℤ → Option Exc
+delay_refusal longest =
+    if int_le longest (pos 0) then Some (NotSupported None) else
+    if int_lt (pos 268435456) longest then Some (NotSupported (Some LongDelay)) else
+    None
+
 -- why a node of a kind is refused because of what it would be created with
 abbrev pub range_refusal : Kind → Option Exc
 range_refusal Destination = None
 range_refusal (Constant offset) = None
 range_refusal (Buffer rate) = rate_refusal rate
 range_refusal (Gain gain) = None
+range_refusal (Delay longest time capacity) = delay_refusal longest
 range_refusal (Splitter ports) = port_refusal ports
 range_refusal (Merger ports) = port_refusal ports
 range_refusal (Shaper curve was_set) = curves.curve_refusal curve false
@@ -210,6 +237,7 @@ IsInLimits Destination = Unit {0}
 IsInLimits (Constant offset) = Unit {0}
 IsInLimits (Buffer rate) = 1 ≤ rate
 IsInLimits (Gain gain) = Unit {0}
+IsInLimits (Delay longest time capacity) = delay_refusal longest ≡ None
 IsInLimits (Splitter ports) = (1 ≤ ports) × (ports ≤ 32)
 IsInLimits (Merger ports) = (1 ≤ ports) × (ports ≤ 32)
 IsInLimits (Shaper curve was_set) = IsCurve curve

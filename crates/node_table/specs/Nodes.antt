@@ -1,19 +1,20 @@
 -- The nodes of a graph, in order of creation.
-use Rattle.std.specs.Prelude.{ℕ, ℤ, zero, suc, ◌≡◌, ◌≤◌, ◌==◌, ◌&&◌, not, nat_le, List, [], ◌∷◌, length, drop, slice_get, nat_lt, All, Bool, true, false, if◌then◌else◌, Option, Some, None, IfSome, option_map, option_and_then}
+use Rattle.std.specs.Prelude.{ℕ, ℤ, zero, suc, ◌+◌, ◌≡◌, ◌≤◌, ◌==◌, ◌&&◌, not, nat_le, List, [], ◌∷◌, length, drop, slice_get, nat_lt, All, Bool, true, false, if◌then◌else◌, Option, Some, None, IfSome, option_map, option_and_then}
+use Rattle.std.specs.List.{sum_by}
 use Rattle.std.specs.Option.{option_or}
 use Rattle.wa_base.specs.declared.contexts.ContextSpec.{ContextSpec}
 use Rattle.wa_base.specs.declared.exceptions.Exc.{Exc}
 use Rattle.wa_base.specs.declared.exceptions.Exc.TheVariants.{NotSupported, InvalidState}
-use Rattle.wa_base.specs.declared.features.Feature.TheVariants.{NodeLimit}
+use Rattle.wa_base.specs.declared.features.Feature.TheVariants.{NodeLimit, DelayLimit}
 use Rattle.wa_base.specs.declared.graph_names.Mode.{Mode}
 use Rattle.wa_base.specs.declared.graph_names.Mode.TheVariants.{Explicit}
 use Rattle.wa_base.specs.declared.graph_names.Interp.{Interp}
 use Rattle.wa_base.specs.declared.graph_names.Interp.TheVariants.{Speakers}
 use Rattle.node_table.specs.declared.kinds.Kind.{Kind}
-use Rattle.node_table.specs.declared.kinds.Kind.TheVariants.{Destination}
+use Rattle.node_table.specs.declared.kinds.Kind.TheVariants.{Destination, Delay}
 use Rattle.node_table.specs.declared.nodes.Attrs.{Attrs}
 use Rattle.node_table.specs.declared.nodes.Node.{Node}
-use Rattle.node_table.specs.Kinds.{is_destination, first_count, first_mode, first_interp, fixed_count, fixed_mode, fixed_interp, same_mode, same_interp, IsInEntry, range_refusal, IsInLimits, with_curve, set_curve_refusal}
+use Rattle.node_table.specs.Kinds.{is_destination, first_count, first_mode, first_interp, fixed_count, fixed_mode, fixed_interp, same_mode, same_interp, IsInEntry, capacity_of, range_refusal, IsInLimits, with_curve, set_curve_refusal}
 
 -- the destination of a context
 abbrev pub destination_of : ContextSpec → Node
@@ -31,9 +32,21 @@ node_of kind birth = record { kind = kind; attrs = first_attrs kind birth }
 abbrev pub has_room : List Node → Bool
 has_room nodes = nat_lt (length nodes) 1024
 
--- the exception with which the creation of a node is refused, if it is: the number of its ports comes first
+abbrev pub node_limit_refusal : List Node → Option Exc
+node_limit_refusal nodes = if has_room nodes then None else Some (NotSupported (Some NodeLimit))
+
+-- how many frames the delays of a graph keep together
+abbrev pub capacities : List Node → ℕ
+capacities nodes = sum_by (λ node. capacity_of node.kind) nodes
+
+-- they keep at most 4,194,304
+abbrev pub delay_limit_refusal : List Node → Kind → Option Exc
+delay_limit_refusal nodes (Delay longest time capacity) = if nat_le (capacities nodes + capacity) 4194304 then None else Some (NotSupported (Some DelayLimit))
+delay_limit_refusal nodes other = None
+
+-- the exception with which the creation of a node is refused, if it is: what it would be created with comes first, and then the limits of the graph
 abbrev pub creation_refusal : List Node → Kind → Option Exc
-creation_refusal nodes kind = option_or (range_refusal kind) (if has_room nodes then None else Some (NotSupported (Some NodeLimit)))
+creation_refusal nodes kind = option_or (range_refusal kind) (option_or (node_limit_refusal nodes) (delay_limit_refusal nodes kind))
 
 -- what a node is, if it is there
 abbrev pub kind_at : List Node → ℕ → Option Kind
@@ -116,5 +129,6 @@ pub record IsCreated (node : Node) : Type 0 where
 pub record AreNodes (nodes : List Node) : Type 0 where
   pub some : 1 ≤ length nodes
   pub few : length nodes ≤ 1024
+  pub kept : capacities nodes ≤ 4194304
   pub first : IfSome (slice_get nodes 0) IsFirst
   pub others : All IsCreated (drop 1 nodes)

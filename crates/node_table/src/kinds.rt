@@ -25,6 +25,16 @@ pub enum Kind {
         /// The value that the parameter `gain` was created with.
         gain: Fix,
     },
+    /// A node that gives its input later (DelayNode).
+    Delay {
+        /// The longest delay (maxDelayTime), in seconds and units of 2^-24.
+        longest: Fix,
+        /// The value that the parameter `delayTime` was created with, in the same units.
+        time: Fix,
+        /// The longest delay in frames, or the length of a quantum where that is more. So much of what
+        /// comes in is kept.
+        capacity: u64,
+    },
     /// A node whose outputs are the channels of its input, one each (ChannelSplitterNode).
     Splitter {
         /// The number of outputs (numberOfOutputs), from 1 to 32 once the node is there.
@@ -55,6 +65,8 @@ pub enum Kind {
 
 const MAX_PORTS: u32 = 32;
 
+const MAX_DELAY_TIME: Fix = 16 << 24;
+
 impl Kind {
     /// The number of inputs (numberOfInputs).
     pub fn inputs(&self) -> u32
@@ -63,6 +75,7 @@ impl Kind {
         match self {
             Kind::Destination
             | Kind::Gain { .. }
+            | Kind::Delay { .. }
             | Kind::Splitter { .. }
             | Kind::Shaper { .. }
             | Kind::Iir { .. } => 1,
@@ -82,19 +95,20 @@ impl Kind {
         }
     }
 
-    /// Whether the node is a delay (DelayNode). No kind that is built is one.
+    /// Whether the node is a delay (DelayNode).
     pub fn is_delay(&self) -> bool
         ensures { result ≡ spec.is_delay_kind self.now }
     {
+        matches!(self, Kind::Delay { .. })
+    }
+
+    // How many frames it keeps of what it wrote.
+    pub(crate) fn capacity(&self) -> u64
+        ensures { result ≡ spec.capacity_of self.now }
+    {
         match self {
-            Kind::Destination
-            | Kind::Constant { .. }
-            | Kind::Buffer { .. }
-            | Kind::Gain { .. }
-            | Kind::Splitter { .. }
-            | Kind::Merger { .. }
-            | Kind::Shaper { .. }
-            | Kind::Iir { .. } => false,
+            Kind::Delay { capacity, .. } => *capacity,
+            _ => 0,
         }
     }
 
@@ -107,6 +121,7 @@ impl Kind {
             Kind::Constant { .. }
             | Kind::Buffer { .. }
             | Kind::Gain { .. }
+            | Kind::Delay { .. }
             | Kind::Shaper { .. }
             | Kind::Iir { .. } => false,
         }
@@ -121,6 +136,7 @@ impl Kind {
             Kind::Constant { .. }
             | Kind::Buffer { .. }
             | Kind::Gain { .. }
+            | Kind::Delay { .. }
             | Kind::Shaper { .. }
             | Kind::Iir { .. } => false,
         }
@@ -136,6 +152,7 @@ impl Kind {
             | Kind::Constant { .. }
             | Kind::Buffer { .. }
             | Kind::Gain { .. }
+            | Kind::Delay { .. }
             | Kind::Merger { .. }
             | Kind::Shaper { .. }
             | Kind::Iir { .. } => false,
@@ -143,13 +160,14 @@ impl Kind {
     }
 
     /// The exception with which a node of the kind is refused because of what it would be created
-    /// with: the number of its ports, its rate, its curve, or its coefficients.
+    /// with: the number of its ports, its rate, its longest delay, its curve, or its coefficients.
     pub fn range_refusal(&self) -> Option<Exc>
         ensures { result ≡ spec.range_refusal self.now }
     {
         match self {
             Kind::Destination | Kind::Constant { .. } | Kind::Gain { .. } => None,
             Kind::Buffer { rate } => rate_refusal(*rate),
+            Kind::Delay { longest, .. } => delay_refusal(*longest),
             Kind::Splitter { outputs: ports } | Kind::Merger { inputs: ports } => {
                 port_refusal(*ports)
             }
@@ -166,6 +184,7 @@ impl Kind {
         match (self, name) {
             (Kind::Constant { offset }, ParamName::Offset) => Some(*offset),
             (Kind::Gain { gain }, ParamName::Gain) => Some(*gain),
+            (Kind::Delay { time, .. }, ParamName::DelayTime) => Some(*time),
             _ => None,
         }
     }
@@ -184,6 +203,9 @@ impl Kind {
             Kind::Constant { offset: entry } | Kind::Gain { gain: entry } => {
                 let _value = *entry;
             }
+            Kind::Delay { longest, time, .. } => {
+                let (_longest, _time) = (*longest, *time);
+            }
         }
     }
 
@@ -196,6 +218,15 @@ impl Kind {
             Kind::Constant { offset } => Kind::Constant { offset: *offset },
             Kind::Buffer { rate } => Kind::Buffer { rate: *rate },
             Kind::Gain { gain } => Kind::Gain { gain: *gain },
+            Kind::Delay {
+                longest,
+                time,
+                capacity,
+            } => Kind::Delay {
+                longest: *longest,
+                time: *time,
+                capacity: *capacity,
+            },
             Kind::Splitter { outputs } => Kind::Splitter { outputs: *outputs },
             Kind::Merger { inputs } => Kind::Merger { inputs: *inputs },
             Kind::Shaper { curve, was_set } => Kind::Shaper {
@@ -260,6 +291,19 @@ fn rate_refusal(rate: u32) -> Option<Exc>
 {
     if rate == 0 {
         Some(Exc::NotSupported(Some(Feature::PlaybackRate)))
+    } else {
+        None
+    }
+}
+
+// Why a delay cannot be so long.
+fn delay_refusal(longest: Fix) -> Option<Exc>
+    ensures { result ≡ spec.delay_refusal longest }
+{
+    if longest <= 0 {
+        Some(Exc::NotSupported(None))
+    } else if longest > MAX_DELAY_TIME {
+        Some(Exc::NotSupported(Some(Feature::LongDelay)))
     } else {
         None
     }

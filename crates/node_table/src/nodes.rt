@@ -10,6 +10,8 @@ use wa_base::{ContextSpec, Exc, Feature, Interp, Mode, NoMemory, NodeId, Refusal
 
 const MAX_NODES: usize = 1_024;
 
+const MAX_DELAY_FRAMES: u64 = 4_194_304;
+
 /// How the channels of a node's inputs are mixed, and when the node was created.
 #[derive(Clone, Copy, Debug, PartialEq, Eq)]
 pub struct Attrs {
@@ -33,6 +35,7 @@ impl Attrs {
             Kind::Constant { .. }
             | Kind::Buffer { .. }
             | Kind::Gain { .. }
+            | Kind::Delay { .. }
             | Kind::Shaper { .. }
             | Kind::Iir { .. } => (2, Mode::Max, Interp::Speakers),
             Kind::Splitter { outputs } => (*outputs, Mode::Explicit, Interp::Discrete),
@@ -95,18 +98,20 @@ impl Node {
 #[derive(Debug, Drop)]
 pub struct Nodes {
     pub(crate) nodes: Vec<Node>,
+    // How many frames the delays keep together.
+    delay_frames: u64,
 }
 
 impl Model for Nodes {
-    ghost use Rattle.std.specs.Prelude.{List};
+    ghost use Rattle.std.specs.Prelude.{List, ◌≡◌};
     ghost use Rattle.node_table.specs.declared.nodes.Node.{Node};
-    ghost use Rattle.node_table.specs.Nodes.{AreNodes};
+    ghost use Rattle.node_table.specs.Nodes.{AreNodes, capacities};
 
     ghost Value = { List Node };
 
     ghost view = { λ s. s.nodes.items };
 
-    ghost invariant = { λ s. AreNodes s.nodes.items };
+    ghost invariant = { λ s. AreNodes s.nodes.items × (s.delay_frames ≡ capacities s.nodes.items) };
 }
 
 impl Nodes {
@@ -118,7 +123,10 @@ impl Nodes {
     {
         let mut nodes = Vec::new(alloc);
         nodes.push(Node::destination(spec))?;
-        Ok(Nodes { nodes })
+        Ok(Nodes {
+            nodes,
+            delay_frames: 0,
+        })
     }
 
     /// Creates a node of a kind other than the destination at the frame `birth`. Its number is the
@@ -126,9 +134,12 @@ impl Nodes {
     ///
     /// It is refused with IndexSizeError where a splitter would have no output or more than 32, or a
     /// merger so many inputs, with NotSupportedError and the feature `playback-rate` where a buffer
-    /// source would have the rate 0, with InvalidStateError where a shaper would have a curve of fewer
-    /// than two points, as `filter_refusal` says for a filter, and then with NotSupportedError and the
-    /// feature `node-limit` where 1,024 nodes are there, the destination among them. After a refusal, and after `NoMemory`, the nodes are as
+    /// source would have the rate 0, with NotSupportedError where the longest delay of a delay would not
+    /// be above 0, and with that and the feature `long-delay` where it would be above 16 seconds, with
+    /// InvalidStateError where a shaper would have a curve of fewer than two points, as `filter_refusal`
+    /// says for a filter, then with NotSupportedError and the feature `node-limit` where 1,024 nodes are
+    /// there, the destination among them, and then with the feature `delay-limit` where the delays would
+    /// keep more than 4,194,304 frames together. After a refusal, and after `NoMemory`, the nodes are as
     /// before, and the kind is dropped.
     #[tactic(auto, using(crate::proofs::NodeLists::are_nodes_with_another))]
     pub fn create(&mut self, kind: Kind, birth: u64) -> Result<NodeId, Refusal>
@@ -144,9 +155,11 @@ impl Nodes {
         }
         kind.keeps_its_ranges();
         let id = NodeId(self.nodes.len() as u32);
+        let capacity = kind.capacity();
         self.nodes
             .push(Node::created(kind, birth))
             .map_err(NoMemory::from)?;
+        self.delay_frames += capacity;
         Ok(id)
     }
 
@@ -160,7 +173,19 @@ impl Nodes {
         if self.nodes.len() >= MAX_NODES {
             return Some(Exc::NotSupported(Some(Feature::NodeLimit)));
         }
-        None
+        self.delay_limit_refusal(kind)
+    }
+
+    // The delays keep at most so many frames together.
+    fn delay_limit_refusal(&self, kind: &Kind) -> Option<Exc>
+        ensures { result ≡ table.delay_limit_refusal self.now kind.now }
+    {
+        match kind {
+            Kind::Delay { capacity, .. } if *capacity > MAX_DELAY_FRAMES - self.delay_frames => {
+                Some(Exc::NotSupported(Some(Feature::DelayLimit)))
+            }
+            _ => None,
+        }
     }
 
     // A node with its attributes.
@@ -202,7 +227,10 @@ impl Nodes {
         ensures { IfOk result (λ copy. copy ≡ self.now) }
     {
         let nodes = copy_all(*self.nodes.allocator(), self.nodes.as_slice())?;
-        Ok(Nodes { nodes })
+        Ok(Nodes {
+            nodes,
+            delay_frames: self.delay_frames,
+        })
     }
 }
 

@@ -13,7 +13,7 @@ use Rattle.conn_graph.proofs.EndLaws.{same_end_is}
 use Rattle.meaning.specs.declared.world.World.{World}
 use Rattle.meaning.specs.World.{plain, kind_of}
 use Rattle.meaning.specs.Validity.{IsValid}
-use Rattle.meaning.specs.Counts.{Counts, count_rule, count_by_kind, count}
+use Rattle.meaning.specs.Counts.{Counts, count_rule, count_by_kind, count, counts_before}
 use Rattle.meaning.proofs.Joined.{joined}
 use Rattle.meaning.proofs.OrderLaws.{IsKnown, known_before, known_source, all_known}
 use Rattle.meaning.proofs.QuantumLaws.{count_right, muted_one}
@@ -68,9 +68,9 @@ module _ (w : World) (valid : IsValid w) (first : ℕ) (order : List End) (i : �
     own_count : (tape : List World) → first ≡ 128 * length tape → v ≡ count 128 (tape ++ w ∷ []) (length tape) x
     unfolding count_rule
     own_count tape time =
-        is (length tape) (λ k e. 1) time
-        ∙ ap (λ b. if b then 1 else count_by_kind 128 (plain w) (length tape) (λ k e. 1) (counts_in counts) (kind_of w x.node.0) x) (sym next.1)
-        ∙ count_right 128 (omega arith) w (joined w valid) tape (λ k e. 1) (counts_in counts) x next.0
+        is (length tape) (counts_before 128 (tape ++ w ∷ []) (length tape)) time
+        ∙ ap (λ b. if b then 1 else count_by_kind 128 (plain w) (length tape) (counts_before 128 (tape ++ w ∷ []) (length tape)) (counts_in counts) (kind_of w x.node.0) x) (sym next.1)
+        ∙ count_right 128 (omega arith) w (joined w valid) tape (counts_before 128 (tape ++ w ∷ []) (length tape)) (λ n k delay low high. refl) (counts_in counts) x next.0
         (λ d in_d a. c.known tape time d in_d (known_source w.graph.value c.done x next.3 d in_d a))
 
     counted_more : (tape : List World) → first ≡ 128 * length tape → (d : End) → IsIn d (ends w.graph.value) → IsKnown w.graph.value (x ∷ c.done) d

@@ -14,7 +14,8 @@ use Rattle.meaning.specs.declared.world.World.{World}
 use Rattle.meaning.specs.World.{plain, node_at, kind_of}
 use Rattle.meaning.specs.Counts.{input_channels}
 use Rattle.conn_graph.specs.Graph.{edges_to_input}
-use Rattle.meaning.specs.Values.{Frame, mixed_sum, input_value, seen, taken_in, frames_since, frames_heard}
+use Rattle.meaning.specs.Lists.{since}
+use Rattle.meaning.specs.Values.{Frame, mixed_sum, input_value, seen, taken_in, frames_heard}
 use Rattle.meaning.proofs.Joined.{joined}
 use Rattle.meaning.proofs.Seeing.{plain_end, plain_reader, same_since}
 use Rattle.filter_bank.specs.Heard.{FilterView, HasHeard, Brings, IsHeard, room_of as filter_room}
@@ -100,7 +101,7 @@ module _ (s : SiteView) (site : IsSite s.world s.end s.into s.counts s.levels s.
           ∙ ap (λ b. if b then at heard c k else pos 0) (sym (ap (nat_lt c) count ∙ t))
 
   -- all that the node takes in up to a frame of the quantum
-  pub all_taken : (m c : ℕ) → frames_since (λ g. takes g c) (node_at s.world n).attrs.birth (s.first + m + 1 - (node_at s.world n).attrs.birth) ≡ frames_heard (s.first + m) (past_of s old before) (here_of s old m) n c
+  pub all_taken : (m c : ℕ) → since (λ g. takes g c) (node_at s.world n).attrs.birth (s.first + m + 1 - (node_at s.world n).attrs.birth) ≡ frames_heard (s.first + m) (past_of s old before) (here_of s old m) n c
   all_taken m c = same_since _ _ (node_at s.world n).attrs.birth (s.first + m + 1 - (node_at s.world n).attrs.birth) (λ g low high. ap (λ x. taken_in x n c) (by_test g (g == s.first + m) refl))
     where
       by_test : (g : ℕ) (b : Bool) → (g == s.first + m) ≡ b → past_of s old before g ≡ (if b then here_of s old m else past_of s old before g)
@@ -120,8 +121,8 @@ module _ (s : SiteView) (site : IsSite s.world s.end s.into s.counts s.levels s.
         hears.values f has_heard.there takes has_heard.heard bring' c m low now
         ∙ has_heard.outputs _
         ∙ ap (filter_value forward back)
-        (ap (λ b. frames_since (λ g. takes g c) b (f.time + m + 1 - b)) has_heard.birth
-        ∙ ap (λ t. frames_since (λ g. takes g c) (node_at s.world n).attrs.birth (t + m + 1 - (node_at s.world n).attrs.birth)) has_heard.time
+        (ap (λ b. since (λ g. takes g c) b (f.time + m + 1 - b)) has_heard.birth
+        ∙ ap (λ t. since (λ g. takes g c) (node_at s.world n).attrs.birth (t + m + 1 - (node_at s.world n).attrs.birth)) has_heard.time
         ∙ all_taken m c)
 
     -- and it has heard the quantum

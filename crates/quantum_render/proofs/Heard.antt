@@ -16,7 +16,7 @@ use Rattle.sched_source.specs.Schedule.{Schedule, plays_at, plays_in, sample_at,
 use Rattle.sched_source.proofs.Spans.{plays_in_not_started}
 use Rattle.node_table.specs.declared.kinds.Kind.{Kind}
 use Rattle.node_table.specs.declared.kinds.Kind.TheVariants as kinds
-use Rattle.node_table.specs.declared.kinds.Kind.TheVariants.{Destination, Constant, Gain, Splitter, Merger, Shaper, Iir}
+use Rattle.node_table.specs.declared.kinds.Kind.TheVariants.{Destination, Constant, Gain, Delay, Splitter, Merger, Shaper, Iir}
 use Rattle.meaning.specs.declared.scheds.Play.{Play}
 use Rattle.meaning.specs.declared.world.World.{World}
 use Rattle.meaning.specs.World.{find_play, frames_in, channels_in, samples_in, played_at, played_channels}
@@ -119,6 +119,7 @@ heard_is store (kinds.Buffer rate) p b is are begun own = record {
   length_of = subst (λ o. IfSome o (λ (x : Content). x.length ≡ frames_in store (Some b))) (sym is.plays) (is.length_of begun ∙ ap (frames_in store) own);
 }
 heard_is store (Gain gain) p b is are begun own = absurd is
+heard_is store (Delay longest time capacity) p b is are begun own = absurd is
 heard_is store (Splitter ports) p b is are begun own = absurd is
 heard_is store (Merger ports) p b is are begun own = absurd is
 heard_is store (Shaper curve was_set) p b is are begun own = absurd is

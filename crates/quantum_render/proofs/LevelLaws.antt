@@ -9,8 +9,9 @@ use Rattle.wa_base.specs.Numbers.{sat}
 use Rattle.wa_base.specs.declared.graph_names.Interp.TheVariants.{Speakers}
 use Rattle.wa_base.specs.declared.graph_names.ParamId.{ParamId}
 use Rattle.channel_mix.specs.Mixing.{total}
+use Rattle.node_table.specs.Kinds.{is_delay_kind}
 use Rattle.node_table.specs.declared.kinds.Kind.{Kind}
-use Rattle.node_table.specs.declared.kinds.Kind.TheVariants.{Destination, Constant, Buffer, Gain, Splitter, Merger, Shaper, Iir}
+use Rattle.node_table.specs.declared.kinds.Kind.TheVariants.{Destination, Constant, Buffer, Gain, Delay, Splitter, Merger, Shaper, Iir}
 use Rattle.conn_graph.specs.declared.edges.Edge.{Edge}
 use Rattle.conn_graph.specs.declared.edges.Target.{Target}
 use Rattle.conn_graph.specs.declared.edges.Target.TheVariants.{Param}
@@ -35,16 +36,17 @@ level_of w blocks counts id first m =
     nominal (kind_of w id.node.0)
     (intrinsic_value w id (first + k) +ℤ mixed_sum (frame_of w blocks counts k) Speakers 1 0 (edges_to_param w.graph.value id))
 
--- the nominal range of every parameter that there is, is that of a Fix
-nominal_is : (kind : Kind) (x : ℤ) → sat x ≡ nominal kind x
-nominal_is Destination x = refl
-nominal_is (Constant offset) x = refl
-nominal_is (Buffer rate) x = refl
-nominal_is (Gain gain) x = refl
-nominal_is (Splitter ports) x = refl
-nominal_is (Merger ports) x = refl
-nominal_is (Shaper curve was_set) x = refl
-nominal_is (Iir forward back) x = refl
+-- the nominal range of the parameters of all nodes but delays is that of a Fix
+nominal_is : (kind : Kind) (x : ℤ) → is_delay_kind kind ≡ false → sat x ≡ nominal kind x
+nominal_is Destination x other = refl
+nominal_is (Constant offset) x other = refl
+nominal_is (Buffer rate) x other = refl
+nominal_is (Gain gain) x other = refl
+nominal_is (Delay longest time capacity) x other = absurd cc
+nominal_is (Splitter ports) x other = refl
+nominal_is (Merger ports) x other = refl
+nominal_is (Shaper curve was_set) x other = refl
+nominal_is (Iir forward back) x other = refl
 
 taken_low : (w : World) (id : ParamId) (m : ℕ) → m < 128 → taken_at w id m < 128
 taken_low w id m l = by_rate (is_k_rate w id)
@@ -54,20 +56,20 @@ taken_low w id m l = by_rate (is_k_rate w id)
     by_rate false = l
 
 -- from one sum for each frame, of which the one that is taken is used
-pub level_is : (w : World) (blocks : List BlockView) (counts : List ℕ) (id : ParamId) (first m : ℕ) (edges : List Edge) (sums : ℕ → ℤ) (value : ℤ) (b : Bool) → m < 128
+pub level_is : (w : World) (blocks : List BlockView) (counts : List ℕ) (id : ParamId) (first m : ℕ) (edges : List Edge) (sums : ℕ → ℤ) (value : ℤ) (b : Bool) → is_delay_kind (kind_of w id.node.0) ≡ false → m < 128
     → edges ≡ into w.graph.value id.node.0
     → intrinsic_value w id (first + taken_at w id m) ≡ value
     → is_k_rate w id ≡ b
     → ((k : ℕ) → k < 128 → sums k ≡ total (map (part (frame_of w blocks counts k) Speakers 1 0) (filter (leads_to (Param id)) edges)))
     → sat (value +ℤ sat (sums (if b then 0 else m))) ≡ level_of w blocks counts id first m
-level_is w blocks counts id first m edges sums value b l here intrinsic rate each =
+level_is w blocks counts id first m edges sums value b other l here intrinsic rate each =
     let k : ℕ = taken_at w id m in
     let carried = each k (taken_low w id m l) in
     let sources = ap (λ es. filter (leads_to (Param id)) es) here ∙ param_sources w.graph.value id in
     ap (λ (r : Bool). sat (value +ℤ sat (sums (if r then 0 else m)))) (sym rate)
     ∙ ap (λ x. sat (value +ℤ sat x)) (carried ∙ ap (λ es. total (map (part (frame_of w blocks counts k) Speakers 1 0) es)) sources)
     ∙ ap (λ x. sat (x +ℤ mixed_sum (frame_of w blocks counts k) Speakers 1 0 (filter (λ e. leads_to (Param id) e) w.graph.value.edges))) (sym intrinsic)
-    ∙ nominal_is (kind_of w id.node.0) _
+    ∙ nominal_is (kind_of w id.node.0) _ other
 
 -- without a connection to a target nothing leads to it
 pub unreached : (target : Target) (es : List Edge) → list_any (leads_to target) es ≡ false → filter (leads_to target) es ≡ []
@@ -79,14 +81,14 @@ unreached target (e ∷ es) h = by_test (leads_to target e) h (unreached target 
     by_test false k below = below k
 
 -- then the level is the intrinsic value
-pub level_unreached : (w : World) (blocks : List BlockView) (counts : List ℕ) (id : ParamId) (first m : ℕ) (edges : List Edge) (value : ℤ) (b : Bool) → m < 128
+pub level_unreached : (w : World) (blocks : List BlockView) (counts : List ℕ) (id : ParamId) (first m : ℕ) (edges : List Edge) (value : ℤ) (b : Bool) → is_delay_kind (kind_of w id.node.0) ≡ false → m < 128
     → edges ≡ into w.graph.value id.node.0
     → intrinsic_value w id (first + taken_at w id m) ≡ value
     → is_k_rate w id ≡ b
     → list_any (leads_to (Param id)) edges ≡ false
     → sat (value +ℤ sat (pos 0)) ≡ level_of w blocks counts id first m
-level_unreached w blocks counts id first m edges value b l here intrinsic rate none =
-    level_is w blocks counts id first m edges (λ k. pos 0) value b l here intrinsic rate
+level_unreached w blocks counts id first m edges value b other l here intrinsic rate none =
+    level_is w blocks counts id first m edges (λ k. pos 0) value b other l here intrinsic rate
     (λ k low. ap (λ es. total (map (part (frame_of w blocks counts k) Speakers 1 0) es)) (sym (unreached (Param id) edges none)))
 
 -- ---- the level is the computed value, whatever the frames before the quantum were

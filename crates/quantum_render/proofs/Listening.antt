@@ -14,7 +14,8 @@ use Rattle.conn_graph.proofs.EndLaws.{same_end-refl, same_end_is, has_end}
 use Rattle.meaning.specs.declared.world.World.{World}
 use Rattle.meaning.specs.World.{plain, node_at, kind_of}
 use Rattle.meaning.specs.Validity.{IsJoined}
-use Rattle.meaning.specs.Values.{Frame, taken_in, frames_since, frame}
+use Rattle.meaning.specs.Lists.{since}
+use Rattle.meaning.specs.Values.{Frame, taken_in, frame}
 use Rattle.meaning.specs.Blocks.{drafted, with_drafts}
 use Rattle.meaning.proofs.QuantumLaws.{AreRight, HasCounts, HasSources, taken_right, taken_muted}
 use Rattle.meaning.proofs.Seeing.{plain_end, plain_reader, same_since}

@@ -15,7 +15,7 @@ use Rattle.conn_graph.specs.Orders.{IsLegalAfter}
 use Rattle.meaning.specs.declared.world.World.{World}
 use Rattle.meaning.specs.World.{plain, node_at, kind_of}
 use Rattle.meaning.specs.Validity.{IsValid, IsJoined}
-use Rattle.meaning.specs.Counts.{count_rule, count_by_kind}
+use Rattle.meaning.specs.Counts.{count_rule, count_by_kind, counts_before}
 use Rattle.meaning.specs.Values.{taken_in, frame, value_by_kind, value}
 use Rattle.meaning.specs.Blocks.{with_drafts}
 use Rattle.conn_graph.proofs.EndLaws.{has_end}
@@ -48,12 +48,12 @@ still_fit w counts old new same fit = record {
 
 -- the channels of an unmuted end are those that its kind asks for
 has_count : (w : World) → IsJoined (plain w) → (counts : List ℕ) (tape : List World) → AreCounted 128 w counts tape → (x : End) → IsIn x (ends w.graph.value) → muted w.graph.value x ≡ false
-    → counts_in counts x ≡ count_by_kind 128 (plain w) (length tape) (λ k e. 1) (counts_in counts) (kind_of w x.node.0) x
+    → counts_in counts x ≡ count_by_kind 128 (plain w) (length tape) (counts_before 128 (tape ++ w ∷ []) (length tape)) (counts_in counts) (kind_of w x.node.0) x
 unfolding count_rule
 has_count w joined counts tape counted x in_x unmuted =
     counted x in_x
-    ∙ sym (count_right 128 (omega arith) w joined tape (λ k e. 1) (counts_in counts) x in_x (λ d in_d a. counted d in_d))
-    ∙ ap (λ b. if b then 1 else count_by_kind 128 (plain w) (length tape) (λ k e. 1) (counts_in counts) (kind_of w x.node.0) x) unmuted
+    ∙ sym (count_right 128 (omega arith) w joined tape (counts_before 128 (tape ++ w ∷ []) (length tape)) (λ n k delay low high. refl) (counts_in counts) x in_x (λ d in_d a. counted d in_d))
+    ∙ ap (λ b. if b then 1 else count_by_kind 128 (plain w) (length tape) (counts_before 128 (tape ++ w ∷ []) (length tape)) (counts_in counts) (kind_of w x.node.0) x) unmuted
 
 -- after so many ends of an order the known ends have their values, and their filters have heard the quantum
 pub record Passing (w : World) (order : List End) (i : ℕ) (counts : List ℕ) (first : ℕ) (old bank : BankView) (blocks : List BlockView) : Type 0 where
@@ -132,7 +132,7 @@ module _ (w : World) (valid : IsValid w) (order : List End) (i : ℕ) (counts : 
           one_more_right w (joined w valid) tape blocks blocks' counts counted c.done (c.right tape begins counted ready) x next.0 next.1 next.3 (fit'.lanes x next.0) writes
           (subst (λ f. (o k m : ℕ) → o < outputs (kind_of w x.node.0) → k < counts_in counts x → m < 128 → at (block_of blocks' x) (o * counts_in counts x + k) m
           ≡ value_by_kind 128 (f + m) (with_drafts (frame 128 longer) f (plain w) (counts_in counts) (drafts_of blocks counts)) (frame_of (plain w) blocks counts m) (kind_of w x.node.0) x o k) begins
-          (renders (length tape) (λ k e. 1) begins (has_count w (joined w valid) counts tape counted x next.0 next.1) (frame 128 longer) ready_now))
+          (renders (length tape) (counts_before 128 (tape ++ w ∷ []) (length tape)) begins (has_count w (joined w valid) counts tape counted x next.0 next.1) (frame 128 longer) ready_now))
 
       -- its node's filter has heard the quantum
       own_heard : (forward back : List ℤ) → kind_of w x.node.0 ≡ Iir forward back
@@ -141,7 +141,7 @@ module _ (w : World) (valid : IsValid w) (order : List End) (i : ℕ) (counts : 
           heard_like _ forward back _ (first + 128) (λ g k. taken_in (past_of (site_of edges levels) blocks (frame 128 longer) g) x.node.0 k) _
           (λ g k low high. subst (λ f. g < f + 128 → taken_in (with_drafts (frame 128 longer) f (plain w) (counts_in counts) (drafts_of blocks counts) g) x.node.0 k ≡ taken_in (frame 128 longer g) x.node.0 k) (sym begins)
           (λ high. takes_in w (joined w valid) tape blocks counts counted c.done (c.right tape begins counted ready) x next.0 next.3 (plain_end (plain w) (joined w valid) x next.0 (no_delay forward back is)) g k high) high)
-          (listens.own forward back is (length tape) (λ k e. 1) begins (subst (λ kind. HasCount (site_of edges levels) (length tape) (λ k e. 1) kind) is (has_count w (joined w valid) counts tape counted x next.0 next.1)) (frame 128 longer) ready_now)
+          (listens.own forward back is (length tape) (counts_before 128 (tape ++ w ∷ []) (length tape)) begins (subst (λ kind. HasCount (site_of edges levels) (length tape) (counts_before 128 (tape ++ w ∷ []) (length tape)) kind) is (has_count w (joined w valid) counts tape counted x next.0 next.1)) (frame 128 longer) ready_now)
 
       heard_now : AreHeardBy bank' w tape first (x ∷ c.done)
       heard_now n forward back low is = elim (this_or_other n x.node.0) [

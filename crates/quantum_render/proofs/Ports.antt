@@ -8,7 +8,7 @@ use Rattle.channel_mix.specs.Counts.{input_count}
 use Rattle.node_table.specs.Kinds.{outputs, first_count, first_mode, fixed_count, fixed_mode, is_destination, IsInLimits}
 use Rattle.node_table.specs.Nodes.{IsCreated}
 use Rattle.node_table.specs.declared.kinds.Kind.{Kind}
-use Rattle.node_table.specs.declared.kinds.Kind.TheVariants.{Destination, Constant, Buffer, Gain, Splitter, Merger, Shaper, Iir}
+use Rattle.node_table.specs.declared.kinds.Kind.TheVariants.{Destination, Constant, Buffer, Gain, Delay, Splitter, Merger, Shaper, Iir}
 use Rattle.node_table.specs.declared.nodes.Node.{Node}
 use Rattle.meaning.specs.declared.world.World.{World}
 use Rattle.meaning.specs.World.{plain, no_node, node_at, kind_of}
@@ -25,6 +25,7 @@ outputs_few w valid i = by_ports (kind_of w i) (limits_there w valid i)
     by_ports (Constant offset) has = omega arith
     by_ports (Buffer rate) has = omega arith
     by_ports (Gain gain) has = omega arith
+    by_ports (Delay longest time capacity) has = omega arith
     by_ports (Splitter ports) has = has.1
     by_ports (Merger ports) has = omega arith
     by_ports (Shaper curve was_set) has = omega arith

@@ -63,9 +63,11 @@ fn count_of(counts: &[u32], world: &World, end: End, into: &[Edge], near: usize,
         Kind::Constant { .. } | Kind::Splitter { .. } => 1,
         Kind::Buffer { .. } => played_count(world, end.node, near, first),
         Kind::Merger { inputs } => *inputs,
-        Kind::Destination | Kind::Gain { .. } | Kind::Shaper { .. } | Kind::Iir { .. } => {
-            input_count(counts, world, end.node, into)
-        }
+        Kind::Destination
+        | Kind::Gain { .. }
+        | Kind::Delay { .. }
+        | Kind::Shaper { .. }
+        | Kind::Iir { .. } => input_count(counts, world, end.node, into),
     }
 }
 

@@ -36,6 +36,8 @@ impl Bench {
             Kind::Constant { .. } => self.render_constant(blocks, site),
             Kind::Buffer { .. } => render_buffer(blocks, site),
             Kind::Gain { .. } => self.render_gain(blocks, site),
+            // No world has a delay yet.
+            Kind::Delay { .. } => {}
             Kind::Splitter { .. } => self.render_splitter(blocks, site),
             Kind::Merger { .. } => self.render_merger(blocks, site),
             Kind::Shaper { curve, .. } => self.render_shaper(blocks, site, curve),

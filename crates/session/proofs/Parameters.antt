@@ -27,6 +27,7 @@ kept_base (kind.Buffer rate) name has kept = by_feature (left_out name) has kept
     by_feature None some kept = absurd cc
     by_feature (Some feature) some kept = absurd cc
 kept_base (kind.Gain gain) name has kept = has
+kept_base (kind.Delay longest time capacity) name has kept = has
 kept_base (kind.Splitter ports) name has kept = has
 kept_base (kind.Merger ports) name has kept = has
 kept_base (kind.Shaper curve was_set) name has kept = has

@@ -1,5 +1,5 @@
 -- The worlds of a session follow one another.
-use Rattle.std.proofs.Common.{ℕ, zero, suc, ◌≡◌, ◌+◌, ◌-◌, ◌*◌, ◌<◌, ◌≤◌, length, List, [], ◌∷◌, ◌++◌, map, slice_index_or, ◌⊎◌, inl, inr, refl, sym, ◌∙◌, ap, arith, subst, length-append}
+use Rattle.std.proofs.Common.{ℕ, zero, suc, ◌≡◌, ◌+◌, ◌-◌, ◌*◌, ◌<◌, ◌≤◌, length, List, [], ◌∷◌, ◌++◌, map, slice_index_or, All, ◌⊎◌, inl, inr, refl, sym, ◌∙◌, ap, arith, subst, length-append}
 use Rattle.std.proofs.lemmas.Bool.{cases_lt}
 use Rattle.std.proofs.lemmas.List.{get_or_append_left, get_or-map, length-map}
 use Rattle.std.proofs.lemmas.List.Elements.{All-append, All-cons}
@@ -12,6 +12,7 @@ use Rattle.meaning.specs.World.{plain, no_world, no_node, node_at}
 use Rattle.meaning.specs.Validity.{IsValid}
 use Rattle.meaning.specs.Worlds.{IsRegular, IsNewIn, Stays, first_world}
 use Rattle.meaning.specs.Counts.{world_in}
+use Rattle.meaning.proofs.NodeKinds.{no_capacity_in}
 use Rattle.meaning.proofs.TapeLaws.{world_before, world_after}
 use Rattle.meaning.specs.Changes.{Grows}
 use Rattle.meaning.proofs.Valid.{valid_plain}
@@ -27,8 +28,10 @@ plain_world (w ∷ ws) (suc k) = plain_world ws k
 pub regular_of_plain : (q : ℕ) (tape : List World) → IsRegular q (map plain tape) → IsRegular q tape
 regular_of_plain q tape regular =
     let long = length-map tape plain in
+    let valid : All IsValid tape = λ k d l. valid_plain (slice_index_or tape k d) (subst IsValid (get_or-map plain tape k d (plain d) l) (regular.valid k (plain d) (omega arith))) in
     record {
-      valid = λ k d l. valid_plain (slice_index_or tape k d) (subst IsValid (get_or-map plain tape k d (plain d) l) (regular.valid k (plain d) (omega arith)));
+      valid = valid;
+      capacity = λ j i l. no_capacity_in q tape valid j i;
       spec = λ j l. ap (λ (w : World). w.spec) (sym (plain_world tape j)) ∙ regular.spec j (omega arith) ∙ ap (λ (w : World). w.spec) (plain_world tape 0);
       stays = λ j i l below.
           subst (λ (w : World). Stays i w (world_in tape (suc j))) (plain_world tape j)
@@ -80,7 +83,8 @@ module _ (q : ℕ) (tape : List World) (w : World) where
 
   pub regular_front : IsRegular q longer → IsRegular q tape
   regular_front regular = record {
-    valid = λ k d l. subst IsValid (get_or_append_left tape (w ∷ []) d k l) (regular.valid k d (omega (arith, long)));
+    valid = front;
+    capacity = λ j i l. no_capacity_in q tape front j i;
     spec = λ j l. ap (λ (x : World). x.spec) (sym (old j l)) ∙ regular.spec j (omega (arith, long)) ∙ ap (λ (x : World). x.spec) (old 0 (omega arith));
     stays = λ j i l below.
         subst (λ (x : World). Stays i x (world_in tape (suc j))) (old j (omega arith))
@@ -93,6 +97,9 @@ module _ (q : ℕ) (tape : List World) (w : World) where
           elim is.1 [ inl e ↦ inl e | inr e ↦ inr (subst (λ (x : World). length x.nodes ≤ i) (sym (old (j - 1) (omega arith))) e) ],
         ));
   }
+    where
+      front : All IsValid tape
+      front k d l = subst IsValid (get_or_append_left tape (w ∷ []) d k l) (regular.valid k d (omega (arith, long)))
 
   pub next_of : IsRegular q longer → IsNext q tape w
   next_of regular = record {
@@ -112,7 +119,8 @@ module _ (q : ℕ) (tape : List World) (w : World) where
 
   pub regular_more : IsRegular q tape → IsNext q tape w → IsRegular q longer
   regular_more regular next = record {
-    valid = All-append IsValid tape (w ∷ []) regular.valid (All-cons IsValid w [] next.valid (λ k d l. absurd (omega arith)));
+    valid = each_valid;
+    capacity = λ j i l. no_capacity_in q longer each_valid j i;
     spec = λ j l. elim (cases_lt j (length tape)) [
       | inl low ↦ ap (λ (x : World). x.spec) (old j low) ∙ regular.spec j low ∙ sym (ap (λ (x : World). x.spec) (old 0 (omega arith)))
       | inr high ↦ last_spec j (omega (arith, long))
@@ -139,6 +147,9 @@ module _ (q : ℕ) (tape : List World) (w : World) where
     ];
   }
     where
+      each_valid : All IsValid longer
+      each_valid = All-append IsValid tape (w ∷ []) regular.valid (All-cons IsValid w [] next.valid (λ k d l. absurd (omega arith)))
+
       last_spec : (j : ℕ) → j ≡ length tape → (world_in longer j).spec ≡ (world_in longer 0).spec
       last_spec j at = elim (cases_lt 0 (length tape)) [
         | inl some ↦ ap (λ (x : World). x.spec) (new j at) ∙ next.spec some ∙ sym (ap (λ (x : World). x.spec) (old 0 some))
@@ -202,7 +213,7 @@ regular_after q tape w w' regular valid spec nodes = regular_more q (tape ++ w �
 -- the destination alone
 pub regular_first : (q : ℕ) (spec : ContextSpec) → IsValid (first_world spec) → IsRegular q (first_world spec ∷ [])
 regular_first q spec valid = regular_more q [] (first_world spec)
-    (record { valid = λ k d l. absurd (omega arith); spec = λ j l. absurd (omega arith); stays = λ j i l below. absurd (omega arith); born = λ j i l is. absurd (omega arith) })
+    (record { valid = λ k d l. absurd (omega arith); spec = λ j l. absurd (omega arith); capacity = λ j i l. absurd (omega arith); stays = λ j i l below. absurd (omega arith); born = λ j i l is. absurd (omega arith) })
     (record {
       valid = valid;
       spec = λ some. absurd (omega arith);

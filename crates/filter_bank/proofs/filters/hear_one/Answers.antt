@@ -2,7 +2,7 @@ use Rattle.std.proofs.Common.{ℕ, ℤ, ◌≡◌, ◌+◌, ◌-◌, ◌*◌, �
 use Rattle.std.specs.Prelude.{unwrap_or}
 use Rattle.causal_core.specs.Filters.{filter_value}
 use Rattle.causal_core.specs.Frames.{item}
-use Rattle.meaning.specs.Values.{frames_since}
+use Rattle.meaning.specs.Lists.{since}
 use Rattle.filter_bank.specs.Heard.{FilterView, HasHeard, Brings, IsHeard, room_of}
 use Rattle.filter_bank.proofs.filters.hear_one.Goals as goal
 
@@ -28,7 +28,7 @@ returns-in-Some-clause-heard c f is early at heard brings =
 pub returns-in-Some-clause-values : goal.returns-in-Some-clause-values
 returns-in-Some-clause-values c f is at heard brings channel k low now =
     let here = same c f is in
-    subst (λ (x : FilterView). item c.hear.new.y (channel * 128 + k) ≡ filter_value x.state.forward x.state.back (frames_since (λ g. at g channel) x.birth (x.time + k + 1 - x.birth))) here
+    subst (λ (x : FilterView). item c.hear.new.y (channel * 128 + k) ≡ filter_value x.state.forward x.state.back (since (λ g. at g channel) x.birth (x.time + k + 1 - x.birth))) here
     (c.hear.ensures.values at (subst (HasHeard at) (sym here) heard) (subst (λ (x : FilterView). Brings x.time c.args.x.now at) (sym here) brings) channel k (subst (λ (x : FilterView). channel < room_of x) (sym here) low) now)
 
 pub returns-in-Some-clause-rooms : goal.returns-in-Some-clause-rooms

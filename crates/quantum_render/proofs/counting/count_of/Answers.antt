@@ -1,5 +1,5 @@
-use Rattle.std.proofs.Common.{ℕ, false, ◌≡◌, inl, inr, sym, ◌∙◌, ap, subst, arith}
-use Rattle.node_table.specs.Kinds.{outputs, is_mono, IsInLimits}
+use Rattle.std.proofs.Common.{ℕ, true, false, ◌≡◌, inl, inr, sym, ◌∙◌, ap, subst, arith}
+use Rattle.node_table.specs.Kinds.{outputs, is_mono, is_delay_kind, IsInLimits}
 use Rattle.node_table.specs.declared.kinds.Kind.{Kind}
 use Rattle.meaning.specs.World.{plain, kind_of, played_channels}
 use Rattle.meaning.specs.Counts.{count_by_kind}
@@ -80,8 +80,9 @@ returns-in-Destination-clause-value c j earlier time =
     c.input_count.ensures.value ∙ elim c.in-Destination.is [
       | inl is ↦ ap counted (sym (table ∙ is))
       | inr (inl is) ↦ ap counted (sym (table ∙ is.1))
-      | inr (inr (inl is)) ↦ ap counted (sym (table ∙ is.2))
-      | inr (inr (inr is)) ↦ ap counted (sym (table ∙ is.2))
+      | inr (inr (inl is)) ↦ let none = c.requires.valid.no_delay c.args.end.node.0 in let delay : is_delay_kind (kind_of c.args.world.now c.args.end.node.0) ≡ true = ap is_delay_kind (table ∙ is.3) in absurd cc
+      | inr (inr (inr (inl is))) ↦ ap counted (sym (table ∙ is.2))
+      | inr (inr (inr (inr is))) ↦ ap counted (sym (table ∙ is.2))
     ]
 
 -- a kind that counts its input is not always mono
@@ -91,6 +92,7 @@ returns-in-Destination-clause-mono c mono =
     elim c.in-Destination.is [
       | inl is ↦ let none : is_mono (kind_of c.args.world.now c.args.end.node.0) ≡ false = ap is_mono (table ∙ is) in absurd cc
       | inr (inl is) ↦ let none : is_mono (kind_of c.args.world.now c.args.end.node.0) ≡ false = ap is_mono (table ∙ is.1) in absurd cc
-      | inr (inr (inl is)) ↦ let none : is_mono (kind_of c.args.world.now c.args.end.node.0) ≡ false = ap is_mono (table ∙ is.2) in absurd cc
-      | inr (inr (inr is)) ↦ let none : is_mono (kind_of c.args.world.now c.args.end.node.0) ≡ false = ap is_mono (table ∙ is.2) in absurd cc
+      | inr (inr (inl is)) ↦ let none : is_mono (kind_of c.args.world.now c.args.end.node.0) ≡ false = ap is_mono (table ∙ is.3) in absurd cc
+      | inr (inr (inr (inl is))) ↦ let none : is_mono (kind_of c.args.world.now c.args.end.node.0) ≡ false = ap is_mono (table ∙ is.2) in absurd cc
+      | inr (inr (inr (inr is))) ↦ let none : is_mono (kind_of c.args.world.now c.args.end.node.0) ≡ false = ap is_mono (table ∙ is.2) in absurd cc
     ]

@@ -3,7 +3,7 @@ use Rattle.causal_core.specs.Filters.{filter_value}
 use Rattle.causal_core.specs.Frames.{item}
 use Rattle.shaper_iir.specs.Filter.{FilterStands}
 use Rattle.filter_bank.specs.Heard.{FilterView, HasHeard, Brings, HasOutputs, room_of}
-use Rattle.meaning.specs.Values.{frames_since}
+use Rattle.meaning.specs.Lists.{since}
 use Rattle.filter_bank.proofs.Since.{heard_from}
 use Rattle.filter_bank.proofs.filter.NodeFilter.hear.Goals as goal
 
@@ -23,7 +23,7 @@ returns-clause-heard c early at heard brings channel =
     let later : c.self.inside.time + 128 ≡ c.saturating_add-self-inside.result = unsaturated c early' in
     subst (FilterStands c.block.new.self channel)
     (heard_from (λ g. at g channel) c.args.x.now (channel * 128) c.self.inside.birth c.self.inside.time 128 c.self.invariant.lived (λ i l. brings' channel i l)
-    ∙ ap (λ n. frames_since (λ g. at g channel) c.self.inside.birth (n - c.self.inside.birth)) later)
+    ∙ ap (λ n. since (λ g. at g channel) c.self.inside.birth (n - c.self.inside.birth)) later)
     (c.block.ensures.stands channel _ (heard' channel))
 
 pub returns-clause-values : goal.returns-clause-values
@@ -31,8 +31,8 @@ returns-clause-values c at heard brings channel k low now =
     let heard' = subst (HasHeard at) (sym c.self.view_is) heard in
     let brings' = subst (λ (f : FilterView). Brings f.time c.args.x.now at) (sym c.self.view_is) brings in
     let low' = subst (λ (f : FilterView). channel < room_of f) (sym c.self.view_is) low in
-    subst (λ (f : FilterView). item c.block.new.y (channel * 128 + k) ≡ filter_value f.state.forward f.state.back (frames_since (λ g. at g channel) f.birth (f.time + k + 1 - f.birth))) c.self.view_is
+    subst (λ (f : FilterView). item c.block.new.y (channel * 128 + k) ≡ filter_value f.state.forward f.state.back (since (λ g. at g channel) f.birth (f.time + k + 1 - f.birth))) c.self.view_is
     (c.block.ensures.output channel k _ low' now (heard' channel)
     ∙ ap (filter_value c.self.inside.state.forward c.self.inside.state.back)
     (heard_from (λ g. at g channel) c.args.x.now (channel * 128) c.self.inside.birth c.self.inside.time (k + 1) c.self.invariant.lived (λ i l. brings' channel i (omega arith))
-    ∙ ap (frames_since (λ g. at g channel) c.self.inside.birth) (let e : c.self.inside.time + (k + 1) - c.self.inside.birth ≡ c.self.inside.time + k + 1 - c.self.inside.birth = omega arith in e)))
+    ∙ ap (since (λ g. at g channel) c.self.inside.birth) (let e : c.self.inside.time + (k + 1) - c.self.inside.birth ≡ c.self.inside.time + k + 1 - c.self.inside.birth = omega arith in e)))

@@ -1,7 +1,7 @@
-use Rattle.std.proofs.Common.{◌≡◌, None, slice_set, sym, ◌∙◌, ap, subst}
-use Rattle.node_table.specs.Nodes.{AreNodes, node_with_curve, curve_refusal, changed_at, refusal_at}
+use Rattle.std.proofs.Common.{◌≡◌, None, slice_set, sym, ◌∙◌, ap}
+use Rattle.node_table.specs.Nodes.{node_with_curve, curve_refusal, changed_at, refusal_at}
 use Rattle.node_table.specs.declared.nodes.Node.{Node}
-use Rattle.node_table.proofs.Setting.{set_is_changed, are_nodes_changed}
+use Rattle.node_table.proofs.Setting.{set_is_changed, table_changed}
 use Rattle.node_table.proofs.Shaping.{keeps_curve}
 use Rattle.node_table.proofs.nodes.Nodes.set_curve.Goals as goal
 
@@ -13,7 +13,7 @@ changed c =
 pub invariant_of-self : goal.invariant_of-self
 invariant_of-self c =
     let free : refusal_at c.args.self.now c.args.node.0 (curve_refusal c.args.curve) ≡ None = sym c.curve_refusal.ensures ∙ c.in_default.is in
-    subst AreNodes (sym (changed c)) (are_nodes_changed (curve_refusal c.args.curve) (node_with_curve c.args.curve) (keeps_curve c.args.curve) c.args.node.0 c.self.inside.nodes.items (rw (← c.self.view_is) at free) c.self.invariant)
+    table_changed (curve_refusal c.args.curve) (node_with_curve c.args.curve) (keeps_curve c.args.curve) c.args.node.0 c.self.inside.nodes.items _ c.self.inside.delay_frames (changed c) (rw (← c.self.view_is) at free) c.self.invariant
 
 pub returns-clause-ok : goal.returns-clause-ok
 returns-clause-ok c = rw (← c.self.view_is) (changed c)

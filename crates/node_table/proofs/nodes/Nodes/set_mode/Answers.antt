@@ -1,6 +1,6 @@
-use Rattle.std.proofs.Common.{◌≡◌, None, slice_set, sym, ◌∙◌, subst}
-use Rattle.node_table.specs.Nodes.{AreNodes, with_mode, mode_refusal, changed_at, refusal_at}
-use Rattle.node_table.proofs.Setting.{set_is_changed, are_nodes_changed, keeps_mode}
+use Rattle.std.proofs.Common.{◌≡◌, None, slice_set, sym, ◌∙◌}
+use Rattle.node_table.specs.Nodes.{with_mode, mode_refusal, changed_at, refusal_at}
+use Rattle.node_table.proofs.Setting.{set_is_changed, table_changed, keeps_mode}
 use Rattle.node_table.proofs.nodes.Nodes.set_mode.Goals as goal
 
 changed : (c : goal.After-self-1) → slice_set c.self.inside.nodes.items c.args.node.0 (with_mode c.args.mode c.index_mut.result.now) ≡ changed_at c.args.node.0 (with_mode c.args.mode) c.self.inside.nodes.items
@@ -9,7 +9,7 @@ changed c = set_is_changed c.args.node.0 (with_mode c.args.mode) c.self.inside.n
 pub invariant_of-self : goal.invariant_of-self
 invariant_of-self c =
     let free : refusal_at c.args.self.now c.args.node.0 (mode_refusal c.args.mode) ≡ None = sym c.mode_refusal.ensures ∙ c.in_default.is in
-    subst AreNodes (sym (changed c)) (are_nodes_changed (mode_refusal c.args.mode) (with_mode c.args.mode) (keeps_mode c.args.mode) c.args.node.0 c.self.inside.nodes.items (rw (← c.self.view_is) at free) c.self.invariant)
+    table_changed (mode_refusal c.args.mode) (with_mode c.args.mode) (keeps_mode c.args.mode) c.args.node.0 c.self.inside.nodes.items _ c.self.inside.delay_frames (changed c) (rw (← c.self.view_is) at free) c.self.invariant
 
 pub returns-clause-ok : goal.returns-clause-ok
 returns-clause-ok c = rw (← c.self.view_is) (changed c)

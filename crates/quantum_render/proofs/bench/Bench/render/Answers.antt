@@ -1,5 +1,5 @@
-use Rattle.std.proofs.Common.{◌≡◌, Some, sym, ◌∙◌, subst}
-use Rattle.node_table.specs.Kinds.{IsInLimits}
+use Rattle.std.proofs.Common.{◌≡◌, true, Some, ap, sym, ◌∙◌, subst}
+use Rattle.node_table.specs.Kinds.{is_delay_kind, IsInLimits}
 use Rattle.node_table.specs.Nodes.{kind_at}
 use Rattle.node_table.specs.declared.kinds.Kind.{Kind}
 use Rattle.meaning.specs.World.{kind_of}
@@ -11,6 +11,7 @@ use Rattle.meaning.proofs.NodeKinds.{limits_there}
 use Rattle.quantum_render.proofs.Sources.{end_low}
 use Rattle.quantum_render.proofs.Rendering.{site_is}
 use Rattle.quantum_render.proofs.bench.Bench.render.Goals as goal
+use Rattle.quantum_render.proofs.bench.Bench.render.Goals.{In-Delay}
 
 -- the kind of a site's node is the one that the table gives
 kind_of_site : (s : SiteView) → IsSite s.world s.end s.into s.counts s.levels s.first → (kind : Kind) → kind_at s.world.nodes s.end.node.0 ≡ Some kind → kind_of s.world s.end.node.0 ≡ kind
@@ -141,3 +142,25 @@ returns-in-Iir-clause-renders c =
     let kind = kind_of_site c.args.site.now (site_is c.args.site.now _ _ _ _ _ _ c.site.invariant c.site.view_is) c.kind.result.now
     (subst (λ (x : SiteView). kind_at x.world.nodes x.end.node.0 ≡ Some c.kind.result.now) c.site.view_is c.kind.ensures.value) ∙ c.in-Iir.is in
     subst (RendersWith c.args.site.now c.args.filters.now c.args.blocks.now c.render_filter.new.blocks) (sym kind) (c.render_filter.ensures.renders c.in-Iir.forward c.in-Iir.back kind)
+
+-- there is no delay
+no_delay : In-Delay → ⊥
+no_delay c =
+    let site = site_is c.args.site.now _ _ _ _ _ _ c.site.invariant c.site.view_is in
+    let kind = kind_of_site c.args.site.now site c.kind.result.now
+    (subst (λ (x : SiteView). kind_at x.world.nodes x.end.node.0 ≡ Some c.kind.result.now) c.site.view_is c.kind.ensures.value) ∙ c.in-Delay.is in
+    let none = site.valid.no_delay c.args.site.now.end.node.0 in
+    let delay : is_delay_kind (kind_of c.args.site.now.world c.args.site.now.end.node.0) ≡ true = ap is_delay_kind kind in
+    absurd cc
+
+pub returns-in-Delay-clause-writes : goal.returns-in-Delay-clause-writes
+returns-in-Delay-clause-writes c = absurd (no_delay c)
+
+pub returns-in-Delay-clause-renders : goal.returns-in-Delay-clause-renders
+returns-in-Delay-clause-renders c = absurd (no_delay c)
+
+pub returns-in-Delay-clause-listens : goal.returns-in-Delay-clause-listens
+returns-in-Delay-clause-listens c = absurd (no_delay c)
+
+pub returns-in-Delay-clause-room : goal.returns-in-Delay-clause-room
+returns-in-Delay-clause-room c = absurd (no_delay c)

@@ -76,7 +76,7 @@ returns-then-not-is_reached-clause-levels c before m now =
     c.take_level.ensures.values m now
     ∙ sym (sat_of_fix value (c.take_level.ensures.fit m now))
     ∙ ap sat (sym (+ℤ_idr value))
-    ∙ level_unreached (plain s.world) c.args.blocks.now s.counts (param_id s.end.node.0 c.args.name) s.first m s.into value (is_k level.rate) now
+    ∙ level_unreached (plain s.world) c.args.blocks.now s.counts (param_id s.end.node.0 c.args.name) s.first m s.into value (is_k level.rate) (site.valid.no_delay s.end.node.0) now
     site.into
     (intrinsic s site c.args.name (is_there s site c.args.name c.requires.there) level d is m now)
     (rate s site c.args.name (is_there s site c.args.name c.requires.there) level d is)
@@ -92,7 +92,7 @@ returns-in-A-clause-levels c before m now =
     let is = subst (λ (x : SiteView). level ≡ slice_index_or x.levels x.end.node.0 d) c.site.view_is refl in
     c.add.ensures.values m now
     ∙ ap (λ v. sat (v +ℤ sat (sum_at c.gather.new.self 0 m))) (c.take_level.ensures.values m now)
-    ∙ level_is (plain s.world) c.args.blocks.now s.counts (param_id s.end.node.0 c.args.name) s.first m s.into (λ k. sum_at c.gather.new.self 0 k) (level_at level m) false now
+    ∙ level_is (plain s.world) c.args.blocks.now s.counts (param_id s.end.node.0 c.args.name) s.first m s.into (λ k. sum_at c.gather.new.self 0 k) (level_at level m) false (site.valid.no_delay s.end.node.0) now
     site.into
     (intrinsic s site c.args.name (is_there s site c.args.name c.requires.there) level d is m now)
     (rate s site c.args.name (is_there s site c.args.name c.requires.there) level d is ∙ ap is_k (sym c.rate.ensures ∙ c.in-A.is))
@@ -112,7 +112,7 @@ returns-in-K-clause-levels c before m now =
     c.hold_first.ensures.values m now
     ∙ c.add.ensures.values 0 (omega arith)
     ∙ ap (λ v. sat (v +ℤ sat (sum_at c.gather.new.self 0 0))) (c.take_level.ensures.values 0 (omega arith))
-    ∙ level_is (plain s.world) c.args.blocks.now s.counts (param_id s.end.node.0 c.args.name) s.first m s.into (λ k. sum_at c.gather.new.self 0 k) (level_at level 0) true now
+    ∙ level_is (plain s.world) c.args.blocks.now s.counts (param_id s.end.node.0 c.args.name) s.first m s.into (λ k. sum_at c.gather.new.self 0 k) (level_at level 0) true (site.valid.no_delay s.end.node.0) now
     site.into
     (subst (λ j. intrinsic_value s.world (param_id s.end.node.0 c.args.name) (s.first + j) ≡ level_at level 0)
     (at_first s.world (param_id s.end.node.0 c.args.name) m k_rate) (intrinsic s site c.args.name (is_there s site c.args.name c.requires.there) level d is 0 (omega arith)))
