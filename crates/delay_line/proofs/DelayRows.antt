@@ -5,7 +5,8 @@ use Rattle.wa_base.specs.declared.graph_names.Interp.{Interp}
 use Rattle.wa_base.specs.declared.graph_names.Interp.TheVariants.{Speakers, Discrete}
 use Rattle.channel_mix.specs.Mixing.{form, mix}
 use Rattle.delay_line.specs.Delays.{Writer, delayed}
-use Rattle.delay_line.specs.Lines.{Line, IsKept, Keeps, IsNext, IsReadable, count_at, frame_at}
+use Rattle.delay_line.specs.Spans.{heard_count, IsReached}
+use Rattle.delay_line.specs.Lines.{Line, IsKept, Keeps, IsNext, count_at, frame_at}
 
 -- samples are 1, 2, 3 and so on, in the second channel by 10 more; what a mono block has there is not heard
 abbrev writer : Writer
@@ -86,15 +87,15 @@ writer_of_line w keeps =
 next : IsNext line writer 1 (pos 13 ∷ pos 14 ∷ pos 15 ∷ pos 16 ∷ []) → writer.frames 14 0 ≡ pos 15
 next is = is.frames 0 2 (omega arith) (omega arith)
 
--- a stereo frame can be read by a stereo reader alone
-stereo : IsReadable line 2 6 2
-stereo born = ((omega arith, omega arith), omega arith)
+-- what is heard at a frame, with two channels, and what lies before birth
+reached : IsReached line 6 2
+reached born = (omega arith, omega arith)
 
-not_mono : IsReadable line 1 6 2 → ⊥
-not_mono readable = let most = (readable (omega arith)).1 in omega arith
+two_channels : heard_count line 6 2 ≡ 2
+two_channels = refl
 
-before_birth : IsReadable line 1 6 7
-before_birth born = absurd (omega arith)
+before_birth : heard_count line 6 7 ≡ 0
+before_birth = refl
 
 -- every line stands for the writer of what it has, so that no contract is empty
 keeps_itself : (any : Line) → Keeps any (record { counts = count_at any; frames = frame_at any })

@@ -7,7 +7,7 @@ use Rattle.wa_base.specs.declared.graph_names.Interp.{Interp}
 use Rattle.channel_mix.specs.Mixing.{mix}
 use Rattle.delay_line.specs.declared.counts.Stretch.{Stretch}
 use Rattle.delay_line.specs.Delays.{Writer, delayed}
-use Rattle.delay_line.specs.Lines.{Line, written, from_end, count_at, frame_at, Keeps, IsReadable}
+use Rattle.delay_line.specs.Lines.{Line, written, from_end, count_at, frame_at, Keeps}
 use Rattle.delay_line.specs.Sources.{picked, needed}
 use Rattle.delay_line.specs.Spans.{IsStretch, IsBetween, IsReached, heard_count}
 use Rattle.delay_line.proofs.Ends.{order}
@@ -36,12 +36,6 @@ heard_in line most f d i s some counted reach stretch reached between =
     let whole : back < line.blocks * line.block = omega (arith, kept.0) in
     let old : j < line.blocks = below_times j line.blocks line.block (omega (arith, part, whole)) in
     born_count line f d between.born ∙ ap (λ k. from_end line.counts k 0) (sym is) ∙ stretch.alike j low high (omega (arith, counted, within, old))
-
-pub readable_count : (line : Line) (channels f d : ℕ) → IsReadable line channels f d → heard_count line f d ≤ channels
-readable_count line channels f d readable = elim (order d f) [
-  | inl born ↦ subst (λ n. n ≤ channels) (sym (born_count line f d born)) (readable born).1
-  | inr unborn ↦ subst (λ n. n ≤ channels) (sym (unborn_count line f d unborn)) (omega arith)
-]
 
 picked_same : (frame frame' : ℕ → ℤ) (source : Option ℕ) (from : ℕ) → needed source ≤ from → ((c : ℕ) → c < from → frame c ≡ frame' c) → picked frame source ≡ picked frame' source
 picked_same frame frame' None from there same = refl

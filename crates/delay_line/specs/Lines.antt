@@ -40,7 +40,3 @@ pub record Keeps (line : Line) (writer : Writer) : Type 0 where
 pub record IsNext (line : Line) (writer : Writer) (channels : ℕ) (block : List ℤ) : Type 0 where
   pub count : writer.counts line.blocks ≡ channels
   pub frames : (c k : ℕ) → c < channels → k < line.block → writer.frames (written line + k) c ≡ sample line.block block c k
-
--- a reader with so many channels can read frame f with a delay of d frames: it lies before birth, or is kept and was written with no more channels
-abbrev pub IsReadable : Line → ℕ → ℕ → ℕ → Type 0
-IsReadable line channels f d = d ≤ f → IsKept line (f - d) × (count_at line ((f - d) / line.block) ≤ channels)

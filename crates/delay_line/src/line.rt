@@ -1,10 +1,10 @@
-ghost use Rattle.std.specs.Prelude.{◌≡◌, ◌<◌, ◌≤◌, ◌+◌, ◌-◌, ◌*◌, ◌^◌, [], ℕ, length, max, All, IfOk, OnOk, OnErr, Some};
+ghost use Rattle.std.specs.Prelude.{◌≡◌, ◌↔◌, ◌<◌, ◌≤◌, ◌+◌, ◌-◌, ◌*◌, ◌^◌, [], ℕ, length, max, All, IfOk, OnOk, OnErr, Some};
 ghost use Rattle.lane_kern.specs.Blocks.{at};
 ghost use Rattle.channel_mix.specs.Blocks.{sample};
 ghost use Rattle.delay_line.specs.Delays.{Writer, delayed};
 ghost use Rattle.delay_line.specs.Lines as lines;
-ghost use Rattle.delay_line.specs.Lines.{Keeps, IsNext, IsReadable, IsKept, frame_at};
-ghost use Rattle.delay_line.specs.Spans.{IsSpan, IsReached, delay_at};
+ghost use Rattle.delay_line.specs.Lines.{Keeps, IsNext, IsKept, frame_at};
+ghost use Rattle.delay_line.specs.Spans.{IsSpan, IsReached, heard_count, delay_at};
 ghost use Rattle.delay_line.specs.Sources.{picked};
 
 use crate::counts::Counts;
@@ -78,7 +78,7 @@ impl DelayLine {
     /// Makes room for at least so many channels, which are silent so far. It alone takes memory; after
     /// `NoMemory` the line is as before.
     pub fn grow(&mut self, channels: u32) -> Result<(), NoMemory>
-        ensures keeps { (writer : Writer) → Keeps self.old writer → Keeps self.new writer }
+        ensures keeps { (writer : Writer) → Keeps self.old writer ↔ Keeps self.new writer }
         ensures same { (self.new.capacity ≡ self.old.capacity) × (self.new.block ≡ self.old.block) × (self.new.blocks ≡ self.old.blocks) }
         ensures counts { self.new.counts ≡ self.old.counts }
         ensures ok { OnOk result (length self.new.channels ≡ max (length self.old.channels) channels) }
@@ -108,13 +108,13 @@ impl DelayLine {
     /// Reads a block from the reader's frame `first` on, mixed to so many channels: `out` gets the frames
     /// of the first channel, then those of the second and so on. `delays` has the delay of each frame, in
     /// frames. Each frame asked for lies before birth, or is among the last that were written, as many as
-    /// the longest delay and a block have, and was written with no more channels.
+    /// the longest delay and a block have. Of one that was written with more channels the first are read.
     pub fn read(&self, out: &mut [Fix], channels: u32, first: u64, delays: &[u64], interp: Interp)
         requires out { length out.old ≡ channels * self.now.block }
         requires delays { length delays.now ≡ self.now.block }
         requires first { first ≤ 2 ^ 62 }
-        requires frames { (k : ℕ) → k < self.now.block → IsReadable self.now channels (first + k) (delay_at delays.now k) }
-        ensures { (writer : Writer) (c k : ℕ) → Keeps self.now writer → c < channels → k < self.now.block →
+        requires frames { (k : ℕ) → k < self.now.block → IsReached self.now (first + k) (delay_at delays.now k) }
+        ensures { (writer : Writer) (c k : ℕ) → Keeps self.now writer → c < channels → k < self.now.block → heard_count self.now (first + k) (delay_at delays.now k) ≤ channels →
             sample self.now.block out.new c k ≡ delayed self.now.block writer interp channels (first + k) (delay_at delays.now k) c }
     {
         let request = Request {
@@ -174,15 +174,15 @@ impl DelayLine {
         requires first { request.first ≤ 2 ^ 62 }
         requires frames { (k : ℕ) → k < self.now.block → IsReached self.now (request.first + k) (delay_at delays.now k) }
         requires span { IsSpan self.now request.first delays.now span.start span }
-        requires up { span.count ≤ request.channels }
-        ensures read { (writer : Writer) (c k : ℕ) → Keeps self.now writer → c < request.channels → span.start ≤ k → k < span.end →
+        ensures read { (writer : Writer) (c k : ℕ) → Keeps self.now writer → c < request.channels → span.start ≤ k → k < span.end → heard_count self.now (request.first + k) (delay_at delays.now k) ≤ request.channels →
             sample self.now.block out.new c k ≡ delayed self.now.block writer request.interp request.channels (request.first + k) (delay_at delays.now k) c }
         ensures kept { (c k : ℕ) → c < request.channels → k < span.start → sample self.now.block out.new c k ≡ sample self.now.block out.old c k }
     {
         let first = request.first + span.start as u64;
+        let count = (span.count as usize).min(request.channels);
         for c in 0..request.channels {
             let at = c * self.block;
-            let source = source_of(request.interp, span.count as usize, request.channels, c);
+            let source = source_of(request.interp, count, request.channels, c);
             let part = &mut out[at + span.start..at + span.end];
             self.read_channel(part, source, first, &delays[span.start..span.end]);
         }

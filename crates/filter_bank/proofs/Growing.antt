@@ -1,18 +1,18 @@
 -- Lists of filters, one of which is made room for, or joins them.
 use Rattle.std.proofs.lemmas.Bool.{cases_lt}
-use Rattle.std.proofs.Common.{pos, replicate, ℕ, zero, suc, ◌≡◌, ◌+◌, ◌*◌, ◌<◌, ◌≤◌, ◌++◌, length, take, List, [], ◌∷◌, slice_index_or, slice_set, Option, Some, None, ◌⊎◌, inl, inr, refl, sym, ◌∙◌, ap, ap₂, arith, subst}
+use Rattle.std.proofs.Common.{pos, replicate, ℕ, zero, suc, ◌≡◌, ◌+◌, ◌<◌, ◌≤◌, ◌++◌, length, take, List, [], ◌∷◌, slice_index_or, slice_set, Option, Some, None, ◌⊎◌, inl, inr, refl, sym, ◌∙◌, ap, ap₂, arith, subst}
 use Rattle.std.proofs.Math.Seq.{take-append_seam}
 use Rattle.std.specs.Prelude.{IfSome, Result, Ok, Err, OnOk}
 use Rattle.wa_base.specs.declared.memory.NoMemory.{NoMemory}
 use Rattle.std.proofs.lemmas.List.{get_or-set_same, get_or-set_other, get_or_append_left, get_or_past, get_or-replicate, length-replicate}
-use Rattle.filter_bank.specs.Heard.{FilterView, IsSame}
+use Rattle.filter_bank.specs.Heard.{FilterView}
 use Rattle.filter_bank.specs.Banks.{IsSameIfThere}
 
 pub same_refl : (f : Option FilterView) → IsSameIfThere f f
 same_refl None = tt
 same_refl (Some f) = record { birth = refl; time = refl; forward = refl; back = refl; histories = λ c. refl }
 
-same_after : (f g h : Option FilterView) → IsSameIfThere f g → IsSameIfThere g h → IsSameIfThere f h
+pub same_after : (f g h : Option FilterView) → IsSameIfThere f g → IsSameIfThere g h → IsSameIfThere f h
 same_after None None None a b = tt
 same_after None None (Some h) a b = absurd b
 same_after None (Some g) h a b = absurd a
@@ -26,28 +26,30 @@ same_after (Some f) (Some g) (Some h) a b = record {
   histories = λ c. b.histories c ∙ a.histories c;
 }
 
-this_or_other : (n node : ℕ) → (n ≡ node) ⊎ (n ≡ node → ⊥)
+pub this_or_other : (n node : ℕ) → (n ≡ node) ⊎ (n ≡ node → ⊥)
 this_or_other zero zero = inl refl
 this_or_other zero (suc node) = inr (λ e. absurd (omega arith))
 this_or_other (suc n) zero = inr (λ e. absurd (omega arith))
 this_or_other (suc n) (suc node) = elim (this_or_other n node) [ inl e ↦ inl (ap suc e) | inr other ↦ inr (λ e. other (omega arith)) ]
 
-module _ (now : List (Option FilterView)) (node : ℕ) (new : Option FilterView) (within : node < length now) where
-  pub one_same : (old : List (Option FilterView)) → ((n : ℕ) → IsSameIfThere (slice_index_or old n None) (slice_index_or now n None)) → IsSameIfThere (slice_index_or now node None) new
-      → (n : ℕ) → IsSameIfThere (slice_index_or old n None) (slice_index_or (slice_set now node new) n None)
-  one_same old each own n = elim (this_or_other n node) [
+-- a list of which one item is another one
+module _ {X : Type 0} (none : X) (now : List X) (node : ℕ) (new : X) (within : node < length now) where
+  pub one_related : (R : X → X → Type 0) → ((f g h : X) → R f g → R g h → R f h) → (old : List X) → ((n : ℕ) → R (slice_index_or old n none) (slice_index_or now n none)) → R (slice_index_or now node none) new
+      → (n : ℕ) → R (slice_index_or old n none) (slice_index_or (slice_set now node new) n none)
+  one_related R after old each own n = elim (this_or_other n node) [
     | inl here ↦
-        subst (λ k. IsSameIfThere (slice_index_or old k None) (slice_index_or (slice_set now node new) k None)) (sym here)
-        (subst (IsSameIfThere (slice_index_or old node None)) (sym (get_or-set_same now node new None within)) (same_after _ _ _ (each node) own))
-    | inr other ↦ subst (IsSameIfThere (slice_index_or old n None)) (sym (get_or-set_other now node n new None other)) (each n)
+        subst (λ k. R (slice_index_or old k none) (slice_index_or (slice_set now node new) k none)) (sym here)
+        (subst (R (slice_index_or old node none)) (sym (get_or-set_same now node new none within)) (after _ _ _ (each node) own))
+    | inr other ↦ subst (R (slice_index_or old n none)) (sym (get_or-set_other now node n new none other)) (each n)
   ]
 
-  pub one_more : (P : ℕ → FilterView → Type 0) → ((n : ℕ) (f : FilterView) → n < node → slice_index_or now n None ≡ Some f → P n f) → IfSome new (P node)
-      → (n : ℕ) (f : FilterView) → n < node + 1 → slice_index_or (slice_set now node new) n None ≡ Some f → P n f
+module _ {X : Type 0} (now : List (Option X)) (node : ℕ) (new : Option X) (within : node < length now) where
+  pub one_more : (P : ℕ → X → Type 0) → ((n : ℕ) (f : X) → n < node → slice_index_or now n None ≡ Some f → P n f) → IfSome new (P node)
+      → (n : ℕ) (f : X) → n < node + 1 → slice_index_or (slice_set now node new) n None ≡ Some f → P n f
   one_more P each own n f low is = elim (this_or_other n node) [
     | inl here ↦
         subst (λ k. P k f) (sym here)
-        (subst (λ (o : Option FilterView). IfSome o (P node)) (sym (get_or-set_same now node new None within) ∙ subst (λ k. slice_index_or (slice_set now node new) k None ≡ Some f) here is) own)
+        (subst (λ (o : Option X). IfSome o (P node)) (sym (get_or-set_same now node new None within) ∙ subst (λ k. slice_index_or (slice_set now node new) k None ≡ Some f) here is) own)
     | inr other ↦ each n f (let l : n < node = before n low other in l) (sym (get_or-set_other now node n new None other) ∙ is)
   ]
     where
@@ -89,7 +91,7 @@ more_item xs x d n P low before last = elim (this_or_other n (length xs)) [
         cases n m low = grind arith
 
 -- what is there, is at a place of the list
-pub there_low : (xs : List (Option FilterView)) (n : ℕ) (f : FilterView) → slice_index_or xs n None ≡ Some f → n < length xs
+pub there_low : {X : Type 0} (xs : List (Option X)) (n : ℕ) (f : X) → slice_index_or xs n None ≡ Some f → n < length xs
 there_low xs n f is = elim (cases_lt n (length xs)) [
   | inl low ↦ low
   | inr past ↦ let none : slice_index_or xs n None ≡ None = get_or_past xs n None past in absurd (let e = sym none ∙ is in cc)

@@ -1,9 +1,9 @@
-use Rattle.std.proofs.Common.{ℕ, ◌≡◌, ◌<◌, ◌≤◌, ◌+◌, ◌*◌, ◌/◌, length, slice_index_or, slice_set, None, sym, ◌∙◌, arith, subst}
+use Rattle.std.proofs.Common.{◌<◌, ◌≤◌, ◌+◌, ◌*◌, length, slice_index_or, None, ◌∙◌, arith, subst}
 use Rattle.std.specs.Prelude.{IfSome}
 use Rattle.std.proofs.lemmas.List.{get_or_default, length-set}
 use Rattle.filter_bank.specs.Heard.{room_of}
 use Rattle.filter_bank.specs.Banks.{IsSameIfThere}
-use Rattle.filter_bank.proofs.Growing.{one_same, one_more, there_low}
+use Rattle.filter_bank.proofs.Growing.{one_related, one_more, same_after, there_low}
 use Rattle.filter_bank.proofs.filters.grow_each.Goals as goal
 
 within : (c : goal.In_ok-grow_one) → c.loop-node.node < length c.loop-node.filters
@@ -22,7 +22,7 @@ counted c =
 pub loop-node-preserved : goal.loop-node-preserved
 loop-node-preserved c = record {
   long = length-set c.loop-node.filters c.loop-node.node c.grow_one.new.filter ∙ c.loop-node.invariant.long;
-  same = one_same c.loop-node.filters c.loop-node.node c.grow_one.new.filter (within c) c.args.filters.now c.loop-node.invariant.same
+  same = one_related None c.loop-node.filters c.loop-node.node c.grow_one.new.filter (within c) IsSameIfThere same_after c.args.filters.now c.loop-node.invariant.same
       (subst (λ o. IsSameIfThere o c.grow_one.new.filter) (get_or_default c.loop-node.filters c.loop-node.node c.index-filters-node.result None (within c)) c.grow_one.ensures.same);
   room = one_more c.loop-node.filters c.loop-node.node c.grow_one.new.filter (within c) (λ n f. (slice_index_or c.args.counts.now (2 * n + 1) 1 ≤ room_of f) × (room_of f ≤ 32)) c.loop-node.invariant.room
       (subst (λ k. IfSome c.grow_one.new.filter (λ f. (k ≤ room_of f) × (room_of f ≤ 32))) (get_or_default c.args.counts.now (2 * c.loop-node.node + 1) _ 1 (counted c)) c.in_ok-grow_one.ensures.ok);

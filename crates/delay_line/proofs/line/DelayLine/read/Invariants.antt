@@ -2,7 +2,7 @@ use Rattle.std.proofs.Common.{ℕ, ◌≡◌, ◌+◌, ◌-◌, ◌<◌, ◌≤�
 use Rattle.channel_mix.specs.Blocks.{sample}
 use Rattle.delay_line.specs.Delays.{Writer, delayed}
 use Rattle.delay_line.specs.Lines.{Keeps}
-use Rattle.delay_line.specs.Spans.{delay_at}
+use Rattle.delay_line.specs.Spans.{heard_count, delay_at}
 use Rattle.delay_line.proofs.line.DelayLine.read.Given as goal
 
 pub record Reading (within all : Type 0) : Type 0 where
@@ -11,7 +11,7 @@ pub record Reading (within all : Type 0) : Type 0 where
 
 abbrev pub invariant-loop-start : goal.invariant-loop-start
 invariant-loop-start l = Reading (l.start ≤ length l.delays)
-    ((writer : Writer) (c k : ℕ) → Keeps l.self writer → c < l.channels → k < l.start
+    ((writer : Writer) (c k : ℕ) → Keeps l.self writer → c < l.channels → k < l.start → heard_count l.self (l.first + k) (delay_at l.delays k) ≤ l.channels
     → sample l.self.block l.out c k ≡ delayed l.self.block writer l.request.interp l.channels (l.first + k) (delay_at l.delays k) c)
 
 abbrev pub decreases-loop-start : goal.decreases-loop-start

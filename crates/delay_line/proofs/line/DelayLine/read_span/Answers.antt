@@ -1,11 +1,12 @@
-use Rattle.std.proofs.Common.{rules, ℕ, ◌≡◌, ◌+◌, ◌-◌, ◌*◌, ◌<◌, ◌≤◌, length, take, drop, ap, ap₂, sym, ◌∙◌, arith, inl, inr}
+use Rattle.std.proofs.Common.{rules, ℕ, ℤ, ◌≡◌, ◌+◌, ◌-◌, ◌*◌, ◌<◌, ◌≤◌, length, take, drop, ap, ap₂, sym, ◌∙◌, arith, subst, inl, inr}
 use Rattle.std.proofs.lemmas.List.{places}
 use Rattle.std.proofs.lemmas.Nat.{mul-le}
 use Rattle.lane_kern.specs.Blocks.{at}
 use Rattle.channel_mix.specs.Blocks.{sample}
+use Rattle.channel_mix.specs.Mixing.{mix}
 use Rattle.delay_line.specs.Delays.{delayed}
 use Rattle.delay_line.specs.Lines.{Line, frame_at}
-use Rattle.delay_line.specs.Sources.{picked}
+use Rattle.delay_line.specs.Sources.{picked, needed}
 use Rattle.delay_line.specs.Spans.{delay_at}
 use Rattle.delay_line.proofs.Channels.{put, part_delay, put_here, put_below, put_before}
 use Rattle.delay_line.proofs.Ends.{order}
@@ -43,19 +44,20 @@ loop-c-preserved c =
     c.read_channel.ensures (k - start) few
     ∙ ap₂ (λ (f d : ℕ). picked (frame_at line (f - d)) source) place (part_delay start end delays k low high) in
     record {
-      done = λ writer b k keeps less low high.
+      done = λ writer b k keeps less low high up.
           let inside : k < block = omega (arith, high, within) in
           ap (λ n. sample n (put block this start end old part) b k) (sym is) ∙ elim (order this b) [
             | inl here ↦
                 let e : b ≡ this = omega (arith, here, less) in
                 let to = c.args.request.channels in
+                let count : c.min-count.result ≡ c.args.span.count = let fewest = c.min-count.ensures in let here = span.alike k low high in omega (arith, fewest, here, up) in
                 let reached = c.requires.frames k (omega (arith, inside, is)) in
                 ap (λ n. sample block (put block this start end old part) n k) e ∙ put_here block this start end old part k low high long there ∙ read k low high
                 ∙ picked_delayed line writer c.args.request.interp c.args.span.count to (first + k) (delay_at delays k) this source keeps reached (span.alike k low high)
-                c.source_of-source.ensures.value c.source_of-source.ensures.needed
+                (subst (λ (n : ℕ). (frame : ℕ → ℤ) → mix c.args.request.interp n to frame this ≡ picked frame source) count c.source_of-source.ensures.value) (subst (λ (n : ℕ). needed source ≤ n) count c.source_of-source.ensures.needed)
                 ∙ ap (λ n. delayed line.block writer c.args.request.interp to (first + k) (delay_at delays k) n) (sym e)
             | inr below ↦
-                put_below block this start end old part b k below inside there ∙ ap (λ n. sample n old b k) is ∙ inv.done writer b k keeps below low high
+                put_below block this start end old part b k below inside there ∙ ap (λ n. sample n old b k) is ∙ inv.done writer b k keeps below low high up
           ];
       before = λ b k less early.
           ap (λ n. sample n (put block this start end old part) b k) (sym is)

@@ -2,7 +2,7 @@ use Rattle.std.proofs.Common.{ℕ, ◌≡◌, ◌+◌, ◌<◌, ◌≤◌}
 use Rattle.channel_mix.specs.Blocks.{sample}
 use Rattle.delay_line.specs.Delays.{Writer, delayed}
 use Rattle.delay_line.specs.Lines.{Keeps}
-use Rattle.delay_line.specs.Spans.{delay_at}
+use Rattle.delay_line.specs.Spans.{heard_count, delay_at}
 use Rattle.delay_line.proofs.line.DelayLine.read_span.Given as goal
 
 pub record Reading (here rest : Type 0) : Type 0 where
@@ -11,6 +11,6 @@ pub record Reading (here rest : Type 0) : Type 0 where
 
 abbrev pub invariant-loop-c : goal.invariant-loop-c
 invariant-loop-c l = Reading
-    ((writer : Writer) (c k : ℕ) → Keeps l.self writer → c < l.c → l.span.start ≤ k → k < l.span.end
+    ((writer : Writer) (c k : ℕ) → Keeps l.self writer → c < l.c → l.span.start ≤ k → k < l.span.end → heard_count l.self (l.request.first + k) (delay_at l.delays k) ≤ l.request.channels
     → sample l.self.block l.out c k ≡ delayed l.self.block writer l.request.interp l.request.channels (l.request.first + k) (delay_at l.delays k) c)
     ((c k : ℕ) → c < l.request.channels → k < l.span.start → sample l.self.block l.out c k ≡ sample l.self.block l.fn.out c k)

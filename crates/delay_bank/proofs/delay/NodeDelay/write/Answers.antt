@@ -1,0 +1,22 @@
+use Rattle.std.proofs.Common.{◌≡◌, ◌+◌, ◌*◌, ◌/◌, sym, ◌∙◌, ap, arith, subst}
+use Rattle.channel_mix.specs.Counts.{greatest}
+use Rattle.meaning.specs.Lists.{since}
+use Rattle.delay_bank.specs.Kept.{DelayView, HasKept, since_birth}
+use Rattle.delay_bank.proofs.Keeping.{greatest_with, comes_next}
+use Rattle.delay_bank.proofs.delay.NodeDelay.write.Goals as goal
+
+pub returns-clause-kept : goal.returns-clause-kept
+returns-clause-kept c longest born writer kept brings =
+    let has = subst (λ (d : DelayView). HasKept d longest born c.args.first writer) (sym c.self.view_is) kept in
+    let line = c.self.inside.line in
+    let here : c.args.first ≡ born + line.blocks * 128 = has.long in
+    let next = comes_next line c.self.invariant.block born c.args.first c.args.channels c.args.block.now writer here brings in
+    record {
+      capacity = c.write.ensures.same.0 ∙ has.capacity;
+      birth = has.birth;
+      time = ap (λ n. n + 128) has.time;
+      long = let more = c.write.ensures.blocks in omega (arith, here, more);
+      most = c.max-self-inside.ensures ∙ greatest_with writer.counts (born / 128) line.blocks c.args.channels next.count c.self.inside.most has.most
+          ∙ ap (λ n. greatest (since writer.counts (born / 128) n)) (sym c.write.ensures.blocks);
+      keeps = c.write.ensures.keeps (since_birth born writer) has.keeps next;
+    }

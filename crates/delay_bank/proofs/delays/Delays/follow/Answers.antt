@@ -1,0 +1,16 @@
+use Rattle.std.proofs.Common.{ℕ, ◌≡◌, ◌≤◌, length, ◌∙◌, ap, arith}
+use Rattle.std.proofs.lemmas.List.{length-take-le}
+use Rattle.meaning.specs.World.{node_at}
+use Rattle.filter_bank.proofs.Growing.{on_ok}
+use Rattle.delay_bank.specs.Kept.{first_delay}
+use Rattle.delay_bank.proofs.Fresh.{fresh_kept}
+use Rattle.delay_bank.proofs.delays.Delays.follow.Goals as goal
+
+short : (c : goal.After-add_delays) → (n : ℕ) → c.self.inside.known ≤ n → length c.truncate.new.self.items ≤ n
+short c n new =
+    let cut : length c.truncate.new.self.items ≡ c.self.inside.known = ap length c.truncate.ensures.items ∙ length-take-le c.self.inside.known c.self.inside.delays.items c.self.invariant in
+    omega arith
+
+pub returns-clause-fresh : goal.returns-clause-fresh
+returns-clause-fresh c = on_ok c.add_delays.result (λ fresh n longest time capacity new there is writer.
+    fresh_kept _ longest time capacity (node_at c.args.world.now n).attrs.birth (fresh n (short c n new) there ∙ ap (λ k. first_delay k (node_at c.args.world.now n).attrs.birth) is) writer) c.add_delays.ensures.fresh

@@ -1,0 +1,160 @@
+ghost use Rattle.std.specs.Prelude.{◌≡◌, ◌↔◌, ◌<◌, ◌≤◌, ◌+◌, ◌-◌, ◌*◌, ◌/◌, ◌^◌, ℕ, pos, true, [], length, slice_index_or, MatchOption, IfOk, OnOk};
+ghost use Rattle.std.specs.List.{list_all};
+ghost use Rattle.channel_mix.specs.Blocks.{sample};
+ghost use Rattle.delay_line.specs.Delays.{Writer};
+ghost use Rattle.delay_line.specs.Spans.{IsReached, delay_at};
+ghost use Rattle.delay_bank.specs.Kept.{room_of, HasKept, Brings, IsAsked, IsNearest, AreFew, between, read_back};
+
+use delay_line::DelayLine;
+use std::alloc::Global;
+use std::marker::Model;
+use wa_base::{Fix, Interp, NoMemory};
+
+// The frames of a render quantum.
+pub(crate) const QUANTUM: u64 = 128;
+
+// The delay of a node: what its writer wrote before a frame, and the most channels that it had.
+#[derive(Drop)]
+pub(crate) struct NodeDelay {
+    birth: u64,
+    time: u64,
+    most: u32,
+    capacity: u64,
+    line: DelayLine,
+}
+
+impl Model for NodeDelay {
+    ghost use Rattle.delay_bank.specs.Kept.{DelayView, IsLived};
+
+    ghost Value = { DelayView };
+
+    ghost view = { λ d. record { birth = d.birth; time = d.time; most = d.most; line = d.line } };
+
+    ghost invariant = { λ d. IsLived d.birth d.time d.most d.capacity d.line };
+}
+
+impl NodeDelay {
+    // The delay of a node that is born at a frame, of at most so many frames.
+    pub(crate) fn new(alloc: Global, birth: u64, capacity: u64) -> Result<NodeDelay, NoMemory>
+        requires { capacity ≤ 4194304 }
+        ensures { IfOk result (λ d. d ≡ record { birth = birth; time = birth; most = 1; line = record { capacity = capacity; block = 128; blocks = 0; counts = []; channels = [] } }) }
+    {
+        Ok(NodeDelay {
+            birth,
+            time: birth,
+            most: 1,
+            capacity,
+            line: DelayLine::new(alloc, capacity, QUANTUM as u32)?,
+        })
+    }
+
+    // Makes room for so many channels.
+    pub(crate) fn grow(&mut self, channels: u32) -> Result<(), NoMemory>
+        ensures still { (longest born now : ℕ) (writer : Writer) → HasKept self.old longest born now writer ↔ HasKept self.new longest born now writer }
+        ensures ok { OnOk result (channels ≤ room_of self.new) }
+    {
+        self.line.grow(channels)
+    }
+
+    // The most channels that the writer had in a quantum, and at least 1.
+    pub(crate) fn most(&self) -> u32
+        ensures value { result ≡ self.now.most }
+        ensures low { 1 ≤ result }
+        ensures high { result ≤ 32 }
+    {
+        self.most
+    }
+
+    // Keeps what the writer writes in the quantum that begins at the frame `first`, where all before
+    // is kept.
+    pub(crate) fn write(&mut self, block: &[Fix], channels: u32, first: u64)
+        requires room { channels ≤ room_of self.old }
+        requires few { channels ≤ 32 }
+        requires block { length block.now ≡ channels * 128 }
+        requires time { first ≤ 2 ^ 62 }
+        ensures room { room_of self.new ≡ room_of self.old }
+        ensures kept { (longest born : ℕ) (writer : Writer) → HasKept self.old longest born first writer → Brings first channels block.now writer → HasKept self.new longest born (first + 128) writer }
+    {
+        if self.time != first {
+            return;
+        }
+        self.line.write(block, channels);
+        self.time += QUANTUM;
+        self.most = self.most.max(channels);
+    }
+
+    // Reads the quantum that begins at the frame `first`, mixed to so many channels, where each frame
+    // has a delay. What is not kept is silent.
+    pub(crate) fn read(
+        &self,
+        out: &mut [Fix],
+        channels: u32,
+        first: u64,
+        delays: &[u64],
+        interp: Interp,
+    )
+        requires out { length out.old ≡ channels * 128 }
+        requires delays { length delays.now ≡ 128 }
+        requires time { first ≤ 2 ^ 62 }
+        ensures values { (longest born now : ℕ) (writer : Writer) → HasKept self.now longest born now writer → IsAsked first now longest delays.now → AreFew born writer channels first delays.now → 128 * (born / 128) ≡ born →
+            (c k : ℕ) → c < channels → k < 128 → sample 128 out.new c k ≡ read_back born writer interp channels (first + k) (delay_at delays.now k) c }
+    {
+        if !self.has(first, delays) {
+            silence(out);
+            return;
+        }
+        let since = first - self.birth;
+        self.line.read(out, channels, since, delays, interp);
+    }
+
+    // Whether all that the quantum asks for is kept.
+    fn has(&self, first: u64, delays: &[u64]) -> bool
+        requires delays { length delays.now ≡ 128 }
+        requires time { first ≤ 2 ^ 62 }
+        ensures born { result ≡ true → self.now.birth ≤ first }
+        ensures reached { result ≡ true → (k : ℕ) → k < 128 → IsReached self.now.line (first - self.now.birth + k) (delay_at delays.now k) }
+        ensures asked { IsAsked first self.now.time self.now.line.capacity delays.now → self.now.birth ≤ first → result ≡ true }
+    {
+        let Some(least) = self.nearest(first) else {
+            return false;
+        };
+        if self.birth > first {
+            return false;
+        }
+        are_within(delays, least, self.capacity)
+    }
+
+    // The least number of frames back at which all of the quantum was written, where all before it was.
+    fn nearest(&self, first: u64) -> Option<u64>
+        requires { first ≤ 2 ^ 62 }
+        ensures { MatchOption result ((self.now.time ≡ first → ⊥) × (self.now.time ≡ first + 128 → ⊥)) (IsNearest first self.now.time) }
+    {
+        if self.time == first {
+            Some(QUANTUM)
+        } else if self.time == first + QUANTUM {
+            Some(0)
+        } else {
+            None
+        }
+    }
+}
+
+// Whether each of the delays is of so many frames.
+fn are_within(delays: &[u64], least: u64, most: u64) -> bool
+    ensures { result ≡ list_all (between least most) delays.now }
+{
+    delays.iter().all(|delay| is_within(*delay, least, most))
+}
+
+fn is_within(delay: u64, least: u64, most: u64) -> bool
+    ensures { result ≡ between least most delay }
+{
+    least <= delay && delay <= most
+}
+
+// Silences a block.
+pub(crate) fn silence(out: &mut [Fix])
+    ensures { (k : ℕ) → k < length out.old → slice_index_or out.new k (pos 0) ≡ pos 0 }
+{
+    out.fill(0);
+}

@@ -1,0 +1,7 @@
+//! The delays of a graph's nodes, each with what its writer wrote since its node was born.
+#![tactic(auto)]
+
+mod delay;
+mod delays;
+
+pub use delays::Delays;
