@@ -24,6 +24,7 @@ fresh_kept found longest time capacity birth is writer = record {
   there = is;
   has = record {
     capacity = refl;
+    block = refl;
     birth = refl;
     time = refl;
     long = omega arith;

@@ -1,3 +1,4 @@
+pub mod Alike
 pub mod Fresh
 pub mod Keeping
 pub mod Same

@@ -39,6 +39,7 @@ since_birth birth writer = record { counts = λ k. writer.counts (birth / 128 + 
 -- A delay of so many frames keeps what its writer wrote from the node's birth up to a frame.
 pub record HasKept (d : DelayView) (longest born now : ℕ) (writer : Writer) : Type 0 where
   pub capacity : d.line.capacity ≡ longest
+  pub block : d.line.block ≡ 128
   pub birth : d.birth ≡ born
   pub time : d.time ≡ now
   pub long : now ≡ born + d.line.blocks * 128

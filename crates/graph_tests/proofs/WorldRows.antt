@@ -1,5 +1,5 @@
 -- What no timeline is, what a gain's parameter keeps to, and when a tape is regular, on small lists and worlds, in quanta of 2 frames.
-use Rattle.std.proofs.Common.{ℕ, zero, suc, ◌+◌, ◌*◌, ℤ, pos, negsuc, neg_ℤ, ◌≡◌, ◌<◌, ◌≤◌, List, [], ◌∷◌, length, map, All, Some, inl, inr, refl, arith}
+use Rattle.std.proofs.Common.{ℕ, zero, suc, ◌+◌, ◌*◌, ℤ, pos, negsuc, neg_ℤ, ◌≡◌, ◌<◌, ◌≤◌, List, [], ◌∷◌, length, map, Some, inl, inr, refl, arith}
 use Rattle.std.proofs.lemmas.List.Elements.{All-cons}
 use Rattle.wa_base.specs.declared.contexts.ContextSpec.{ContextSpec}
 use Rattle.wa_base.specs.declared.graph_names.ParamName.{ParamName}
@@ -27,8 +27,7 @@ use Rattle.meaning.specs.Validity.{ports_of, IsValid}
 use Rattle.meaning.specs.Counts.{world_in, count_rule, count_at, count}
 use Rattle.meaning.specs.Values.{input_value, computed_value, equation, value_at, value}
 use Rattle.meaning.specs.Rendered.{sample}
-use Rattle.meaning.specs.Worlds.{IsRegular, Stays, IsNewIn}
-use Rattle.meaning.proofs.NodeKinds.{no_capacity_in}
+use Rattle.meaning.specs.Worlds.{IsRegular, Stays, IsNewIn, HasCapacity}
 
 -- ---- timelines
 
@@ -128,16 +127,23 @@ births (suc zero) (suc zero) l new = refl
 births (suc zero) (suc (suc i)) l new = let below = new.0 in absurd (omega arith)
 births (suc (suc j)) i l new = absurd (omega arith)
 
+-- no node keeps anything
+kept : (j i : ℕ) → j < 2 → HasCapacity 2 (world_in grown j).spec (node_at (world_in grown j) i).kind
+unfolding grown alone joined world
+kept zero zero l = tt
+kept zero (suc i) l = tt
+kept (suc zero) zero l = tt
+kept (suc zero) (suc zero) l = tt
+kept (suc zero) (suc (suc i)) l = tt
+kept (suc (suc j)) i l = absurd (omega arith)
+
 -- and where it was, the tape is regular, of valid worlds
 in_time : IsValid alone → IsValid (joined 2) → IsRegular 2 grown
 unfolding grown alone context world
 in_time first second = record {
-  valid = each_valid;
-  capacity = λ j i l. no_capacity_in 2 grown each_valid j i;
+  valid = All-cons IsValid alone (joined 2 ∷ []) first (All-cons IsValid (joined 2) [] second (λ k d l. absurd (omega arith)));
+  capacity = kept;
   spec = one_context;
   stays = nodes_stay;
   born = births;
 }
-  where
-    each_valid : All IsValid grown
-    each_valid = All-cons IsValid alone (joined 2 ∷ []) first (All-cons IsValid (joined 2) [] second (λ k d l. absurd (omega arith)))

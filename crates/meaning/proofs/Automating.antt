@@ -48,7 +48,6 @@ with_params_valid w params same lines valid = record {
   };
   scheds = record { each = valid.scheds.each; once = valid.scheds.once; kinds = valid.scheds.kinds };
   store = valid.store;
-  no_delay = valid.no_delay;
 }
 
 -- ---- an edit of a parameter

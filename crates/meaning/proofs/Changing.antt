@@ -1,17 +1,20 @@
 -- What a change leaves of a world.
-use Rattle.std.proofs.Common.{ℕ, ◌≡◌, ◌≤◌, ◌+◌, ◌++◌, length, length-append, List, slice_index_or, slice_get, slice_set, map, [], ◌∷◌, Bool, true, false, Some, None, ◌==◌, refl, sym, ◌∙◌, ap, arith, Option, Result, Ok, Err}
+use Rattle.std.proofs.Common.{ℕ, ◌≡◌, ◌≤◌, ◌+◌, ◌++◌, length, length-append, List, slice_index_or, slice_get, slice_set, map, [], ◌∷◌, Bool, true, false, Some, None, ◌==◌, refl, sym, ◌∙◌, ap, subst, inl, inr, arith, Option, Result, Ok, Err}
 use Rattle.std.specs.Prelude.{if◌then◌else◌, OnOk, OnErr}
 use Rattle.std.specs.List.{position}
 use Rattle.std.specs.Result.{result_err}
+use Rattle.std.proofs.lemmas.Bool.{cases_lt}
 use Rattle.std.proofs.lemmas.Bool.Decides.{nat_tests}
+use Rattle.std.proofs.lemmas.List.{get_or_past}
 use Rattle.std.proofs.lemmas.List.Quantifiers.{position-Some}
 use Rattle.std.proofs.lemmas.Option.{get_or_from_slice_get}
+use Rattle.wa_base.specs.Contexts.{quantum_of}
 use Rattle.wa_base.specs.declared.exceptions.Exc.{Exc}
 use Rattle.wa_base.specs.declared.memory.NoMemory.{NoMemory}
 use Rattle.wa_base.specs.declared.exceptions.Exc.TheVariants.{NotSupported}
 use Rattle.wa_base.specs.declared.features.Feature.TheVariants.{DestinationOutput}
 use Rattle.law_base.specs.Members.{AreDistinct}
-use Rattle.node_table.specs.Kinds.{is_destination, is_delay_kind, range_refusal, IsInEntry, lasting}
+use Rattle.node_table.specs.Kinds.{is_destination, range_refusal, IsInEntry, lasting}
 use Rattle.node_table.specs.Nodes.{creation_refusal, node_of, node_with_curve, curve_refusal, changed_at, refusal_at}
 use Rattle.node_table.proofs.NodeLists.{second_none}
 use Rattle.node_table.proofs.Setting.{length-changed}
@@ -25,10 +28,11 @@ use Rattle.meaning.specs.declared.change.Edit.{Edit}
 use Rattle.meaning.specs.declared.change.Edit.TheVariants as edit
 use Rattle.meaning.specs.declared.world.World.{World}
 use Rattle.meaning.specs.declared.scheds.Play.{Play}
-use Rattle.meaning.specs.World.{plain, no_node, find_play}
+use Rattle.meaning.specs.World.{plain, no_node, node_at, find_play}
 use Rattle.meaning.specs.Validity.{IsValid, play_nodes}
 use Rattle.meaning.specs.Plays.{new_source}
 use Rattle.meaning.specs.Sources.{changed_play, resampling_refusal}
+use Rattle.meaning.specs.Worlds.{HasCapacity}
 use Rattle.meaning.specs.Changes.{created, edited, new_play, with_nodes, output_refusal, refusal, changed, attribute_set, attribute_refusal, IsNamed, Accepts, Grows, ChangeLaw}
 use Rattle.meaning.proofs.Valid.{plain_valid, connected_valid, disconnected_valid}
 use Rattle.meaning.proofs.Creating.{created_valid, node_kept, node_new, IsNewPlay}
@@ -37,6 +41,10 @@ use Rattle.meaning.proofs.Sourcing.{new_play_is, new_source_is, source_edited_va
 use Rattle.meaning.proofs.OneChanged.{written_over}
 use Rattle.meaning.proofs.Automating.{automated_valid}
 use Rattle.meaning.proofs.Buffering.{buffers_edited_valid, buffers_stay}
+
+-- past the nodes nothing is kept
+none_past : (w : World) (i : ℕ) → length w.nodes ≤ i → HasCapacity (quantum_of w.spec) w.spec (node_at w i).kind
+none_past w i past = subst (λ (n : Node). HasCapacity (quantum_of w.spec) w.spec n.kind) (sym (get_or_past w.nodes i no_node past)) tt
 
 -- the nodes stay, and so does what was there before a new one
 pub grows_still : (now : ℕ) (old new : World) → (IsValid old → IsValid new) → new.spec ≡ old.spec → length old.store ≤ length new.store → new.nodes ≡ old.nodes → Grows now old new
@@ -50,16 +58,17 @@ grows_still now old new valid spec buffers nodes = record {
     birth = ap (λ (ns : List Node). (slice_index_or ns i no_node).attrs.birth) nodes;
   };
   born = λ i high low. let same : length new.nodes ≡ length old.nodes = ap length nodes in absurd (omega arith);
+  capacity = λ i high. let same : length new.nodes ≡ length old.nodes = ap length nodes in none_past new i (omega arith);
 }
 
 pub grows_same : (now : ℕ) (w : World) → Grows now w w
 grows_same now w = grows_still now w w (λ v. v) refl (omega arith) refl
 
 -- one node more
-pub grows_created : (w : World) (kind : Kind) (play : Option Play) → IsNewPlay w kind play → (now : ℕ) → is_destination kind ≡ false → IsInEntry kind → is_delay_kind kind ≡ false → creation_refusal w.nodes kind ≡ None
+pub grows_created : (w : World) (kind : Kind) (play : Option Play) → IsNewPlay w kind play → (now : ℕ) → is_destination kind ≡ false → IsInEntry kind → HasCapacity (quantum_of w.spec) w.spec kind → creation_refusal w.nodes kind ≡ None
     → Grows now w (created w kind play now)
-grows_created w kind play new now other entry no_delay accepted = record {
-  valid = λ valid. created_valid w kind play new now valid other entry no_delay accepted;
+grows_created w kind play new now other entry capacity accepted = record {
+  valid = λ valid. created_valid w kind play new now valid other entry accepted;
   spec = refl;
   buffers = omega arith;
   stays = λ i l.
@@ -68,6 +77,14 @@ grows_created w kind play new now other entry no_delay accepted = record {
   born = λ i high low.
       let last : i ≡ length w.nodes = omega (arith, long) in
       ap (λ k. (slice_index_or (w.nodes ++ node_of kind now ∷ []) k no_node).attrs.birth) last ∙ ap (λ (n : Node). n.attrs.birth) (node_new w.nodes (node_of kind now));
+  capacity = λ i high. elim (cases_lt (length w.nodes) i) [
+    | inl past ↦ none_past (created w kind play now) i (omega (arith, long))
+    | inr low ↦
+        let last : i ≡ length w.nodes = omega arith in
+        let new : slice_index_or (w.nodes ++ node_of kind now ∷ []) i no_node ≡ node_of kind now =
+        ap (λ k. slice_index_or (w.nodes ++ node_of kind now ∷ []) k no_node) last ∙ node_new w.nodes (node_of kind now) in
+        subst (λ (n : Node). HasCapacity (quantum_of w.spec) w.spec n.kind) (sym new) capacity
+  ];
 }
   where
     long : length (w.nodes ++ node_of kind now ∷ []) ≡ length w.nodes + 1
@@ -85,6 +102,7 @@ grows_set w node now refusal change keeps fine = record {
     birth = changed_same (λ (n : Node). n.attrs.birth) change keeps.birth node w.nodes i;
   };
   born = λ i high low. absurd (omega (arith, same));
+  capacity = λ i high. none_past (with_nodes w (changed_at node change w.nodes)) i (omega (arith, same));
 }
   where
     same : length (changed_at node change w.nodes) ≡ length w.nodes
@@ -101,7 +119,7 @@ unrefused from w e accepted = by_test (from == 0) accepted
 pub edited_grows : (w : World) (now : ℕ) (e : Edit) → IsNamed w e → refusal w now e ≡ None → IsValid w → Grows now w (edited w now e)
 edited_grows w now (edit.Create kind) named accepted valid = grows_created w kind (new_play (length w.nodes) kind) (new_play_is w kind) now named.0 named.1 named.2 accepted
 edited_grows w now (edit.CreateBufferSource rate buffer points) named accepted valid =
-    grows_created w (Buffer rate) (Some (new_source (length w.nodes) rate buffer points)) (new_source_is w rate buffer points named) now refl tt refl
+    grows_created w (Buffer rate) (Some (new_source (length w.nodes) rate buffer points)) (new_source_is w rate buffer points named) now refl tt tt
     (second_none (resampling_refusal w buffer) _ (second_none (range_refusal (Buffer rate)) _ accepted))
 edited_grows w now (edit.Connect edge) named accepted valid =
     grows_still now w _ (λ v. connected_valid w edge v named.0 named.1 (unrefused edge.from.0 w edge accepted)) refl (omega arith) refl

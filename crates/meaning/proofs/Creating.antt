@@ -137,7 +137,7 @@ pub record IsNewPlay (w : World) (kind : Kind) (play : Option Play) : Type 0 whe
   pub fits : (p : Play) → play ≡ Some p → IsPlayOf w.store kind p
 
 module _ (w : World) (kind : Kind) (play : Option Play) (new : IsNewPlay w kind play) (now : ℕ) (valid : IsValid w) (other : is_destination kind ≡ false) (entry : IsInEntry kind)
-    (no_delay : is_delay_kind kind ≡ false) (accepted : creation_refusal w.nodes kind ≡ None) where
+    (accepted : creation_refusal w.nodes kind ≡ None) where
   abbrev count : ℕ
   count = length w.nodes
 
@@ -231,15 +231,6 @@ module _ (w : World) (kind : Kind) (play : Option Play) (new : IsNewPlay w kind 
     kinds = created_kinds;
   }
 
-  created_delays : (i : ℕ) → is_delay_kind (slice_index_or more i no_node).kind ≡ false
-  created_delays i = elim (cases_lt i (length more)) [
-    | inl below ↦ elim (place_of w.nodes (node_of kind now) i below) [
-      | there l ↦ rw (kept i l) (valid.no_delay i)
-      | newest is ↦ rw (last i is) no_delay
-    ]
-    | inr past ↦ ap (λ (n : Node). is_delay_kind n.kind) (get_or_past more i no_node past)
-  ]
-
   pub created_valid : IsValid (created w kind play now)
   created_valid = record {
     spec = valid.spec;
@@ -249,5 +240,4 @@ module _ (w : World) (kind : Kind) (play : Option Play) (new : IsNewPlay w kind 
     params = created_params;
     scheds = created_scheds;
     store = valid.store;
-    no_delay = created_delays;
   }

@@ -45,22 +45,3 @@ entry_there w valid (suc i) = elim (cases_lt (suc i) (length w.nodes)) [
   | inl there ↦ (valid.nodes.others (suc i) (omega arith) there).entry
   | inr past ↦ subst (λ (n : Node). IsInEntry n.kind) (sym (get_or_past w.nodes (suc i) no_node past)) tt
 ]
-
--- ---- what holds as long as no world has a delay
-
--- what is kept is no matter of other nodes
-no_capacity : (q : ℕ) (spec : ContextSpec) (kind : Kind) → is_delay_kind kind ≡ false → HasCapacity q spec kind
-no_capacity q spec Destination is = tt
-no_capacity q spec (Constant offset) is = tt
-no_capacity q spec (Buffer rate) is = tt
-no_capacity q spec (Gain gain) is = tt
-no_capacity q spec (Delay longest time capacity) is = absurd cc
-no_capacity q spec (Splitter ports) is = tt
-no_capacity q spec (Merger ports) is = tt
-no_capacity q spec (Shaper curve was_set) is = tt
-no_capacity q spec (Iir forward back) is = tt
-
-pub no_capacity_in : (q : ℕ) (tape : List World) → All IsValid tape → (j i : ℕ) → HasCapacity q (world_in tape j).spec (node_at (world_in tape j) i).kind
-no_capacity_in q [] all j i = tt
-no_capacity_in q (w ∷ ws) all zero i = let valid = All-head IsValid w ws all in no_capacity q w.spec (kind_of w i) (valid.no_delay i)
-no_capacity_in q (w ∷ ws) all (suc j) i = no_capacity_in q ws (All-tail IsValid w ws all) j i

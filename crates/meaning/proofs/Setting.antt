@@ -85,7 +85,6 @@ set_valid w node refusal change keeps fine valid = record {
     kinds = λ p is. holds_by_lasting (λ k. IsPlayOf w.store k p) (λ curve curve' was_set was_set' none. absurd none) _ _ (sym (kinds p.id.0)) (valid.scheds.kinds p is);
   };
   store = valid.store;
-  no_delay = λ i. same_by_lasting is_delay_kind (λ curve was_set. refl) _ _ (kinds i) ∙ valid.no_delay i;
 }
   where
     same : length (changed_at node change w.nodes) ≡ length w.nodes

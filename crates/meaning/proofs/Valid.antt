@@ -45,7 +45,6 @@ valid_of w w' spec nodes graph params plays kinds store valid = record {
   };
   scheds = record { each = λ i. rw (plays, nodes) (valid.scheds.each i); once = rw plays valid.scheds.once; kinds = kinds };
   store = store;
-  no_delay = λ i. rw nodes (valid.no_delay i);
 }
 
 pub plain_valid : (w : World) → IsValid w → IsValid (plain w)
@@ -101,7 +100,6 @@ with_graph_valid w g valid graph nodes targets = record {
   params = record { each = valid.params.each; there = valid.params.there; order = valid.params.order; lines = valid.params.lines; targets = targets };
   scheds = record { each = valid.scheds.each; once = valid.scheds.once; kinds = valid.scheds.kinds };
   store = valid.store;
-  no_delay = valid.no_delay;
 }
 
 -- a graph has a node for each node of its world

@@ -1,5 +1,6 @@
 -- What a control call changes in a world, and why a world refuses it.
 use Rattle.std.specs.Prelude.{ℕ, ℤ, ◌≡◌, ◌<◌, ◌≤◌, ◌^◌, ◌==◌, List, [], ◌∷◌, ◌++◌, length, Bool, true, false, if◌then◌else◌, Option, None, Some, option_map, IfSome}
+use Rattle.wa_base.specs.Contexts.{quantum_of}
 use Rattle.wa_base.specs.declared.exceptions.Exc.{Exc}
 use Rattle.wa_base.specs.declared.exceptions.Exc.TheVariants.{NotSupported}
 use Rattle.wa_base.specs.declared.features.Feature.TheVariants.{DestinationOutput}
@@ -7,7 +8,7 @@ use Rattle.wa_base.specs.declared.graph_names.ParamName.{ParamName}
 use Rattle.wa_base.specs.declared.graph_names.ParamName.TheVariants as param
 use Rattle.wa_base.specs.declared.graph_names.Rate.TheVariants.{A}
 use Rattle.law_base.specs.Members.{IsIn}
-use Rattle.node_table.specs.Kinds.{is_destination, is_delay_kind, IsInEntry}
+use Rattle.node_table.specs.Kinds.{is_destination, IsInEntry}
 use Rattle.node_table.specs.Nodes.{creation_refusal, node_of, with_count, with_mode, with_interp, count_refusal, mode_refusal, interp_refusal, node_with_curve, curve_refusal, changed_at, refusal_at}
 use Rattle.node_table.specs.declared.kinds.Kind.{Kind}
 use Rattle.node_table.specs.declared.kinds.Kind.TheVariants.{Destination, Constant, Buffer, Gain, Delay, Splitter, Merger, Shaper, Iir}
@@ -30,7 +31,7 @@ use Rattle.meaning.specs.Plays.{new_source}
 use Rattle.meaning.specs.Sources.{with_store, source_edited, buffers_edited, makes_buffer, source_refusal, source_creation_refusal, buffers_refusal, IsBufferOf, IsNamedBy, IsEditOf}
 use Rattle.meaning.specs.World.{bare, node_at, param_id, first_sched, find_play, not_started}
 use Rattle.meaning.specs.Validity.{ports_of, param_ids, IsValid}
-use Rattle.meaning.specs.Worlds.{Stays}
+use Rattle.meaning.specs.Worlds.{Stays, HasCapacity}
 
 -- ---- a node is created
 
@@ -144,9 +145,9 @@ abbrev pub IsTarget : World → Target → Type 0
 IsTarget w (Input node input) = node.0 < length w.nodes
 IsTarget w (to_param id) = IsIn id (param_ids w)
 
--- what an edit names is there, and a node that it creates is no destination, in its kind's ranges, and no delay yet
+-- what an edit names is there, and a node that it creates is no destination, in its kind's ranges
 abbrev pub IsNamed : World → Edit → Type 0
-IsNamed w (edit.Create kind) = (is_destination kind ≡ false) × IsInEntry kind × (is_delay_kind kind ≡ false)
+IsNamed w (edit.Create kind) = (is_destination kind ≡ false) × IsInEntry kind × HasCapacity (quantum_of w.spec) w.spec kind
 IsNamed w (edit.CreateBufferSource rate buffer points) = IsBufferOf w.store buffer
 IsNamed w (edit.Connect edge) = (edge.from.0 < length w.nodes) × IsTarget w edge.to
 IsNamed w (edit.Disconnect from form) = (from.0 < length w.nodes) × IfSome (form_node form) (λ node. node < length w.nodes)
@@ -164,13 +165,14 @@ pub record Accepts (w : World) (change : Change) : Type 0 where
 
 -- ---- what a change leaves
 
--- A world of the same context, valid if the old one was, in which the nodes that were there stay, and the others were born now. No buffer goes.
+-- A world of the same context, valid if the old one was, in which the nodes that were there stay, and the others were born now and keep as many frames as they have to. No buffer goes.
 pub record Grows (now : ℕ) (old new : World) : Type 0 where
   pub valid : IsValid old → IsValid new
   pub spec : new.spec ≡ old.spec
   pub buffers : length old.store ≤ length new.store
   pub stays : (i : ℕ) → i < length old.nodes → Stays i old new
   pub born : (i : ℕ) → length old.nodes ≤ i → i < length new.nodes → (node_at new i).attrs.birth ≡ now
+  pub capacity : (i : ℕ) → length old.nodes ≤ i → HasCapacity (quantum_of new.spec) new.spec (node_at new i).kind
 
 -- A valid world grows by each change that it accepts.
 abbrev pub ChangeLaw : Type 0

@@ -1,5 +1,5 @@
 -- What holds of every world of a session.
-use Rattle.std.specs.Prelude.{ℕ, ◌≡◌, ◌↔◌, ◌<◌, ◌≤◌, List, length, map, None, Some, IsSome, IfSome, true, false}
+use Rattle.std.specs.Prelude.{ℕ, ◌≡◌, ◌↔◌, ◌<◌, ◌≤◌, List, length, map, None, Some, IsSome, IfSome, true}
 use Rattle.std.specs.List.Sorted.{IsStrictlyIncreasing}
 use Rattle.wa_base.specs.Contexts.{IsSupported}
 use Rattle.wa_base.specs.declared.contexts.ContextSpec.{ContextSpec}
@@ -91,10 +91,6 @@ pub record HasScheds (w : World) : Type 0 where
   pub once : AreDistinct (play_nodes w)
   pub kinds : (p : Play) → IsIn p w.scheds.items → IsPlayOf w.store (kind_of w p.id.0) p
 
--- It has no delay yet. No law rests on it.
-abbrev pub HasNoDelay : World → Type 0
-HasNoDelay w = (i : ℕ) → is_delay_kind (kind_of w i) ≡ false
-
 pub record IsValid (w : World) : Type 0 where
   pub spec : IsSupported w.spec
   pub nodes : HasNodes w
@@ -103,7 +99,6 @@ pub record IsValid (w : World) : Type 0 where
   pub params : HasParams w
   pub scheds : HasScheds w
   pub store : AreBuffers w.store
-  pub no_delay : HasNoDelay w
 
 -- What the laws use of it: each connection has its place, and the delays are those of the graph.
 pub record IsJoined (w : World) : Type 0 where

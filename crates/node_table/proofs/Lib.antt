@@ -1,3 +1,4 @@
+mod Frames
 pub mod Lasting
 pub mod NodeLists
 pub mod Rows

@@ -4,8 +4,10 @@
 
 mod attributes;
 mod curves;
+mod delays;
 mod kinds;
 mod nodes;
 
+pub use delays::{delay_capacity, frames_of};
 pub use kinds::Kind;
 pub use nodes::{Attrs, Node, Nodes};

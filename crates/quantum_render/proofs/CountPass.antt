@@ -19,7 +19,10 @@ use Rattle.meaning.proofs.OrderLaws.{IsKnown, known_before, known_source, all_kn
 use Rattle.meaning.proofs.QuantumLaws.{count_right, muted_one}
 use Rattle.quantum_render.specs.Blocks.{slot, counts_in}
 use Rattle.quantum_render.specs.Fits.{AreInRange}
-use Rattle.quantum_render.specs.Plans.{AreCounted}
+use Rattle.delay_bank.specs.Banks.{BankView as DelayBank}
+use Rattle.quantum_render.specs.Listening.{HasKept}
+use Rattle.quantum_render.specs.Plans.{AreMost, AreCounted}
+use Rattle.quantum_render.proofs.ReaderCounts.{are_most}
 use Rattle.quantum_render.proofs.Orders.{no_end, next_in_order}
 use Rattle.quantum_render.proofs.Ports.{outputs_few}
 use Rattle.quantum_render.proofs.Slots.{slot_low, slot_apart, slot-half, not_same}
@@ -36,25 +39,25 @@ one_each w valid counts places ones = record {
 }
 
 -- after so many ends of an order the known ends have their counts
-pub record Counting (w : World) (first : ℕ) (order : List End) (i : ℕ) (counts : List ℕ) : Type 0 where
+pub record Counting (w : World) (delays : DelayBank) (first : ℕ) (order : List End) (i : ℕ) (counts : List ℕ) : Type 0 where
   pub done : List End
   pub legal : IsLegalAfter w.graph.value done (drop i order)
   pub range : AreInRange w counts
-  pub known : (tape : List World) → first ≡ 128 * length tape → (d : End) → IsIn d (ends w.graph.value) → IsKnown w.graph.value done d → counts_in counts d ≡ count 128 (tape ++ w ∷ []) (length tape) d
+  pub known : (tape : List World) → first ≡ 128 * length tape → HasKept delays w tape first → (d : End) → IsIn d (ends w.graph.value) → IsKnown w.graph.value done d → counts_in counts d ≡ count 128 (tape ++ w ∷ []) (length tape) d
 
-pub counting_begins : (w : World) → IsValid w → (first : ℕ) (order : List End) → IsLegalOrder w.graph.value order → (counts : List ℕ) → length counts ≡ 2 * length w.nodes
-    → ((k : ℕ) → k < length counts → slice_index_or counts k 1 ≡ 1) → Counting w first order 0 counts
-counting_begins w valid first order legal counts places ones = record {
+pub counting_begins : (w : World) → IsValid w → (delays : DelayBank) (first : ℕ) (order : List End) → IsLegalOrder w.graph.value order → (counts : List ℕ) → length counts ≡ 2 * length w.nodes
+    → ((k : ℕ) → k < length counts → slice_index_or counts k 1 ≡ 1) → Counting w delays first order 0 counts
+counting_begins w valid delays first order legal counts places ones = record {
   done = [];
   legal = legal;
   range = one_each w valid counts places ones;
-  known = λ tape time d in_d k. elim k [
+  known = λ tape time kept d in_d k. elim k [
     | inl m ↦ ones (slot d) (subst (λ n. slot d < n) (sym places) (slot_low d (length w.nodes) (end_low w valid d in_d))) ∙ sym (muted_one 128 (omega arith) w (joined w valid) tape d in_d m)
     | inr none ↦ absurd none
   ];
 }
 
-module _ (w : World) (valid : IsValid w) (first : ℕ) (order : List End) (i : ℕ) (counts : List ℕ) (c : Counting w first order i counts) (l : i < length order) where
+module _ (w : World) (valid : IsValid w) (delays : DelayBank) (first : ℕ) (order : List End) (i : ℕ) (counts : List ℕ) (c : Counting w delays first order i counts) (l : i < length order) where
   abbrev x : End
   x = slice_index_or order i no_end
 
@@ -64,28 +67,28 @@ module _ (w : World) (valid : IsValid w) (first : ℕ) (order : List End) (i : �
   pub next_slot : slot x < length counts
   next_slot = subst (λ n. slot x < n) (sym c.range.places) (slot_low x (length w.nodes) (end_low w valid x next.0))
 
-  module _ (v : ℕ) (is : (j : ℕ) (earlier : ℕ → Counts) → first ≡ 128 * j → v ≡ count_by_kind 128 (plain w) j earlier (counts_in counts) (kind_of w x.node.0) x) where
-    own_count : (tape : List World) → first ≡ 128 * length tape → v ≡ count 128 (tape ++ w ∷ []) (length tape) x
+  module _ (v : ℕ) (is : (j : ℕ) (earlier : ℕ → Counts) → first ≡ 128 * j → AreMost delays w j earlier → v ≡ count_by_kind 128 (plain w) j earlier (counts_in counts) (kind_of w x.node.0) x) where
+    own_count : (tape : List World) → first ≡ 128 * length tape → HasKept delays w tape first → v ≡ count 128 (tape ++ w ∷ []) (length tape) x
     unfolding count_rule
-    own_count tape time =
-        is (length tape) (counts_before 128 (tape ++ w ∷ []) (length tape)) time
+    own_count tape time kept =
+        is (length tape) (counts_before 128 (tape ++ w ∷ []) (length tape)) time (are_most delays w tape first time kept)
         ∙ ap (λ b. if b then 1 else count_by_kind 128 (plain w) (length tape) (counts_before 128 (tape ++ w ∷ []) (length tape)) (counts_in counts) (kind_of w x.node.0) x) (sym next.1)
         ∙ count_right 128 (omega arith) w (joined w valid) tape (counts_before 128 (tape ++ w ∷ []) (length tape)) (λ n k delay low high. refl) (counts_in counts) x next.0
-        (λ d in_d a. c.known tape time d in_d (known_source w.graph.value c.done x next.3 d in_d a))
+        (λ d in_d a. c.known tape time kept d in_d (known_source w.graph.value c.done x next.3 d in_d a))
 
-    counted_more : (tape : List World) → first ≡ 128 * length tape → (d : End) → IsIn d (ends w.graph.value) → IsKnown w.graph.value (x ∷ c.done) d
+    counted_more : (tape : List World) → first ≡ 128 * length tape → HasKept delays w tape first → (d : End) → IsIn d (ends w.graph.value) → IsKnown w.graph.value (x ∷ c.done) d
         → counts_in (slice_set counts (slot x) v) d ≡ count 128 (tape ++ w ∷ []) (length tape) d
-    counted_more tape time d in_d known = by_test (same_end d x) refl
+    counted_more tape time kept d in_d known = by_test (same_end d x) refl
       where
         by_test : (b : Bool) → same_end d x ≡ b → slice_index_or (slice_set counts (slot x) v) (slot d) 1 ≡ count 128 (tape ++ w ∷ []) (length tape) d
         by_test true t =
             let same : d ≡ x = same_end_is d x t in
             ap (λ (e : End). slice_index_or (slice_set counts (slot x) v) (slot e) 1) same
             ∙ get_or-set_same counts (slot x) v 1 next_slot
-            ∙ own_count tape time
+            ∙ own_count tape time kept
             ∙ ap (count 128 (tape ++ w ∷ []) (length tape)) (sym same)
         by_test false t =
-            get_or-set_other counts (slot x) (slot d) v 1 (slot_apart d x (not_same d x t)) ∙ c.known tape time d in_d (known_before w.graph.value x c.done d known t)
+            get_or-set_other counts (slot x) (slot d) v 1 (slot_apart d x (not_same d x t)) ∙ c.known tape time kept d in_d (known_before w.graph.value x c.done d known t)
 
     -- what holds of each count, and of the new one, holds afterwards
     each_still : (P : ℕ → ℕ → Type 0) → P (slot x) v → ((k : ℕ) → k < length counts → P k (slice_index_or counts k 1))
@@ -98,7 +101,7 @@ module _ (w : World) (valid : IsValid w) (first : ℕ) (order : List End) (i : �
         by_test false t = let apart : k ≡ slot x → ⊥ = λ e. grind (arith, nat_tests) in
             subst (P k) (sym (get_or-set_other counts (slot x) k v 1 apart)) (each k (subst (λ n. k < n) (length-set counts (slot x) v) l))
 
-    pub counting_goes_on : 1 ≤ v → v ≤ 32 → outputs (kind_of w x.node.0) * v ≤ 32 → (is_mono (kind_of w x.node.0) ≡ true → v ≡ 1) → Counting w first order (i + 1) (slice_set counts (slot x) v)
+    pub counting_goes_on : 1 ≤ v → v ≤ 32 → outputs (kind_of w x.node.0) * v ≤ 32 → (is_mono (kind_of w x.node.0) ≡ true → v ≡ 1) → Counting w delays first order (i + 1) (slice_set counts (slot x) v)
     counting_goes_on low high lanes mono = record {
       done = x ∷ c.done;
       legal = next.4;
@@ -112,7 +115,7 @@ module _ (w : World) (valid : IsValid w) (first : ℕ) (order : List End) (i : �
       known = counted_more;
     }
 
-pub counting_ends : (w : World) (first : ℕ) (order : List End) (i : ℕ) (counts : List ℕ) → Counting w first order i counts → length order ≤ i → (tape : List World) → first ≡ 128 * length tape → AreCounted 128 w counts tape
-counting_ends w first order i counts c l tape time d in_d =
+pub counting_ends : (w : World) (delays : DelayBank) (first : ℕ) (order : List End) (i : ℕ) (counts : List ℕ) → Counting w delays first order i counts → length order ≤ i → (tape : List World) → first ≡ 128 * length tape → HasKept delays w tape first → AreCounted 128 w counts tape
+counting_ends w delays first order i counts c l tape time kept d in_d =
     let legal : IsLegalAfter w.graph.value c.done [] = subst (IsLegalAfter w.graph.value c.done) (drop_of_length-le order l) c.legal in
-    c.known tape time d in_d (all_known w.graph.value c.done legal d in_d)
+    c.known tape time kept d in_d (all_known w.graph.value c.done legal d in_d)

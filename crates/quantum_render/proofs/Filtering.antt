@@ -1,6 +1,6 @@
 -- A filter that hears what its input carries in a quantum.
-use Rattle.std.proofs.Common.{ℕ, ℤ, pos, ◌≡◌, ◌+◌, ◌-◌, ◌*◌, ◌^◌, ◌<◌, ◌≤◌, length, List, take, max, slice_index_or, Bool, true, false, Some, Option, inl, inr, refl, sym, ◌∙◌, ap, arith, subst}
-use Rattle.std.specs.Prelude.{if◌then◌else◌, nat_lt, ◌==◌, unwrap_or}
+use Rattle.std.proofs.Common.{ℕ, ℤ, pos, ◌≡◌, ◌+◌, ◌-◌, ◌*◌, ◌^◌, ◌<◌, ◌≤◌, length, List, take, max, slice_index_or, Bool, true, false, Some, inl, inr, refl, sym, ◌∙◌, ap, arith, subst}
+use Rattle.std.specs.Prelude.{if◌then◌else◌, nat_lt, ◌==◌}
 use Rattle.std.proofs.lemmas.Bool.{cases_lt}
 use Rattle.std.proofs.lemmas.Bool.Decides.{nat_tests}
 use Rattle.std.proofs.lemmas.List.{get_or-take, get_or_past, length-take}
@@ -10,18 +10,18 @@ use Rattle.causal_core.specs.Frames.{item}
 use Rattle.node_table.specs.Kinds.{is_delay_kind}
 use Rattle.node_table.specs.declared.kinds.Kind.TheVariants.{Iir}
 use Rattle.conn_graph.specs.Ends.{input_end, muted}
-use Rattle.meaning.specs.declared.world.World.{World}
 use Rattle.meaning.specs.World.{plain, node_at, kind_of}
 use Rattle.meaning.specs.Counts.{input_channels}
 use Rattle.conn_graph.specs.Graph.{edges_to_input}
 use Rattle.meaning.specs.Lists.{since}
-use Rattle.meaning.specs.Values.{Frame, mixed_sum, input_value, seen, taken_in, frames_heard}
+use Rattle.meaning.specs.Values.{Frame, mixed_sum, input_value, taken_in, frames_heard}
 use Rattle.meaning.proofs.Joined.{joined}
 use Rattle.meaning.proofs.Seeing.{plain_end, plain_reader, same_since}
-use Rattle.filter_bank.specs.Heard.{FilterView, HasHeard, Brings, IsHeard, room_of as filter_room}
+use Rattle.filter_bank.specs.Heard.{FilterView, Brings, IsHeard, room_of as filter_room}
 use Rattle.filter_bank.specs.Banks.{BankView, filter_at, HaveRoom, Hears}
 use Rattle.quantum_render.specs.Blocks.{BlockView, at, shown, slot, counts_in}
 use Rattle.quantum_render.specs.Sites.{SiteView, IsSite}
+use Rattle.quantum_render.specs.declared.memory.Memory.{Memory}
 use Rattle.quantum_render.specs.Renders.{IsReadyFor, past_of, here_of}
 use Rattle.quantum_render.proofs.Listening.{heard_like}
 use Rattle.quantum_render.proofs.Sources.{site_slot}
@@ -57,8 +57,11 @@ module _ (s : SiteView) (site : IsSite s.world s.end s.into s.counts s.levels s.
       let own = count ∙ own_count in
       grind arith
 
-module _ (s : SiteView) (site : IsSite s.world s.end s.into s.counts s.levels s.first) (bank : BankView) (old : List BlockView) (forward back : List ℤ) (kind : kind_of s.world s.end.node.0 ≡ Iir forward back)
-    (before : ℕ → Frame) (ready : IsReadyFor s bank before) where
+module _ (s : SiteView) (site : IsSite s.world s.end s.into s.counts s.levels s.first) (memory : Memory) (old : List BlockView) (forward back : List ℤ) (kind : kind_of s.world s.end.node.0 ≡ Iir forward back)
+    (before : ℕ → Frame) (ready : IsReadyFor s memory old before) where
+  abbrev bank : BankView
+  bank = memory.filters
+
   abbrev n : ℕ
   n = s.end.node.0
 

@@ -1,23 +1,18 @@
 -- What an input carries, from the sums over its connections.
-use Rattle.std.proofs.Common.{ℕ, ℤ, pos, negsuc, ◌≡◌, ◌<◌, length, List, [], ◌∷◌, map, filter, slice_index_or, true, cond, Some, refl, sym, ◌∙◌, ap, arith, FitsSigned}
+use Rattle.std.proofs.Common.{ℕ, ℤ, pos, negsuc, ◌≡◌, ◌<◌, List, [], ◌∷◌, map, filter, true, cond, refl, sym, ◌∙◌, ap, arith, FitsSigned}
 use Rattle.std.specs.Int.{w32}
-use Rattle.std.specs.Prelude.{if◌then◌else◌, nat_lt, option_map, unwrap_or, slice_get}
+use Rattle.std.specs.Prelude.{if◌then◌else◌, nat_lt}
 use Rattle.std.proofs.Math.IntN.{+ℤ_idr}
-use Rattle.std.proofs.lemmas.Option.{slice_get-get_or}
 use Rattle.std.proofs.lemmas.Bool.Decides.{nat_tests}
 use Rattle.wa_base.specs.Numbers.{sat}
 use Rattle.wa_base.specs.declared.graph_names.Interp.{Interp}
 use Rattle.channel_mix.specs.Mixing.{mix, total}
 use Rattle.channel_mix.proofs.Laws.{mix_same}
-use Rattle.node_table.specs.declared.nodes.Node.{Node}
-use Rattle.node_table.specs.declared.nodes.Attrs.{Attrs}
-use Rattle.node_table.specs.declared.kinds.Kind.{Kind}
-use Rattle.node_table.specs.Nodes.{attrs_at, kind_at}
 use Rattle.conn_graph.specs.declared.edges.Edge.{Edge}
 use Rattle.conn_graph.specs.declared.edges.Target.TheVariants.{Input}
 use Rattle.conn_graph.specs.Ends.{reader_of}
 use Rattle.meaning.specs.declared.world.World.{World}
-use Rattle.meaning.specs.World.{plain, no_node, node_at, kind_of}
+use Rattle.meaning.specs.World.{plain, node_at}
 use Rattle.meaning.specs.Counts.{input_channels}
 use Rattle.meaning.specs.Values.{Frame, part, mixed_sum, input_value}
 use Rattle.quantum_render.specs.Blocks.{BlockView, block_of, carried, counts_in, frame_of}

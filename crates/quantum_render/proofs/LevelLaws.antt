@@ -1,15 +1,15 @@
 -- The level of a parameter, from what its connections carry.
-use Rattle.std.proofs.Common.{ℕ, ℤ, pos, ◌≡◌, ◌+◌, ◌-◌, ◌*◌, ◌/◌, ◌<◌, ◌+ℤ◌, List, [], ◌∷◌, map, filter, Bool, true, false, cond, ◌||◌, refl, sym, ◌∙◌, ap, arith}
+use Rattle.std.proofs.Common.{ℕ, ℤ, pos, negsuc, ◌≡◌, ◌+◌, ◌-◌, ◌*◌, ◌/◌, ◌<◌, ◌+ℤ◌, List, [], ◌∷◌, map, filter, Bool, true, false, cond, ◌||◌, refl, sym, ◌∙◌, ap, arith}
 use Rattle.std.specs.Prelude.{if◌then◌else◌, nat_lt, ◌==◌}
 use Rattle.std.proofs.Math.Nat.{mul_comm}
 use Rattle.std.proofs.lemmas.Nat.{div-mul-add}
 use Rattle.std.proofs.lemmas.Bool.Decides.{nat_tests}
+use Rattle.std.proofs.lemmas.Int.{ints}
 use Rattle.std.specs.List.{list_any}
-use Rattle.wa_base.specs.Numbers.{sat}
+use Rattle.wa_base.specs.Numbers.{sat, IsFix}
 use Rattle.wa_base.specs.declared.graph_names.Interp.TheVariants.{Speakers}
 use Rattle.wa_base.specs.declared.graph_names.ParamId.{ParamId}
 use Rattle.channel_mix.specs.Mixing.{total}
-use Rattle.node_table.specs.Kinds.{is_delay_kind}
 use Rattle.node_table.specs.declared.kinds.Kind.{Kind}
 use Rattle.node_table.specs.declared.kinds.Kind.TheVariants.{Destination, Constant, Buffer, Gain, Delay, Splitter, Merger, Shaper, Iir}
 use Rattle.conn_graph.specs.declared.edges.Edge.{Edge}
@@ -17,11 +17,12 @@ use Rattle.conn_graph.specs.declared.edges.Target.{Target}
 use Rattle.conn_graph.specs.declared.edges.Target.TheVariants.{Param}
 use Rattle.conn_graph.specs.Graph.{edges_to_param}
 use Rattle.meaning.specs.declared.world.World.{World}
-use Rattle.meaning.specs.World.{kind_of, intrinsic_value, is_k_rate, nominal}
+use Rattle.meaning.specs.World.{kind_of, intrinsic_value, is_k_rate, up_to, nominal}
 use Rattle.meaning.specs.Values.{Frame, seen, part, mixed_sum, computed_value}
 use Rattle.meaning.specs.Blocks.{with_drafts, drafted}
 use Rattle.quantum_render.specs.Blocks.{BlockView, counts_in, drafts_of, frame_of}
 use Rattle.quantum_render.specs.Connections.{into, leads_to}
+use Rattle.quantum_render.specs.Parameters.{unclamped_value}
 use Rattle.quantum_render.specs.Sites.{IsBegun}
 use Rattle.quantum_render.proofs.Sources.{param_sources}
 
@@ -33,20 +34,7 @@ taken_at w id m = if is_k_rate w id then 0 else m
 abbrev pub level_of : World → List BlockView → List ℕ → ParamId → ℕ → ℕ → ℤ
 level_of w blocks counts id first m =
     let k = taken_at w id m in
-    nominal (kind_of w id.node.0)
-    (intrinsic_value w id (first + k) +ℤ mixed_sum (frame_of w blocks counts k) Speakers 1 0 (edges_to_param w.graph.value id))
-
--- the nominal range of the parameters of all nodes but delays is that of a Fix
-nominal_is : (kind : Kind) (x : ℤ) → is_delay_kind kind ≡ false → sat x ≡ nominal kind x
-nominal_is Destination x other = refl
-nominal_is (Constant offset) x other = refl
-nominal_is (Buffer rate) x other = refl
-nominal_is (Gain gain) x other = refl
-nominal_is (Delay longest time capacity) x other = absurd cc
-nominal_is (Splitter ports) x other = refl
-nominal_is (Merger ports) x other = refl
-nominal_is (Shaper curve was_set) x other = refl
-nominal_is (Iir forward back) x other = refl
+    sat (intrinsic_value w id (first + k) +ℤ mixed_sum (frame_of w blocks counts k) Speakers 1 0 (edges_to_param w.graph.value id))
 
 taken_low : (w : World) (id : ParamId) (m : ℕ) → m < 128 → taken_at w id m < 128
 taken_low w id m l = by_rate (is_k_rate w id)
@@ -56,20 +44,19 @@ taken_low w id m l = by_rate (is_k_rate w id)
     by_rate false = l
 
 -- from one sum for each frame, of which the one that is taken is used
-pub level_is : (w : World) (blocks : List BlockView) (counts : List ℕ) (id : ParamId) (first m : ℕ) (edges : List Edge) (sums : ℕ → ℤ) (value : ℤ) (b : Bool) → is_delay_kind (kind_of w id.node.0) ≡ false → m < 128
+pub level_is : (w : World) (blocks : List BlockView) (counts : List ℕ) (id : ParamId) (first m : ℕ) (edges : List Edge) (sums : ℕ → ℤ) (value : ℤ) (b : Bool) → m < 128
     → edges ≡ into w.graph.value id.node.0
     → intrinsic_value w id (first + taken_at w id m) ≡ value
     → is_k_rate w id ≡ b
     → ((k : ℕ) → k < 128 → sums k ≡ total (map (part (frame_of w blocks counts k) Speakers 1 0) (filter (leads_to (Param id)) edges)))
     → sat (value +ℤ sat (sums (if b then 0 else m))) ≡ level_of w blocks counts id first m
-level_is w blocks counts id first m edges sums value b other l here intrinsic rate each =
+level_is w blocks counts id first m edges sums value b l here intrinsic rate each =
     let k : ℕ = taken_at w id m in
     let carried = each k (taken_low w id m l) in
     let sources = ap (λ es. filter (leads_to (Param id)) es) here ∙ param_sources w.graph.value id in
     ap (λ (r : Bool). sat (value +ℤ sat (sums (if r then 0 else m)))) (sym rate)
     ∙ ap (λ x. sat (value +ℤ sat x)) (carried ∙ ap (λ es. total (map (part (frame_of w blocks counts k) Speakers 1 0) es)) sources)
     ∙ ap (λ x. sat (x +ℤ mixed_sum (frame_of w blocks counts k) Speakers 1 0 (filter (λ e. leads_to (Param id) e) w.graph.value.edges))) (sym intrinsic)
-    ∙ nominal_is (kind_of w id.node.0) _ other
 
 -- without a connection to a target nothing leads to it
 pub unreached : (target : Target) (es : List Edge) → list_any (leads_to target) es ≡ false → filter (leads_to target) es ≡ []
@@ -81,17 +68,17 @@ unreached target (e ∷ es) h = by_test (leads_to target e) h (unreached target 
     by_test false k below = below k
 
 -- then the level is the intrinsic value
-pub level_unreached : (w : World) (blocks : List BlockView) (counts : List ℕ) (id : ParamId) (first m : ℕ) (edges : List Edge) (value : ℤ) (b : Bool) → is_delay_kind (kind_of w id.node.0) ≡ false → m < 128
+pub level_unreached : (w : World) (blocks : List BlockView) (counts : List ℕ) (id : ParamId) (first m : ℕ) (edges : List Edge) (value : ℤ) (b : Bool) → m < 128
     → edges ≡ into w.graph.value id.node.0
     → intrinsic_value w id (first + taken_at w id m) ≡ value
     → is_k_rate w id ≡ b
     → list_any (leads_to (Param id)) edges ≡ false
     → sat (value +ℤ sat (pos 0)) ≡ level_of w blocks counts id first m
-level_unreached w blocks counts id first m edges value b other l here intrinsic rate none =
-    level_is w blocks counts id first m edges (λ k. pos 0) value b other l here intrinsic rate
+level_unreached w blocks counts id first m edges value b l here intrinsic rate none =
+    level_is w blocks counts id first m edges (λ k. pos 0) value b l here intrinsic rate
     (λ k low. ap (λ es. total (map (part (frame_of w blocks counts k) Speakers 1 0) es)) (sym (unreached (Param id) edges none)))
 
--- ---- the level is the computed value, whatever the frames before the quantum were
+-- ---- the level is the parameter's value before it is clamped, whatever the frames before the quantum were
 
 module _ (w : World) (blocks : List BlockView) (counts : List ℕ) (before : ℕ → Frame) (first m : ℕ) (begun : IsBegun first) (l : m < 128) where
   abbrev past : ℕ → Frame
@@ -123,12 +110,12 @@ module _ (w : World) (blocks : List BlockView) (counts : List ℕ) (before : ℕ
       same : (first + m == first + m) ≡ true
       same = grind (arith, nat_tests)
 
-  pub computed_is : (id : ParamId) → level_of w blocks counts id first m ≡ computed_value 128 (first + m) past here id
-  unfolding computed_value
-  computed_is id = by_rate (is_k_rate w id)
+  pub unclamped_is : (id : ParamId) → level_of w blocks counts id first m ≡ unclamped_value 128 (first + m) past here id
+  unfolding unclamped_value
+  unclamped_is id = by_rate (is_k_rate w id)
     where
       at : ℕ → Frame → ℤ
-      at g x = nominal (kind_of w id.node.0) (intrinsic_value w id g +ℤ mixed_sum x Speakers 1 0 (edges_to_param w.graph.value id))
+      at g x = sat (intrinsic_value w id g +ℤ mixed_sum x Speakers 1 0 (edges_to_param w.graph.value id))
 
       by_rate : (b : Bool) → at (first + (if b then 0 else m)) (frame_of w blocks counts (if b then 0 else m))
           ≡ (let g : ℕ = if b then 128 * ((first + m) / 128) else first + m in at g (seen (first + m) past here g))
@@ -137,3 +124,39 @@ module _ (w : World) (blocks : List BlockView) (counts : List ℕ) (before : ℕ
           ∙ ap (at first) (sym seen_first)
           ∙ ap (λ g. at g (seen (first + m) past here g)) (sym quantum_first)
       by_rate false = ap (at (first + m)) (sym seen_here)
+
+-- ---- in its nominal range it is the computed value
+
+-- that of the parameters of all nodes but delays is that of a Fix
+nominal_is : (kind : Kind) (x : ℤ) → ((longest time : ℤ) (capacity : ℕ) → kind ≡ Delay longest time capacity → ⊥) → sat x ≡ nominal kind x
+nominal_is Destination x other = refl
+nominal_is (Constant offset) x other = refl
+nominal_is (Buffer rate) x other = refl
+nominal_is (Gain gain) x other = refl
+nominal_is (Delay longest time capacity) x other = absurd (other longest time capacity refl)
+nominal_is (Splitter ports) x other = refl
+nominal_is (Merger ports) x other = refl
+nominal_is (Shaper curve was_set) x other = refl
+nominal_is (Iir forward back) x other = refl
+
+-- where a delay's ends, saturating changes nothing
+up_to_of_sat : (longest x : ℤ) → IsFix longest → up_to longest (sat x) ≡ up_to longest x
+up_to_of_sat (pos most) (pos x) is = let high = is.1 in ap pos (omega (arith, ints))
+up_to_of_sat (pos most) (negsuc x) is = refl
+up_to_of_sat (negsuc most) x is = refl
+
+module _ (f : ℕ) (past : ℕ → Frame) (here : Frame) (id : ParamId) where
+  abbrev reached : ℤ
+  reached =
+      let g = if is_k_rate here.world id then 128 * (f / 128) else f in
+      intrinsic_value here.world id g +ℤ mixed_sum (seen f past here g) Speakers 1 0 (edges_to_param here.world.graph.value id)
+
+  pub computed_is : (kind : Kind) → kind_of here.world id.node.0 ≡ kind → ((longest time : ℤ) (capacity : ℕ) → kind ≡ Delay longest time capacity → ⊥)
+      → unclamped_value 128 f past here id ≡ computed_value 128 f past here id
+  unfolding unclamped_value computed_value
+  computed_is kind is other = nominal_is kind reached other ∙ ap (λ k. nominal k reached) (sym is)
+
+  pub delay_is : (longest time : ℤ) (capacity : ℕ) → kind_of here.world id.node.0 ≡ Delay longest time capacity → IsFix longest
+      → up_to longest (unclamped_value 128 f past here id) ≡ computed_value 128 f past here id
+  unfolding unclamped_value computed_value
+  delay_is longest time capacity is fix = up_to_of_sat longest reached fix ∙ ap (λ k. nominal k reached) (sym is)

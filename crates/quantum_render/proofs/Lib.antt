@@ -1,4 +1,5 @@
 mod Automated
+pub mod Shifting
 pub mod Slots
 pub mod Connections
 pub mod Made
@@ -7,9 +8,11 @@ pub mod InputLaws
 pub mod Lanes
 pub mod LevelLaws
 pub mod Orders
+pub mod Cycles
 pub mod PassLaws
 pub mod Ports
 pub mod CountingLaws
+pub mod ReaderCounts
 pub mod CountPass
 pub mod Passing
 pub mod Parts
@@ -18,5 +21,9 @@ pub mod Rendering
 pub mod Holding
 pub mod Heard
 pub mod Listening
+pub mod Fed
+pub mod Feeding
 pub mod Filtering
 pub mod Remembering
+pub mod Kept
+pub mod Following

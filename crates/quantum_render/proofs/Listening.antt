@@ -1,6 +1,6 @@
 -- What filters have heard, and of whom.
-use Rattle.std.proofs.Common.{ℕ, zero, suc, ℤ, pos, ◌≡◌, ◌+◌, ◌-◌, ◌*◌, ◌<◌, ◌≤◌, length, List, [], ◌∷◌, ◌++◌, Bool, true, false, ◌||◌, Option, Some, None, ◌⊎◌, inl, inr, refl, sym, ◌∙◌, ap, ap₂, arith, subst}
-use Rattle.std.specs.Prelude.{if◌then◌else◌, nat_lt, nat_eq}
+use Rattle.std.proofs.Common.{ℕ, zero, suc, ℤ, ◌≡◌, ◌+◌, ◌-◌, ◌*◌, ◌<◌, ◌≤◌, length, List, [], ◌∷◌, ◌++◌, Bool, true, false, ◌||◌, Option, Some, None, ◌⊎◌, inl, inr, refl, sym, ◌∙◌, ap, arith, subst}
+use Rattle.std.specs.Prelude.{if◌then◌else◌, nat_lt}
 use Rattle.std.proofs.lemmas.Bool.Decides.{nat_tests}
 use Rattle.wa_base.specs.declared.graph_names.End.{End}
 use Rattle.law_base.specs.Members.{IsIn}
@@ -10,20 +10,20 @@ use Rattle.node_table.specs.declared.kinds.Kind.{Kind}
 use Rattle.node_table.specs.declared.kinds.Kind.TheVariants.{Iir}
 use Rattle.conn_graph.specs.Ends.{same_end, reader_of, input_end, ends, muted}
 use Rattle.conn_graph.specs.Orders.{IsLegalAfter}
-use Rattle.conn_graph.proofs.EndLaws.{same_end-refl, same_end_is, has_end}
+use Rattle.conn_graph.proofs.EndLaws.{same_end-refl, same_end_is}
 use Rattle.meaning.specs.declared.world.World.{World}
 use Rattle.meaning.specs.World.{plain, node_at, kind_of}
 use Rattle.meaning.specs.Validity.{IsJoined}
-use Rattle.meaning.specs.Lists.{since}
-use Rattle.meaning.specs.Values.{Frame, taken_in, frame}
+use Rattle.meaning.specs.Values.{taken_in, frame}
 use Rattle.meaning.specs.Blocks.{drafted, with_drafts}
 use Rattle.meaning.proofs.QuantumLaws.{AreRight, HasCounts, HasSources, taken_right, taken_muted}
 use Rattle.meaning.proofs.Seeing.{plain_end, plain_reader, same_since}
-use Rattle.filter_bank.specs.Heard.{FilterView, HasHeard, IsHeard, IsRested, IsSilentFrom}
+use Rattle.filter_bank.specs.Heard.{FilterView, IsHeard, IsRested}
 use Rattle.filter_bank.specs.Banks.{BankView, filter_at, IsRestedIfThere}
 use Rattle.quantum_render.specs.Blocks.{BlockView, counts_in, drafts_of}
 use Rattle.quantum_render.specs.Sites.{SiteView}
-use Rattle.quantum_render.specs.Renders.{Renders, RendersWith, Listens, IsReadyFor, past_of}
+use Rattle.quantum_render.specs.declared.memory.Memory.{Memory}
+use Rattle.quantum_render.specs.Renders.{Renders, RendersWith}
 
 -- a filter has heard whatever agrees with what it has heard
 pub heard_like : (found : Option FilterView) (forward back : List ℤ) (birth now : ℕ) (at at' : ℕ → ℕ → ℤ) → ((g c : ℕ) → birth ≤ g → g < now → at g c ≡ at' g c)
@@ -46,27 +46,48 @@ this_or_other zero (suc node) = inr (λ e. absurd (omega arith))
 this_or_other (suc n) zero = inr (λ e. absurd (omega arith))
 this_or_other (suc n) (suc node) = elim (this_or_other n node) [ inl e ↦ inl (ap suc e) | inr other ↦ inr (λ e. other (omega arith)) ]
 
--- whether the end of a node is among those that are done
-abbrev pub is_done : List End → ℕ → Bool
-is_done [] n = false
-is_done (x ∷ xs) n = same_end (reader_of n) x || is_done xs n
+-- whether an end is among those that are done
+abbrev pub is_among : List End → End → Bool
+is_among [] e = false
+is_among (x ∷ xs) e = same_end e x || is_among xs e
 
-pub done_in : (done : List End) (n : ℕ) → is_done done n ≡ true → IsIn (reader_of n) done
-done_in [] n is = absurd cc
-done_in (x ∷ xs) n is = by_test (same_end (reader_of n) x) refl is (λ later. done_in xs n later)
+pub among_in : (done : List End) (e : End) → is_among done e ≡ true → IsIn e done
+among_in [] e is = absurd cc
+among_in (x ∷ xs) e is = by_test (same_end e x) refl is (λ later. among_in xs e later)
   where
-    by_test : (b : Bool) → same_end (reader_of n) x ≡ b → (b || is_done xs n) ≡ true → (is_done xs n ≡ true → IsIn (reader_of n) xs) → IsIn (reader_of n) (x ∷ xs)
-    by_test true here is below = inl (same_end_is (reader_of n) x here)
+    by_test : (b : Bool) → same_end e x ≡ b → (b || is_among xs e) ≡ true → (is_among xs e ≡ true → IsIn e xs) → IsIn e (x ∷ xs)
+    by_test true here is below = inl (same_end_is e x here)
     by_test false other is below = inr (below is)
 
-pub in_done : (done : List End) (n : ℕ) → IsIn (reader_of n) done → is_done done n ≡ true
-in_done [] n is = absurd is
-in_done (x ∷ xs) n (inl is) = let here : same_end (reader_of n) x ≡ true = subst (λ y. same_end (reader_of n) y ≡ true) is (same_end-refl (reader_of n)) in ap (λ b. b || is_done xs n) here
-in_done (x ∷ xs) n (inr is) = by_test (same_end (reader_of n) x) (in_done xs n is)
+pub in_among : (done : List End) (e : End) → IsIn e done → is_among done e ≡ true
+in_among [] e is = absurd is
+in_among (x ∷ xs) e (inl is) = let here : same_end e x ≡ true = subst (λ y. same_end e y ≡ true) is (same_end-refl e) in ap (λ b. b || is_among xs e) here
+in_among (x ∷ xs) e (inr is) = by_test (same_end e x) (in_among xs e is)
   where
-    by_test : (b : Bool) → is_done xs n ≡ true → (b || is_done xs n) ≡ true
+    by_test : (b : Bool) → is_among xs e ≡ true → (b || is_among xs e) ≡ true
     by_test true is = refl
     by_test false is = is
+
+-- an end that is new is none of them, and then it is one
+pub not_among : (done : List End) (x : End) → (IsIn x done → ⊥) → is_among done x ≡ false
+not_among done x new = by_test (is_among done x) refl
+  where
+    by_test : (b : Bool) → is_among done x ≡ b → is_among done x ≡ false
+    by_test true is = absurd (new (among_in done x is))
+    by_test false is = is
+
+pub now_among : (done : List End) (x : End) → is_among (x ∷ done) x ≡ true
+now_among done x = ap (λ b. b || is_among done x) (same_end-refl x)
+
+pub other_among : (done : List End) (x e : End) → (e ≡ x → ⊥) → is_among (x ∷ done) e ≡ is_among done e
+other_among done x e apart = by_test (same_end e x) refl
+  where
+    by_test : (b : Bool) → same_end e x ≡ b → (b || is_among done e) ≡ is_among done e
+    by_test true t = absurd (apart (same_end_is e x t))
+    by_test false t = refl
+
+abbrev pub is_done : List End → ℕ → Bool
+is_done done n = is_among done (reader_of n)
 
 -- up to which frame the filter of a node has heard its input, by the ends that are done
 abbrev pub heard_until : List End → ℕ → ℕ → ℕ
@@ -77,9 +98,9 @@ abbrev pub AreHeardBy : BankView → World → List World → ℕ → List End �
 AreHeardBy bank w tape first done = (n : ℕ) (forward back : List ℤ) → n < length w.nodes → kind_of w n ≡ Iir forward back
     → IsHeard (filter_at bank n) forward back (node_at w n).attrs.birth (heard_until done first n) (λ g c. taken_in (frame 128 (tape ++ w ∷ []) g) n c)
 
--- what a kind that is no filter renders, it renders whatever filters have heard
-pub with_filters : (s : SiteView) (bank : BankView) (old new : List BlockView) (kind : Kind) → Renders s old new kind → RendersWith s bank old new kind
-with_filters s bank old new kind renders j earlier begins counted before ready = renders j earlier begins counted before
+-- what a kind that remembers nothing renders, it renders whatever is remembered
+pub with_memory : (s : SiteView) (memory : Memory) (old new : List BlockView) (kind : Kind) → Renders s old new kind → RendersWith s memory old new kind
+with_memory s memory old new kind renders j earlier begins counted before ready = renders j earlier begins counted before
 
 -- ---- one more end of an order
 
@@ -110,22 +131,14 @@ module _ (w : World) (joined : IsJoined (plain w)) (tape : List World) (blocks :
     here = plain_reader (plain w) joined x in_x kind
 
     pub not_done : is_done done x.node.0 ≡ false
-    not_done = by_test (is_done done x.node.0) refl
-      where
-        by_test : (b : Bool) → is_done done x.node.0 ≡ b → is_done done x.node.0 ≡ false
-        by_test true is = absurd (new (subst (λ e. IsIn e done) (sym here) (done_in done x.node.0 is)))
-        by_test false is = is
+    not_done = subst (λ e. is_among done e ≡ false) here (not_among done x new)
 
     pub now_done : is_done (x ∷ done) x.node.0 ≡ true
-    now_done = ap (λ b. b || is_done done x.node.0) (subst (λ e. same_end (reader_of x.node.0) e ≡ true) (sym here) (same_end-refl (reader_of x.node.0)))
+    now_done = subst (λ e. is_among (x ∷ done) e ≡ true) here (now_among done x)
 
 -- an end of another node is no reader of this one
 pub other_done : (x : End) (done : List End) (n : ℕ) → (n ≡ x.node.0 → ⊥) → is_done (x ∷ done) n ≡ is_done done n
-other_done x done n apart = by_test (same_end (reader_of n) x) refl
-  where
-    by_test : (b : Bool) → same_end (reader_of n) x ≡ b → (b || is_done done n) ≡ is_done done n
-    by_test true t = absurd (apart (ap (λ (e : End). e.node.0) (same_end_is (reader_of n) x t)))
-    by_test false t = refl
+other_done x done n apart = other_among done x (reader_of n) (λ e. apart (ap (λ (d : End). d.node.0) e))
 
 -- ---- after the last end
 
@@ -141,7 +154,7 @@ rested_heard w joined tape first begins done legal n in_n forward back no_delay 
       where
         by_mute : (b : Bool) → muted w.graph.value (reader_of n) ≡ b → muted w.graph.value (reader_of n) ≡ true
         by_mute true m = m
-        by_mute false m = let yes : is_done done n ≡ true = in_done done n (legal (reader_of n) in_n m) in absurd (let no = sym t ∙ yes in cc)
+        by_mute false m = let yes : is_done done n ≡ true = in_among done (reader_of n) (legal (reader_of n) in_n m) in absurd (let no = sym t ∙ yes in cc)
 
     -- a filter that was there has rested
     there : (f : FilterView) (old new : Option FilterView) → old ≡ Some f → IsRestedIfThere first old new → (g : FilterView) × (new ≡ Some g) × IsRested first f g

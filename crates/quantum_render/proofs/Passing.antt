@@ -1,5 +1,5 @@
 -- Rendering a quantum along a legal order.
-use Rattle.std.proofs.Common.{ℕ, suc, ℤ, pos, ◌≡◌, ◌+◌, ◌*◌, ◌<◌, ◌≤◌, length, List, [], ◌∷◌, ◌++◌, drop, slice_index_or, Bool, true, false, inl, inr, refl, sym, ◌∙◌, ap, arith, subst}
+use Rattle.std.proofs.Common.{ℕ, suc, ℤ, pos, ◌≡◌, ◌+◌, ◌*◌, ◌<◌, ◌≤◌, length, List, [], ◌∷◌, ◌++◌, drop, slice_index_or, Bool, true, false, Option, None, inl, inr, refl, sym, ◌∙◌, ap, arith, subst}
 use mathlib.Core.Path.{fun_ext}
 use Rattle.std.specs.Prelude.{if◌then◌else◌, nat_lt}
 use Rattle.std.proofs.Math.ListN.{drop_of_length-le}
@@ -29,9 +29,12 @@ use Rattle.quantum_render.specs.Plans.{IsPlan, AreCounted}
 use Rattle.automation.specs.Levels.{LevelView}
 use Rattle.quantum_render.specs.Sites.{SiteView}
 use Rattle.filter_bank.specs.Heard.{IsHeard}
-use Rattle.filter_bank.specs.Banks.{BankView, filter_at, IsRestedIfThere, HaveRoom}
-use Rattle.quantum_render.specs.Renders.{RendersWith, Listens, IsReadyFor, HasCount, past_of}
-use Rattle.quantum_render.specs.Listening.{HasHeard}
+use Rattle.filter_bank.specs.Banks.{filter_at, IsRestedIfThere}
+use Rattle.delay_bank.specs.Kept.{DelayView, IsKept}
+use Rattle.quantum_render.specs.declared.memory.Memory.{Memory}
+use Rattle.quantum_render.specs.Renders.{RendersWith, Listens, Stores, IsReadyFor, HasCount, past_of}
+use Rattle.quantum_render.specs.Listening.{writer_in, IsTimely, IsMemory, HasRooms}
+use Rattle.quantum_render.proofs.Fed.{AreKeptBy, is_fed, kept_more, all_kept}
 use Rattle.quantum_render.proofs.Listening.{heard_like, AreHeardBy, heard_until, takes_in, not_done, now_done, other_done, this_or_other, rested_heard}
 use Rattle.quantum_render.proofs.Slots.{slot_low}
 use Rattle.quantum_render.proofs.Sources.{IsIn-get_or, end_low, same_nodes}
@@ -55,29 +58,37 @@ has_count w joined counts tape counted x in_x unmuted =
     ∙ sym (count_right 128 (omega arith) w joined tape (counts_before 128 (tape ++ w ∷ []) (length tape)) (λ n k delay low high. refl) (counts_in counts) x in_x (λ d in_d a. counted d in_d))
     ∙ ap (λ b. if b then 1 else count_by_kind 128 (plain w) (length tape) (counts_before 128 (tape ++ w ∷ []) (length tape)) (counts_in counts) (kind_of w x.node.0) x) unmuted
 
--- after so many ends of an order the known ends have their values, and their filters have heard the quantum
-pub record Passing (w : World) (order : List End) (i : ℕ) (counts : List ℕ) (first : ℕ) (old bank : BankView) (blocks : List BlockView) : Type 0 where
+-- what holds of each tape whose quanta are remembered before the quantum begins
+abbrev pub OfTapes : World → List ℕ → ℕ → Memory → (List World → Type 0) → Type 0
+OfTapes w counts first old P = (tape : List World) → first ≡ 128 * length tape → AreCounted 128 w counts tape → IsTimely w → IsMemory old w tape first → P tape
+
+-- after so many ends of an order the known ends have their values, and their filters and delays have heard and kept the quantum
+pub record Passing (w : World) (order : List End) (i : ℕ) (counts : List ℕ) (first : ℕ) (old memory : Memory) (blocks : List BlockView) : Type 0 where
   pub done : List End
   pub legal : IsLegalAfter w.graph.value done (drop i order)
   pub fit : AreFit w counts blocks
-  pub rooms : HaveRoom bank counts
-  pub count : length bank.filters ≡ length old.filters
-  pub right : (tape : List World) → first ≡ 128 * length tape → AreCounted 128 w counts tape → HasHeard old w tape first → AreRight 128 (tape ++ w ∷ []) (length tape) w (drafts_of blocks counts) done
-  pub heard : (tape : List World) → first ≡ 128 * length tape → AreCounted 128 w counts tape → HasHeard old w tape first → AreHeardBy bank w tape first done
+  pub rooms : HasRooms memory w counts
+  pub filters : length memory.filters.filters ≡ length old.filters.filters
+  pub delays : length memory.delays.delays ≡ length old.delays.delays
+  pub right : OfTapes w counts first old (λ tape. AreRight 128 (tape ++ w ∷ []) (length tape) w (drafts_of blocks counts) done)
+  pub heard : OfTapes w counts first old (λ tape. AreHeardBy memory.filters w tape first done)
+  pub kept : OfTapes w counts first old (λ tape. AreKeptBy memory.delays w tape first done)
 
-pub passing_begins : (w : World) → IsJoined (plain w) → (order mute : List End) (sources : List (List Edge)) → IsPlan w order mute sources → (counts : List ℕ) (first : ℕ) (bank : BankView) → HaveRoom bank counts → (blocks : List BlockView)
-    → AreFit w counts blocks → ((i : ℕ) (d : End) → i < length mute → IsSilent blocks (slice_index_or mute i d)) → Passing w order 0 counts first bank bank blocks
-passing_begins w joined order mute sources plan counts first bank rooms blocks fit silent = record {
+pub passing_begins : (w : World) → IsJoined (plain w) → (order mute : List End) (sources : List (List Edge)) → IsPlan w order mute sources → (counts : List ℕ) (first : ℕ) (memory : Memory) → HasRooms memory w counts → (blocks : List BlockView)
+    → AreFit w counts blocks → ((i : ℕ) (d : End) → i < length mute → IsSilent blocks (slice_index_or mute i d)) → Passing w order 0 counts first memory memory blocks
+passing_begins w joined order mute sources plan counts first memory rooms blocks fit silent = record {
   done = [];
   legal = plan.legal;
   fit = fit;
   rooms = rooms;
-  count = refl;
-  right = λ tape begins counted ready m l d in_d known. elim known [
+  filters = refl;
+  delays = refl;
+  right = λ tape begins counted timely ready m l d in_d known. elim known [
     | inr none ↦ absurd none
     | inl k ↦ quiet d in_d k m l ∙ muted_right 128 (omega arith) w joined tape m l d in_d (inl k)
   ];
-  heard = λ tape begins counted ready. ready;
+  heard = λ tape begins counted timely ready. ready.heard;
+  kept = λ tape begins counted timely ready. ready.kept;
 }
   where
     at_place : (d : End) (xs : List End) → IsIn d xs → ((i : ℕ) (e : End) → i < length xs → IsSilent blocks (slice_index_or xs i e)) → IsSilent blocks d
@@ -93,8 +104,8 @@ passing_begins w joined order mute sources plan counts first bank rooms blocks f
         by_lane c lane true false t = refl
         by_lane c lane true true t = at_place d mute (plan.all d in_d k) silent lane m (let low : lane < (block_of blocks d).lanes = grind (arith, nat_tests) in low) l
 
-module _ (w : World) (valid : IsValid w) (order : List End) (i : ℕ) (counts : List ℕ) (first : ℕ) (old bank : BankView) (blocks : List BlockView)
-    (c : Passing w order i counts first old bank blocks) (l : i < length order) where
+module _ (w : World) (valid : IsValid w) (order : List End) (i : ℕ) (counts : List ℕ) (first : ℕ) (old memory : Memory) (blocks : List BlockView)
+    (c : Passing w order i counts first old memory blocks) (l : i < length order) where
   abbrev x : End
   x = slice_index_or order i no_end
 
@@ -107,9 +118,9 @@ module _ (w : World) (valid : IsValid w) (order : List End) (i : ℕ) (counts : 
   there : x.node.0 < length w.nodes
   there = end_low w valid x next.0
 
-  module _ (edges : List Edge) (levels : List LevelView) (blocks' : List BlockView) (bank' : BankView) (writes : Writes blocks blocks' x)
-      (renders : RendersWith (site_of edges levels) bank blocks blocks' (kind_of w x.node.0)) (listens : Listens (site_of edges levels) blocks bank bank') (rooms : HaveRoom bank' counts) where
-    module _ (tape : List World) (begins : first ≡ 128 * length tape) (counted : AreCounted 128 w counts tape) (ready : HasHeard old w tape first) where
+  module _ (edges : List Edge) (levels : List LevelView) (blocks' : List BlockView) (memory' : Memory) (writes : Writes blocks blocks' x)
+      (renders : RendersWith (site_of edges levels) memory blocks blocks' (kind_of w x.node.0)) (listens : Listens (site_of edges levels) blocks memory memory') (stores : Stores (site_of edges levels) blocks' memory.delays memory'.delays) (rooms : HasRooms memory' w counts) where
+    module _ (tape : List World) (begins : first ≡ 128 * length tape) (counted : AreCounted 128 w counts tape) (timely : IsTimely w) (ready : IsMemory old w tape first) where
       abbrev longer : List World
       longer = tape ++ w ∷ []
 
@@ -117,68 +128,80 @@ module _ (w : World) (valid : IsValid w) (order : List End) (i : ℕ) (counts : 
       no_delay forward back is = ap is_delay_kind is
 
       -- the end that is rendered next is ready
-      ready_now : IsReadyFor (site_of edges levels) bank (frame 128 longer)
+      ready_now : IsReadyFor (site_of edges levels) memory blocks (frame 128 longer)
       ready_now = record {
         unmuted = next.1;
         heard = λ forward back is.
-            subst (λ b. IsHeard (filter_at bank x.node.0) forward back (node_at w x.node.0).attrs.birth (if b then first + 128 else first) (λ g k. taken_in (frame 128 longer g) x.node.0 k))
-            (not_done w (joined w valid) tape blocks counts counted c.done (c.right tape begins counted ready) x next.0 next.3 (plain_end (plain w) (joined w valid) x next.0 (no_delay forward back is)) (no_delay forward back is) next.2)
-            (c.heard tape begins counted ready x.node.0 forward back there is);
+            subst (λ b. IsHeard (filter_at memory.filters x.node.0) forward back (node_at w x.node.0).attrs.birth (if b then first + 128 else first) (λ g k. taken_in (frame 128 longer g) x.node.0 k))
+            (not_done w (joined w valid) tape blocks counts counted c.done (c.right tape begins counted timely ready) x next.0 next.3 (plain_end (plain w) (joined w valid) x next.0 (no_delay forward back is)) (no_delay forward back is) next.2)
+            (c.heard tape begins counted timely ready x.node.0 forward back there is);
+        fed = λ longest time capacity is. is_fed w valid tape first begins counts counted timely blocks c.done (c.right tape begins counted timely ready) memory.delays (c.kept tape begins counted timely ready)
+            x next.0 next.1 next.2 next.3 edges levels longest time capacity is;
       }
 
       right_now : AreRight 128 longer (length tape) w (drafts_of blocks' counts) (x ∷ c.done)
       right_now =
           let fit' = still_fit w counts blocks blocks' writes.lanes c.fit in
-          one_more_right w (joined w valid) tape blocks blocks' counts counted c.done (c.right tape begins counted ready) x next.0 next.1 next.3 (fit'.lanes x next.0) writes
+          one_more_right w (joined w valid) tape blocks blocks' counts counted c.done (c.right tape begins counted timely ready) x next.0 next.1 next.3 (fit'.lanes x next.0) writes
           (subst (λ f. (o k m : ℕ) → o < outputs (kind_of w x.node.0) → k < counts_in counts x → m < 128 → at (block_of blocks' x) (o * counts_in counts x + k) m
           ≡ value_by_kind 128 (f + m) (with_drafts (frame 128 longer) f (plain w) (counts_in counts) (drafts_of blocks counts)) (frame_of (plain w) blocks counts m) (kind_of w x.node.0) x o k) begins
           (renders (length tape) (counts_before 128 (tape ++ w ∷ []) (length tape)) begins (has_count w (joined w valid) counts tape counted x next.0 next.1) (frame 128 longer) ready_now))
 
       -- its node's filter has heard the quantum
       own_heard : (forward back : List ℤ) → kind_of w x.node.0 ≡ Iir forward back
-          → IsHeard (filter_at bank' x.node.0) forward back (node_at w x.node.0).attrs.birth (first + 128) (λ g k. taken_in (frame 128 longer g) x.node.0 k)
+          → IsHeard (filter_at memory'.filters x.node.0) forward back (node_at w x.node.0).attrs.birth (first + 128) (λ g k. taken_in (frame 128 longer g) x.node.0 k)
       own_heard forward back is =
           heard_like _ forward back _ (first + 128) (λ g k. taken_in (past_of (site_of edges levels) blocks (frame 128 longer) g) x.node.0 k) _
           (λ g k low high. subst (λ f. g < f + 128 → taken_in (with_drafts (frame 128 longer) f (plain w) (counts_in counts) (drafts_of blocks counts) g) x.node.0 k ≡ taken_in (frame 128 longer g) x.node.0 k) (sym begins)
-          (λ high. takes_in w (joined w valid) tape blocks counts counted c.done (c.right tape begins counted ready) x next.0 next.3 (plain_end (plain w) (joined w valid) x next.0 (no_delay forward back is)) g k high) high)
+          (λ high. takes_in w (joined w valid) tape blocks counts counted c.done (c.right tape begins counted timely ready) x next.0 next.3 (plain_end (plain w) (joined w valid) x next.0 (no_delay forward back is)) g k high) high)
           (listens.own forward back is (length tape) (counts_before 128 (tape ++ w ∷ []) (length tape)) begins (subst (λ kind. HasCount (site_of edges levels) (length tape) (counts_before 128 (tape ++ w ∷ []) (length tape)) kind) is (has_count w (joined w valid) counts tape counted x next.0 next.1)) (frame 128 longer) ready_now)
 
-      heard_now : AreHeardBy bank' w tape first (x ∷ c.done)
+      heard_now : AreHeardBy memory'.filters w tape first (x ∷ c.done)
       heard_now n forward back low is = elim (this_or_other n x.node.0) [
         | inl here ↦
             let own : kind_of w x.node.0 ≡ Iir forward back = subst (λ k. kind_of w k ≡ Iir forward back) here is in
-            subst (λ k. IsHeard (filter_at bank' k) forward back (node_at w k).attrs.birth (heard_until (x ∷ c.done) first k) (λ g r. taken_in (frame 128 longer g) k r)) (sym here)
-            (subst (λ b. IsHeard (filter_at bank' x.node.0) forward back (node_at w x.node.0).attrs.birth (if b then first + 128 else first) (λ g r. taken_in (frame 128 longer g) x.node.0 r))
-            (sym (now_done w (joined w valid) tape blocks counts counted c.done (c.right tape begins counted ready) x next.0 next.3 (plain_end (plain w) (joined w valid) x next.0 (no_delay forward back own)) (no_delay forward back own) next.2))
+            subst (λ k. IsHeard (filter_at memory'.filters k) forward back (node_at w k).attrs.birth (heard_until (x ∷ c.done) first k) (λ g r. taken_in (frame 128 longer g) k r)) (sym here)
+            (subst (λ b. IsHeard (filter_at memory'.filters x.node.0) forward back (node_at w x.node.0).attrs.birth (if b then first + 128 else first) (λ g r. taken_in (frame 128 longer g) x.node.0 r))
+            (sym (now_done w (joined w valid) tape blocks counts counted c.done (c.right tape begins counted timely ready) x next.0 next.3 (plain_end (plain w) (joined w valid) x next.0 (no_delay forward back own)) (no_delay forward back own) next.2))
             (own_heard forward back own))
         | inr apart ↦
-            subst (λ b. IsHeard (filter_at bank' n) forward back (node_at w n).attrs.birth (if b then first + 128 else first) (λ g r. taken_in (frame 128 longer g) n r)) (sym (other_done x c.done n apart))
-            (subst (λ o. IsHeard o forward back (node_at w n).attrs.birth (heard_until c.done first n) (λ g r. taken_in (frame 128 longer g) n r)) (sym (listens.others n apart)) (c.heard tape begins counted ready n forward back low is))
+            subst (λ b. IsHeard (filter_at memory'.filters n) forward back (node_at w n).attrs.birth (if b then first + 128 else first) (λ g r. taken_in (frame 128 longer g) n r)) (sym (other_done x c.done n apart))
+            (subst (λ o. IsHeard o forward back (node_at w n).attrs.birth (heard_until c.done first n) (λ g r. taken_in (frame 128 longer g) n r)) (sym (listens.others n apart)) (c.heard tape begins counted timely ready n forward back low is))
       ]
 
-    pub passing_goes_on : Passing w order (i + 1) counts first old bank' blocks'
+    pub passing_goes_on : Passing w order (i + 1) counts first old memory' blocks'
     passing_goes_on = record {
       done = x ∷ c.done;
       legal = next.4;
       fit = still_fit w counts blocks blocks' writes.lanes c.fit;
       rooms = rooms;
-      count = listens.count ∙ c.count;
+      filters = listens.count ∙ c.filters;
+      delays = stores.count ∙ c.delays;
       right = right_now;
       heard = heard_now;
+      kept = λ tape begins counted timely ready.
+          let fit' = still_fit w counts blocks blocks' writes.lanes c.fit in
+          kept_more w valid tape first begins counts counted timely blocks' c.done memory.delays memory'.delays (c.kept tape begins counted timely ready) x next.0 next.2 (right_now tape begins counted timely ready) (fit'.lanes x next.0) edges levels stores;
     }
 
-module _ (w : World) (valid : IsValid w) (order : List End) (i : ℕ) (counts : List ℕ) (first : ℕ) (old bank : BankView) (blocks : List BlockView) (c : Passing w order i counts first old bank blocks) (past : length order ≤ i)
-    (tape : List World) (begins : first ≡ 128 * length tape) (counted : AreCounted 128 w counts tape) (ready : HasHeard old w tape first) where
+module _ (w : World) (valid : IsValid w) (order : List End) (i : ℕ) (counts : List ℕ) (first : ℕ) (old memory : Memory) (blocks : List BlockView) (c : Passing w order i counts first old memory blocks) (past : length order ≤ i)
+    (tape : List World) (begins : first ≡ 128 * length tape) (counted : AreCounted 128 w counts tape) (timely : IsTimely w) (ready : IsMemory old w tape first) where
   legal_end : IsLegalAfter w.graph.value c.done []
   legal_end = subst (IsLegalAfter w.graph.value c.done) (drop_of_length-le order past) c.legal
 
   pub passing_ends : (m : ℕ) (d : End) → m < 128 → IsIn d (ends w.graph.value) → drafts_of blocks counts m d ≡ value 128 (tape ++ w ∷ []) (128 * length tape + m) d
-  passing_ends m d now in_d = c.right tape begins counted ready m now d in_d (all_known w.graph.value c.done legal_end d in_d)
+  passing_ends m d now in_d = c.right tape begins counted timely ready m now d in_d (all_known w.graph.value c.done legal_end d in_d)
 
-  -- once those that are muted have rested, all filters have heard the quantum
-  pub all_heard : (bank' : BankView) → ((n : ℕ) → IsRestedIfThere first (filter_at bank n) (filter_at bank' n)) → HasHeard bank' w tape (first + 128)
-  all_heard bank' rested n forward back low is =
-      rested_heard w (joined w valid) tape first begins c.done legal_end n (has_end w.graph.value n (subst (λ k. n < k) (sym (same_nodes w valid)) low)) forward back (ap is_delay_kind is) (node_at w n).attrs.birth (filter_at bank n) (filter_at bank' n) (c.heard tape begins counted ready n forward back low is) (rested n)
+  -- once those that are muted have rested, all filters have heard the quantum, and all delays keep it
+  pub all_remembered : (memory' : Memory) → ((n : ℕ) → IsRestedIfThere first (filter_at memory.filters n) (filter_at memory'.filters n)) → memory'.delays.delays ≡ memory.delays.delays → IsMemory memory' w tape (first + 128)
+  all_remembered memory' rested same = record {
+    heard = λ n forward back low is.
+        rested_heard w (joined w valid) tape first begins c.done legal_end n (has_end w.graph.value n (subst (λ k. n < k) (sym (same_nodes w valid)) low)) forward back (ap is_delay_kind is) (node_at w n).attrs.birth (filter_at memory.filters n) (filter_at memory'.filters n)
+        (c.heard tape begins counted timely ready n forward back low is) (rested n);
+    kept = λ n longest time capacity low is.
+        subst (λ (ds : List (Option DelayView)). IsKept (slice_index_or ds n None) capacity (node_at w n).attrs.birth (first + 128) (writer_in (frame 128 (tape ++ w ∷ [])) n)) (sym same)
+        (all_kept w valid tape first begins counts counted timely c.done legal_end memory.delays (c.kept tape begins counted timely ready) n longest time capacity low is);
+  }
 
 -- the muted ends of a plan have their places
 pub mute_there : (w : World) → IsValid w → (order mute : List End) (sources : List (List Edge)) → IsPlan w order mute sources → (counts : List ℕ) (blocks : List BlockView) → AreFit w counts blocks

@@ -1,7 +1,5 @@
 -- What holds of the ports of every node, and how the inputs of splitters and mergers are mixed.
-use Rattle.std.proofs.Common.{ℕ, zero, suc, ◌≡◌, ◌<◌, ◌≤◌, length, List, true, false, inl, inr, refl, sym, ◌∙◌, ap, arith, subst}
-use Rattle.std.proofs.lemmas.Bool.{cases_lt}
-use Rattle.std.proofs.lemmas.List.{get_or_past}
+use Rattle.std.proofs.Common.{ℕ, zero, suc, ◌≡◌, ◌<◌, ◌≤◌, length, List, true, false, refl, ◌∙◌, ap, arith}
 use Rattle.wa_base.specs.declared.graph_names.Mode.{Mode}
 use Rattle.wa_base.specs.declared.graph_names.Mode.TheVariants.{Explicit}
 use Rattle.channel_mix.specs.Counts.{input_count}
@@ -9,9 +7,8 @@ use Rattle.node_table.specs.Kinds.{outputs, first_count, first_mode, fixed_count
 use Rattle.node_table.specs.Nodes.{IsCreated}
 use Rattle.node_table.specs.declared.kinds.Kind.{Kind}
 use Rattle.node_table.specs.declared.kinds.Kind.TheVariants.{Destination, Constant, Buffer, Gain, Delay, Splitter, Merger, Shaper, Iir}
-use Rattle.node_table.specs.declared.nodes.Node.{Node}
 use Rattle.meaning.specs.declared.world.World.{World}
-use Rattle.meaning.specs.World.{plain, no_node, node_at, kind_of}
+use Rattle.meaning.specs.World.{plain, node_at, kind_of}
 use Rattle.meaning.specs.Validity.{IsValid}
 use Rattle.meaning.specs.Counts.{Counts, input_channels}
 use Rattle.meaning.proofs.NodeKinds.{limits_there}

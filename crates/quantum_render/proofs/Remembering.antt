@@ -1,5 +1,5 @@
 -- What a renderer remembers of the tapes that it stands for.
-use Rattle.std.proofs.Common.{ℕ, zero, suc, ℤ, pos, ◌≡◌, ◌+◌, ◌-◌, ◌*◌, ◌<◌, ◌≤◌, length, length-append, List, [], ◌∷◌, ◌++◌, max, Bool, true, false, ◌⊎◌, inl, inr, refl, sym, ◌∙◌, ap, arith, subst}
+use Rattle.std.proofs.Common.{ℕ, zero, suc, pos, ◌≡◌, ◌+◌, ◌-◌, ◌*◌, ◌<◌, ◌≤◌, length, length-append, List, [], ◌∷◌, ◌++◌, true, ◌⊎◌, inl, inr, refl, sym, ◌∙◌, ap, arith, subst}
 use Rattle.std.specs.Prelude.{if◌then◌else◌, ◌&&◌, nat_lt, nat_le}
 use Rattle.std.proofs.lemmas.Bool.{cases_lt}
 use Rattle.std.proofs.lemmas.Bool.Decides.{nat_tests}
@@ -27,11 +27,11 @@ module _ (w : World) (tape : List World) (regular : IsRegular 128 (tape ++ w ∷
   long : length longer ≡ length tape + 1
   long = length-append tape (w ∷ [])
 
-  now : world_in longer (length tape) ≡ plain w
+  pub now : world_in longer (length tape) ≡ plain w
   now = world_after tape w (length tape) refl
 
   -- a node of the last world is there still
-  stays_last : (n : ℕ) → n < length (last_world tape).nodes → Stays n (last_world tape) (plain w)
+  pub stays_last : (n : ℕ) → n < length (last_world tape).nodes → Stays n (last_world tape) (plain w)
   stays_last n low = by_length (length tape) refl
     where
       by_length : (k : ℕ) → length tape ≡ k → Stays n (last_world tape) (plain w)
@@ -54,7 +54,7 @@ module _ (w : World) (tape : List World) (regular : IsRegular 128 (tape ++ w ∷
       by_count (suc k) e = let there = (stays_last k (omega arith)).there in omega arith
 
   -- a node that the last world lacks was born at the first frame of the quantum
-  born_now : (n : ℕ) → n < length w.nodes → length (last_world tape).nodes ≤ n → (node_at w n).attrs.birth ≡ 128 * length tape
+  pub born_now : (n : ℕ) → n < length w.nodes → length (last_world tape).nodes ≤ n → (node_at w n).attrs.birth ≡ 128 * length tape
   born_now n low high = ap (λ (x : World). (node_at x n).attrs.birth) (sym now) ∙ regular.born (length tape) n (omega (arith, long)) (subst (λ (x : World). n < length x.nodes) (sym now) low, before (length tape) refl)
     where
       before : (k : ℕ) → length tape ≡ k → (length tape ≡ 0) ⊎ (length (world_in longer (length tape - 1)).nodes ≤ n)

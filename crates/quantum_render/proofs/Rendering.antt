@@ -1,8 +1,15 @@
 -- What is written where one end's block is written.
-use Rattle.std.proofs.Common.{ℕ, ℤ, ◌≡◌, ◌+◌, ◌*◌, ◌<◌, ◌≤◌, length, List, slice_index_or, slice_set, true, sym, ◌∙◌, ap, arith, subst}
+use Rattle.std.proofs.Common.{ℕ, ℤ, ◌≡◌, ◌+◌, ◌*◌, ◌<◌, ◌≤◌, length, List, slice_index_or, slice_set, true, false, Some, refl, sym, ◌∙◌, ap, arith, subst}
 use Rattle.std.proofs.lemmas.List.{get_or_default}
 use Rattle.wa_base.specs.declared.graph_names.End.{End}
-use Rattle.node_table.specs.Kinds.{outputs, is_mono}
+use Rattle.node_table.specs.Kinds.{outputs, is_mono, is_delay_kind}
+use Rattle.node_table.specs.Nodes.{kind_at}
+use Rattle.node_table.specs.declared.kinds.Kind.{Kind}
+use Rattle.meaning.proofs.NodeKinds.{kind_is}
+use Rattle.conn_graph.proofs.EndLaws.{end_is}
+use Rattle.meaning.proofs.Joined.{joined}
+use Rattle.delay_bank.specs.Banks.{BankView as DelayBank}
+use Rattle.quantum_render.specs.Renders.{Stores}
 use Rattle.conn_graph.specs.declared.edges.Edge.{Edge}
 use Rattle.meaning.specs.declared.world.World.{World}
 use Rattle.meaning.specs.World.{kind_of}
@@ -23,6 +30,10 @@ site_here s w e counts levels first world end channels automated begins = λ i. 
 pub site_is : (s : SiteView) (w : World) (e : End) (edges : List Edge) (counts : List ℕ) (levels : List LevelView) (first : ℕ) → IsSite w e edges counts levels first
     → (let x : SiteView = record { world = w; end = e; into = edges; counts = counts; levels = levels; first = first } in x) ≡ s → IsSite s.world s.end s.into s.counts s.levels s.first
 site_is s w e edges counts levels first site same = subst (λ (x : SiteView). IsSite x.world x.end x.into x.counts x.levels x.first) same site
+
+-- the kind of a site's node is the one that the table gives
+pub site_kind : (s : SiteView) → IsSite s.world s.end s.into s.counts s.levels s.first → (kind : Kind) → kind_at s.world.nodes s.end.node.0 ≡ Some kind → kind_of s.world s.end.node.0 ≡ kind
+site_kind s site kind is = kind_is s.world s.end.node.0 kind (end_low s.world site.valid s.end site.there) is
 
 module _ (s : SiteView) (site : IsSite s.world s.end s.into s.counts s.levels s.first) (old : List BlockView) (fit : AreFit s.world s.counts old) (k : ℕ) (here : k ≡ slot s.end) where
   pub slot_within : slot s.end < length old
@@ -75,3 +86,14 @@ module _ (s : SiteView) (site : IsSite s.world s.end s.into s.counts s.levels s.
         lane_own b (o * counts_in s.counts s.end + c) m
         ∙ ap (λ lane. at b lane m) (lane-only o (counts_in s.counts s.end) c output)
         ∙ each c m low now
+
+-- what is no delay stores nothing
+pub unstored : (s : SiteView) → IsSite s.world s.end s.into s.counts s.levels s.first → is_delay_kind (kind_of s.world s.end.node.0) ≡ false → (new : List BlockView) (bank : DelayBank) → Stores s new bank bank
+unstored s site kind new bank = record {
+  known = refl;
+  count = refl;
+  others = λ n apart. refl;
+  read = λ reader. refl;
+  own = λ writer longest born by kept written.
+      absurd (let delay : is_delay_kind (kind_of s.world s.end.node.0) ≡ true = sym ((joined s.world site.valid).delays s.end.node.0) ∙ (end_is s.world.graph.value s.end site.there).1 writer in let no = sym kind ∙ delay in cc);
+}

@@ -5,6 +5,7 @@ pub mod Heard
 pub mod Fits
 pub mod Sums
 pub mod Sites
+pub mod Parameters
 pub mod Benches
 pub mod Renders
 pub mod Plans

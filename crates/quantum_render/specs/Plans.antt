@@ -1,14 +1,20 @@
 -- What a world is rendered by: an order of its ends, the connections to each node, and the channels of each end.
-use Rattle.std.specs.Prelude.{ℕ, ◌≡◌, ◌<◌, List, [], ◌∷◌, ◌++◌, length, slice_index_or, true}
+use Rattle.std.specs.Prelude.{ℕ, ℤ, ◌-◌, ◌/◌, ◌≤◌, Option, Some, Bool, false, ◌&&◌, ◌≡◌, ◌<◌, List, [], ◌∷◌, ◌++◌, length, slice_index_or, true}
 use Rattle.wa_base.specs.declared.graph_names.End.{End}
 use Rattle.wa_base.specs.declared.graph_names.Tie.{Tie}
 use Rattle.law_base.specs.Members.{IsIn}
 use Rattle.conn_graph.specs.declared.edges.Edge.{Edge}
-use Rattle.conn_graph.specs.Ends.{ends, muted as is_muted}
+use Rattle.channel_mix.specs.Counts.{greatest}
+use Rattle.node_table.specs.declared.kinds.Kind.TheVariants.{Delay}
+use Rattle.conn_graph.specs.Ends.{writer_of, ends, is_delay, in_cycle, muted as is_muted}
 use Rattle.conn_graph.specs.Graph.{Connections}
 use Rattle.conn_graph.specs.Orders.{IsLegalOrder}
 use Rattle.meaning.specs.declared.world.World.{World}
-use Rattle.meaning.specs.Counts.{count}
+use Rattle.meaning.specs.Lists.{since}
+use Rattle.meaning.specs.World.{node_at, kind_of}
+use Rattle.meaning.specs.Counts.{Counts, count}
+use Rattle.delay_bank.specs.Kept.{DelayView}
+use Rattle.delay_bank.specs.Banks.{BankView as DelayBank, delay_at}
 use Rattle.quantum_render.specs.Blocks.{counts_in}
 use Rattle.quantum_render.specs.Connections.{into as leads_into}
 
@@ -20,16 +26,33 @@ pub record IsPlanOf (g : Connections) (order : List End) (mute : List End) (sour
   pub nodes : length sources ≡ length g.nodes
   pub each : (n : ℕ) → n < length sources → slice_index_or sources n [] ≡ leads_into g n
 
+-- For each node there is a mark, which a delay has where it is in a cycle, and nothing else has.
+pub record AreCycles (g : Connections) (marks : List Bool) : Type 0 where
+  pub count : length marks ≡ length g.nodes
+  pub marked : (n : ℕ) → n < length g.nodes → slice_index_or marks n false ≡ (is_delay g n && in_cycle g n)
+
 -- what contracts see of a plan
 pub record PlanView : Type 0 where
   pub tie : Tie
   pub order : List End
   pub muted : List End
   pub into : List (List Edge)
+  pub cycles : List Bool
 
 -- the plan of a world is that of its graph
 abbrev pub IsPlan : World → List End → List End → List (List Edge) → Type 0
 IsPlan w order mute sources = IsPlanOf w.graph.value order mute sources
+
+-- the most channels that something had in a quantum from a birth up to quantum j, where its counts are given
+pub record HasMost (found : Option DelayView) (birth j : ℕ) (at : ℕ → ℕ) : Type 0 where
+  pub delay : DelayView
+  pub there : found ≡ Some delay
+  pub lived : birth / 128 ≤ j
+  pub most : delay.most ≡ greatest (since at (birth / 128) (j - birth / 128))
+
+-- so it is of the writer of each delay
+abbrev pub AreMost : DelayBank → World → ℕ → (ℕ → Counts) → Type 0
+AreMost bank w j earlier = (n : ℕ) (longest time : ℤ) (capacity : ℕ) → n < length w.nodes → kind_of w n ≡ Delay longest time capacity → HasMost (delay_at bank n) (node_at w n).attrs.birth j (λ k. earlier k (writer_of n))
 
 -- the channels of each end are those of the quantum after a tape
 abbrev pub AreCounted : ℕ → World → List ℕ → List World → Type 0

@@ -1,15 +1,21 @@
 -- What an end carries in a quantum: the meaning of a frame, over the blocks of the ends before it in an order.
-use Rattle.std.specs.Prelude.{ℕ, ℤ, ◌+◌, ◌*◌, ◌≡◌, ◌<◌, length, List, false}
+use Rattle.std.specs.Prelude.{ℕ, ℤ, ◌+◌, ◌-◌, ◌*◌, ◌/◌, ◌≡◌, ◌<◌, ◌≤◌, ◌⊎◌, length, List, true, false}
 use Rattle.node_table.specs.Kinds.{outputs}
 use Rattle.node_table.specs.declared.kinds.Kind.{Kind}
-use Rattle.node_table.specs.declared.kinds.Kind.TheVariants.{Iir}
-use Rattle.conn_graph.specs.Ends.{muted}
+use Rattle.node_table.specs.declared.kinds.Kind.TheVariants.{Delay, Iir}
+use Rattle.node_table.specs.Delays.{delay_capacity}
+use Rattle.delay_line.specs.Delays.{Writer}
+use Rattle.conn_graph.specs.Ends.{writer_of, reader_of, in_cycle, muted}
 use Rattle.meaning.specs.World.{plain, node_at, kind_of}
 use Rattle.meaning.specs.Counts.{Counts, count_by_kind}
 use Rattle.meaning.specs.Values.{Frame, taken_in, value_by_kind}
 use Rattle.meaning.specs.Blocks.{with_drafts}
 use Rattle.filter_bank.specs.Heard.{IsHeard}
-use Rattle.filter_bank.specs.Banks.{BankView, filter_at}
+use Rattle.filter_bank.specs.Banks.{filter_at}
+use Rattle.delay_bank.specs.Kept.{IsKept}
+use Rattle.delay_bank.specs.Banks.{BankView as DelayBank, delay_at}
+use Rattle.quantum_render.specs.declared.memory.Memory.{Memory}
+use Rattle.quantum_render.specs.Listening.{writer_in}
 use Rattle.quantum_render.specs.Blocks.{BlockView, at, block_of, counts_in, drafts_of, frame_of}
 use Rattle.quantum_render.specs.Sites.{SiteView}
 
@@ -29,20 +35,49 @@ abbrev pub Renders : SiteView → List BlockView → List BlockView → Kind →
 Renders s old new kind = (j : ℕ) (earlier : ℕ → Counts) → s.first ≡ 128 * j → HasCount s j earlier kind → (before : ℕ → Frame) (o c m : ℕ) → o < outputs kind → c < counts_in s.counts s.end → m < 128 →
     at (block_of new s.end) (o * counts_in s.counts s.end + c) m ≡ value_by_kind 128 (s.first + m) (past_of s old before) (here_of s old m) kind s.end o c
 
--- The end of a site is not muted, and the filter of its node, if it is one, has heard the frames before the quantum.
-pub record IsReadyFor (s : SiteView) (bank : BankView) (before : ℕ → Frame) : Type 0 where
-  pub unmuted : muted s.world.graph.value s.end ≡ false
-  pub heard : (forward back : List ℤ) → kind_of s.world s.end.node.0 ≡ Iir forward back → IsHeard (filter_at bank s.end.node.0) forward back (node_at s.world s.end.node.0).attrs.birth s.first (λ g c. taken_in (before g) s.end.node.0 c)
+-- The delay of a site's node keeps what its writer wrote before the quantum, and in the quantum too once the writer was rendered.
+pub record IsFed (s : SiteView) (bank : DelayBank) (old : List BlockView) (before : ℕ → Frame) (longest : ℤ) (capacity : ℕ) : Type 0 where
+  pub now : ℕ
+  pub kept : IsKept (delay_at bank s.end.node.0) capacity (node_at s.world s.end.node.0).attrs.birth now (writer_in before s.end.node.0)
+  pub written : (now ≡ s.first) ⊎ (now ≡ s.first + 128)
+  pub in_time : s.end.writer ≡ false → in_cycle s.world.graph.value s.end.node.0 ≡ false → now ≡ s.first + 128
+  pub born : 128 * ((node_at s.world s.end.node.0).attrs.birth / 128) ≡ (node_at s.world s.end.node.0).attrs.birth
+  pub whole : capacity ≡ delay_capacity 128 longest s.world.spec.rate
+  -- what the equations see of the writer is what it wrote
+  pub counts : (g : ℕ) → g < s.first + 128 → (past_of s old before g).counts (writer_of s.end.node.0) ≡ (writer_in before s.end.node.0).counts (g / 128)
+  pub values : (g : ℕ) → g < now → (past_of s old before g).values (writer_of s.end.node.0) 0 ≡ (writer_in before s.end.node.0).frames g
+  -- a reader has no fewer channels than what it may ask for
+  pub few : s.end.writer ≡ false → (d k : ℕ) → k < 128 → (in_cycle s.world.graph.value s.end.node.0 ≡ true → 128 ≤ d) → (node_at s.world s.end.node.0).attrs.birth + d ≤ s.first + k
+      → (writer_in before s.end.node.0).counts ((s.first + k - d) / 128) ≤ counts_in s.counts (reader_of s.end.node.0)
 
--- The same, where the filters have heard the frames before the quantum.
-abbrev pub RendersWith : SiteView → BankView → List BlockView → List BlockView → Kind → Type 0
-RendersWith s bank old new kind = (j : ℕ) (earlier : ℕ → Counts) → s.first ≡ 128 * j → HasCount s j earlier kind → (before : ℕ → Frame) → IsReadyFor s bank before → (o c m : ℕ) → o < outputs kind → c < counts_in s.counts s.end → m < 128 →
+-- The end of a site is not muted, and the filter or the delay of its node, if it has one, has heard or kept the frames before the quantum.
+pub record IsReadyFor (s : SiteView) (memory : Memory) (old : List BlockView) (before : ℕ → Frame) : Type 0 where
+  pub unmuted : muted s.world.graph.value s.end ≡ false
+  pub heard : (forward back : List ℤ) → kind_of s.world s.end.node.0 ≡ Iir forward back → IsHeard (filter_at memory.filters s.end.node.0) forward back (node_at s.world s.end.node.0).attrs.birth s.first (λ g c. taken_in (before g) s.end.node.0 c)
+  pub fed : (longest time : ℤ) (capacity : ℕ) → kind_of s.world s.end.node.0 ≡ Delay longest time capacity → IsFed s memory.delays old before longest capacity
+
+-- The same, where the memory is that of the frames before the quantum.
+abbrev pub RendersWith : SiteView → Memory → List BlockView → List BlockView → Kind → Type 0
+RendersWith s memory old new kind = (j : ℕ) (earlier : ℕ → Counts) → s.first ≡ 128 * j → HasCount s j earlier kind → (before : ℕ → Frame) → IsReadyFor s memory old before → (o c m : ℕ) → o < outputs kind → c < counts_in s.counts s.end → m < 128 →
     at (block_of new s.end) (o * counts_in s.counts s.end + c) m ≡ value_by_kind 128 (s.first + m) (past_of s old before) (here_of s old m) kind s.end o c
 
 -- The filter of a site's node, if it is one, hears the quantum; no other does.
-pub record Listens (s : SiteView) (blocks : List BlockView) (old new : BankView) : Type 0 where
-  pub known : new.known ≡ old.known
-  pub count : length new.filters ≡ length old.filters
-  pub others : (n : ℕ) → (n ≡ s.end.node.0 → ⊥) → filter_at new n ≡ filter_at old n
-  pub own : (forward back : List ℤ) → kind_of s.world s.end.node.0 ≡ Iir forward back → (j : ℕ) (earlier : ℕ → Counts) → s.first ≡ 128 * j → HasCount s j earlier (Iir forward back) → (before : ℕ → Frame) → IsReadyFor s old before →
-      IsHeard (filter_at new s.end.node.0) forward back (node_at s.world s.end.node.0).attrs.birth (s.first + 128) (λ g c. taken_in (past_of s blocks before g) s.end.node.0 c)
+pub record Listens (s : SiteView) (old : List BlockView) (memory memory' : Memory) : Type 0 where
+  pub known : memory'.filters.known ≡ memory.filters.known
+  pub count : length memory'.filters.filters ≡ length memory.filters.filters
+  pub others : (n : ℕ) → (n ≡ s.end.node.0 → ⊥) → filter_at memory'.filters n ≡ filter_at memory.filters n
+  pub own : (forward back : List ℤ) → kind_of s.world s.end.node.0 ≡ Iir forward back → (j : ℕ) (earlier : ℕ → Counts) → s.first ≡ 128 * j → HasCount s j earlier (Iir forward back) → (before : ℕ → Frame) → IsReadyFor s memory old before →
+      IsHeard (filter_at memory'.filters s.end.node.0) forward back (node_at s.world s.end.node.0).attrs.birth (s.first + 128) (λ g c. taken_in (past_of s old before g) s.end.node.0 c)
+
+-- a writer writes in the quantum what its block has
+pub record IsWritten (s : SiteView) (new : List BlockView) (writer : Writer) : Type 0 where
+  pub count : writer.counts (s.first / 128) ≡ counts_in s.counts s.end
+  pub frames : (c k : ℕ) → c < counts_in s.counts s.end → k < 128 → writer.frames (s.first + k) c ≡ at (block_of new s.end) c k
+
+-- The delay of a site's node keeps the quantum where the end is its writer; no other does.
+pub record Stores (s : SiteView) (new : List BlockView) (bank bank' : DelayBank) : Type 0 where
+  pub known : bank'.known ≡ bank.known
+  pub count : length bank'.delays ≡ length bank.delays
+  pub others : (n : ℕ) → (n ≡ s.end.node.0 → ⊥) → delay_at bank' n ≡ delay_at bank n
+  pub read : s.end.writer ≡ false → delay_at bank' s.end.node.0 ≡ delay_at bank s.end.node.0
+  pub own : s.end.writer ≡ true → (longest born : ℕ) (writer : Writer) → IsKept (delay_at bank s.end.node.0) longest born s.first writer → IsWritten s new writer → IsKept (delay_at bank' s.end.node.0) longest born (s.first + 128) writer

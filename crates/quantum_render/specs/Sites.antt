@@ -1,9 +1,9 @@
 -- An end in its world, at a quantum.
-use Rattle.std.specs.Prelude.{ℕ, ◌≡◌, ◌≤◌, ◌^◌, ◌*◌, ◌/◌, List, [], ◌∷◌, true}
+use Rattle.std.specs.Prelude.{ℕ, ◌≡◌, ◌≤◌, ◌^◌, ◌*◌, ◌/◌, List, [], ◌∷◌, Bool, true, ◌&&◌}
 use Rattle.wa_base.specs.declared.graph_names.End.{End}
 use Rattle.law_base.specs.Members.{IsIn}
 use Rattle.conn_graph.specs.declared.edges.Edge.{Edge}
-use Rattle.conn_graph.specs.Ends.{reader_of, ends}
+use Rattle.conn_graph.specs.Ends.{reader_of, ends, is_delay, in_cycle}
 use Rattle.automation.specs.Levels.{LevelView, AreLevels}
 use Rattle.meaning.specs.declared.world.World.{World}
 use Rattle.meaning.specs.Validity.{IsValid}
@@ -38,6 +38,10 @@ pub record IsSite (w : World) (e : End) (edges : List Edge) (counts : List ℕ) 
   pub range : AreInRange w counts
   pub begun : IsBegun begin
   pub levels : AreLevels w.params.items begin automated
+
+-- a site is marked where its node is a delay in a cycle
+abbrev pub IsMarked : World → End → Bool → Type 0
+IsMarked w e mark = mark ≡ (is_delay w.graph.value e.node.0 && in_cycle w.graph.value e.node.0)
 
 -- A connection is the only one to a node, leads to the inlet and has its number of channels.
 pub record IsLone (s : SiteView) (inlet : Inlet) (edge : Edge) : Type 0 where

@@ -1,5 +1,5 @@
 -- What a renderer stands for.
-use Rattle.std.specs.Prelude.{ℕ, ℤ, ◌≡◌, ◌<◌, ◌≤◌, ◌^◌, ◌+◌, ◌-◌, ◌*◌, ◌++◌, ◌∷◌, [], List, length, max}
+use Rattle.std.specs.Prelude.{ℕ, ℤ, ◌≡◌, ◌<◌, ◌≤◌, ◌^◌, ◌+◌, ◌-◌, ◌*◌, ◌++◌, ◌∷◌, [], List, Bool, length, max}
 use Rattle.wa_base.specs.Contexts.{quantum_of}
 use Rattle.wa_base.specs.declared.contexts.ContextSpec.{ContextSpec}
 use Rattle.wa_base.specs.declared.graph_names.End.{End}
@@ -10,11 +10,14 @@ use Rattle.meaning.specs.declared.world.World.{World}
 use Rattle.meaning.specs.Rendered.{sample}
 use Rattle.meaning.specs.Worlds.{IsRegular}
 use Rattle.meaning.specs.Pasts.{Past, past, last_world}
-use Rattle.filter_bank.specs.Banks.{BankView, AreHeard, AreNew, HaveRoom}
+use Rattle.delay_line.specs.Delays.{Writer}
+use Rattle.filter_bank.specs.Banks.{AreHeard, AreNew, HaveRoom}
+use Rattle.delay_bank.specs.Banks.{AreKept, AreNew as AreNewDelays, HaveRoom as HaveDelayRoom}
+use Rattle.quantum_render.specs.declared.memory.Memory.{Memory}
 use Rattle.automation.specs.Ready.{AutomationView, IsReady}
 use Rattle.quantum_render.specs.Blocks.{BlockView}
 use Rattle.quantum_render.specs.Fits.{AreInRange, AreFit}
-use Rattle.quantum_render.specs.Plans.{IsPlan, AreCounted}
+use Rattle.quantum_render.specs.Plans.{IsPlan, AreCycles, AreCounted}
 
 -- What contracts see of a renderer. Callers read the context and the number of quanta.
 pub record RendererView : Type 0 where
@@ -27,10 +30,11 @@ pub record RendererView : Type 0 where
   pub order : List End
   pub muted : List End
   pub into : List (List Edge)
+  pub cycles : List Bool
   -- the place in each timeline, and the level of each node's parameter
   pub automation : AutomationView
-  -- the filters of the nodes, with what they have heard
-  pub filters : BankView
+  -- what the nodes remember: the filters what they have heard, and the delays what their writers wrote
+  pub memory : Memory
   -- the channels of each end in the next quantum
   pub counts : List ℕ
   -- the block of each end
@@ -38,11 +42,16 @@ pub record RendererView : Type 0 where
   -- what the destination carried in the last quantum
   pub out : List ℤ
 
--- What a renderer remembers of a past, with the last world before it: the number of its quanta, that of its nodes, and what the filters among them have heard.
+-- what the writer of a delay did in a past
+abbrev pub past_writer : Past → ℕ → Writer
+past_writer p n = record { counts = p.counts n; frames = p.written n }
+
+-- What a renderer remembers of a past, with the last world before it: the number of its quanta, that of its nodes, what the filters among them have heard, and what the writers of the delays wrote.
 pub record Remembers (r : RendererView) (w : World) (p : Past) : Type 0 where
   pub quanta : r.quanta ≡ p.quanta
-  pub nodes : r.filters.known ≡ length w.nodes
-  pub filters : AreHeard r.filters w (quantum_of r.spec * r.quanta) p.heard
+  pub nodes : (r.memory.filters.known ≡ length w.nodes) × (r.memory.delays.known ≡ length w.nodes)
+  pub filters : AreHeard r.memory.filters w (quantum_of r.spec * r.quanta) p.heard
+  pub delays : AreKept r.memory.delays w (quantum_of r.spec * r.quanta) (past_writer p)
 
 -- A renderer stands for the tapes whose past it remembers: those of the worlds that it went through.
 abbrev pub StandsFor : RendererView → List World → Type 0
@@ -55,30 +64,35 @@ Shows r tape = (c m : ℕ) → c < r.spec.channels → m < quantum_of r.spec →
 
 -- ---- after `prepare`, `counts` and `grow` over a world
 
--- each node that filters has its filter, and the new ones have heard nothing
-pub record HasFilters (r : RendererView) (w : World) : Type 0 where
-  pub count : length r.filters.filters ≡ max r.filters.known (length w.nodes)
-  pub fresh : AreNew r.filters w
+-- each node that filters has its filter, and each delay what it keeps; the new ones have heard and kept nothing
+pub record HasMemory (r : RendererView) (w : World) : Type 0 where
+  pub filter_count : length r.memory.filters.filters ≡ max r.memory.filters.known (length w.nodes)
+  pub delay_count : length r.memory.delays.delays ≡ max r.memory.delays.known (length w.nodes)
+  pub fresh_filters : AreNew r.memory.filters w
+  pub fresh_delays : AreNewDelays r.memory.delays w
 
 pub record IsPrepared (r : RendererView) (w : World) : Type 0 where
   pub plan : IsPlan w r.order r.muted r.into
+  pub cycles : AreCycles w.graph.value r.cycles
   pub places : length r.counts ≡ 2 * length w.nodes
   -- each cursor stands at the first frame of the next quantum in its timeline
   pub automation : IsReady w.params.items (quantum_of r.spec * r.quanta) r.automation
-  pub filters : HasFilters r w
+  pub memory : HasMemory r w
 
 -- The channels are those of the quantum after each tape for which the renderer stands.
 pub record IsCounted (r : RendererView) (w : World) : Type 0 where
   pub plan : IsPlan w r.order r.muted r.into
+  pub cycles : AreCycles w.graph.value r.cycles
   pub range : AreInRange w r.counts
   pub automation : IsReady w.params.items (quantum_of r.spec * r.quanta) r.automation
-  pub filters : HasFilters r w
+  pub memory : HasMemory r w
   pub counted : (tape : List World) → StandsFor r tape → IsRegular (quantum_of r.spec) (tape ++ w ∷ []) → AreCounted (quantum_of r.spec) w r.counts tape
 
 pub record IsGrown (r : RendererView) (w : World) : Type 0 where
   pub counted : IsCounted r w
   pub blocks : AreFit w r.counts r.blocks
-  pub rooms : HaveRoom r.filters r.counts
+  pub filter_rooms : HaveRoom r.memory.filters r.counts
+  pub delay_rooms : HaveDelayRoom r.memory.delays r.counts
 
 -- what holds of every renderer
 pub record IsWhole (most number : ℕ) (last : List ℤ) : Type 0 where

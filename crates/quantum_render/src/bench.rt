@@ -1,33 +1,39 @@
-ghost use Rattle.std.specs.Prelude.{[], ◌∷◌, true, ◌≡◌, ◌≤◌, ◌<◌, ◌+◌, ◌*◌, ◌^◌, ◌+ℤ◌, ℕ, pos, length, slice_index_or, IsSome, IfSome};
+ghost use Rattle.std.specs.Prelude.{[], ◌∷◌, true, ◌≡◌, ◌≤◌, ◌<◌, ◌+◌, ◌*◌, ◌^◌, ◌+ℤ◌, ℕ, pos, length, slice_index_or, max, IsSome, IfSome};
 ghost use Rattle.wa_base.specs.Numbers.{sat as saturated};
 ghost use Rattle.meaning.specs.World.{plain, kind_of, param_id};
 ghost use Rattle.node_table.specs.Kinds.{param_base};
+ghost use Rattle.node_table.specs.Delays.{frames_of as whole_frames};
 ghost use Rattle.meaning.specs.Counts.{input_channels};
 ghost use Rattle.meaning.specs.Values.{Frame as a_frame, input_value, computed_value};
 ghost use Rattle.std.specs.List.{list_any};
 ghost use Rattle.quantum_render.specs.Blocks.{at, counts_in};
 ghost use Rattle.quantum_render.specs.Connections.{leads_to};
 ghost use Rattle.quantum_render.specs.Fits.{AreFit};
+ghost use Rattle.quantum_render.specs.Parameters.{unclamped_value};
 ghost use Rattle.quantum_render.specs.Sites.{IsLone};
 ghost use Rattle.quantum_render.specs.Renders.{past_of, here_of};
 
 use crate::block::{Block, QUANTUM};
+use crate::held::Held;
 use crate::site::{Site, reader, slot};
+use crate::spans::{span_all, span_each};
 use crate::sums::{CHANNELS, Inlet, Sums};
 use conn_graph::{Edge, Target};
+use node_table::Kind;
 use std::alloc::Global;
 use std::marker::Model;
 use wa_base::{Fix, Interp, NoMemory, ParamId, ParamName, Rate};
 
 // What is at hand while an end is rendered, one end after another: what its input carries, the
 // levels of its parameter, what its inputs carry, one lane each, its input with silent lanes behind it,
-// and the sums that all are made of.
+// how many frames its delay lasts at each frame of the quantum, and the sums that all are made of.
 #[derive(Drop)]
 pub(crate) struct Bench {
     pub heard: Block,
     pub levels: Block,
     pub merged: Block,
     pub wide: Vec<Fix>,
+    pub spans: Vec<u64>,
     sums: Sums,
 }
 
@@ -37,9 +43,9 @@ impl Model for Bench {
 
     ghost Value = { BenchView };
 
-    ghost view = { λ b. record { heard = b.heard; levels = b.levels; merged = b.merged; wide = length b.wide.items } };
+    ghost view = { λ b. record { heard = b.heard; levels = b.levels; merged = b.merged; wide = length b.wide.items; spans = b.spans.items } };
 
-    ghost invariant = { λ b. IsBench (record { heard = b.heard; levels = b.levels; merged = b.merged; wide = length b.wide.items }) };
+    ghost invariant = { λ b. IsBench (record { heard = b.heard; levels = b.levels; merged = b.merged; wide = length b.wide.items; spans = b.spans.items }) };
 }
 
 impl Bench {
@@ -49,6 +55,7 @@ impl Bench {
             levels: Block::new(alloc, 1)?,
             merged: Block::new(alloc, CHANNELS)?,
             wide: vec![in alloc; 0; CHANNELS * QUANTUM]?,
+            spans: vec![in alloc; 0; QUANTUM]?,
             sums: Sums::new(alloc)?,
         })
     }
@@ -102,6 +109,21 @@ impl Bench {
         ensures levels { (before : ℕ → a_frame) (m : ℕ) → m < 128 →
             at self.new.levels 0 m ≡ computed_value 128 (site.now.first + m) (past_of site.now blocks.now before) (here_of site.now blocks.now m) (param_id site.now.end.node.0 name) }
     {
+        self.take_sums(blocks, site, name);
+        match site.world.nodes.kind(site.end.node) {
+            Kind::Delay { longest, .. } => self.levels.up_to(*longest),
+            _ => {}
+        }
+    }
+
+    // Takes the values of a parameter before they are clamped to its nominal range.
+    fn take_sums(&mut self, blocks: &[Block], site: &Site, name: ParamName)
+        requires fit { AreFit site.now.world site.now.counts blocks.now }
+        requires there { IsSome (param_base (kind_of site.now.world site.now.end.node.0) name) }
+        ensures heard { self.new.heard ≡ self.old.heard }
+        ensures levels { (before : ℕ → a_frame) (m : ℕ) → m < 128 →
+            at self.new.levels 0 m ≡ unclamped_value 128 (site.now.first + m) (past_of site.now blocks.now before) (here_of site.now blocks.now m) (param_id site.now.end.node.0 name) }
+    {
         let id = ParamId {
             node: site.end.node,
             name,
@@ -122,6 +144,18 @@ impl Bench {
         match level.rate() {
             Rate::A => {}
             Rate::K => self.levels.hold_first(),
+        }
+    }
+
+    // Takes how many frames a delay of so many seconds as the levels say lasts, and at least so many.
+    pub(crate) fn take_spans(&mut self, rate: u32, least: u64)
+        ensures heard { self.new.heard ≡ self.old.heard }
+        ensures merged { self.new.merged ≡ self.old.merged }
+        ensures spans { (m : ℕ) → m < 128 → slice_index_or self.new.spans m 0 ≡ max least (whole_frames (at self.old.levels 0 m) rate) }
+    {
+        match self.levels.held() {
+            Held::Steady(held) => span_all(self.spans.as_mut_slice(), held[0], rate, least),
+            Held::Moving(levels) => span_each(self.spans.as_mut_slice(), levels, rate, least),
         }
     }
 }

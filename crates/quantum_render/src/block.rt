@@ -1,30 +1,37 @@
-ghost use Rattle.std.specs.Prelude.{◌≡◌, ◌≤◌, ◌<◌, ◌*◌, ◌+◌, ◌^◌, ◌+ℤ◌, ◌∷◌, [], ℕ, pos, Some, length, slice_index_or, OnOk, IfOk, IfSome, FitsSigned, if◌then◌else◌};
+ghost use Rattle.std.specs.Prelude.{◌≡◌, ◌≤◌, ◌<◌, ◌*◌, ◌+◌, ◌/◌, ◌^◌, ◌+ℤ◌, ◌∷◌, [], ℕ, pos, Some, length, slice_index_or, OnOk, IfOk, IfSome, FitsSigned, if◌then◌else◌};
 ghost use Rattle.std.specs.Int.{w32};
 ghost use Rattle.wa_base.specs.Numbers.{sat as saturated, scale as scaled};
 ghost use Rattle.causal_core.specs.Curves.{IsCurve, shaper_value};
 ghost use Rattle.sched_source.specs.Schedule.{is_between, played};
-ghost use Rattle.meaning.specs.World.{channels_in, samples_in};
+ghost use Rattle.meaning.specs.World.{channels_in, samples_in, up_to as clamped};
 ghost use Rattle.channel_mix.specs.Blocks.{sample};
 ghost use Rattle.automation.specs.Levels.{HasRoom, level_at};
 ghost use Rattle.filter_bank.specs.Heard.{FilterView as a_filter, room_of as filter_room};
 ghost use Rattle.filter_bank.specs.Banks.{filter_at, Hears};
-ghost use Rattle.quantum_render.specs.Blocks.{at, shown, carried, room_of, lanes_of};
+ghost use Rattle.delay_line.specs.Delays.{Writer};
+ghost use Rattle.delay_line.specs.Spans.{delay_at as frames_back};
+ghost use Rattle.delay_bank.specs.Kept.{DelayView as a_delay, HasKept, IsAsked, AreFew, read_back};
+ghost use Rattle.delay_bank.specs.Banks.{delay_at};
+ghost use Rattle.meaning.specs.World.{node_at};
+ghost use Rattle.quantum_render.specs.Blocks.{at, shown, carried, room_of, lanes_of, counts_in};
 ghost use Rattle.quantum_render.specs.Sums.{sum_at};
 ghost use Rattle.quantum_render.specs.Held.{IsHeld, IsCarried};
 
 use crate::held::Held;
 use crate::kernels::{
     copy_values, fill, is_silent, is_throughout, level_of, move_on, saturate, scale_all,
-    scale_channels, scale_steady, silence, sound, spread, unfold_if,
+    scale_channels, scale_steady, silence, sound, spread, unfold_if, up_to, up_to_each,
 };
 use crate::playing::Source;
+use crate::site::Site;
 use crate::sums::Sums;
 use automation::{Level, Values};
+use delay_bank::Delays;
 use filter_bank::Filters;
 use shaper_iir::shape_all;
 use std::alloc::Global;
 use std::marker::Model;
-use wa_base::{Fix, NoMemory, NodeId, Samples};
+use wa_base::{Fix, Interp, NoMemory, NodeId, Samples};
 
 // The frames of a render quantum.
 pub(crate) const QUANTUM: usize = 128;
@@ -218,6 +225,42 @@ impl Block {
     {
         let value = self.values[0];
         self.hold(value);
+    }
+
+    // Of one lane, clamps each value to those from 0 up to another.
+    pub(crate) fn up_to(&mut self, most: Fix)
+        requires { self.old.lanes ≡ 1 }
+        ensures lanes { self.new.lanes ≡ 1 }
+        ensures room { room_of self.new ≡ room_of self.old }
+        ensures values { (m : ℕ) → m < 128 → at self.new 0 m ≡ clamped most (at self.old 0 m) }
+    {
+        match self.steady_value() {
+            Some(value) => self.hold(up_to(value, most)),
+            None => self.up_to_moving(most),
+        }
+    }
+
+    // Of one lane, the value that it has at all frames, if it is steady.
+    fn steady_value(&self) -> Option<Fix>
+        requires { self.now.lanes ≡ 1 }
+        ensures { IfSome result (λ value. (m : ℕ) → m < 128 → value ≡ at self.now 0 m) }
+    {
+        if self.steady {
+            Some(self.values[0])
+        } else {
+            None
+        }
+    }
+
+    fn up_to_moving(&mut self, most: Fix)
+        requires { self.old.lanes ≡ 1 }
+        ensures lanes { self.new.lanes ≡ 1 }
+        ensures room { room_of self.new ≡ room_of self.old }
+        ensures values { (m : ℕ) → m < 128 → at self.new 0 m ≡ clamped most (at self.old 0 m) }
+    {
+        move_on(&mut self.values[0..QUANTUM], self.steady);
+        self.steady = false;
+        up_to_each(&mut self.values[0..QUANTUM], most);
     }
 
     // Of one lane, silences the frames before `start` and from `end` on.
@@ -492,5 +535,45 @@ impl Block {
         self.lanes = lanes;
         self.steady = false;
         filters.hear(node, heard, &mut self.values[0..lanes * QUANTUM]);
+    }
+
+    // Becomes what the reader of a site's delay gives, with a delay for each frame.
+    pub(crate) fn read_delay(&mut self, delays: &Delays, site: &Site, spans: &[u64])
+        requires lanes { self.old.lanes ≡ counts_in site.now.counts site.now.end }
+        requires spans { length spans.now ≡ 128 }
+        ensures lanes { self.new.lanes ≡ self.old.lanes }
+        ensures values { (d : a_delay) (longest born now : ℕ) (writer : Writer) → delay_at delays.now site.now.end.node.0 ≡ Some d → HasKept d longest born now writer → IsAsked site.now.first now longest spans.now →
+            AreFew born writer self.old.lanes site.now.first spans.now → 128 * (born / 128) ≡ born → (c m : ℕ) → c < self.old.lanes → m < 128 →
+            at self.new c m ≡ read_back born writer (node_at site.now.world site.now.end.node.0).attrs.interp self.old.lanes (site.now.first + m) (frames_back spans.now m) c }
+    {
+        let node = site.end.node;
+        let interp = site.world.nodes.attrs(node).interp;
+        self.read_frames(delays, node, site.first, spans, interp);
+    }
+
+    fn read_frames(
+        &mut self,
+        delays: &Delays,
+        node: NodeId,
+        first: u64,
+        spans: &[u64],
+        interp: Interp,
+    )
+        requires spans { length spans.now ≡ 128 }
+        requires time { first ≤ 2 ^ 62 }
+        ensures lanes { self.new.lanes ≡ self.old.lanes }
+        ensures values { (d : a_delay) (longest born now : ℕ) (writer : Writer) → delay_at delays.now node.0 ≡ Some d → HasKept d longest born now writer → IsAsked first now longest spans.now → AreFew born writer self.old.lanes first spans.now → 128 * (born / 128) ≡ born →
+            (c m : ℕ) → c < self.old.lanes → m < 128 → at self.new c m ≡ read_back born writer interp self.old.lanes (first + m) (frames_back spans.now m) c }
+    {
+        self.steady = false;
+        let lanes = self.lanes;
+        delays.read(
+            node,
+            &mut self.values[0..lanes * QUANTUM],
+            lanes as u32,
+            first,
+            spans,
+            interp,
+        );
     }
 }

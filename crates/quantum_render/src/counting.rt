@@ -1,7 +1,8 @@
-ghost use Rattle.std.specs.Prelude.{◌≡◌, ◌≤◌, ◌<◌, ◌*◌, ◌^◌, ℕ, List, length, map, filter, slice_index_or, max, if◌then◌else◌, All, true};
+ghost use Rattle.std.specs.Prelude.{ℤ, ◌≡◌, ◌≤◌, ◌<◌, ◌*◌, ◌^◌, ℕ, List, length, map, filter, slice_index_or, max, if◌then◌else◌, All, true};
 ghost use Rattle.channel_mix.specs.Counts.{greatest as greatest_of};
 ghost use Rattle.law_base.specs.Members.{IsIn};
 ghost use Rattle.node_table.specs.Kinds.{outputs, is_mono};
+ghost use Rattle.node_table.specs.declared.kinds.Kind.TheVariants.{Delay};
 ghost use Rattle.wa_base.specs.declared.graph_names.End.{End as an_end};
 ghost use Rattle.conn_graph.specs.declared.edges.Edge.{Edge as an_edge};
 ghost use Rattle.conn_graph.specs.Ends.{ends, reader_of};
@@ -12,62 +13,96 @@ ghost use Rattle.meaning.specs.Counts.{Counts as some_counts, input_channels, co
 ghost use Rattle.quantum_render.specs.Blocks.{slot as slot_of, counts_in};
 ghost use Rattle.quantum_render.specs.Connections.{into as leads_into, leads_to};
 ghost use Rattle.quantum_render.specs.Fits.{AreInRange};
-ghost use Rattle.quantum_render.specs.Plans.{IsPlan, AreCounted};
+ghost use Rattle.quantum_render.specs.Listening.{HasKept};
+ghost use Rattle.quantum_render.specs.Plans.{AreCycles, AreMost, IsPlan, AreCounted};
 
 use crate::places::near_of;
 use crate::playing::sounding;
-use crate::site::{reader, slot};
+use crate::site::{reader, slot, writer};
 use channel_mix::count;
 use conn_graph::{Edge, Target};
+use delay_bank::Delays;
 use meaning::World;
 use node_table::Kind;
 use wa_base::{End, Items, NodeId};
 
-// Counts the channels of each end in the quantum that begins at `first`, along an order in which
-// each stands behind the ends that it hears. A muted end has one channel.
-pub(crate) fn count_channels(
-    counts: &mut [u32],
-    world: &World,
-    order: &[End],
-    into: &[Items<Edge>],
-    near: &[usize],
-    first: u64,
-)
-    requires valid { IsValid world.now }
-    requires plan { (muted : List an_end) × IsPlan world.now order.now muted into.now }
-    requires time { first ≤ 2 ^ 62 }
-    requires places { length counts.old ≡ 2 * length world.now.nodes }
-    ensures range { AreInRange world.now counts.new }
-    ensures counted { (tape : List a_world) → first ≡ 128 * length tape → AreCounted 128 world.now counts.new tape }
+// What the channels of ends are counted by, in the quantum that begins at a frame: the connections to each
+// node, where its schedule is likely to stand, whether it is a delay in a cycle, and all delays.
+#[derive(Clone, Copy)]
+pub(crate) struct Census<'a> {
+    pub world: &'a World,
+    pub into: &'a [Items<Edge>],
+    pub near: &'a [usize],
+    pub cycles: &'a [bool],
+    pub delays: &'a Delays,
+    pub first: u64,
+}
+
+// Counts the channels of each end, along an order in which each stands behind the ends that it hears. A
+// muted end has one channel.
+pub(crate) fn count_channels(counts: &mut [u32], order: &[End], census: Census<'_>)
+    requires valid { IsValid census.world.now }
+    requires plan { (muted : List an_end) × IsPlan census.world.now order.now muted census.into.now }
+    requires cycles { AreCycles census.world.now.graph.value census.cycles.now }
+    requires time { census.first ≤ 2 ^ 62 }
+    requires places { length counts.old ≡ 2 * length census.world.now.nodes }
+    ensures range { AreInRange census.entry.world.now counts.new }
+    ensures counted { (tape : List a_world) → census.entry.first ≡ 128 * length tape → HasKept census.entry.delays.now census.entry.world.now tape census.entry.first → AreCounted 128 census.entry.world.now counts.new tape }
 {
     counts.fill(1);
     for end in order {
-        let into = into[end.node.0 as usize].as_slice();
-        counts[slot(*end)] = count_of(counts, world, *end, into, near_of(near, end.node), first);
+        let into = census.into[end.node.0 as usize].as_slice();
+        counts[slot(*end)] = count_of(counts, census, *end, into);
     }
 }
 
 // The number of channels of an end, by the kind of its node.
-fn count_of(counts: &[u32], world: &World, end: End, into: &[Edge], near: usize, first: u64) -> u32
-    requires valid { IsValid world.now }
-    requires range { AreInRange world.now counts.now }
-    requires there { IsIn end (ends world.now.graph.value) }
-    requires into { into.now ≡ leads_into world.now.graph.value end.node.0 }
-    requires time { first ≤ 2 ^ 62 }
-    ensures value { (j : ℕ) (earlier : ℕ → some_counts) → first ≡ 128 * j → result ≡ count_by_kind 128 (plain world.now) j earlier (counts_in counts.now) (kind_of world.now end.node.0) end }
+fn count_of(counts: &[u32], census: Census<'_>, end: End, into: &[Edge]) -> u32
+    requires valid { IsValid census.world.now }
+    requires range { AreInRange census.world.now counts.now }
+    requires there { IsIn end (ends census.world.now.graph.value) }
+    requires into { into.now ≡ leads_into census.world.now.graph.value end.node.0 }
+    requires cycles { AreCycles census.world.now.graph.value census.cycles.now }
+    requires time { census.first ≤ 2 ^ 62 }
+    ensures value { (j : ℕ) (earlier : ℕ → some_counts) → census.entry.first ≡ 128 * j → AreMost census.entry.delays.now census.entry.world.now j earlier → result ≡ count_by_kind 128 (plain census.entry.world.now) j earlier (counts_in counts.now) (kind_of census.entry.world.now end.node.0) end }
     ensures range { (1 ≤ result) × (result ≤ 32) }
-    ensures lanes { outputs (kind_of world.now end.node.0) * result ≤ 32 }
-    ensures mono { is_mono (kind_of world.now end.node.0) ≡ true → result ≡ 1 }
+    ensures lanes { outputs (kind_of census.entry.world.now end.node.0) * result ≤ 32 }
+    ensures mono { is_mono (kind_of census.entry.world.now end.node.0) ≡ true → result ≡ 1 }
 {
-    match world.nodes.kind(end.node) {
+    match census.world.nodes.kind(end.node) {
         Kind::Constant { .. } | Kind::Splitter { .. } => 1,
-        Kind::Buffer { .. } => played_count(world, end.node, near, first),
+        Kind::Buffer { .. } => {
+            let near = near_of(census.near, end.node);
+            played_count(census.world, end.node, near, census.first)
+        }
         Kind::Merger { inputs } => *inputs,
-        Kind::Destination
-        | Kind::Gain { .. }
-        | Kind::Delay { .. }
-        | Kind::Shaper { .. }
-        | Kind::Iir { .. } => input_count(counts, world, end.node, into),
+        Kind::Delay { .. } => delay_count(counts, census, end, into),
+        Kind::Destination | Kind::Gain { .. } | Kind::Shaper { .. } | Kind::Iir { .. } => {
+            input_count(counts, census.world, end.node, into)
+        }
+    }
+}
+
+// Of a delay the writer has the channels of its input, and the reader the most that the writer had: in a
+// cycle before this quantum, and else in it too.
+fn delay_count(counts: &[u32], census: Census<'_>, end: End, into: &[Edge]) -> u32
+    requires valid { IsValid census.world.now }
+    requires range { AreInRange census.world.now counts.now }
+    requires there { IsIn end (ends census.world.now.graph.value) }
+    requires kind { (longest : ℤ) × (time : ℤ) × (capacity : ℕ) × (kind_of census.world.now end.node.0 ≡ Delay longest time capacity) }
+    requires into { into.now ≡ leads_into census.world.now.graph.value end.node.0 }
+    requires cycles { AreCycles census.world.now.graph.value census.cycles.now }
+    ensures value { (j : ℕ) (earlier : ℕ → some_counts) (longest time : ℤ) (capacity : ℕ) → kind_of census.entry.world.now end.node.0 ≡ Delay longest time capacity → AreMost census.entry.delays.now census.entry.world.now j earlier → result ≡ count_by_kind 128 (plain census.entry.world.now) j earlier (counts_in counts.now) (Delay longest time capacity) end }
+    ensures range { (1 ≤ result) × (result ≤ 32) }
+{
+    if end.writer {
+        return input_count(counts, census.world, end.node, into);
+    }
+    let most = census.delays.most(end.node);
+    if census.cycles[end.node.0 as usize] {
+        most
+    } else {
+        greater(most, counts[slot(writer(end.node))])
     }
 }
 

@@ -1,20 +1,24 @@
-ghost use Rattle.std.specs.Prelude.{◌≡◌, ◌<◌, ◌≤◌, ◌-◌, ◌^◌, ℕ, ℤ, Bool, List, length, Some};
+ghost use Rattle.std.specs.Prelude.{◌≡◌, ◌<◌, ◌≤◌, ◌-◌, ◌^◌, ℕ, ℤ, Bool, List, length, true, false, Some};
 ghost use Rattle.causal_core.specs.Curves.{IsCurve};
 ghost use Rattle.sched_source.specs.Schedule.{is_between};
-ghost use Rattle.node_table.specs.declared.kinds.Kind.TheVariants.{Destination, Constant, Buffer, Gain, Splitter, Merger, Shaper, Iir};
+ghost use Rattle.node_table.specs.declared.kinds.Kind.TheVariants.{Destination, Constant, Buffer, Gain, Delay, Splitter, Merger, Shaper, Iir};
 ghost use Rattle.meaning.specs.Validity.{IsValid};
 ghost use Rattle.meaning.specs.World.{kind_of, sounds_at};
 ghost use Rattle.quantum_render.specs.Blocks.{Writes};
 ghost use Rattle.quantum_render.specs.Fits.{AreFit};
 ghost use Rattle.filter_bank.specs.Banks.{HaveRoom};
-ghost use Rattle.quantum_render.specs.Renders.{Renders, RendersWith, Listens};
+ghost use Rattle.delay_bank.specs.Banks.{HaveRoom as HaveDelayRoom};
+ghost use Rattle.quantum_render.specs.declared.memory.Memory.{Memory as a_memory};
+ghost use Rattle.quantum_render.specs.Listening.{HasRooms};
+ghost use Rattle.quantum_render.specs.Renders.{Renders, RendersWith, Listens, Stores};
 
 use crate::bench::Bench;
 use crate::block::{Block, QUANTUM};
+use crate::memory::Memory;
 use crate::places::play_place;
 use crate::playing::sounding;
 use crate::site::{Site, slot};
-use filter_bank::Filters;
+use delay_bank::Delays;
 use node_table::Kind;
 use wa_base::{ParamName, Samples};
 
@@ -22,26 +26,25 @@ use wa_base::{ParamName, Samples};
 // and levels and leaves the block of its end.
 impl Bench {
     // Renders an end for one quantum, from the blocks of the ends that are connected to it.
-    pub(crate) fn render(&mut self, blocks: &mut [Block], filters: &mut Filters, site: &Site)
+    pub(crate) fn render(&mut self, blocks: &mut [Block], memory: &mut Memory, site: &Site)
         requires fit { AreFit site.now.world site.now.counts blocks.old }
-        requires count { length site.now.world.nodes ≤ length filters.old.filters }
-        requires room { HaveRoom filters.old site.now.counts }
+        requires rooms { HasRooms memory.old site.now.world site.now.counts }
         ensures writes { Writes blocks.old blocks.new site.now.end }
-        ensures renders { RendersWith site.now filters.old blocks.old blocks.new (kind_of site.now.world site.now.end.node.0) }
-        ensures listens { Listens site.now blocks.old filters.old filters.new }
-        ensures room { HaveRoom filters.new site.now.counts }
+        ensures renders { RendersWith site.now memory.old blocks.old blocks.new (kind_of site.now.world site.now.end.node.0) }
+        ensures listens { Listens site.now blocks.old memory.old memory.new }
+        ensures stores { Stores site.now blocks.new memory.old.delays memory.new.delays }
+        ensures rooms { HasRooms memory.new site.now.world site.now.counts }
     {
         match site.world.nodes.kind(site.end.node) {
             Kind::Destination => self.render_destination(blocks, site),
             Kind::Constant { .. } => self.render_constant(blocks, site),
             Kind::Buffer { .. } => render_buffer(blocks, site),
             Kind::Gain { .. } => self.render_gain(blocks, site),
-            // No world has a delay yet.
-            Kind::Delay { .. } => {}
+            Kind::Delay { .. } => self.render_delay(blocks, memory, site),
             Kind::Splitter { .. } => self.render_splitter(blocks, site),
             Kind::Merger { .. } => self.render_merger(blocks, site),
             Kind::Shaper { curve, .. } => self.render_shaper(blocks, site, curve),
-            Kind::Iir { .. } => self.render_filter(blocks, filters, site),
+            Kind::Iir { .. } => self.render_filter(blocks, memory, site),
         }
     }
 
@@ -113,24 +116,75 @@ impl Bench {
     }
 
     // Its input, filtered from its birth on.
-    fn render_filter(&mut self, blocks: &mut [Block], filters: &mut Filters, site: &Site)
+    fn render_filter(&mut self, blocks: &mut [Block], memory: &mut Memory, site: &Site)
         requires fit { AreFit site.now.world site.now.counts blocks.old }
         requires kind { (forward : List ℤ) × (back : List ℤ) × (kind_of site.now.world site.now.end.node.0 ≡ Iir forward back) }
-        requires count { length site.now.world.nodes ≤ length filters.old.filters }
-        requires room { HaveRoom filters.old site.now.counts }
+        requires rooms { HasRooms memory.old site.now.world site.now.counts }
         ensures writes { Writes blocks.old blocks.new site.now.end }
-        ensures renders { (forward back : List ℤ) → kind_of site.now.world site.now.end.node.0 ≡ Iir forward back → RendersWith site.now filters.old blocks.old blocks.new (Iir forward back) }
-        ensures listens { Listens site.now blocks.old filters.old filters.new }
-        ensures room { HaveRoom filters.new site.now.counts }
+        ensures renders { (forward back : List ℤ) → kind_of site.now.world site.now.end.node.0 ≡ Iir forward back → RendersWith site.now memory.old blocks.old blocks.new (Iir forward back) }
+        ensures listens { Listens site.now blocks.old memory.old memory.new }
+        ensures delays { memory.new.delays ≡ memory.old.delays }
+        ensures room { HaveRoom memory.new.filters site.now.counts }
     {
         let node = site.end.node;
         let channels = site.channels();
         self.take_input(blocks, site, 0, channels);
         self.heard.copy_out(self.wide.as_mut_slice());
-        let room = filters.room(node).max(channels);
+        let room = memory.filters.room(node).max(channels);
         let wide = &self.wide[..room * QUANTUM];
-        self.merged.filter(wide, room, filters, node);
+        self.merged.filter(wide, room, &mut memory.filters, node);
         blocks[slot(site.end)].copy_output(&self.merged, 0, channels);
+    }
+
+    // A delay's writer takes its input in, and its reader gives it later.
+    fn render_delay(&mut self, blocks: &mut [Block], memory: &mut Memory, site: &Site)
+        requires fit { AreFit site.now.world site.now.counts blocks.old }
+        requires kind { (longest : ℤ) × (time : ℤ) × (capacity : ℕ) × (kind_of site.now.world site.now.end.node.0 ≡ Delay longest time capacity) }
+        requires rooms { HasRooms memory.old site.now.world site.now.counts }
+        ensures writes { Writes blocks.old blocks.new site.now.end }
+        ensures renders { (longest time : ℤ) (capacity : ℕ) → kind_of site.now.world site.now.end.node.0 ≡ Delay longest time capacity → RendersWith site.now memory.old blocks.old blocks.new (Delay longest time capacity) }
+        ensures stores { Stores site.now blocks.new memory.old.delays memory.new.delays }
+        ensures filters { memory.new.filters ≡ memory.old.filters }
+        ensures room { HaveDelayRoom memory.new.delays site.now.counts }
+    {
+        if site.end.writer {
+            self.render_writer(blocks, &mut memory.delays, site);
+        } else {
+            self.render_reader(blocks, &memory.delays, site);
+        }
+    }
+
+    // Its input, which is kept.
+    fn render_writer(&mut self, blocks: &mut [Block], delays: &mut Delays, site: &Site)
+        requires fit { AreFit site.now.world site.now.counts blocks.old }
+        requires kind { (longest : ℤ) × (time : ℤ) × (capacity : ℕ) × (kind_of site.now.world site.now.end.node.0 ≡ Delay longest time capacity) }
+        requires writer { site.now.end.writer ≡ true }
+        requires count { length site.now.world.nodes ≤ length delays.old.delays }
+        requires room { HaveDelayRoom delays.old site.now.counts }
+        ensures writes { Writes blocks.old blocks.new site.now.end }
+        ensures renders { (longest time : ℤ) (capacity : ℕ) → Renders site.now blocks.old blocks.new (Delay longest time capacity) }
+        ensures stores { Stores site.now blocks.new delays.old delays.new }
+        ensures room { HaveDelayRoom delays.new site.now.counts }
+    {
+        let channels = site.channels();
+        self.take_input(blocks, site, 0, channels);
+        self.heard.copy_out(self.wide.as_mut_slice());
+        let written = &self.wide[..channels * QUANTUM];
+        delays.write(site.end.node, written, channels as u32, site.first);
+        blocks[slot(site.end)].copy(&self.heard);
+    }
+
+    // What was written so many frames before each frame.
+    fn render_reader(&mut self, blocks: &mut [Block], delays: &Delays, site: &Site)
+        requires fit { AreFit site.now.world site.now.counts blocks.old }
+        requires kind { (longest : ℤ) × (time : ℤ) × (capacity : ℕ) × (kind_of site.now.world site.now.end.node.0 ≡ Delay longest time capacity) }
+        requires reader { site.now.end.writer ≡ false }
+        ensures writes { Writes blocks.old blocks.new site.now.end }
+        ensures renders { (memory : a_memory) (longest time : ℤ) (capacity : ℕ) → memory.delays ≡ delays.now → kind_of site.now.world site.now.end.node.0 ≡ Delay longest time capacity → RendersWith site.now memory blocks.old blocks.new (Delay longest time capacity) }
+    {
+        self.take_levels(blocks, site, ParamName::DelayTime);
+        self.take_spans(site.world.spec.rate, site.least_delay());
+        blocks[slot(site.end)].read_delay(delays, site, self.spans.as_slice());
     }
 }
 

@@ -8,12 +8,14 @@ mod counting;
 mod held;
 mod kernels;
 mod kinds;
+mod memory;
 mod pass;
 mod places;
 mod plan;
 mod playing;
 mod renderer;
 mod site;
+mod spans;
 mod sums;
 
 pub use renderer::Renderer;

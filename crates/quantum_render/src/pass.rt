@@ -9,45 +9,45 @@ ghost use Rattle.meaning.specs.Values.{value};
 ghost use Rattle.quantum_render.specs.Blocks.{drafts_of};
 ghost use Rattle.quantum_render.specs.Fits.{AreInRange, AreFit};
 ghost use Rattle.quantum_render.specs.Sites.{IsBegun};
-ghost use Rattle.filter_bank.specs.Banks.{HaveRoom};
-ghost use Rattle.quantum_render.specs.Plans.{IsPlan, AreCounted};
-ghost use Rattle.quantum_render.specs.Listening.{HasHeard};
+ghost use Rattle.quantum_render.specs.Plans.{IsPlan, AreCycles, AreCounted};
+ghost use Rattle.quantum_render.specs.Listening.{IsTimely, IsMemory, HasRooms};
 
 use crate::bench::Bench;
 use crate::block::Block;
 use crate::blocks::hush;
+use crate::memory::Memory;
 use crate::plan::Plan;
 use crate::site::Quantum;
-use filter_bank::Filters;
 
 // Renders all ends: the muted ones are silent, and the others are rendered along the order, each
 // from the blocks of those before it. A filter that no end of the order has hears silence.
 pub(crate) fn render_quantum(
     blocks: &mut [Block],
     bench: &mut Bench,
-    filters: &mut Filters,
+    memory: &mut Memory,
     plan: &Plan,
     quantum: Quantum<'_>,
 )
     requires valid { IsValid quantum.world.now }
     requires plan { IsPlan quantum.world.now plan.now.order plan.now.muted plan.now.into }
+    requires cycles { AreCycles quantum.world.now.graph.value plan.now.cycles }
     requires range { AreInRange quantum.world.now quantum.counts.now }
     requires fit { AreFit quantum.world.now quantum.counts.now blocks.old }
     requires begun { IsBegun quantum.first }
     requires levels { AreLevels quantum.world.now.params.items quantum.first quantum.levels.now }
-    requires count { length quantum.world.now.nodes ≤ length filters.old.filters }
-    requires rooms { HaveRoom filters.old quantum.counts.now }
+    requires rooms { HasRooms memory.old quantum.world.now quantum.counts.now }
     ensures fit { AreFit quantum.entry.world.now quantum.entry.counts.now blocks.new }
-    ensures values { (tape : List a_world) → quantum.entry.first ≡ 128 * length tape → AreCounted 128 quantum.entry.world.now quantum.entry.counts.now tape → HasHeard filters.old quantum.entry.world.now tape quantum.entry.first → (m : ℕ) (d : an_end) → m < 128 → IsIn d (ends quantum.entry.world.now.graph.value) →
+    ensures values { (tape : List a_world) → quantum.entry.first ≡ 128 * length tape → AreCounted 128 quantum.entry.world.now quantum.entry.counts.now tape → IsTimely quantum.entry.world.now → IsMemory memory.old quantum.entry.world.now tape quantum.entry.first → (m : ℕ) (d : an_end) → m < 128 → IsIn d (ends quantum.entry.world.now.graph.value) →
         drafts_of blocks.new quantum.entry.counts.now m d ≡ value 128 (tape ++ quantum.entry.world.now ∷ []) (128 * length tape + m) d }
-    ensures heard { (tape : List a_world) → quantum.entry.first ≡ 128 * length tape → AreCounted 128 quantum.entry.world.now quantum.entry.counts.now tape → HasHeard filters.old quantum.entry.world.now tape quantum.entry.first →
-        HasHeard filters.new quantum.entry.world.now tape (quantum.entry.first + 128) }
-    ensures known { filters.new.known ≡ length filters.old.filters }
+    ensures memory { (tape : List a_world) → quantum.entry.first ≡ 128 * length tape → AreCounted 128 quantum.entry.world.now quantum.entry.counts.now tape → IsTimely quantum.entry.world.now → IsMemory memory.old quantum.entry.world.now tape quantum.entry.first →
+        IsMemory memory.new quantum.entry.world.now tape (quantum.entry.first + 128) }
+    ensures known { (memory.new.filters.known ≡ length memory.old.filters.filters) × (memory.new.delays.known ≡ length memory.old.delays.delays) }
 {
     hush(blocks, plan.muted());
     for end in plan.order() {
         let site = plan.site(quantum, *end);
-        bench.render(blocks, filters, &site);
+        bench.render(blocks, memory, &site);
     }
-    filters.rest(quantum.first);
+    memory.filters.rest(quantum.first);
+    memory.delays.end_quantum();
 }

@@ -1,4 +1,6 @@
-ghost use Rattle.std.specs.Prelude.{◌≡◌, ◌<◌, ◌≤◌, ◌^◌, ◌++◌, ℕ, [], length, filter, slice_index_or, IfOk, OnOk};
+ghost use Rattle.std.specs.List.{list_any};
+ghost use Rattle.wa_base.specs.declared.graph_names.NodeId.{NodeId as a_node};
+ghost use Rattle.std.specs.Prelude.{◌≡◌, ◌<◌, ◌≤◌, ◌^◌, ◌++◌, ◌==◌, ℕ, All, false, [], length, filter, slice_index_or, IfOk, OnOk};
 ghost use Rattle.law_base.specs.Members.{IsIn};
 ghost use Rattle.conn_graph.specs.declared.edges.Edge.{Edge as an_edge};
 ghost use Rattle.conn_graph.specs.Edges.{target_node};
@@ -10,7 +12,7 @@ ghost use Rattle.quantum_render.specs.Fits.{AreInRange};
 ghost use Rattle.automation.specs.Levels.{AreLevels};
 ghost use Rattle.quantum_render.specs.Sites.{IsBegun};
 ghost use Rattle.meaning.specs.Validity.{IsValid};
-ghost use Rattle.quantum_render.specs.Plans.{IsPlan, IsPlanOf};
+ghost use Rattle.quantum_render.specs.Plans.{IsPlan, IsPlanOf, AreCycles};
 
 use crate::places::{near_of, places};
 use crate::site::{Quantum, Site};
@@ -33,12 +35,14 @@ pub(crate) struct Plan {
     // For each node, the connections that lead to it.
     into: Vec<Items<Edge>>,
     near: Vec<usize>,
+    // For each node, whether it is a delay in a cycle.
+    cycles: Vec<bool>,
 }
 
 impl Model for Plan {
     ghost use Rattle.std.specs.Prelude.{◌≡◌};
     ghost use Rattle.cycle_order.specs.Choices.{chosen_order};
-    ghost use Rattle.quantum_render.specs.Plans.{PlanView, IsPlanOf};
+    ghost use Rattle.quantum_render.specs.Plans.{PlanView, IsPlanOf, AreCycles};
 
     ghost Value = { PlanView };
 
@@ -47,9 +51,10 @@ impl Model for Plan {
       order = p.order;
       muted = p.muted;
       into = p.into.items;
+      cycles = p.cycles.items;
     } };
 
-    ghost invariant = { λ p. IsPlanOf p.graph.value p.order p.muted p.into.items × (p.order ≡ chosen_order p.graph.value p.tie) };
+    ghost invariant = { λ p. IsPlanOf p.graph.value p.order p.muted p.into.items × (p.order ≡ chosen_order p.graph.value p.tie) × AreCycles p.graph.value p.cycles.items };
 }
 
 impl Plan {
@@ -64,6 +69,7 @@ impl Plan {
             muted: Ends::new(alloc),
             into: Vec::new(alloc),
             near: Vec::new(alloc),
+            cycles: Vec::new(alloc),
         }
     }
 
@@ -75,6 +81,7 @@ impl Plan {
         steps: &mut Steps<L>,
     ) -> Result<Plan, NoMemory>
         ensures plan { IfOk result (λ plan. IsPlan world.now plan.order plan.muted plan.into) }
+        ensures cycles { IfOk result (λ plan. AreCycles world.now.graph.value plan.cycles) }
         ensures order { IfOk result (λ plan. plan.order ≡ chosen_order world.now.graph.value tie) }
         ensures tie { IfOk result (λ plan. plan.tie ≡ tie) }
     {
@@ -84,6 +91,7 @@ impl Plan {
         let ordered = order(alloc, graph, &marks, tie, steps)?;
         let all = connections(alloc, graph, steps)?;
         let into = by_target(alloc, graph.len(), all.as_slice())?;
+        let cycles = marked(alloc, graph.len(), marks.in_cycle.as_slice())?;
         let kept = graph.copy()?;
         Ok(Plan {
             graph: kept,
@@ -92,6 +100,7 @@ impl Plan {
             muted: marks.muted,
             into,
             near,
+            cycles,
         })
     }
 
@@ -103,6 +112,7 @@ impl Plan {
         steps: &mut Steps<L>,
     ) -> Result<(), NoMemory>
         ensures plan { OnOk result (IsPlan world.now self.new.order self.new.muted self.new.into) }
+        ensures cycles { OnOk result (AreCycles world.now.graph.value self.new.cycles) }
         ensures order { OnOk result (self.new.order ≡ chosen_order world.now.graph.value self.old.tie) }
         ensures tie { self.new.tie ≡ self.old.tie }
     {
@@ -129,6 +139,7 @@ impl Plan {
     pub(crate) fn site<'a>(&'a self, quantum: Quantum<'a>, end: End) -> Site<'a>
         requires valid { IsValid quantum.world.now }
         requires plan { IsPlan quantum.world.now self.now.order self.now.muted self.now.into }
+        requires cycles { AreCycles quantum.world.now.graph.value self.now.cycles }
         requires range { AreInRange quantum.world.now quantum.counts.now }
         requires there { IsIn end (ends quantum.world.now.graph.value) }
         requires begun { IsBegun quantum.first }
@@ -148,12 +159,20 @@ impl Plan {
             levels: quantum.levels,
             first: quantum.first,
             near: near_of(self.near.as_slice(), end.node),
+            in_cycle: self.cycles[node],
         }
     }
 
     // Where the schedule of each node is likely to stand.
     pub(crate) fn near(&self) -> &[usize] {
         self.near.as_slice()
+    }
+
+    // For each node, whether it is a delay in a cycle.
+    pub(crate) fn cycles(&self) -> &[bool]
+        ensures { result.now ≡ self.now.cycles }
+    {
+        self.cycles.as_slice()
     }
 
     pub(crate) fn sources(&self) -> &[Items<Edge>]
@@ -220,4 +239,17 @@ fn no_connections(alloc: Global, nodes: u32) -> Result<Vec<Items<Edge>>, NoMemor
         into.push(Items::new(alloc))?;
     }
     Ok(into)
+}
+
+// For each node, whether it is listed.
+fn marked(alloc: Global, nodes: u32, listed: &[NodeId]) -> Result<Vec<bool>, NoMemory>
+    requires { All (λ (node : a_node). node.0 < nodes) listed.now }
+    ensures length { IfOk result (λ marks. length marks.items ≡ nodes) }
+    ensures each { IfOk result (λ marks. (n : ℕ) → n < nodes → slice_index_or marks.items n false ≡ list_any (λ (node : a_node). node.0 == n) listed.now) }
+{
+    let mut marks = vec![in alloc; false; nodes as usize]?;
+    for node in listed {
+        marks[node.0 as usize] = true;
+    }
+    Ok(marks)
 }

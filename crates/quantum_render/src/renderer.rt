@@ -12,12 +12,14 @@ ghost use Rattle.quantum_render.specs.Stands.{StandsFor, Shows, IsPrepared, IsCo
 use crate::bench::Bench;
 use crate::block::{Block, QUANTUM};
 use crate::blocks::fit_blocks;
-use crate::counting::count_channels;
+use crate::counting::{Census, count_channels};
+use crate::memory::Memory;
 use crate::pass::render_quantum;
 use crate::plan::Plan;
 use crate::site::{Quantum, reader, slot};
 use crate::sums::CHANNELS;
 use automation::Automation;
+use delay_bank::Delays;
 use filter_bank::Filters;
 use meaning::World;
 use std::alloc::Global;
@@ -36,7 +38,7 @@ pub struct Renderer {
     quanta: u64,
     plan: Plan,
     automation: Automation,
-    filters: Filters,
+    memory: Memory,
     counts: Vec<u32>,
     blocks: Vec<Block>,
     bench: Bench,
@@ -55,8 +57,9 @@ impl Model for Renderer {
       order = r.plan.order;
       muted = r.plan.muted;
       into = r.plan.into;
+      cycles = r.plan.cycles;
       automation = r.automation;
-      filters = r.filters;
+      memory = r.memory;
       counts = r.counts.items;
       blocks = r.blocks.items;
       out = r.out.items;
@@ -79,7 +82,10 @@ impl Renderer {
             quanta: 0,
             plan: Plan::new(alloc, tie),
             automation: Automation::new(alloc),
-            filters: Filters::new(alloc)?,
+            memory: Memory {
+                filters: Filters::new(alloc)?,
+                delays: Delays::new(alloc),
+            },
             counts: Vec::new(alloc),
             blocks: Vec::new(alloc),
             bench: Bench::new(alloc)?,
@@ -106,7 +112,8 @@ impl Renderer {
         ensures quanta { self.new.quanta ≡ self.old.quanta }
     {
         self.plan.follow(self.alloc, world, steps)?;
-        self.filters.follow(world)?;
+        self.memory.filters.follow(world)?;
+        self.memory.delays.follow(world)?;
         let nodes = world.nodes.len() as usize;
         self.counts.resize(2 * nodes, 1)?;
         let first = self.quanta * QUANTUM as u64;
@@ -128,17 +135,18 @@ impl Renderer {
         ensures tie { self.new.tie ≡ self.old.tie }
         ensures quanta { self.new.quanta ≡ self.old.quanta }
     {
-        count_channels(
-            self.counts.as_mut_slice(),
+        let census = Census {
             world,
-            self.plan.order(),
-            self.plan.sources(),
-            self.plan.near(),
+            into: self.plan.sources(),
+            near: self.plan.near(),
+            cycles: self.plan.cycles(),
+            delays: &self.memory.delays,
             first,
-        );
+        };
+        count_channels(self.counts.as_mut_slice(), self.plan.order(), census);
     }
 
-    /// Takes the memory for the blocks of all nodes, and for what their filters remember.
+    /// Takes the memory for the blocks of all nodes, and for what they remember.
     pub fn grow(&mut self, world: &World) -> Result<(), NoMemory>
         requires valid { IsValid world.now }
         requires spec { world.now.spec ≡ self.old.spec }
@@ -151,7 +159,8 @@ impl Renderer {
     {
         let counts = self.counts.as_slice();
         fit_blocks(self.alloc, &mut self.blocks, world, counts)?;
-        self.filters.grow(counts)
+        self.memory.filters.grow(counts)?;
+        self.memory.delays.grow(counts)
     }
 
     /// Renders the next quantum, which begins at frame `first`. It takes no memory, and looks at four
@@ -180,7 +189,7 @@ impl Renderer {
         render_quantum(
             blocks,
             &mut self.bench,
-            &mut self.filters,
+            &mut self.memory,
             &self.plan,
             quantum,
         );

@@ -1,9 +1,10 @@
-ghost use Rattle.std.specs.Prelude.{◌≡◌, ◌≤◌};
+ghost use Rattle.std.specs.Prelude.{◌≡◌, ◌≤◌, true, if◌then◌else◌};
 ghost use Rattle.node_table.specs.Kinds.{outputs as outputs_of, IsInLimits};
-ghost use Rattle.conn_graph.specs.Ends.{reader_of};
+ghost use Rattle.conn_graph.specs.Ends.{writer_of, reader_of, is_delay, in_cycle as cycle_of};
 ghost use Rattle.meaning.specs.World.{kind_of};
 ghost use Rattle.quantum_render.specs.Blocks.{slot as slot_of, counts_in};
 
+use crate::block::QUANTUM;
 use automation::Level;
 use conn_graph::Edge;
 use meaning::World;
@@ -25,6 +26,13 @@ pub(crate) fn reader(node: NodeId) -> End
         node,
         writer: false,
     }
+}
+
+// The end at which the input of a delay arrives.
+pub(crate) fn writer(node: NodeId) -> End
+    ensures { result ≡ writer_of node.0 }
+{
+    End { node, writer: true }
 }
 
 // What the ends of a world are rendered by in the quantum that begins at a frame: the channels of each
@@ -50,16 +58,18 @@ pub(crate) struct Site<'a> {
     pub levels: &'a [Level],
     pub first: u64,
     pub near: usize,
+    // Whether the node is a delay in a cycle.
+    pub in_cycle: bool,
 }
 
 impl<'a> Model for Site<'a> {
-    ghost use Rattle.quantum_render.specs.Sites.{SiteView, IsSite};
+    ghost use Rattle.quantum_render.specs.Sites.{SiteView, IsSite, IsMarked};
 
     ghost Value = { SiteView };
 
     ghost view = { λ s. record { world = s.world.now; end = s.end; into = s.into.now; counts = s.counts.now; levels = s.levels.now; first = s.first } };
 
-    ghost invariant = { λ s. IsSite s.world.now s.end s.into.now s.counts.now s.levels.now s.first };
+    ghost invariant = { λ s. IsSite s.world.now s.end s.into.now s.counts.now s.levels.now s.first × IsMarked s.world.now s.end s.in_cycle };
 }
 
 impl Site<'_> {
@@ -78,5 +88,12 @@ impl Site<'_> {
         ensures ports { IsInLimits (kind_of self.now.world self.now.end.node.0) }
     {
         self.world.nodes.kind(self.end.node).outputs()
+    }
+
+    // The least number of frames that a delay lasts: in a cycle those of a quantum.
+    pub(crate) fn least_delay(&self) -> u64
+        ensures { is_delay self.now.world.graph.value self.now.end.node.0 ≡ true → result ≡ (if cycle_of self.now.world.graph.value self.now.end.node.0 then 128 else 0) }
+    {
+        if self.in_cycle { QUANTUM as u64 } else { 0 }
     }
 }

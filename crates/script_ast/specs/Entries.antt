@@ -48,6 +48,13 @@ create_gain =
     row field.As kind.NewName Needed ∷
     row field.Gain kind.Fix (Number (pos 16777216)) ∷ []
 
+-- `createDelay`
+abbrev pub create_delay : List Row
+create_delay =
+    row field.As kind.NewName Needed ∷
+    row field.MaxDelayTime kind.Fix (Number (pos 16777216)) ∷
+    row field.DelayTime kind.Fix (Number (pos 0)) ∷ []
+
 -- `createChannelSplitter`
 abbrev pub create_channel_splitter : List Row
 create_channel_splitter =

@@ -10,7 +10,7 @@ use Rattle.script_ast.specs.declared.entries.Row.{Row}
 use Rattle.script_ast.specs.declared.op_names.LeftOutName.{LeftOutName}
 use Rattle.script_ast.specs.declared.op_names.LeftOutName.TheVariants as left_out
 use Rattle.script_ast.specs.declared.op_names.OpName.{OpName}
-use Rattle.script_ast.specs.declared.op_names.OpName.TheVariants.{CreateConstantSource, CreateGain, CreateChannelSplitter, CreateChannelMerger, CreateWaveShaper, CreateIIRFilter, CreateBufferSource, CreateBuffer, Connect, ConnectParam, Disconnect, DisconnectParam, SetChannelCount, SetChannelCountMode, SetChannelInterpretation, SetCurve, SetOversample, SetBuffer, SetLoop, SetLoopStart, SetLoopEnd, CopyToChannel, Start, Stop, Param, Suspend, StartRendering, Resume, DecodeAudioData, ReadState, ReadTime, LeftOut}
+use Rattle.script_ast.specs.declared.op_names.OpName.TheVariants.{CreateConstantSource, CreateGain, CreateDelay, CreateChannelSplitter, CreateChannelMerger, CreateWaveShaper, CreateIIRFilter, CreateBufferSource, CreateBuffer, Connect, ConnectParam, Disconnect, DisconnectParam, SetChannelCount, SetChannelCountMode, SetChannelInterpretation, SetCurve, SetOversample, SetBuffer, SetLoop, SetLoopStart, SetLoopEnd, CopyToChannel, Start, Stop, Param, Suspend, StartRendering, Resume, DecodeAudioData, ReadState, ReadTime, LeftOut}
 use Rattle.script_ast.specs.declared.param_ops.ParamOpName.{ParamOpName}
 use Rattle.script_ast.specs.declared.param_ops.ParamOpName.TheVariants as param
 
@@ -67,6 +67,7 @@ param_op_word param.ReadValue = codes "readValue"
 abbrev pub op_word : OpName → List ℕ
 op_word CreateConstantSource = codes "createConstantSource"
 op_word CreateGain = codes "createGain"
+op_word CreateDelay = codes "createDelay"
 op_word CreateChannelSplitter = codes "createChannelSplitter"
 op_word CreateChannelMerger = codes "createChannelMerger"
 op_word CreateWaveShaper = codes "createWaveShaper"
@@ -103,6 +104,7 @@ abbrev pub operations : List OpName
 operations =
     CreateConstantSource ∷
     CreateGain ∷
+    CreateDelay ∷
     CreateChannelSplitter ∷
     CreateChannelMerger ∷
     CreateWaveShaper ∷
@@ -182,6 +184,7 @@ param_op_fields param.ReadValue = entry.read_value
 abbrev pub fields_of : OpName → List Row
 fields_of CreateConstantSource = entry.create_constant_source
 fields_of CreateGain = entry.create_gain
+fields_of CreateDelay = entry.create_delay
 fields_of CreateChannelSplitter = entry.create_channel_splitter
 fields_of CreateChannelMerger = entry.create_channel_merger
 fields_of CreateWaveShaper = entry.create_wave_shaper

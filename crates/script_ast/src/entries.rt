@@ -108,6 +108,12 @@ pub const CREATE_GAIN: [Row; 2] = [
     row!(Gain, Fix, Number(16_777_216)),
 ];
 
+pub const CREATE_DELAY: [Row; 3] = [
+    row!(As, NewName, Needed),
+    row!(MaxDelayTime, Fix, Number(16_777_216)),
+    row!(DelayTime, Fix, Number(0)),
+];
+
 pub const CREATE_CHANNEL_SPLITTER: [Row; 2] = [
     row!(As, NewName, Needed),
     row!(NumberOfOutputs, Count, Count(6)),

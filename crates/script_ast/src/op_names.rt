@@ -3,11 +3,11 @@ ghost use Rattle.script_ast.specs.OpNames.{left_out_word, left_out_feature, op_w
 
 use crate::entries::{
     CONNECT, CONNECT_PARAM, COPY_TO_CHANNEL, CREATE_BUFFER, CREATE_BUFFER_SOURCE,
-    CREATE_CHANNEL_MERGER, CREATE_CHANNEL_SPLITTER, CREATE_CONSTANT_SOURCE, CREATE_GAIN,
-    CREATE_IIR_FILTER, CREATE_WAVE_SHAPER, DECODE_AUDIO_DATA, DISCONNECT, DISCONNECT_PARAM, Kind,
-    Row, SET_BUFFER, SET_CHANNEL_COUNT, SET_CHANNEL_COUNT_MODE, SET_CHANNEL_INTERPRETATION,
-    SET_CURVE, SET_LOOP, SET_LOOP_END, SET_LOOP_START, SET_OVERSAMPLE, START, START_RENDERING,
-    STOP, SUSPEND,
+    CREATE_CHANNEL_MERGER, CREATE_CHANNEL_SPLITTER, CREATE_CONSTANT_SOURCE, CREATE_DELAY,
+    CREATE_GAIN, CREATE_IIR_FILTER, CREATE_WAVE_SHAPER, DECODE_AUDIO_DATA, DISCONNECT,
+    DISCONNECT_PARAM, Kind, Row, SET_BUFFER, SET_CHANNEL_COUNT, SET_CHANNEL_COUNT_MODE,
+    SET_CHANNEL_INTERPRETATION, SET_CURVE, SET_LOOP, SET_LOOP_END, SET_LOOP_START, SET_OVERSAMPLE,
+    START, START_RENDERING, STOP, SUSPEND,
 };
 use crate::param_ops::ParamOpName;
 use wa_base::Feature;
@@ -87,6 +87,7 @@ impl LeftOutName {
 pub enum OpName {
     CreateConstantSource,
     CreateGain,
+    CreateDelay,
     CreateChannelSplitter,
     CreateChannelMerger,
     CreateWaveShaper,
@@ -120,9 +121,10 @@ pub enum OpName {
 }
 
 /// Every operation.
-pub const OP_NAMES: [OpName; 55] = [
+pub const OP_NAMES: [OpName; 56] = [
     OpName::CreateConstantSource,
     OpName::CreateGain,
+    OpName::CreateDelay,
     OpName::CreateChannelSplitter,
     OpName::CreateChannelMerger,
     OpName::CreateWaveShaper,
@@ -188,6 +190,7 @@ impl OpName {
         match self {
             OpName::CreateConstantSource => "createConstantSource",
             OpName::CreateGain => "createGain",
+            OpName::CreateDelay => "createDelay",
             OpName::CreateChannelSplitter => "createChannelSplitter",
             OpName::CreateChannelMerger => "createChannelMerger",
             OpName::CreateWaveShaper => "createWaveShaper",
@@ -242,6 +245,7 @@ impl OpName {
         match self {
             OpName::CreateConstantSource => &CREATE_CONSTANT_SOURCE,
             OpName::CreateGain => &CREATE_GAIN,
+            OpName::CreateDelay => &CREATE_DELAY,
             OpName::CreateChannelSplitter => &CREATE_CHANNEL_SPLITTER,
             OpName::CreateChannelMerger => &CREATE_CHANNEL_MERGER,
             OpName::CreateWaveShaper => &CREATE_WAVE_SHAPER,

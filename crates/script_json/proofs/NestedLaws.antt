@@ -12,7 +12,7 @@ use Rattle.script_ast.specs.declared.clocks.Clock.{Clock}
 use Rattle.script_ast.specs.declared.clocks.Clock.TheVariants.{Frames}
 use Rattle.script_ast.specs.declared.call_list.Script.{Script}
 use Rattle.script_ast.specs.declared.op_names.OpName.{OpName}
-use Rattle.script_ast.specs.declared.op_names.OpName.TheVariants.{CreateConstantSource, CreateGain, CreateChannelSplitter, CreateChannelMerger, CreateWaveShaper, CreateIIRFilter, CreateBufferSource, CreateBuffer, Connect, ConnectParam, Disconnect, DisconnectParam, SetChannelCount, SetChannelCountMode, SetChannelInterpretation, SetCurve, SetOversample, SetBuffer, SetLoop, SetLoopStart, SetLoopEnd, CopyToChannel, Start, Stop, Param, Suspend, StartRendering, Resume, DecodeAudioData, ReadState, ReadTime, LeftOut}
+use Rattle.script_ast.specs.declared.op_names.OpName.TheVariants.{CreateConstantSource, CreateGain, CreateDelay, CreateChannelSplitter, CreateChannelMerger, CreateWaveShaper, CreateIIRFilter, CreateBufferSource, CreateBuffer, Connect, ConnectParam, Disconnect, DisconnectParam, SetChannelCount, SetChannelCountMode, SetChannelInterpretation, SetCurve, SetOversample, SetBuffer, SetLoop, SetLoopStart, SetLoopEnd, CopyToChannel, Start, Stop, Param, Suspend, StartRendering, Resume, DecodeAudioData, ReadState, ReadTime, LeftOut}
 use Rattle.script_ast.specs.declared.param_ops.ParamOpName.{ParamOpName}
 use Rattle.script_ast.specs.declared.param_ops.ParamOpName.TheVariants as param
 use Rattle.script_ast.proofs.Nesting.{IsBlock, none_block, next_block, block_nested}
@@ -42,6 +42,7 @@ holds_calls-param_op_in clock param.ReadValue d = refl
 holds_calls-op_in : (clock : Clock) (name : OpName) (d : Data) → holds_calls (op_in clock name d) ≡ has_calls name
 holds_calls-op_in clock CreateConstantSource d = refl
 holds_calls-op_in clock CreateGain d = refl
+holds_calls-op_in clock CreateDelay d = refl
 holds_calls-op_in clock CreateChannelSplitter d = refl
 holds_calls-op_in clock CreateChannelMerger d = refl
 holds_calls-op_in clock CreateWaveShaper d = refl

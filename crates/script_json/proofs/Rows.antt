@@ -209,3 +209,18 @@ filtered = refl
 feedforward_first : script_or_fault (read (codes "{\"version\":1,\"context\":{\"channels\":1,\"length\":1,\"rate\":1},\"calls\":[{\"op\":\"createIIRFilter\",\"as\":\"f\",\"feedback\":7}]}")) ≡ Err (MissingField 1 field.Feedforward)
 unfolding serde_json_on_literals context_in main_list calls_of head_faults script_faults placed call_faults op_named is_new_name
 feedforward_first = refl
+
+-- a delay of at most one second that begins at none
+delayed : script_or_fault (read (codes "{\"version\":1,\"context\":{\"channels\":1,\"length\":1,\"rate\":1},\"calls\":[{\"op\":\"createDelay\",\"as\":\"d\"}]}"))
+    ≡ Ok (record { context = record { channels = 1; length = 1; rate = 1 }; calls = record { ordinal = 1; holder = 0; op = op.CreateDelay (codes "d") (pos 16777216) (pos 0) } ∷ [] })
+unfolding serde_json_on_literals context_in main_list calls_of head_faults script_faults script_in placed call_faults call_of op_named is_new_name number_in text_in
+delayed = refl
+
+delayed_by : script_or_fault (read (codes "{\"version\":1,\"context\":{\"channels\":1,\"length\":1,\"rate\":1},\"calls\":[{\"op\":\"createDelay\",\"as\":\"d\",\"delayTime\":-5,\"maxDelayTime\":0}]}"))
+    ≡ Ok (record { context = record { channels = 1; length = 1; rate = 1 }; calls = record { ordinal = 1; holder = 0; op = op.CreateDelay (codes "d") (pos 0) (neg_ℤ (pos 5)) } ∷ [] })
+unfolding serde_json_on_literals context_in main_list calls_of head_faults script_faults script_in placed call_faults call_of op_named is_new_name number_in text_in
+delayed_by = refl
+
+longest_first : script_or_fault (read (codes "{\"version\":1,\"context\":{\"channels\":1,\"length\":1,\"rate\":1},\"calls\":[{\"op\":\"createDelay\",\"as\":\"d\",\"delayTime\":null,\"maxDelayTime\":2147483648}]}")) ≡ Err (OutOfRange 1 field.MaxDelayTime)
+unfolding serde_json_on_literals context_in main_list calls_of head_faults script_faults placed call_faults op_named is_new_name
+longest_first = refl

@@ -9,7 +9,7 @@ use Rattle.script_ast.specs.declared.call_list.Call.{Call}
 use Rattle.script_ast.specs.declared.clocks.Clock.{Clock}
 use Rattle.script_ast.specs.declared.fields.Field.TheVariants as field
 use Rattle.script_ast.specs.declared.op_names.OpName.{OpName}
-use Rattle.script_ast.specs.declared.op_names.OpName.TheVariants.{CreateConstantSource, CreateGain, CreateChannelSplitter, CreateChannelMerger, CreateWaveShaper, CreateIIRFilter, CreateBufferSource, CreateBuffer, Connect, ConnectParam, Disconnect, DisconnectParam, SetChannelCount, SetChannelCountMode, SetChannelInterpretation, SetCurve, SetOversample, SetBuffer, SetLoop, SetLoopStart, SetLoopEnd, CopyToChannel, Start, Stop, Param, Suspend, StartRendering, Resume, DecodeAudioData, ReadState, ReadTime, LeftOut}
+use Rattle.script_ast.specs.declared.op_names.OpName.TheVariants.{CreateConstantSource, CreateGain, CreateDelay, CreateChannelSplitter, CreateChannelMerger, CreateWaveShaper, CreateIIRFilter, CreateBufferSource, CreateBuffer, Connect, ConnectParam, Disconnect, DisconnectParam, SetChannelCount, SetChannelCountMode, SetChannelInterpretation, SetCurve, SetOversample, SetBuffer, SetLoop, SetLoopStart, SetLoopEnd, CopyToChannel, Start, Stop, Param, Suspend, StartRendering, Resume, DecodeAudioData, ReadState, ReadTime, LeftOut}
 use Rattle.script_ast.specs.declared.operations.Op.{Op}
 use Rattle.script_ast.specs.declared.operations.Op.TheVariants as op
 use Rattle.script_ast.specs.declared.param_ops.ParamOpName.{ParamOpName}
@@ -103,6 +103,7 @@ param_op_in clock param.ReadValue d = op.ReadValue (text_in field.Node d) (text_
 abbrev pub op_in : Clock → OpName → Data → Op
 op_in clock CreateConstantSource d = op.CreateConstantSource (text_in field.As d) (fix_in entry.create_constant_source field.Offset d)
 op_in clock CreateGain d = op.CreateGain (text_in field.As d) (fix_in entry.create_gain field.Gain d)
+op_in clock CreateDelay d = op.CreateDelay (text_in field.As d) (fix_in entry.create_delay field.MaxDelayTime d) (fix_in entry.create_delay field.DelayTime d)
 op_in clock CreateChannelSplitter d = op.CreateChannelSplitter (text_in field.As d) (count_in entry.create_channel_splitter field.NumberOfOutputs d)
 op_in clock CreateChannelMerger d = op.CreateChannelMerger (text_in field.As d) (count_in entry.create_channel_merger field.NumberOfInputs d)
 op_in clock CreateWaveShaper d = op.CreateWaveShaper (text_in field.As d) (fixes_or_null_in field.Curve d) (oversample_in entry.create_wave_shaper field.Oversample d)

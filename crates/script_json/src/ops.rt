@@ -18,6 +18,7 @@ pub fn build(alloc: Global, clock: Clock, name: OpName, call: &Value) -> Result<
     match name {
         OpName::CreateConstantSource => create_constant_source(alloc, call),
         OpName::CreateGain => create_gain(alloc, call),
+        OpName::CreateDelay => create_delay(alloc, call),
         OpName::CreateChannelSplitter => create_channel_splitter(alloc, call),
         OpName::CreateChannelMerger => create_channel_merger(alloc, call),
         OpName::CreateWaveShaper => create_wave_shaper(alloc, call),
@@ -70,6 +71,16 @@ fn create_gain(alloc: Global, call: &Value) -> Result<Op, NoMemory>
     Ok(Op::CreateGain {
         name: text(alloc, call, Field::As)?,
         gain: fix(call, &entries::CREATE_GAIN, Field::Gain),
+    })
+}
+
+fn create_delay(alloc: Global, call: &Value) -> Result<Op, NoMemory>
+    ensures { IfOk result (λ op. op ≡ op_in Clock.Frames OpName.CreateDelay (view call.now)) }
+{
+    Ok(Op::CreateDelay {
+        name: text(alloc, call, Field::As)?,
+        max_delay_time: fix(call, &entries::CREATE_DELAY, Field::MaxDelayTime),
+        delay_time: fix(call, &entries::CREATE_DELAY, Field::DelayTime),
     })
 }
 

@@ -10,6 +10,8 @@ mod channel_cases;
 #[cfg(test)]
 mod connection_cases;
 #[cfg(test)]
+mod delay_cases;
+#[cfg(test)]
 mod event_cases;
 #[cfg(test)]
 mod field_texts;

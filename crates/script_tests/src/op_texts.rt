@@ -32,6 +32,11 @@ fn creation_text(alloc: Global, op: &Op) -> Result<String, AllocError> {
             format!(in alloc; "createConstantSource {} {offset}", text(name))
         }
         Op::CreateGain { name, gain } => format!(in alloc; "createGain {} {gain}", text(name)),
+        Op::CreateDelay {
+            name,
+            max_delay_time,
+            delay_time,
+        } => { format!(in alloc; "createDelay {} {max_delay_time} {delay_time}", text(name)) }
         Op::CreateChannelSplitter {
             name,
             number_of_outputs,

@@ -47,8 +47,9 @@ fn finds_calls_by_their_ordinals(rt: HostRuntime) -> Result<(), Fail> {
     Ok(())
 }
 
-static BUILT: [&str; 26] = [
+static BUILT: [&str; 27] = [
     "createGain",
+    "createDelay",
     "connect",
     "disconnect",
     "setChannelCount",
@@ -81,7 +82,7 @@ static NOT_BUILT: [&str; 6] = [
     "Connect",
     "creategain",
     "createIirFilter",
-    "createDelay",
+    "createdelay",
     "then",
 ];
 
@@ -112,6 +113,16 @@ fn a_gain_has_the_fields_of_the_format(rt: HostRuntime) {
         row(Field::Gain, Kind::Fix, Fallback::Number(16_777_216)),
     ];
     assert_eq!(rt; OpName::CreateGain.fields(), want.as_slice());
+}
+
+#[test]
+fn a_delay_has_the_fields_of_the_format(rt: HostRuntime) {
+    let want = [
+        row(Field::As, Kind::NewName, Fallback::Needed),
+        row(Field::MaxDelayTime, Kind::Fix, Fallback::Number(16_777_216)),
+        row(Field::DelayTime, Kind::Fix, Fallback::Number(0)),
+    ];
+    assert_eq!(rt; OpName::CreateDelay.fields(), want.as_slice());
 }
 
 #[test]

@@ -2,6 +2,7 @@ use crate::buffer_cases::BUFFERS;
 use crate::call_cases::CALLS;
 use crate::channel_cases::CHANNEL_COUNTS;
 use crate::connection_cases::{DISCONNECTS, GAINS};
+use crate::delay_cases::DELAYS;
 use crate::event_cases::EVENTS;
 use crate::filter_cases::FILTERS;
 use crate::param_cases::{PARAM_CONNECTIONS, VALUES};
@@ -101,6 +102,13 @@ fn reads_shapers(rt: HostRuntime) -> Result<(), Fail> {
 #[test]
 fn reads_filters(rt: HostRuntime) -> Result<(), Fail> {
     let misread = first_misread(rt.alloc(), BEFORE, AFTER, &FILTERS)?;
+    assert_eq!(rt; misread, None);
+    Ok(())
+}
+
+#[test]
+fn reads_delays(rt: HostRuntime) -> Result<(), Fail> {
+    let misread = first_misread(rt.alloc(), BEFORE, AFTER, &DELAYS)?;
     assert_eq!(rt; misread, None);
     Ok(())
 }

@@ -36,7 +36,7 @@ use Rattle.session.specs.Machine.{Machine}
 use Rattle.session.specs.Params.{param_at, name_refusal, lead_refusal, unless_refused, on_param, edits_param, leads, edge_to_param, form_of_param, decided_on_line, decided_on_param}
 use Rattle.session.specs.Shapers.{oversample_refusal, is_shaper, sets_oversample, decided_on_shaper}
 use Rattle.session.specs.Steady.{IsSteady}
-use Rattle.session.specs.Step.{node_bound, node_named, buffer_bound, buffer_named, new_name, refused, unless, edits, edits_node, edits_nodes, edits_buffer, edits_with_buffer, sets_buffer, rate_of, edge_of, form_to, form_from, promises, decided, IsFor}
+use Rattle.session.specs.Step.{node_bound, node_named, buffer_bound, buffer_named, new_name, refused, unless, edits, edits_node, edits_nodes, edits_buffer, edits_with_buffer, sets_buffer, rate_of, delay_of, edge_of, form_to, form_from, promises, decided, IsFor}
 use Rattle.session.proofs.Named.{named_there}
 use Rattle.session.proofs.Parameters.{param_there, param_low, lead_kept}
 
@@ -180,11 +180,11 @@ unfolding decided_on_shaper
 creates_shaper_for m steady name curve oversample =
     let o : Op = op.CreateWaveShaper name curve oversample in
     let e : Edit = edit.Create (Shaper curve (is_some curve)) in
-    unless_for m steady o (oversample_refusal oversample) (edits m e) (λ fine. edits_for m steady o e (refl, tt, refl) refl)
+    unless_for m steady o (oversample_refusal oversample) (edits m e) (λ fine. edits_for m steady o e (refl, tt, tt) refl)
 
 creates_filter_for : (m : Machine) → IsSteady m → (name : List ℕ) (feedforward feedback : List ℤ) → IsFor m (op.CreateIIRFilter name feedforward feedback) (decided_on_shaper m (op.CreateIIRFilter name feedforward feedback))
 unfolding decided_on_shaper
-creates_filter_for m steady name feedforward feedback = edits_for m steady (op.CreateIIRFilter name feedforward feedback) (edit.Create (Iir feedforward feedback)) (refl, tt, refl) refl
+creates_filter_for m steady name feedforward feedback = edits_for m steady (op.CreateIIRFilter name feedforward feedback) (edit.Create (Iir feedforward feedback)) (refl, tt, tt) refl
 
 sets_oversample_for : (m : Machine) → IsSteady m → (o : Op) (node : Option NodeId) (value : Oversample) → IsFor m o (sets_oversample m node value)
 sets_oversample_for m steady o None value = tt
@@ -209,10 +209,11 @@ decoding_for m name path = tt
 
 pub decided_for : (m : Machine) → IsSteady m → (o : Op) → IsInRange o → IsFor m o (decided m o)
 unfolding decided
-decided_for m steady (op.CreateConstantSource name offset) in_range = edits_for m steady (op.CreateConstantSource name offset) (edit.Create (Constant offset)) (refl, in_range.1, refl) refl
-decided_for m steady (op.CreateGain name gain) in_range = edits_for m steady (op.CreateGain name gain) (edit.Create (Gain gain)) (refl, in_range.1, refl) refl
-decided_for m steady (op.CreateChannelSplitter name outputs) in_range = edits_for m steady (op.CreateChannelSplitter name outputs) (edit.Create (Splitter outputs)) (refl, tt, refl) refl
-decided_for m steady (op.CreateChannelMerger name inputs) in_range = edits_for m steady (op.CreateChannelMerger name inputs) (edit.Create (Merger inputs)) (refl, tt, refl) refl
+decided_for m steady (op.CreateConstantSource name offset) in_range = edits_for m steady (op.CreateConstantSource name offset) (edit.Create (Constant offset)) (refl, in_range.1, tt) refl
+decided_for m steady (op.CreateGain name gain) in_range = edits_for m steady (op.CreateGain name gain) (edit.Create (Gain gain)) (refl, in_range.1, tt) refl
+decided_for m steady (op.CreateDelay name longest time) in_range = edits_for m steady (op.CreateDelay name longest time) (edit.Create (delay_of m.world.spec longest time)) (refl, (in_range.1, in_range.2), refl) refl
+decided_for m steady (op.CreateChannelSplitter name outputs) in_range = edits_for m steady (op.CreateChannelSplitter name outputs) (edit.Create (Splitter outputs)) (refl, tt, tt) refl
+decided_for m steady (op.CreateChannelMerger name inputs) in_range = edits_for m steady (op.CreateChannelMerger name inputs) (edit.Create (Merger inputs)) (refl, tt, tt) refl
 decided_for m steady (op.CreateBufferSource name buffer looping loop_start loop_end rate) in_range =
     with_buffer_for m steady (op.CreateBufferSource name buffer looping loop_start loop_end rate) buffer (λ b. edit.CreateBufferSource (rate_of rate) b (record { on = looping; first = loop_start; end = loop_end }))
     (λ b there. (there, refl))
@@ -262,6 +263,7 @@ decided_for m steady other in_range = on_shaper_for m steady other refl
 pub is_new : (o : Op) (name : List ℕ) → IsInRange o → new_name o ≡ Some name → IsNewName name
 is_new (op.CreateConstantSource new offset) name in_range is = subst (λ (x : Option (List ℕ)). IfSome x IsNewName) is in_range.0
 is_new (op.CreateGain new gain) name in_range is = subst (λ (x : Option (List ℕ)). IfSome x IsNewName) is in_range.0
+is_new (op.CreateDelay new longest time) name in_range is = subst (λ (x : Option (List ℕ)). IfSome x IsNewName) is in_range.0
 is_new (op.CreateChannelSplitter new outputs) name in_range is = subst (λ (x : Option (List ℕ)). IfSome x IsNewName) is in_range.0
 is_new (op.CreateChannelMerger new inputs) name in_range is = subst (λ (x : Option (List ℕ)). IfSome x IsNewName) is in_range.0
 is_new (op.CreateWaveShaper new curve oversample) name in_range is = subst (λ (x : Option (List ℕ)). IfSome x IsNewName) is in_range.0

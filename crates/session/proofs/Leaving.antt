@@ -33,7 +33,7 @@ use Rattle.session.specs.Assets.{max_asset, rejected, unless_rejected, adopts, b
 use Rattle.session.specs.Machine.{Machine}
 use Rattle.session.specs.Params.{param_at, name_refusal, lead_refusal, unless_refused, on_param, edits_param, leads, edge_to_param, form_of_param, decided_on_line, decided_on_param}
 use Rattle.session.specs.Shapers.{oversample_refusal, is_shaper, sets_oversample, decided_on_shaper}
-use Rattle.session.specs.Step.{refused, unless, edits, edits_node, edits_nodes, edits_buffer, edits_with_buffer, sets_buffer, rate_of, buffer_named, disconnects, decided, decided_with, settled, with_edit, new_name, node_named, edge_of, form_from, form_to}
+use Rattle.session.specs.Step.{refused, unless, edits, edits_node, edits_nodes, edits_buffer, edits_with_buffer, sets_buffer, rate_of, delay_of, buffer_named, disconnects, decided, decided_with, settled, with_edit, new_name, node_named, edge_of, form_from, form_to}
 
 -- the operations on the context
 abbrev pub is_of_context : Op → Bool
@@ -137,6 +137,7 @@ module _ (machine : Machine) (call : Call) (held : Paths) where
   unfolding decided decided_on_shaper decided_on_param decided_on_line
   op_leaves (op.CreateConstantSource name offset) is = (edits_leaves (edit.Create (Constant offset)))
   op_leaves (op.CreateGain name gain) is = (edits_leaves (edit.Create (Gain gain)))
+  op_leaves (op.CreateDelay name longest time) is = (edits_leaves (edit.Create (delay_of machine.world.spec longest time)))
   op_leaves (op.CreateChannelSplitter name outputs) is = (edits_leaves (edit.Create (Splitter outputs)))
   op_leaves (op.CreateChannelMerger name inputs) is = (edits_leaves (edit.Create (Merger inputs)))
   op_leaves (op.CreateWaveShaper name curve oversample) is = (unless_refused_leaves (oversample_refusal oversample) (edits machine (edit.Create (Shaper curve (is_some curve)))) (edits_leaves (edit.Create (Shaper curve (is_some curve)))))
@@ -184,4 +185,3 @@ module _ (machine : Machine) (call : Call) (held : Paths) where
       (on_param_leaves (param_at machine (node_named machine node) param) (λ i. refused (NotSupported (Some SetTarget))) (λ i. refl))
   op_leaves (op.ReadValue node param) is =
       (on_param_leaves (param_at machine (node_named machine node) param) (λ i. comes_to.Answer (answer.Value (slot_of machine.world i))) (λ i. refl))
-  op_leaves other is = refl

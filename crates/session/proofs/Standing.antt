@@ -47,7 +47,7 @@ empty_tape [] none = refl
 empty_tape (w ∷ ws) none = absurd (omega arith)
 
 grown : (old new : Machine) (tape : List World) → Grows old.context.time old.world new.world → old.context.time ≡ 128 * length tape → IsRegular 128 (tape ++ old.world ∷ []) → IsRegular 128 (tape ++ new.world ∷ [])
-grown old new tape grows time regular = regular_grown 128 tape old.world new.world regular (subst (λ n. Grows n old.world new.world) time grows)
+grown old new tape grows time regular = regular_grown tape old.world new.world regular (subst (λ n. Grows n old.world new.world) time grows)
 
 -- a call that starts no rendering
 pub Stands-kept : (old new : SessionView) (tape : List World) → new.audio ≡ old.audio → KeepsTime old.told.machine new.told.machine → Grows old.told.machine.context.time old.told.machine.world new.told.machine.world

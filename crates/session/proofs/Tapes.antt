@@ -6,13 +6,14 @@ use Rattle.std.proofs.lemmas.List.Elements.{All-append, All-cons}
 use Rattle.std.proofs.Math.Seq.{get_or-append_seam}
 use Rattle.wa_base.specs.declared.contexts.ContextSpec.{ContextSpec}
 use Rattle.node_table.specs.Kinds.{lasting}
+use Rattle.node_table.specs.declared.kinds.Kind.{Kind}
 use Rattle.node_table.specs.declared.nodes.Node.{Node}
+use Rattle.node_table.proofs.Lasting.{holds_by_lasting}
 use Rattle.meaning.specs.declared.world.World.{World}
 use Rattle.meaning.specs.World.{plain, no_world, no_node, node_at}
 use Rattle.meaning.specs.Validity.{IsValid}
-use Rattle.meaning.specs.Worlds.{IsRegular, IsNewIn, Stays, first_world}
+use Rattle.meaning.specs.Worlds.{IsRegular, IsNewIn, Stays, HasCapacity, first_world}
 use Rattle.meaning.specs.Counts.{world_in}
-use Rattle.meaning.proofs.NodeKinds.{no_capacity_in}
 use Rattle.meaning.proofs.TapeLaws.{world_before, world_after}
 use Rattle.meaning.specs.Changes.{Grows}
 use Rattle.meaning.proofs.Valid.{valid_plain}
@@ -31,7 +32,7 @@ regular_of_plain q tape regular =
     let valid : All IsValid tape = λ k d l. valid_plain (slice_index_or tape k d) (subst IsValid (get_or-map plain tape k d (plain d) l) (regular.valid k (plain d) (omega arith))) in
     record {
       valid = valid;
-      capacity = λ j i l. no_capacity_in q tape valid j i;
+      capacity = λ j i l. subst (λ (w : World). HasCapacity q w.spec (node_at w i).kind) (plain_world tape j) (regular.capacity j i (omega arith));
       spec = λ j l. ap (λ (w : World). w.spec) (sym (plain_world tape j)) ∙ regular.spec j (omega arith) ∙ ap (λ (w : World). w.spec) (plain_world tape 0);
       stays = λ j i l below.
           subst (λ (w : World). Stays i w (world_in tape (suc j))) (plain_world tape j)
@@ -52,6 +53,7 @@ pub record IsNext (q : ℕ) (tape : List World) (w : World) : Type 0 where
   pub spec : 0 < length tape → w.spec ≡ (world_in tape 0).spec
   pub stays : (j i : ℕ) → suc j ≡ length tape → i < length (world_in tape j).nodes → Stays i (world_in tape j) (plain w)
   pub born : (i : ℕ) → i < length w.nodes → (length tape ≡ 0) ⊎ (length (world_in tape (length tape - 1)).nodes ≤ i) → (node_at w i).attrs.birth ≡ q * length tape
+  pub capacity : (i : ℕ) → HasCapacity q w.spec (node_at w i).kind
 
 module _ (q : ℕ) (tape : List World) (w : World) where
   abbrev longer : List World
@@ -84,7 +86,7 @@ module _ (q : ℕ) (tape : List World) (w : World) where
   pub regular_front : IsRegular q longer → IsRegular q tape
   regular_front regular = record {
     valid = front;
-    capacity = λ j i l. no_capacity_in q tape front j i;
+    capacity = λ j i l. subst (λ (x : World). HasCapacity q x.spec (node_at x i).kind) (old j l) (regular.capacity j i (omega (arith, long)));
     spec = λ j l. ap (λ (x : World). x.spec) (sym (old j l)) ∙ regular.spec j (omega (arith, long)) ∙ ap (λ (x : World). x.spec) (old 0 (omega arith));
     stays = λ j i l below.
         subst (λ (x : World). Stays i x (world_in tape (suc j))) (old j (omega arith))
@@ -115,12 +117,16 @@ module _ (q : ℕ) (tape : List World) (w : World) where
           subst (λ (x : World). i < length x.nodes) (sym (new (length tape) refl)) below,
           before_last (λ (x : World). length x.nodes ≤ i) is,
         ));
+    capacity = λ i. subst (λ (x : World). HasCapacity q x.spec (node_at x i).kind) (new (length tape) refl) (regular.capacity (length tape) i (omega (arith, long)));
   }
 
   pub regular_more : IsRegular q tape → IsNext q tape w → IsRegular q longer
   regular_more regular next = record {
     valid = each_valid;
-    capacity = λ j i l. no_capacity_in q longer each_valid j i;
+    capacity = λ j i l. elim (cases_lt j (length tape)) [
+      | inl low ↦ subst (λ (x : World). HasCapacity q x.spec (node_at x i).kind) (sym (old j low)) (regular.capacity j i low)
+      | inr high ↦ subst (λ (x : World). HasCapacity q x.spec (node_at x i).kind) (sym (new j (omega (arith, long)))) (next.capacity i)
+    ];
     spec = λ j l. elim (cases_lt j (length tape)) [
       | inl low ↦ ap (λ (x : World). x.spec) (old j low) ∙ regular.spec j low ∙ sym (ap (λ (x : World). x.spec) (old 0 (omega arith)))
       | inr high ↦ last_spec j (omega (arith, long))
@@ -165,9 +171,13 @@ module _ (q : ℕ) (tape : List World) (w : World) where
 
 -- ---- calls and quanta
 
+-- what lasts of a node's kind says how many frames it keeps
+capacity_lasts : (q : ℕ) (spec : ContextSpec) (a b : Kind) → lasting a ≡ lasting b → HasCapacity q spec a → HasCapacity q spec b
+capacity_lasts q spec = holds_by_lasting (HasCapacity q spec) (λ curve curve' was_set was_set' holds. holds)
+
 -- a call leaves the next world of a tape the next one
-pub next_grown : (q : ℕ) (tape : List World) (w w' : World) → IsNext q tape w → Grows (q * length tape) w w' → IsNext q tape w'
-next_grown q tape w w' next grows = record {
+next_grown : (tape : List World) (w w' : World) → IsNext 128 tape w → Grows (128 * length tape) w w' → IsNext 128 tape w'
+next_grown tape w w' next grows = record {
   valid = grows.valid next.valid;
   spec = λ some. grows.spec ∙ next.spec some;
   stays = λ j i e below.
@@ -178,10 +188,16 @@ next_grown q tape w w' next grows = record {
     | inl low ↦ let stays = grows.stays i low in stays.birth ∙ next.born i low is
     | inr high ↦ grows.born i high below
   ];
+  capacity = λ i. elim (cases_lt i (length w.nodes)) [
+    | inl low ↦
+        let stays = grows.stays i low in
+        subst (λ (s : ContextSpec). HasCapacity 128 s (node_at w' i).kind) (sym grows.spec) (capacity_lasts 128 w.spec _ _ (sym stays.kind) (next.capacity i))
+    | inr high ↦ grows.capacity i high
+  ];
 }
 
-pub regular_grown : (q : ℕ) (tape : List World) (w w' : World) → IsRegular q (tape ++ w ∷ []) → Grows (q * length tape) w w' → IsRegular q (tape ++ w' ∷ [])
-regular_grown q tape w w' regular grows = regular_more q tape w' (regular_front q tape w regular) (next_grown q tape w w' (next_of q tape w regular) grows)
+pub regular_grown : (tape : List World) (w w' : World) → IsRegular 128 (tape ++ w ∷ []) → Grows (128 * length tape) w w' → IsRegular 128 (tape ++ w' ∷ [])
+regular_grown tape w w' regular grows = regular_more 128 tape w' (regular_front 128 tape w regular) (next_grown tape w w' (next_of 128 tape w regular) grows)
 
 -- the world after a quantum, with the same nodes
 pub regular_after : (q : ℕ) (tape : List World) (w w' : World) → IsRegular q (tape ++ w ∷ []) → IsValid w' → w'.spec ≡ w.spec → w'.nodes ≡ w.nodes
@@ -205,12 +221,19 @@ regular_after q tape w w' regular valid spec nodes = regular_more q (tape ++ w �
         let same : length w'.nodes ≡ length w.nodes = ap length nodes in
         absurd (omega arith)
   ];
+  capacity = λ i.
+      let before = (next_of q tape w regular).capacity i in
+      subst (λ (ns : List Node). HasCapacity q w'.spec (slice_index_or ns i no_node).kind) (sym nodes) (subst (λ (s : ContextSpec). HasCapacity q s (node_at w i).kind) (sym spec) before);
 })
   where
     long : length (tape ++ w ∷ []) ≡ length tape + 1
     long = length-append tape (w ∷ [])
 
 -- the destination alone
+first_capacity : (q : ℕ) (spec : ContextSpec) (i : ℕ) → HasCapacity q spec (node_at (first_world spec) i).kind
+first_capacity q spec zero = tt
+first_capacity q spec (suc i) = tt
+
 pub regular_first : (q : ℕ) (spec : ContextSpec) → IsValid (first_world spec) → IsRegular q (first_world spec ∷ [])
 regular_first q spec valid = regular_more q [] (first_world spec)
     (record { valid = λ k d l. absurd (omega arith); spec = λ j l. absurd (omega arith); capacity = λ j i l. absurd (omega arith); stays = λ j i l below. absurd (omega arith); born = λ j i l is. absurd (omega arith) })
@@ -219,4 +242,5 @@ regular_first q spec valid = regular_more q [] (first_world spec)
       spec = λ some. absurd (omega arith);
       stays = λ j i e below. absurd (omega arith);
       born = λ i below is. let first : i ≡ 0 = omega arith in rw first (omega arith);
+      capacity = first_capacity q spec;
     })

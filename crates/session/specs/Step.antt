@@ -1,5 +1,7 @@
 -- One control call: first it is decided what it comes to, and then that is done.
 use Rattle.std.specs.Prelude.{ℕ, ◌≡◌, ◌/◌, ◌%◌, ◌==◌, ℤ, pos, negsuc, List, length, Bool, true, false, if◌then◌else◌, is_some, IsSome, Option, Some, None}
+use Rattle.wa_base.specs.Contexts.{quantum_of}
+use Rattle.wa_base.specs.declared.contexts.ContextSpec.{ContextSpec}
 use Rattle.wa_base.specs.declared.contexts.State.TheVariants.{Running}
 use Rattle.wa_base.specs.declared.exceptions.Exc.{Exc}
 use Rattle.wa_base.specs.declared.exceptions.Exc.TheVariants.{NotSupported}
@@ -14,7 +16,9 @@ use Rattle.transcript.specs.declared.lines.Answer.TheVariants as answer
 use Rattle.name_book.specs.declared.book.Object.{Object}
 use Rattle.name_book.specs.declared.book.Object.TheVariants as object
 use Rattle.name_book.specs.Book.{bound, first_named}
-use Rattle.node_table.specs.declared.kinds.Kind.TheVariants.{Constant, Gain, Splitter, Merger}
+use Rattle.node_table.specs.Delays.{delay_capacity}
+use Rattle.node_table.specs.declared.kinds.Kind.{Kind}
+use Rattle.node_table.specs.declared.kinds.Kind.TheVariants.{Constant, Gain, Delay, Splitter, Merger}
 use Rattle.conn_graph.specs.declared.edges.Edge.{Edge}
 use Rattle.conn_graph.specs.declared.edges.Form.{Form}
 use Rattle.conn_graph.specs.declared.edges.Form.TheVariants as form
@@ -39,6 +43,7 @@ pub use Rattle.session.specs.Deciding.{node_bound, node_named, buffer_bound, buf
 abbrev pub new_name : Op → Option (List ℕ)
 new_name (op.CreateConstantSource name offset) = Some name
 new_name (op.CreateGain name gain) = Some name
+new_name (op.CreateDelay name max_delay_time delay_time) = Some name
 new_name (op.CreateChannelSplitter name number_of_outputs) = Some name
 new_name (op.CreateChannelMerger name number_of_inputs) = Some name
 new_name (op.CreateWaveShaper name curve oversample) = Some name
@@ -54,6 +59,10 @@ new_name other = None
 abbrev pub rate_of : ℤ → ℕ
 rate_of (pos n) = if n % 16777216 == 0 then n / 16777216 else 0
 rate_of (negsuc n) = 0
+
+-- a delay of a context, which keeps the frames of its longest delay, and at least those of a quantum
+abbrev pub delay_of : ContextSpec → ℤ → ℤ → Kind
+delay_of spec longest time = Delay longest time (delay_capacity (quantum_of spec) longest spec.rate)
 
 abbrev pub edge_of : ℕ → ℕ → NodeId → NodeId → Edge
 edge_of output input from to = record { from = from; output = output; to = Input to input }
@@ -81,6 +90,7 @@ promises (Some exception) decided = comes_to.Answer (answer.Rejected exception)
 unfoldable pub decided : Machine → Op → Decided
 decided machine (op.CreateConstantSource name offset) = edits machine (edit.Create (Constant offset))
 decided machine (op.CreateGain name gain) = edits machine (edit.Create (Gain gain))
+decided machine (op.CreateDelay name max_delay_time delay_time) = edits machine (edit.Create (delay_of machine.world.spec max_delay_time delay_time))
 decided machine (op.CreateChannelSplitter name number_of_outputs) = edits machine (edit.Create (Splitter number_of_outputs))
 decided machine (op.CreateChannelMerger name number_of_inputs) = edits machine (edit.Create (Merger number_of_inputs))
 decided machine (op.CreateBufferSource name buffer looping loop_start loop_end playback_rate) =

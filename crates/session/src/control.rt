@@ -299,6 +299,7 @@ fn new_name(op: &Op) -> Option<&Name>
     match op {
         Op::CreateConstantSource { name, .. }
         | Op::CreateGain { name, .. }
+        | Op::CreateDelay { name, .. }
         | Op::CreateChannelSplitter { name, .. }
         | Op::CreateChannelMerger { name, .. }
         | Op::CreateWaveShaper { name, .. }

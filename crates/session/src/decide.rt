@@ -17,12 +17,13 @@ ghost use Rattle.session.specs.Step as spec;
 ghost use Rattle.session.specs.Step.{Steps, Sends, KeepsTime};
 
 use crate::control::Control;
+use crate::render_side::QUANTUM;
 use crate::session::Stop;
 use conn_graph::{Edge, Form, Target};
 use io_edge::Files;
 use meaning::{AttributeEdit, BufferEdit, Edit, LoopPart, SourceEdit};
 use name_book::Object;
-use node_table::Kind;
+use node_table::{Kind, delay_capacity};
 use sched_source::Loop;
 use script_ast::Op;
 use transcript::Answer;
@@ -77,6 +78,11 @@ impl Control {
             Op::CreateGain { gain, .. } => Ok(self.edits(Edit::Create {
                 kind: Kind::Gain { gain: *gain },
             })),
+            Op::CreateDelay {
+                max_delay_time,
+                delay_time,
+                ..
+            } => Ok(self.create_delay(*max_delay_time, *delay_time)),
             Op::CreateChannelSplitter {
                 number_of_outputs,
                 ..
@@ -275,6 +281,17 @@ impl Control {
             Some(Object::Buffer(buffer)) => Some(buffer),
             _ => None,
         }
+    }
+
+    fn create_delay(&self, longest: Fix, time: Fix) -> Decided
+        ensures { result ≡ spec.edits self.now (Edit.Create (spec.delay_of self.now.world.spec longest time)) }
+    {
+        let kind = Kind::Delay {
+            longest,
+            time,
+            capacity: delay_capacity(QUANTUM, longest, self.spec().rate),
+        };
+        self.edits(Edit::Create { kind })
     }
 
     fn create_source(&self, buffer: &Option<Name>, rate: Fix, points: Loop) -> Decided

@@ -1,10 +1,10 @@
-use Rattle.std.proofs.Common.{◌≡◌, ◌≤◌, Some, Option, refl, sym, ◌∙◌, ap, arith, subst}
+use Rattle.std.proofs.Common.{◌≡◌, Some, Option, refl, ◌∙◌, ap, arith}
 use Rattle.std.proofs.lemmas.List.Sums.{get_or-le-sum_by}
 use Rattle.node_table.specs.Kinds.{capacity_of}
 use Rattle.node_table.specs.declared.nodes.Node.{Node}
-use Rattle.meaning.specs.World.{no_node, kind_of, node_at}
+use Rattle.meaning.specs.World.{no_node, kind_of}
 use Rattle.meaning.proofs.NodeKinds.{kind_is, attrs_are}
-use Rattle.delay_bank.specs.Kept.{DelayView, first_delay}
+use Rattle.delay_bank.specs.Kept.{DelayView}
 use Rattle.delay_bank.proofs.Fresh.{none_for}
 use Rattle.delay_bank.proofs.delays.delay_of.Goals as goal
 

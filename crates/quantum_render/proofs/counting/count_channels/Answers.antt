@@ -7,34 +7,34 @@ use Rattle.quantum_render.proofs.CountPass.{Counting, counting_begins, next, nex
 use Rattle.quantum_render.proofs.counting.count_channels.Goals as goal
 
 pub loop-end-init : goal.loop-end-init
-loop-end-init c = counting_begins c.args.world.now c.requires.valid c.args.first c.args.order.now c.requires.plan.1.legal c.fill.new.self (c.fill.ensures.len ∙ c.requires.places) (search rules)
+loop-end-init c = counting_begins c.args.census.world.now c.requires.valid c.args.census.delays.now c.args.census.first c.args.order.now c.requires.plan.1.legal c.fill.new.self (c.fill.ensures.len ∙ c.requires.places) (search rules)
 
-pub bounds-into-end : goal.bounds-into-end
-bounds-into-end c =
+pub bounds-census-end : goal.bounds-census-end
+bounds-census-end c =
     let x : End = slice_index_or c.args.order.now c.loop-end.end-index no_end in
-    let there = end_low c.args.world.now c.requires.valid x (next c.args.world.now c.requires.valid c.args.first c.args.order.now c.loop-end.end-index c.loop-end.counts c.loop-end.invariant c.loop-end-test.true).0 in
-    subst (λ n. x.node.0 < n) (sym (c.requires.plan.1.nodes ∙ same_nodes c.args.world.now c.requires.valid)) there
+    let there = end_low c.args.census.world.now c.requires.valid x (next c.args.census.world.now c.requires.valid c.args.census.delays.now c.args.census.first c.args.order.now c.loop-end.end-index c.loop-end.counts c.loop-end.invariant c.loop-end-test.true).0 in
+    subst (λ n. x.node.0 < n) (sym (c.requires.plan.1.nodes ∙ same_nodes c.args.census.world.now c.requires.valid)) there
 
 pub count_of-requires-clause-there : goal.count_of-requires-clause-there
-count_of-requires-clause-there c = (next c.args.world.now c.requires.valid c.args.first c.args.order.now c.loop-end.end-index c.loop-end.counts c.loop-end.invariant c.loop-end-test.true).0
+count_of-requires-clause-there c = (next c.args.census.world.now c.requires.valid c.args.census.delays.now c.args.census.first c.args.order.now c.loop-end.end-index c.loop-end.counts c.loop-end.invariant c.loop-end-test.true).0
 
 pub count_of-requires-clause-into : goal.count_of-requires-clause-into
 count_of-requires-clause-into c =
     let x : End = slice_index_or c.args.order.now c.loop-end.end-index no_end in
-    let there = end_low c.args.world.now c.requires.valid x (next c.args.world.now c.requires.valid c.args.first c.args.order.now c.loop-end.end-index c.loop-end.counts c.loop-end.invariant c.loop-end-test.true).0 in
-    let within : x.node.0 < length c.args.into.now = subst (λ n. x.node.0 < n) (sym (c.requires.plan.1.nodes ∙ same_nodes c.args.world.now c.requires.valid)) there in
-    c.as_slice-into.ensures ∙ c.index-into-end.is ∙ get_or_default c.args.into.now x.node.0 c.index-into-end.result [] within ∙ c.requires.plan.1.each x.node.0 within
+    let there = end_low c.args.census.world.now c.requires.valid x (next c.args.census.world.now c.requires.valid c.args.census.delays.now c.args.census.first c.args.order.now c.loop-end.end-index c.loop-end.counts c.loop-end.invariant c.loop-end-test.true).0 in
+    let within : x.node.0 < length c.args.census.into.now = subst (λ n. x.node.0 < n) (sym (c.requires.plan.1.nodes ∙ same_nodes c.args.census.world.now c.requires.valid)) there in
+    c.as_slice-into.ensures ∙ get_or_default c.args.census.into.now x.node.0 c.index-census-end.result [] within ∙ c.requires.plan.1.each x.node.0 within
 
 pub bounds-counts-slot : goal.bounds-counts-slot
 bounds-counts-slot c =
     subst (λ k. k < length c.loop-end.counts) (sym c.slot.ensures)
-    (next_slot c.args.world.now c.requires.valid c.args.first c.args.order.now c.loop-end.end-index c.loop-end.counts c.loop-end.invariant c.loop-end-test.true)
+    (next_slot c.args.census.world.now c.requires.valid c.args.census.delays.now c.args.census.first c.args.order.now c.loop-end.end-index c.loop-end.counts c.loop-end.invariant c.loop-end-test.true)
 
 pub loop-end-preserved : goal.loop-end-preserved
 loop-end-preserved c =
-    subst (λ k. Counting c.args.world.now c.args.first c.args.order.now (c.loop-end.end-index + 1) (slice_set c.loop-end.counts k c.count_of.result)) (sym c.slot.ensures)
-    (counting_goes_on c.args.world.now c.requires.valid c.args.first c.args.order.now c.loop-end.end-index c.loop-end.counts c.loop-end.invariant c.loop-end-test.true
+    subst (λ k. Counting c.args.census.world.now c.args.census.delays.now c.args.census.first c.args.order.now (c.loop-end.end-index + 1) (slice_set c.loop-end.counts k c.count_of.result)) (sym c.slot.ensures)
+    (counting_goes_on c.args.census.world.now c.requires.valid c.args.census.delays.now c.args.census.first c.args.order.now c.loop-end.end-index c.loop-end.counts c.loop-end.invariant c.loop-end-test.true
     c.count_of.result c.count_of.ensures.value c.count_of.ensures.range.0 c.count_of.ensures.range.1 c.count_of.ensures.lanes c.count_of.ensures.mono)
 
 pub returns-clause-counted : goal.returns-clause-counted
-returns-clause-counted c = counting_ends c.args.world.now c.args.first c.args.order.now c.loop-end.end-index c.loop-end.counts c.loop-end.invariant (search rules)
+returns-clause-counted c = counting_ends c.args.census.world.now c.args.census.delays.now c.args.census.first c.args.order.now c.loop-end.end-index c.loop-end.counts c.loop-end.invariant (search rules)

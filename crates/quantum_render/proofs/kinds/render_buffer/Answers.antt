@@ -12,12 +12,12 @@ use Rattle.quantum_render.proofs.kinds.render_buffer.Goals as goal
 
 pub bounds-blocks-slot : goal.bounds-blocks-slot
 bounds-blocks-slot c =
-    let site = site_is c.args.site.now _ _ _ _ _ _ c.site.invariant c.site.view_is in
+    let site = site_is c.args.site.now _ _ _ _ _ _ c.site.invariant.0 c.site.view_is in
     own_within c.args.site.now site c.args.blocks.now c.requires.fit c.slot.result (c.slot.ensures ∙ ap (λ (x : SiteView). slot x.end) c.site.view_is)
 
 pub returns-in-Some-clause-writes : goal.returns-in-Some-clause-writes
 returns-in-Some-clause-writes c =
-    let site = site_is c.args.site.now _ _ _ _ _ _ c.site.invariant c.site.view_is in
+    let site = site_is c.args.site.now _ _ _ _ _ _ c.site.invariant.0 c.site.view_is in
     let here = c.slot.ensures ∙ ap (λ (x : SiteView). slot x.end) c.site.view_is in
     let single = ap outputs c.requires.kind.1 in
     writes_own c.args.site.now site c.args.blocks.now c.requires.fit c.slot.result here single c.play.new.self
@@ -25,7 +25,7 @@ returns-in-Some-clause-writes c =
 
 pub returns-in-None-clause-writes : goal.returns-in-None-clause-writes
 returns-in-None-clause-writes c =
-    let site = site_is c.args.site.now _ _ _ _ _ _ c.site.invariant c.site.view_is in
+    let site = site_is c.args.site.now _ _ _ _ _ _ c.site.invariant.0 c.site.view_is in
     let here = c.slot.ensures ∙ ap (λ (x : SiteView). slot x.end) c.site.view_is in
     let single = ap outputs c.requires.kind.1 in
     writes_own c.args.site.now site c.args.blocks.now c.requires.fit c.slot.result here single c.silence.new.self
@@ -35,7 +35,7 @@ returns-in-None-clause-writes c =
 pub returns-in-Some-clause-renders : goal.returns-in-Some-clause-renders
 returns-in-Some-clause-renders c rate j earlier begins counted before =
     let s : SiteView = c.args.site.now in
-    let site = site_is s _ _ _ _ _ _ c.site.invariant c.site.view_is in
+    let site = site_is s _ _ _ _ _ _ c.site.invariant.0 c.site.view_is in
     let here = c.slot.ensures ∙ ap (λ (x : SiteView). slot x.end) c.site.view_is in
     let single = ap outputs c.requires.kind.1 in
     let source : SourceView = c.in-Some.source in
@@ -52,7 +52,7 @@ returns-in-Some-clause-renders c rate j earlier begins counted before =
 pub returns-in-None-clause-renders : goal.returns-in-None-clause-renders
 returns-in-None-clause-renders c rate j earlier begins counted before =
     let s : SiteView = c.args.site.now in
-    let site = site_is s _ _ _ _ _ _ c.site.invariant c.site.view_is in
+    let site = site_is s _ _ _ _ _ _ c.site.invariant.0 c.site.view_is in
     let here = c.slot.ensures ∙ ap (λ (x : SiteView). slot x.end) c.site.view_is in
     let single = ap outputs c.requires.kind.1 in
     let none : heard_source s.world s.end.node.0 s.first ≡ None = sym (c.sounding.ensures ∙ ap (λ (x : SiteView). heard_source x.world x.end.node.0 x.first) c.site.view_is) ∙ c.in-None.is in

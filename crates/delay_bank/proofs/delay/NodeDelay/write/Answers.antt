@@ -13,6 +13,7 @@ returns-clause-kept c longest born writer kept brings =
     let next = comes_next line c.self.invariant.block born c.args.first c.args.channels c.args.block.now writer here brings in
     record {
       capacity = c.write.ensures.same.0 ∙ has.capacity;
+      block = c.write.ensures.same.1 ∙ has.block;
       birth = has.birth;
       time = ap (λ n. n + 128) has.time;
       long = let more = c.write.ensures.blocks in omega (arith, here, more);

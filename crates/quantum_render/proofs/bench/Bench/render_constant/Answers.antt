@@ -13,19 +13,19 @@ use Rattle.quantum_render.proofs.bench.Bench.render_constant.Goals as goal
 
 pub bounds-blocks-slot : goal.bounds-blocks-slot
 bounds-blocks-slot c =
-    let site = site_is c.args.site.now _ _ _ _ _ _ c.site.invariant c.site.view_is in
+    let site = site_is c.args.site.now _ _ _ _ _ _ c.site.invariant.0 c.site.view_is in
     own_within c.args.site.now site c.args.blocks.now c.requires.fit c.slot.result (c.slot.ensures ∙ ap (λ (x : SiteView). slot x.end) c.site.view_is)
 
 pub copy-requires : goal.copy-requires
 copy-requires c =
-    let site = site_is c.args.site.now _ _ _ _ _ _ c.site.invariant c.site.view_is in
+    let site = site_is c.args.site.now _ _ _ _ _ _ c.site.invariant.0 c.site.view_is in
     let here = c.slot.ensures ∙ ap (λ (x : SiteView). slot x.end) c.site.view_is in
     subst (λ n. n * 128 ≤ room_of (slice_index_or c.args.blocks.now c.slot.result c.index-blocks-slot.result)) (mono_own c.args.site.now site c.args.blocks.now c.requires.fit c.slot.result here (ap is_mono c.requires.kind.1) ∙ sym c.sound.ensures.lanes)
     (own_room c.args.site.now site c.args.blocks.now c.requires.fit c.slot.result here (ap outputs c.requires.kind.1) c.index-blocks-slot.result)
 
 pub returns-clause-writes : goal.returns-clause-writes
 returns-clause-writes c =
-    let site = site_is c.args.site.now _ _ _ _ _ _ c.site.invariant c.site.view_is in
+    let site = site_is c.args.site.now _ _ _ _ _ _ c.site.invariant.0 c.site.view_is in
     let here = c.slot.ensures ∙ ap (λ (x : SiteView). slot x.end) c.site.view_is in
     writes_own c.args.site.now site c.args.blocks.now c.requires.fit c.slot.result here (ap outputs c.requires.kind.1) c.copy.new.self
     (c.copy.ensures.lanes ∙ c.sound.ensures.lanes ∙ sym (mono_own c.args.site.now site c.args.blocks.now c.requires.fit c.slot.result here (ap is_mono c.requires.kind.1)))
@@ -33,9 +33,9 @@ returns-clause-writes c =
 pub returns-clause-renders : goal.returns-clause-renders
 returns-clause-renders c offset j earlier begins counted before =
     let s : SiteView = c.args.site.now in
-    let site = site_is s _ _ _ _ _ _ c.site.invariant c.site.view_is in
+    let site = site_is s _ _ _ _ _ _ c.site.invariant.0 c.site.view_is in
     let levels : c.self.inside.levels ≡ c.take_levels.new.self.levels = ap (λ (b : BenchView). b.levels) c.self.view_is in
-    let time = c.site.invariant.begun.time in
+    let time = c.site.invariant.0.begun.time in
     renders_own s site c.args.blocks.now c.requires.fit c.slot.result (c.slot.ensures ∙ ap (λ (x : SiteView). slot x.end) c.site.view_is) (ap outputs c.requires.kind.1) c.copy.new.self _
     (λ channel m low now.
     let first : channel < 1 = subst (λ n. channel < n) counted low in

@@ -1,4 +1,4 @@
-use Rattle.std.proofs.Common.{ℕ, ℤ, ◌≡◌, ◌<◌, ◌≤◌, ◌+◌, ◌*◌, ◌^◌, length, List, take, Some, slice_index_or, slice_set, Bool, true, pos, inl, inr, refl, sym, ◌∙◌, ap, arith, subst}
+use Rattle.std.proofs.Common.{ℕ, ℤ, ◌≡◌, ◌<◌, ◌≤◌, ◌+◌, ◌*◌, length, List, take, Some, slice_index_or, true, pos, inl, inr, sym, ◌∙◌, ap, arith, subst}
 use Rattle.std.specs.Prelude.{if◌then◌else◌, nat_lt}
 use Rattle.std.proofs.lemmas.Bool.Decides.{nat_tests}
 use Rattle.channel_mix.specs.Blocks.{sample}
@@ -7,43 +7,43 @@ use Rattle.node_table.specs.declared.kinds.Kind.TheVariants.{Iir}
 use Rattle.meaning.specs.World.{plain, kind_of}
 use Rattle.meaning.specs.Counts.{input_channels}
 use Rattle.meaning.specs.Values.{Frame}
-use Rattle.filter_bank.specs.Heard.{FilterView, Brings, room_of as filter_room}
-use Rattle.filter_bank.specs.Banks.{BankView, filter_at, HaveRoom, Hears}
-use Rattle.quantum_render.specs.Blocks.{BlockView, at, shown, carried, slot, counts_in, room_of}
+use Rattle.filter_bank.specs.Heard.{Brings, room_of as filter_room}
+use Rattle.filter_bank.specs.Banks.{BankView, filter_at, Hears}
+use Rattle.quantum_render.specs.Blocks.{BlockView, at, shown, carried, slot, counts_in}
 use Rattle.quantum_render.specs.Benches.{BenchView}
-use Rattle.quantum_render.specs.Sites.{SiteView, IsSite}
+use Rattle.quantum_render.specs.Sites.{SiteView}
 use Rattle.quantum_render.specs.Renders.{IsReadyFor}
 use Rattle.quantum_render.proofs.Filtering.{lanes_are, takes, has_heard, brings, puts_out, hears_on}
 use Rattle.quantum_render.proofs.Listening.{this_or_other}
 use Rattle.quantum_render.proofs.Made.{rewritten}
-use Rattle.quantum_render.proofs.Rendering.{site_is, own_within, own_room, writes_own, renders_own}
+use Rattle.quantum_render.proofs.Rendering.{site_is, writes_own, renders_own}
 use Rattle.quantum_render.proofs.bench.Bench.render_filter.Goals as goal
 
 pub filter-requires-clause-wide : goal.filter-requires-clause-wide
 filter-requires-clause-wide c f is =
     let s : SiteView = c.args.site.now in
-    let site = site_is s _ _ _ _ _ _ c.site.invariant c.site.view_is in
-    lanes_are s site c.requires.kind.0 c.requires.kind.1 c.requires.kind.2 c.args.filters.now c.requires.room f (subst (λ k. filter_at c.args.filters.now k ≡ Some f) (ap (λ (x : SiteView). x.end.node.0) c.site.view_is) is)
+    let site = site_is s _ _ _ _ _ _ c.site.invariant.0 c.site.view_is in
+    lanes_are s site c.requires.kind.0 c.requires.kind.1 c.requires.kind.2 c.args.memory.now.filters c.requires.rooms.filter_rooms f (subst (λ k. filter_at c.args.memory.now.filters k ≡ Some f) (ap (λ (x : SiteView). x.end.node.0) c.site.view_is) is)
     c.room.result c.channels-channels.result c.max-room.result (c.room.ensures.room f is) c.channels-channels.ensures.count c.max-room.ensures
 
 pub returns-clause-writes : goal.returns-clause-writes
 returns-clause-writes c =
-    let site = site_is c.args.site.now _ _ _ _ _ _ c.site.invariant c.site.view_is in
+    let site = site_is c.args.site.now _ _ _ _ _ _ c.site.invariant.0 c.site.view_is in
     writes_own c.args.site.now site c.args.blocks.now c.requires.fit c.slot.result (c.slot.ensures ∙ ap (λ (x : SiteView). slot x.end) c.site.view_is) (ap outputs c.requires.kind.2)
     c.copy_output.new.self (c.copy_output.ensures.lanes ∙ c.channels-channels.ensures.count)
 
 -- what is heard is what the input carries
-heard_brings : (c : goal.After-copy_output) (forward back : List ℤ) → (is : kind_of c.args.site.now.world c.args.site.now.end.node.0 ≡ Iir forward back) → (before : ℕ → Frame) → (ready : IsReadyFor c.args.site.now c.args.filters.now before)
+heard_brings : (c : goal.After-copy_output) (forward back : List ℤ) → (is : kind_of c.args.site.now.world c.args.site.now.end.node.0 ≡ Iir forward back) → (before : ℕ → Frame) → (ready : IsReadyFor c.args.site.now c.args.memory.now c.args.blocks.now before)
     → counts_in c.args.site.now.counts c.args.site.now.end ≡ input_channels (plain c.args.site.now.world) (counts_in c.args.site.now.counts) c.args.site.now.end.node.0 0
     → Brings c.args.site.now.first (take (c.max-room.result * 128) c.deref.result.now)
-    (takes c.args.site.now (site_is c.args.site.now _ _ _ _ _ _ c.site.invariant c.site.view_is) c.args.filters.now c.args.blocks.now forward back is before ready)
+    (takes c.args.site.now (site_is c.args.site.now _ _ _ _ _ _ c.site.invariant.0 c.site.view_is) c.args.memory.now c.args.blocks.now forward back is before ready)
 heard_brings c forward back is before ready counted =
     let s : SiteView = c.args.site.now in
-    let site = site_is s _ _ _ _ _ _ c.site.invariant c.site.view_is in
+    let site = site_is s _ _ _ _ _ _ c.site.invariant.0 c.site.view_is in
     let heard : c.self.inside.heard ≡ c.take_input.new.self.heard = ap (λ (b : BenchView). b.heard) c.self.view_is in
     let channels : c.channels-channels.result ≡ counts_in s.counts s.end = c.channels-channels.ensures.count in
     let written = c.deref.ensures.value ∙ rewritten _ c.copy_out.new.out _ (c.copy_out.ensures.length ∙ sym c.self.invariant.wide ∙ sym (ap length c.as_mut_slice.ensures.value) ∙ c.as_mut_slice.ensures.len) in
-    brings s site c.args.filters.now c.args.blocks.now forward back is before ready c.channels-channels.result c.max-room.result c.deref.result.now c.self.inside.heard
+    brings s site c.args.memory.now c.args.blocks.now forward back is before ready c.channels-channels.result c.max-room.result c.deref.result.now c.self.inside.heard
     (few c) (ap (λ (b : BlockView). b.lanes) heard ∙ c.take_input.ensures.lanes) (within c) (channels ∙ counted)
     (λ k m low now. ap (λ xs. sample 128 xs k m) written ∙ c.copy_out.ensures.values k m low now)
     (λ k m low now. ap (λ (b : BlockView). at b k m) heard ∙ c.take_input.ensures.input (channels ∙ counted) k m low now)
@@ -54,25 +54,25 @@ heard_brings c forward back is before ready counted =
     within : (c : goal.After-copy_output) → c.channels-channels.result ≤ c.max-room.result
     within c = let most = c.max-room.ensures in grind arith
 
-hears_own : (c : goal.After-copy_output) → Hears c.args.filters.now c.filter.new.filters c.args.site.now.end.node.0 (take (c.max-room.result * 128) c.deref.result.now) c.filter.new.self.values
-hears_own c = subst (λ k. Hears c.args.filters.now c.filter.new.filters k (take (c.max-room.result * 128) c.deref.result.now) c.filter.new.self.values) (ap (λ (x : SiteView). x.end.node.0) c.site.view_is) c.filter.ensures.hears
+hears_own : (c : goal.After-copy_output) → Hears c.args.memory.now.filters c.filter.new.filters c.args.site.now.end.node.0 (take (c.max-room.result * 128) c.deref.result.now) c.filter.new.self.values
+hears_own c = subst (λ k. Hears c.args.memory.now.filters c.filter.new.filters k (take (c.max-room.result * 128) c.deref.result.now) c.filter.new.self.values) (ap (λ (x : SiteView). x.end.node.0) c.site.view_is) c.filter.ensures.hears
 
 pub returns-clause-renders : goal.returns-clause-renders
 returns-clause-renders c forward back is j earlier begins counted before ready =
     let s : SiteView = c.args.site.now in
-    let site = site_is s _ _ _ _ _ _ c.site.invariant c.site.view_is in
-    let filters : BankView = c.args.filters.now in
-    let own = has_heard s site filters c.args.blocks.now forward back is before ready in
+    let site = site_is s _ _ _ _ _ _ c.site.invariant.0 c.site.view_is in
+    let filters : BankView = c.args.memory.now.filters in
+    let own = has_heard s site c.args.memory.now c.args.blocks.now forward back is before ready in
     let channels : c.channels-channels.result ≡ counts_in s.counts s.end = c.channels-channels.ensures.count in
     let there : filter_at filters c.site.inside.end.node.0 ≡ Some own.filter = subst (λ k. filter_at filters k ≡ Some own.filter) (sym (ap (λ (x : SiteView). x.end.node.0) c.site.view_is)) own.there in
-    let lanes : c.max-room.result ≡ filter_room own.filter = lanes_are s site forward back is filters c.requires.room own.filter own.there c.room.result c.channels-channels.result c.max-room.result (c.room.ensures.room own.filter there) channels c.max-room.ensures in
+    let lanes : c.max-room.result ≡ filter_room own.filter = lanes_are s site forward back is filters c.requires.rooms.filter_rooms own.filter own.there c.room.result c.channels-channels.result c.max-room.result (c.room.ensures.room own.filter there) channels c.max-room.ensures in
     renders_own s site c.args.blocks.now c.requires.fit c.slot.result (c.slot.ensures ∙ ap (λ (x : SiteView). slot x.end) c.site.view_is) (ap outputs is) c.copy_output.new.self _
     (λ channel m low now.
     let low' : channel < c.channels-channels.result = subst (λ k. channel < k) (sym channels) low in
     let few : channel < c.max-room.result = lower c channel low' in
     c.copy_output.ensures.values channel m low' now
     ∙ carried_first c.filter.new.self c.channels-channels.result channel m low' (subst (λ k. channel < k) (sym c.filter.ensures.lanes) few)
-    ∙ puts_out s site filters c.args.blocks.now forward back is before ready _ c.filter.new.self.values c.filter.new.filters (hears_own c) (heard_brings c forward back is before ready counted) site.begun.time channel m (subst (λ k. channel < k) lanes few) now)
+    ∙ puts_out s site c.args.memory.now c.args.blocks.now forward back is before ready _ c.filter.new.self.values c.filter.new.filters (hears_own c) (heard_brings c forward back is before ready counted) site.begun.time channel m (subst (λ k. channel < k) lanes few) now)
   where
     lower : (c : goal.After-copy_output) → (k : ℕ) → k < c.channels-channels.result → k < c.max-room.result
     lower c k low = let most = c.max-room.ensures in grind arith
@@ -90,15 +90,15 @@ returns-clause-listens c = record {
   others = (hears_own c).others;
   own = λ forward back is j earlier begins counted before ready.
       let s : SiteView = c.args.site.now in
-      let site = site_is s _ _ _ _ _ _ c.site.invariant c.site.view_is in
-      hears_on s site c.args.filters.now c.args.blocks.now forward back is before ready _ c.filter.new.self.values c.filter.new.filters (hears_own c) (heard_brings c forward back is before ready counted) site.begun.time;
+      let site = site_is s _ _ _ _ _ _ c.site.invariant.0 c.site.view_is in
+      hears_on s site c.args.memory.now c.args.blocks.now forward back is before ready _ c.filter.new.self.values c.filter.new.filters (hears_own c) (heard_brings c forward back is before ready counted) site.begun.time;
 }
 
 pub returns-clause-room : goal.returns-clause-room
 returns-clause-room c n g is low = elim (this_or_other n c.args.site.now.end.node.0) [
   | inl here ↦
       let old = (hears_own c).rooms g (subst (λ k. filter_at c.filter.new.filters k ≡ Some g) here is) in
-      let fits = c.requires.room c.args.site.now.end.node.0 old.0 old.1 (subst (λ k. 2 * k + 1 < length c.args.site.now.counts) here low) in
+      let fits = c.requires.rooms.filter_rooms c.args.site.now.end.node.0 old.0 old.1 (subst (λ k. 2 * k + 1 < length c.args.site.now.counts) here low) in
       subst (λ k. (slice_index_or c.args.site.now.counts (2 * k + 1) 1 ≤ filter_room g) × (filter_room g ≤ 32)) (sym here) (rw old.2 fits)
-  | inr apart ↦ c.requires.room n g (sym ((hears_own c).others n apart) ∙ is) low
+  | inr apart ↦ c.requires.rooms.filter_rooms n g (sym ((hears_own c).others n apart) ∙ is) low
 ]

@@ -23,13 +23,13 @@ take_input-requires-clause-high c =
 
 pub bounds-blocks-slot : goal.bounds-blocks-slot
 bounds-blocks-slot c =
-    let site = site_is c.args.site.now _ _ _ _ _ _ c.site.invariant c.site.view_is in
+    let site = site_is c.args.site.now _ _ _ _ _ _ c.site.invariant.0 c.site.view_is in
     own_within c.args.site.now site c.args.blocks.now c.requires.fit c.slot.result (c.slot.ensures ∙ ap (λ (x : SiteView). slot x.end) c.site.view_is)
 
 pub copy-requires : goal.copy-requires
 copy-requires c =
     let s : SiteView = c.args.site.now in
-    let site = site_is s _ _ _ _ _ _ c.site.invariant c.site.view_is in
+    let site = site_is s _ _ _ _ _ _ c.site.invariant.0 c.site.view_is in
     let here = c.slot.ensures ∙ ap (λ (x : SiteView). slot x.end) c.site.view_is in
     let heard : c.self.inside.heard ≡ c.take_input.new.self.heard = ap (λ (b : BenchView). b.heard) c.self.view_is in
     let mono = mono_own s site c.args.blocks.now c.requires.fit c.slot.result here (ap is_mono c.requires.kind.1) in
@@ -40,7 +40,7 @@ copy-requires c =
 pub returns-clause-writes : goal.returns-clause-writes
 returns-clause-writes c =
     let s : SiteView = c.args.site.now in
-    let site = site_is s _ _ _ _ _ _ c.site.invariant c.site.view_is in
+    let site = site_is s _ _ _ _ _ _ c.site.invariant.0 c.site.view_is in
     let here = c.slot.ensures ∙ ap (λ (x : SiteView). slot x.end) c.site.view_is in
     let heard : c.self.inside.heard ≡ c.take_input.new.self.heard = ap (λ (b : BenchView). b.heard) c.self.view_is in
     let mono = mono_own s site c.args.blocks.now c.requires.fit c.slot.result here (ap is_mono c.requires.kind.1) in
@@ -52,7 +52,7 @@ returns-clause-writes c =
 pub returns-clause-renders : goal.returns-clause-renders
 returns-clause-renders c ports kind j earlier begins counted before output channel m low below now =
     let s : SiteView = c.args.site.now in
-    let site = site_is s _ _ _ _ _ _ c.site.invariant c.site.view_is in
+    let site = site_is s _ _ _ _ _ _ c.site.invariant.0 c.site.view_is in
     let here = c.slot.ensures ∙ ap (λ (x : SiteView). slot x.end) c.site.view_is in
     let heard : c.self.inside.heard ≡ c.take_input.new.self.heard = ap (λ (b : BenchView). b.heard) c.self.view_is in
     let are : c.outputs.result ≡ ports = c.outputs.ensures.count ∙ ap outputs kind in

@@ -20,7 +20,7 @@ use Rattle.quantum_render.proofs.Rendering.{site_is}
 use Rattle.quantum_render.proofs.bench.Bench.take_input.Goals as goal
 
 pub attrs-requires : goal.attrs-requires
-attrs-requires c = end_low c.site.inside.world.now c.site.invariant.valid c.site.inside.end c.site.invariant.there
+attrs-requires c = end_low c.site.inside.world.now c.site.invariant.0.valid c.site.inside.end c.site.invariant.0.there
 
 -- the lone connection is the first of the site
 source_of : (s : SiteView) → IsSite s.world s.end s.into s.counts s.levels s.first → (blocks : List BlockView) → AreFit s.world s.counts blocks → (e : Edge) → into s.world.graph.value s.end.node.0 ≡ e ∷ [] → IsSource s.counts blocks e
@@ -31,13 +31,13 @@ source_of s site blocks fit e only =
 
 pub bounds-blocks-slot : goal.bounds-blocks-slot
 bounds-blocks-slot c =
-    let site = site_is c.args.site.now _ _ _ _ _ _ c.site.invariant c.site.view_is in
+    let site = site_is c.args.site.now _ _ _ _ _ _ c.site.invariant.0 c.site.view_is in
     let source = source_of c.args.site.now site c.args.blocks.now c.requires.fit c.in-Some.edge c.in-Some.ensures.only in
     subst (λ k. k < length c.args.blocks.now) (sym (c.slot.ensures ∙ ap slot c.reader.ensures)) source.block
 
 pub copy_output-requires-clause-output : goal.copy_output-requires-clause-output
 copy_output-requires-clause-output c =
-    let site = site_is c.args.site.now _ _ _ _ _ _ c.site.invariant c.site.view_is in
+    let site = site_is c.args.site.now _ _ _ _ _ _ c.site.invariant.0 c.site.view_is in
     let source = source_of c.args.site.now site c.args.blocks.now c.requires.fit c.in-Some.edge c.in-Some.ensures.only in
     let place = c.slot.ensures ∙ ap slot c.reader.ensures in
     let block = c.index-blocks-slot.is ∙ get_or_default c.args.blocks.now c.slot.result c.index-blocks-slot.result no_block (rw place source.block) ∙ ap (λ k. slice_index_or c.args.blocks.now k no_block) place in
@@ -47,7 +47,7 @@ copy_output-requires-clause-output c =
 pub returns-in-Some-clause-input : goal.returns-in-Some-clause-input
 returns-in-Some-clause-input c channels channel m low now =
     let s : SiteView = c.args.site.now in
-    let site = site_is s _ _ _ _ _ _ c.site.invariant c.site.view_is in
+    let site = site_is s _ _ _ _ _ _ c.site.invariant.0 c.site.view_is in
     let e : Edge = c.in-Some.edge in
     let lone : IsLone s _ e = c.in-Some.ensures in
     let source = source_of s site c.args.blocks.now c.requires.fit e lone.only in
@@ -61,7 +61,7 @@ returns-in-Some-clause-input c channels channel m low now =
 pub returns-clause-input : goal.returns-clause-input
 returns-clause-input c channels channel m low now =
     let s : SiteView = c.args.site.now in
-    let site = site_is s _ _ _ _ _ _ c.site.invariant c.site.view_is in
+    let site = site_is s _ _ _ _ _ _ c.site.invariant.0 c.site.view_is in
     let blocks : List BlockView = c.args.blocks.now in
     let low' : channel < c.gather.new.self.count = subst (λ n. channel < n) (sym c.gather.ensures.count) low in
     c.saturate.ensures.values channel m low' now

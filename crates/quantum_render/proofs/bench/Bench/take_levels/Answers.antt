@@ -1,123 +1,43 @@
-use Rattle.std.proofs.Common.{ℕ, ℤ, ◌≡◌, ◌<◌, ◌+◌, ◌+ℤ◌, slice_index_or, map, filter, Bool, true, false, refl, sym, ◌∙◌, ap, arith, subst}
-use Rattle.std.proofs.Math.IntN.{+ℤ_idr}
-use Rattle.std.proofs.lemmas.List.{get_or_default}
-use Rattle.wa_base.specs.Numbers.{sat}
-use Rattle.wa_base.specs.declared.graph_names.ParamId.{ParamId}
-use Rattle.wa_base.specs.declared.graph_names.ParamName.{ParamName}
-use Rattle.meaning.specs.declared.world.World.{World}
-use Rattle.std.specs.Prelude.{if◌then◌else◌, is_some}
-use Rattle.wa_base.specs.declared.graph_names.Interp.TheVariants.{Speakers}
-use Rattle.channel_mix.specs.Mixing.{total}
-use Rattle.conn_graph.specs.declared.edges.Target.TheVariants.{Param}
-use Rattle.std.specs.List.{list_any}
-use Rattle.law_base.specs.Members.{IsIn}
-use Rattle.meaning.specs.Validity.{param_ids}
-use Rattle.meaning.specs.Values.{part}
-use Rattle.meaning.specs.World.{plain, kind_of, is_k, is_k_rate, intrinsic_value, param_id}
-use Rattle.automation.specs.Levels.{LevelView, HasRoom, level_at, level_of, no_level}
-use Rattle.quantum_render.specs.Blocks.{frame_of}
-use Rattle.quantum_render.specs.Connections.{leads_to}
-use Rattle.quantum_render.specs.Sums.{sum_at}
-use Rattle.quantum_render.specs.Sites.{SiteView, IsSite}
-use Rattle.node_table.specs.Kinds.{param_base}
+use Rattle.std.proofs.Common.{ℤ, pos, negsuc, ◌≡◌, ◌+◌, Some, ◌∙◌, ap, ap₂, arith, subst, FitsSigned}
+use Rattle.std.specs.Int.{w32}
+use Rattle.std.proofs.lemmas.Int.{ints, to_z-of_z}
+use Rattle.wa_base.specs.Numbers.{IsFix}
+use Rattle.node_table.specs.Kinds.{IsInEntry}
+use Rattle.node_table.specs.Nodes.{kind_at}
+use Rattle.meaning.specs.World.{param_id, up_to}
+use Rattle.meaning.proofs.NodeKinds.{entry_there}
+use Rattle.quantum_render.specs.Benches.{BenchView}
+use Rattle.quantum_render.specs.Blocks.{BlockView, at}
+use Rattle.quantum_render.specs.Renders.{past_of, here_of}
+use Rattle.quantum_render.specs.Sites.{SiteView}
+use Rattle.quantum_render.proofs.LevelLaws.{computed_is, delay_is}
+use Rattle.quantum_render.proofs.Rendering.{site_is, site_kind}
 use Rattle.quantum_render.proofs.Sources.{end_low}
-use Rattle.quantum_render.proofs.Automated.{has_param, has_room, level_within, rate_is, intrinsic_is}
-use Rattle.quantum_render.proofs.InputLaws.{sat_of_fix}
-use Rattle.quantum_render.proofs.LevelLaws.{taken_at, level_is, level_unreached, computed_is}
-use Rattle.quantum_render.proofs.Rendering.{site_is}
 use Rattle.quantum_render.proofs.bench.Bench.take_levels.Goals as goal
 
--- the parameter that the kind has is there
-is_there : (s : SiteView) → IsSite s.world s.end s.into s.counts s.levels s.first → (name : ParamName) → is_some (param_base (kind_of s.world s.end.node.0) name) ≡ true → IsIn (param_id s.end.node.0 name) (param_ids s.world)
-is_there s site name some = has_param s.world site.valid s.end.node.0 name (end_low s.world site.valid s.end site.there) some
+fix_fits : (x : ℤ) → IsFix x → FitsSigned w32 x
+fix_fits (pos n) is = let high = is.1 in omega (arith, ints)
+fix_fits (negsuc n) is = let low = is.0 in omega (arith, ints)
 
-pub bounds-site-inside-site-inside : goal.bounds-site-inside-site-inside
-bounds-site-inside-site-inside c =
-    level_within c.site.inside.world.now c.site.invariant.valid c.site.inside.first c.site.inside.levels.now c.site.invariant.levels (param_id c.site.inside.end.node.0 c.args.name)
-    (subst (λ (x : SiteView). IsIn (param_id x.end.node.0 c.args.name) (param_ids x.world)) (sym c.site.view_is)
-    (is_there c.args.site.now (site_is c.args.site.now _ _ _ _ _ _ c.site.invariant c.site.view_is) c.args.name c.requires.there))
+pub kind-requires : goal.kind-requires
+kind-requires c = end_low c.site.inside.world.now c.site.invariant.0.valid c.site.inside.end c.site.invariant.0.there
 
-pub take_level-requires-clause-level : goal.take_level-requires-clause-level
-take_level-requires-clause-level c =
-    let there = subst (λ (x : SiteView). IsIn (param_id x.end.node.0 c.args.name) (param_ids x.world)) (sym c.site.view_is)
-    (is_there c.args.site.now (site_is c.args.site.now _ _ _ _ _ _ c.site.invariant c.site.view_is) c.args.name c.requires.there) in
-    let w = c.site.inside.world.now in
-    let id = param_id c.site.inside.end.node.0 c.args.name in
-    subst HasRoom (get_or_default c.site.inside.levels.now c.site.inside.end.node.0 no_level c.index-site-site.result (level_within w c.site.invariant.valid c.site.inside.first c.site.inside.levels.now c.site.invariant.levels id there))
-    (has_room w c.site.invariant.valid c.site.inside.first c.site.inside.levels.now c.site.invariant.levels id there)
-
--- the level that is at hand is that of the site's node
-here : (s : SiteView) → IsSite s.world s.end s.into s.counts s.levels s.first → (name : ParamName) → IsIn (param_id s.end.node.0 name) (param_ids s.world) → (level d : LevelView)
-    → level ≡ slice_index_or s.levels s.end.node.0 d → level_of s.levels s.end.node.0 ≡ level
-here s site name there level d is =
-    get_or_default s.levels s.end.node.0 no_level d (level_within s.world site.valid s.first s.levels site.levels (param_id s.end.node.0 name) there) ∙ sym is
-
-intrinsic : (s : SiteView) → IsSite s.world s.end s.into s.counts s.levels s.first → (name : ParamName) → IsIn (param_id s.end.node.0 name) (param_ids s.world) → (level d : LevelView)
-    → level ≡ slice_index_or s.levels s.end.node.0 d → (m : ℕ) → m < 128 → intrinsic_value s.world (param_id s.end.node.0 name) (s.first + taken_at s.world (param_id s.end.node.0 name) m) ≡ level_at level m
-intrinsic s site name there level d is m now =
-    intrinsic_is s.world site.valid s.first s.levels site.levels (param_id s.end.node.0 name) there m now ∙ ap (λ (l : LevelView). level_at l m) (here s site name there level d is)
-
-rate : (s : SiteView) → IsSite s.world s.end s.into s.counts s.levels s.first → (name : ParamName) → IsIn (param_id s.end.node.0 name) (param_ids s.world) → (level d : LevelView)
-    → level ≡ slice_index_or s.levels s.end.node.0 d → is_k_rate s.world (param_id s.end.node.0 name) ≡ is_k level.rate
-rate s site name there level d is = rate_is s.world site.valid s.first s.levels site.levels (param_id s.end.node.0 name) there ∙ ap (λ (l : LevelView). is_k l.rate) (here s site name there level d is)
-
--- at k-rate all frames take the first one's
-at_first : (w : World) (id : ParamId) (m : ℕ) → is_k_rate w id ≡ true → taken_at w id 0 ≡ taken_at w id m
-at_first w id m k = ap (λ (b : Bool). if b then 0 else 0) k ∙ ap (λ (b : Bool). if b then 0 else m) (sym k)
-
-pub returns-then-not-is_reached-clause-levels : goal.returns-then-not-is_reached-clause-levels
-returns-then-not-is_reached-clause-levels c before m now =
+-- the longest delay is a Fix
+pub returns-in-Delay-clause-levels : goal.returns-in-Delay-clause-levels
+returns-in-Delay-clause-levels c before m now =
     let s : SiteView = c.args.site.now in
-    let site = site_is s _ _ _ _ _ _ c.site.invariant c.site.view_is in
-    let d : LevelView = c.index-site-site.result in
-    let level : LevelView = slice_index_or c.site.inside.levels.now c.site.inside.end.node.0 d in
-    let is = subst (λ (x : SiteView). level ≡ slice_index_or x.levels x.end.node.0 d) c.site.view_is refl in
-    let value : ℤ = level_at level m in
-    c.take_level.ensures.values m now
-    ∙ sym (sat_of_fix value (c.take_level.ensures.fit m now))
-    ∙ ap sat (sym (+ℤ_idr value))
-    ∙ level_unreached (plain s.world) c.args.blocks.now s.counts (param_id s.end.node.0 c.args.name) s.first m s.into value (is_k level.rate) (site.valid.no_delay s.end.node.0) now
-    site.into
-    (intrinsic s site c.args.name (is_there s site c.args.name c.requires.there) level d is m now)
-    (rate s site c.args.name (is_there s site c.args.name c.requires.there) level d is)
-    (subst (λ (x : SiteView). list_any (leads_to (Param (param_id x.end.node.0 c.args.name))) x.into ≡ false) c.site.view_is (sym c.is_reached.ensures ∙ c.if-not-is_reached.true))
-    ∙ computed_is (plain s.world) c.args.blocks.now s.counts before s.first m site.begun now (param_id s.end.node.0 c.args.name)
+    let site = site_is s _ _ _ _ _ _ c.site.invariant.0 c.site.view_is in
+    let kind = site_kind s site c.kind.result.now (subst (λ (x : SiteView). kind_at x.world.nodes x.end.node.0 ≡ Some c.kind.result.now) c.site.view_is c.kind.ensures.value) ∙ c.in-Delay.is in
+    let fix = (subst IsInEntry kind (entry_there s.world site.valid s.end.node.0)).0 in
+    let levels : c.self.inside.levels ≡ c.take_sums.new.self.levels = ap (λ (b : BenchView). b.levels) c.self.view_is in
+    c.up_to.ensures.values m now
+    ∙ ap₂ up_to (to_z-of_z _ _ (fix_fits _ fix)) (ap (λ (b : BlockView). at b 0 m) levels ∙ c.take_sums.ensures.levels before m now)
+    ∙ delay_is (s.first + m) (past_of s c.args.blocks.now before) (here_of s c.args.blocks.now m) (param_id s.end.node.0 c.args.name) _ _ _ kind fix
 
-pub returns-in-A-clause-levels : goal.returns-in-A-clause-levels
-returns-in-A-clause-levels c before m now =
+pub returns-in_default-clause-levels : goal.returns-in_default-clause-levels
+returns-in_default-clause-levels c before m now =
     let s : SiteView = c.args.site.now in
-    let site = site_is s _ _ _ _ _ _ c.site.invariant c.site.view_is in
-    let d : LevelView = c.index-site-site.result in
-    let level : LevelView = slice_index_or c.site.inside.levels.now c.site.inside.end.node.0 d in
-    let is = subst (λ (x : SiteView). level ≡ slice_index_or x.levels x.end.node.0 d) c.site.view_is refl in
-    c.add.ensures.values m now
-    ∙ ap (λ v. sat (v +ℤ sat (sum_at c.gather.new.self 0 m))) (c.take_level.ensures.values m now)
-    ∙ level_is (plain s.world) c.args.blocks.now s.counts (param_id s.end.node.0 c.args.name) s.first m s.into (λ k. sum_at c.gather.new.self 0 k) (level_at level m) false (site.valid.no_delay s.end.node.0) now
-    site.into
-    (intrinsic s site c.args.name (is_there s site c.args.name c.requires.there) level d is m now)
-    (rate s site c.args.name (is_there s site c.args.name c.requires.there) level d is ∙ ap is_k (sym c.rate.ensures ∙ c.in-A.is))
-    (λ k low.
-    subst (λ (x : SiteView). sum_at c.gather.new.self 0 k ≡ total (map (part (frame_of (plain s.world) c.args.blocks.now s.counts k) Speakers 1 0) (filter (leads_to (Param (param_id x.end.node.0 c.args.name))) s.into))) c.site.view_is
-    (c.gather.ensures.sums (plain s.world) 0 k (omega arith) low))
-    ∙ computed_is (plain s.world) c.args.blocks.now s.counts before s.first m site.begun now (param_id s.end.node.0 c.args.name)
-
-pub returns-in-K-clause-levels : goal.returns-in-K-clause-levels
-returns-in-K-clause-levels c before m now =
-    let s : SiteView = c.args.site.now in
-    let site = site_is s _ _ _ _ _ _ c.site.invariant c.site.view_is in
-    let d : LevelView = c.index-site-site.result in
-    let level : LevelView = slice_index_or c.site.inside.levels.now c.site.inside.end.node.0 d in
-    let is = subst (λ (x : SiteView). level ≡ slice_index_or x.levels x.end.node.0 d) c.site.view_is refl in
-    let k_rate = rate s site c.args.name (is_there s site c.args.name c.requires.there) level d is ∙ ap is_k (sym c.rate.ensures ∙ c.in-K.is) in
-    c.hold_first.ensures.values m now
-    ∙ c.add.ensures.values 0 (omega arith)
-    ∙ ap (λ v. sat (v +ℤ sat (sum_at c.gather.new.self 0 0))) (c.take_level.ensures.values 0 (omega arith))
-    ∙ level_is (plain s.world) c.args.blocks.now s.counts (param_id s.end.node.0 c.args.name) s.first m s.into (λ k. sum_at c.gather.new.self 0 k) (level_at level 0) true (site.valid.no_delay s.end.node.0) now
-    site.into
-    (subst (λ j. intrinsic_value s.world (param_id s.end.node.0 c.args.name) (s.first + j) ≡ level_at level 0)
-    (at_first s.world (param_id s.end.node.0 c.args.name) m k_rate) (intrinsic s site c.args.name (is_there s site c.args.name c.requires.there) level d is 0 (omega arith)))
-    k_rate
-    (λ k low.
-    subst (λ (x : SiteView). sum_at c.gather.new.self 0 k ≡ total (map (part (frame_of (plain s.world) c.args.blocks.now s.counts k) Speakers 1 0) (filter (leads_to (Param (param_id x.end.node.0 c.args.name))) s.into))) c.site.view_is
-    (c.gather.ensures.sums (plain s.world) 0 k (omega arith) low))
-    ∙ computed_is (plain s.world) c.args.blocks.now s.counts before s.first m site.begun now (param_id s.end.node.0 c.args.name)
+    let site = site_is s _ _ _ _ _ _ c.site.invariant.0 c.site.view_is in
+    let kind = site_kind s site c.kind.result.now (subst (λ (x : SiteView). kind_at x.world.nodes x.end.node.0 ≡ Some c.kind.result.now) c.site.view_is c.kind.ensures.value) in
+    c.take_sums.ensures.levels before m now
+    ∙ computed_is (s.first + m) (past_of s c.args.blocks.now before) (here_of s c.args.blocks.now m) (param_id s.end.node.0 c.args.name) c.kind.result.now kind c.in_default.not-Delay

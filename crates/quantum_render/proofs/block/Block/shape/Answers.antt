@@ -1,4 +1,4 @@
-use Rattle.std.proofs.Common.{rules, ◌*◌, ◌+◌, ◌∷◌, [], sym, ◌∙◌, ap, arith}
+use Rattle.std.proofs.Common.{◌*◌, ◌+◌, ◌∷◌, [], sym, ◌∙◌, ap, arith}
 use Rattle.causal_core.specs.Curves.{shaper_value}
 use Rattle.quantum_render.proofs.Made.{front_at}
 use Rattle.quantum_render.proofs.Holding.{steady_is}

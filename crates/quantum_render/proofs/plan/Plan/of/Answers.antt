@@ -1,4 +1,4 @@
-use Rattle.std.proofs.Common.{ℕ, ◌≡◌, ◌<◌, List, [], length, slice_index_or, refl, sym, ◌∙◌, ap, subst}
+use Rattle.std.proofs.Common.{ℕ, ◌≡◌, ◌<◌, List, [], length, slice_index_or, All, Bool, false, refl, sym, ◌∙◌, ap, subst}
 use Rattle.std.specs.Prelude.{filter}
 use Rattle.wa_base.specs.declared.graph_names.End.{End}
 use Rattle.law_base.specs.Members.{IsIn}
@@ -8,8 +8,11 @@ use Rattle.conn_graph.specs.Cells.{enters}
 use Rattle.conn_graph.specs.Ends.{ends, muted}
 use Rattle.conn_graph.specs.Graph.{Connections}
 use Rattle.conn_graph.specs.Orders.{IsLegalOrder}
-use Rattle.cycle_order.specs.Surveys.{muted_ends}
-use Rattle.quantum_render.specs.Plans.{IsPlanOf}
+use Rattle.cycle_order.specs.Surveys.{muted_ends, delays_in_cycle}
+use Rattle.quantum_render.proofs.Cycles.{has_number_of, listed_below, cycle_listed}
+use Rattle.wa_base.specs.declared.graph_names.NodeId.{NodeId}
+use Rattle.std.specs.List.{list_any}
+use Rattle.quantum_render.specs.Plans.{IsPlanOf, AreCycles}
 use Rattle.quantum_render.proofs.plan.Plan.of.Goals as goal
 
 plan_is : (g : Connections) (order mute : List End) (sources : List (List Edge)) → IsLegalOrder g order → mute ≡ muted_ends g → length sources ≡ length g.nodes
@@ -23,12 +26,19 @@ plan_is g order mute sources legal marks nodes each = record {
   each = λ n l. each n (subst (λ k. n < k) nodes l);
 }
 
+cycles_are : (g : Connections) (listed : List NodeId) (marks : List Bool) → listed ≡ delays_in_cycle g → length marks ≡ length g.nodes → ((n : ℕ) → n < length g.nodes → slice_index_or marks n false ≡ list_any (has_number_of n) listed) → AreCycles g marks
+cycles_are g listed marks is long each = record {
+  count = long;
+  marked = λ n l. each n l ∙ ap (list_any (has_number_of n)) is ∙ cycle_listed g n l;
+}
+
 pub returns : goal.returns
 returns g c =
     let nodes = c.in_ok-into.ensures.length ∙ c.len.ensures.number in
     record {
       plan = plan_is c.args.world.now.graph.value _ _ _ c.in_ok-ordered.ensures.legal c.in_ok-marks.ensures.muted nodes
           (λ n l. c.in_ok-into.ensures.each n (subst (λ k. n < k) (sym c.len.ensures.number) l) ∙ ap (λ es. filter (enters n) es) (c.as_slice.ensures.value ∙ c.in_ok-all.ensures));
+      cycles = cycles_are c.args.world.now.graph.value _ _ (c.as_slice-2.ensures ∙ c.in_ok-marks.ensures.in_cycle) (c.in_ok-cycles.ensures.length ∙ c.len-2.ensures.number) (λ n l. c.in_ok-cycles.ensures.each n (subst (λ k. n < k) (sym c.len-2.ensures.number) l));
       order = c.in_ok-ordered.ensures.tie;
       tie = refl;
     }
@@ -40,4 +50,10 @@ invariant_of-result g c =
       plan_is c.args.world.now.graph.value _ _ _ c.in_ok-ordered.ensures.legal c.in_ok-marks.ensures.muted nodes
           (λ n l. c.in_ok-into.ensures.each n (subst (λ k. n < k) (sym c.len.ensures.number) l) ∙ ap (λ es. filter (enters n) es) (c.as_slice.ensures.value ∙ c.in_ok-all.ensures)),
       c.in_ok-ordered.ensures.tie,
+      cycles_are c.args.world.now.graph.value _ _ (c.as_slice-2.ensures ∙ c.in_ok-marks.ensures.in_cycle) (c.in_ok-cycles.ensures.length ∙ c.len-2.ensures.number) (λ n l. c.in_ok-cycles.ensures.each n (subst (λ k. n < k) (sym c.len-2.ensures.number) l)),
     )
+
+pub marked-requires : goal.marked-requires
+marked-requires g c =
+    subst (λ (ids : List NodeId). All (λ (id : NodeId). id.0 < c.len-2.result) ids) (sym (c.as_slice-2.ensures ∙ c.in_ok-marks.ensures.in_cycle))
+    (subst (λ k. All (λ (id : NodeId). id.0 < k) (delays_in_cycle c.args.world.now.graph.value)) (sym c.len-2.ensures.number) (listed_below c.args.world.now.graph.value))

@@ -7,23 +7,27 @@ use Rattle.meaning.specs.declared.world.World.{World}
 use Rattle.meaning.specs.Rendered.{sample}
 use Rattle.quantum_render.specs.Blocks.{BlockView, no_block, shown, slot, block_of}
 use Rattle.quantum_render.specs.Plans.{AreCounted}
-use Rattle.quantum_render.specs.Stands.{RendererView, StandsFor}
+use Rattle.quantum_render.specs.Stands.{RendererView, past_writer, StandsFor, HasMemory}
 use Rattle.meaning.specs.declared.params.Param.{Param}
 use Rattle.automation.specs.Ready.{AreOfNodes}
 use Rattle.quantum_render.proofs.Automated.{of_nodes}
 use Rattle.meaning.specs.Worlds.{IsRegular}
 use Rattle.meaning.specs.Pasts.{last_world, past}
-use Rattle.filter_bank.specs.Banks.{AreHeard, AreNew, HaveRoom}
-use Rattle.quantum_render.specs.Listening.{HasHeard}
+use Rattle.filter_bank.specs.Banks.{AreHeard}
+use Rattle.delay_bank.specs.Banks.{AreKept}
+use Rattle.quantum_render.specs.Listening.{IsMemory, HasRooms}
+use Rattle.quantum_render.proofs.Kept.{remembered_delays, remember_delays, timely}
 use Rattle.quantum_render.proofs.Remembering.{remembered, remembers_on, last_few, last_now}
 use Rattle.quantum_render.proofs.Made.{rewritten}
 use Rattle.quantum_render.proofs.OutLaws.{destination_lanes, out_is}
 use Rattle.quantum_render.proofs.renderer.Renderer.pass.Goals as goal
 
--- the filters have heard what came before
-ready : (r : RendererView) (w : World) (tape : List World) → StandsFor r tape → IsRegular 128 (tape ++ w ∷ []) → (first : ℕ) → first ≡ 128 * r.quanta → first ≡ 128 * length tape → AreNew r.filters w → HasHeard r.filters w tape first
-ready r w tape stands regular first is begins fresh =
-    remembered w tape regular r.filters first begins stands.nodes (subst (λ t. AreHeard r.filters (last_world tape) t (past 128 tape).heard) (sym is) stands.filters) fresh
+-- the memory is that of what came before
+ready : (r : RendererView) (w : World) (tape : List World) → StandsFor r tape → IsRegular 128 (tape ++ w ∷ []) → (first : ℕ) → first ≡ 128 * r.quanta → first ≡ 128 * length tape → HasMemory r w → IsMemory r.memory w tape first
+ready r w tape stands regular first is begins has = record {
+  heard = remembered w tape regular r.memory.filters first begins stands.nodes.0 (subst (λ t. AreHeard r.memory.filters (last_world tape) t (past 128 tape).heard) (sym is) stands.filters) has.fresh_filters;
+  kept = remembered_delays w tape regular r.memory.delays first begins stands.nodes.1 (subst (λ t. AreKept r.memory.delays (last_world tape) t (past_writer (past 128 tape))) (sym is) stands.delays) has.fresh_delays;
+}
 
 pub returns-clause-shows : goal.returns-clause-shows
 returns-clause-shows g c tape stands regular channel m few now =
@@ -40,7 +44,7 @@ returns-clause-shows g c tape stands regular channel m few now =
     c.index-blocks-slot.is ∙ get_or_default c.render_quantum.new.blocks c.slot.result c.index-blocks-slot.result no_block there ∙ ap (λ k. slice_index_or c.render_quantum.new.blocks k no_block) place in
     let longer : length (tape ++ w ∷ []) ≡ length tape + 1 = length-append tape (w ∷ []) in
     ap (λ xs. channel_sample 128 xs channel m) (rewritten _ c.copy_out.new.out _ (c.copy_out.ensures.length ∙ sym c.self.invariant.out ∙ sym (ap length c.as_mut_slice.ensures.value) ∙ c.as_mut_slice.ensures.len))
-    ∙ out_is w c.requires.valid tape c.render_quantum.new.blocks counts c.copy_out.new.out channel m counted (c.render_quantum.ensures.values tape begins counted (subst (λ (r : RendererView). HasHeard r.filters w tape c.args.first) (sym c.self.view_is) (ready c.args.self.now w tape stands regular c.args.first c.requires.first begins c.requires.grown.counted.filters.fresh)))
+    ∙ out_is w c.requires.valid tape c.render_quantum.new.blocks counts c.copy_out.new.out channel m counted (c.render_quantum.ensures.values tape begins counted (timely w tape regular) (subst (λ (r : RendererView). IsMemory r.memory w tape c.args.first) (sym c.self.view_is) (ready c.args.self.now w tape stands regular c.args.first c.requires.first begins c.requires.grown.counted.memory)))
     (λ k l low short. c.copy_out.ensures.values k l low short ∙ ap (λ (b : BlockView). shown b l k) block)
     (destination_lanes w c.requires.valid c.render_quantum.new.blocks counts fit)
     (subst (λ (s : ContextSpec). channel < s.channels) (ap (λ (r : RendererView). r.spec) c.self.view_is ∙ sym c.requires.spec) few) now
@@ -51,8 +55,13 @@ take-requires-clause-nodes g c = (length c.args.world.now.nodes, subst (λ (ps :
 
 pub render_quantum-requires-clause-rooms : goal.render_quantum-requires-clause-rooms
 render_quantum-requires-clause-rooms g c =
-    subst (λ ns. HaveRoom c.self.inside.filters ns) (sym c.as_slice-2.ensures.value)
-    (subst (λ (r : RendererView). HaveRoom r.filters r.counts) (sym c.self.view_is) c.requires.grown.rooms)
+    subst (λ ns. HasRooms c.self.inside.memory c.args.world.now ns) (sym c.as_slice-2.ensures.value)
+    (subst (λ (r : RendererView). HasRooms r.memory c.args.world.now r.counts) (sym c.self.view_is) (record {
+      filters = let e = c.requires.grown.counted.memory.filter_count in grind arith;
+      delays = let e = c.requires.grown.counted.memory.delay_count in grind arith;
+      filter_rooms = c.requires.grown.filter_rooms;
+      delay_rooms = c.requires.grown.delay_rooms;
+    }))
 
 pub returns-clause-stands : goal.returns-clause-stands
 returns-clause-stands g c tape stands regular =
@@ -61,17 +70,26 @@ returns-clause-stands g c tape stands regular =
     let begins : c.args.first ≡ 128 * length tape = c.requires.first ∙ ap (λ n. 128 * n) stands.quanta in
     let kept : counts ≡ c.args.self.now.counts = c.as_slice-2.ensures.value ∙ ap (λ (r : RendererView). r.counts) c.self.view_is in
     let counted : AreCounted 128 w counts tape = subst (λ cs. AreCounted 128 w cs tape) (sym kept) (c.requires.grown.counted.counted tape stands regular) in
-    let before = subst (λ (r : RendererView). HasHeard r.filters w tape c.args.first) (sym c.self.view_is) (ready c.args.self.now w tape stands regular c.args.first c.requires.first begins c.requires.grown.counted.filters.fresh) in
+    let before = subst (λ (r : RendererView). IsMemory r.memory w tape c.args.first) (sym c.self.view_is) (ready c.args.self.now w tape stands regular c.args.first c.requires.first begins c.requires.grown.counted.memory) in
     let longer : length (tape ++ w ∷ []) ≡ length tape + 1 = length-append tape (w ∷ []) in
     let quanta : c.self.inside.quanta + 1 ≡ length (tape ++ w ∷ []) = ap (λ (r : RendererView). r.quanta + 1) c.self.view_is ∙ ap (λ n. n + 1) stands.quanta ∙ sym longer in
     let ends : c.args.first + 128 ≡ 128 * length (tape ++ w ∷ []) = omega (arith, begins, longer) in
-    let nodes : length c.self.inside.filters.filters ≡ length w.nodes =
-    ap (λ (r : RendererView). length r.filters.filters) c.self.view_is ∙ c.requires.grown.counted.filters.count ∙ most c.args.self.now.filters.known (length w.nodes) (subst (λ k. k ≤ length w.nodes) (sym stands.nodes) (last_few w tape regular)) in
+    let few : length (last_world tape).nodes ≤ length w.nodes = last_few w tape regular in
+    let filter_nodes : length c.self.inside.memory.filters.filters ≡ length w.nodes =
+    ap (λ (r : RendererView). length r.memory.filters.filters) c.self.view_is ∙ c.requires.grown.counted.memory.filter_count ∙ most c.args.self.now.memory.filters.known (length w.nodes) (subst (λ k. k ≤ length w.nodes) (sym stands.nodes.0) few) in
+    let delay_nodes : length c.self.inside.memory.delays.delays ≡ length w.nodes =
+    ap (λ (r : RendererView). length r.memory.delays.delays) c.self.view_is ∙ c.requires.grown.counted.memory.delay_count ∙ most c.args.self.now.memory.delays.known (length w.nodes) (subst (λ k. k ≤ length w.nodes) (sym stands.nodes.1) few) in
+    let after = c.render_quantum.ensures.memory tape begins counted (timely w tape regular) before in
     record {
       quanta = quanta;
-      nodes = c.render_quantum.ensures.known ∙ nodes ∙ ap (λ (x : World). length x.nodes) (sym (last_now w tape regular));
-      filters = subst (λ t. AreHeard c.render_quantum.new.filters (last_world (tape ++ w ∷ [])) t (past 128 (tape ++ w ∷ [])).heard) (ends ∙ ap (λ n. 128 * n) (sym quanta))
-          (remembers_on w tape regular c.render_quantum.new.filters (c.args.first + 128) ends (c.render_quantum.ensures.heard tape begins counted before));
+      nodes = (
+        c.render_quantum.ensures.known.0 ∙ filter_nodes ∙ ap (λ (x : World). length x.nodes) (sym (last_now w tape regular)),
+        c.render_quantum.ensures.known.1 ∙ delay_nodes ∙ ap (λ (x : World). length x.nodes) (sym (last_now w tape regular)),
+      );
+      filters = subst (λ t. AreHeard c.render_quantum.new.memory.filters (last_world (tape ++ w ∷ [])) t (past 128 (tape ++ w ∷ [])).heard) (ends ∙ ap (λ n. 128 * n) (sym quanta))
+          (remembers_on w tape regular c.render_quantum.new.memory.filters (c.args.first + 128) ends after.heard);
+      delays = subst (λ t. AreKept c.render_quantum.new.memory.delays (last_world (tape ++ w ∷ [])) t (past_writer (past 128 (tape ++ w ∷ [])))) (ends ∙ ap (λ n. 128 * n) (sym quanta))
+          (remember_delays w tape regular c.render_quantum.new.memory.delays (c.args.first + 128) ends after.kept);
     }
   where
     most : (a b : ℕ) → a ≤ b → max a b ≡ b

@@ -6,28 +6,28 @@ use Rattle.quantum_render.proofs.Sources.{place_within}
 use Rattle.quantum_render.proofs.site.Site.channels.Goals as goal
 
 pub bounds-self-inside-slot : goal.bounds-self-inside-slot
-bounds-self-inside-slot c = place_within _ _ _ _ _ _ c.self.invariant c.slot.result c.slot.ensures
+bounds-self-inside-slot c = place_within _ _ _ _ _ _ c.self.invariant.0 c.slot.result c.slot.ensures
 
 pub offset_bounds-self-inside-slot : goal.offset_bounds-self-inside-slot
 offset_bounds-self-inside-slot c =
-    let within = place_within _ _ _ _ _ _ c.self.invariant c.slot.result c.slot.ensures in
-    let places = c.self.invariant.range.places in
-    let few = c.self.invariant.valid.nodes.few in
+    let within = place_within _ _ _ _ _ _ c.self.invariant.0 c.slot.result c.slot.ensures in
+    let places = c.self.invariant.0.range.places in
+    let few = c.self.invariant.0.valid.nodes.few in
     let low : c.slot.result < 2048 = omega arith in
     search rules
 
 pub returns-clause-count : goal.returns-clause-count
 returns-clause-count c =
-    get_or_default c.self.inside.counts.now c.slot.result 0 1 (place_within _ _ _ _ _ _ c.self.invariant c.slot.result c.slot.ensures)
+    get_or_default c.self.inside.counts.now c.slot.result 0 1 (place_within _ _ _ _ _ _ c.self.invariant.0 c.slot.result c.slot.ensures)
     ∙ ap (λ k. slice_index_or c.self.inside.counts.now k 1) c.slot.ensures
     ∙ ap (λ (s : SiteView). counts_in s.counts s.end) c.self.view_is
 
 pub returns-clause-low : goal.returns-clause-low
 returns-clause-low c =
-    let within = place_within _ _ _ _ _ _ c.self.invariant c.slot.result c.slot.ensures in
-    subst (λ n. 1 ≤ n) (sym (get_or_default c.self.inside.counts.now c.slot.result 0 1 within)) (c.self.invariant.range.low c.slot.result within)
+    let within = place_within _ _ _ _ _ _ c.self.invariant.0 c.slot.result c.slot.ensures in
+    subst (λ n. 1 ≤ n) (sym (get_or_default c.self.inside.counts.now c.slot.result 0 1 within)) (c.self.invariant.0.range.low c.slot.result within)
 
 pub returns-clause-high : goal.returns-clause-high
 returns-clause-high c =
-    let within = place_within _ _ _ _ _ _ c.self.invariant c.slot.result c.slot.ensures in
-    subst (λ n. n ≤ 32) (sym (get_or_default c.self.inside.counts.now c.slot.result 0 1 within)) (c.self.invariant.range.high c.slot.result within)
+    let within = place_within _ _ _ _ _ _ c.self.invariant.0 c.slot.result c.slot.ensures in
+    subst (λ n. n ≤ 32) (sym (get_or_default c.self.inside.counts.now c.slot.result 0 1 within)) (c.self.invariant.0.range.high c.slot.result within)

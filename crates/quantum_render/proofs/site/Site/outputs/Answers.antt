@@ -8,13 +8,13 @@ use Rattle.quantum_render.proofs.Sources.{end_low}
 use Rattle.quantum_render.proofs.site.Site.outputs.Goals as goal
 
 pub kind-requires : goal.kind-requires
-kind-requires c = end_low c.self.inside.world.now c.self.invariant.valid c.self.inside.end c.self.invariant.there
+kind-requires c = end_low c.self.inside.world.now c.self.invariant.0.valid c.self.inside.end c.self.invariant.0.there
 
 pub returns-clause-count : goal.returns-clause-count
 returns-clause-count c =
-    c.outputs.ensures ∙ ap outputs (sym (kind_is c.self.inside.world.now c.self.inside.end.node.0 c.kind.result.now (end_low c.self.inside.world.now c.self.invariant.valid c.self.inside.end c.self.invariant.there) c.kind.ensures.value))
+    c.outputs.ensures ∙ ap outputs (sym (kind_is c.self.inside.world.now c.self.inside.end.node.0 c.kind.result.now (end_low c.self.inside.world.now c.self.invariant.0.valid c.self.inside.end c.self.invariant.0.there) c.kind.ensures.value))
     ∙ ap (λ (x : SiteView). outputs (kind_of x.world x.end.node.0)) c.self.view_is
 
 pub returns-clause-ports : goal.returns-clause-ports
 returns-clause-ports c =
-    subst (λ (x : SiteView). IsInLimits (kind_of x.world x.end.node.0)) c.self.view_is (limits_there c.self.inside.world.now c.self.invariant.valid c.self.inside.end.node.0)
+    subst (λ (x : SiteView). IsInLimits (kind_of x.world x.end.node.0)) c.self.view_is (limits_there c.self.inside.world.now c.self.invariant.0.valid c.self.inside.end.node.0)

@@ -17,11 +17,11 @@ use Rattle.quantum_render.proofs.sums.Sums.gather.Goals as goal
 
 pub hear-requires-clause-source : goal.hear-requires-clause-source
 hear-requires-clause-source c =
-    source_is _ _ _ _ _ _ c.args.blocks.now c.site.invariant (subst (λ (s : SiteView). AreFit s.world s.counts c.args.blocks.now) (sym c.site.view_is) c.requires.fit) c.loop-edge.edge-index no_edge c.loop-edge-test.true
+    source_is _ _ _ _ _ _ c.args.blocks.now c.site.invariant.0 (subst (λ (s : SiteView). AreFit s.world s.counts c.args.blocks.now) (sym c.site.view_is) c.requires.fit) c.loop-edge.edge-index no_edge c.loop-edge-test.true
 
 pub hear-requires-clause-added : goal.hear-requires-clause-added
 hear-requires-clause-added c =
-    let few = site_few _ _ _ _ _ _ c.site.invariant in
+    let few = site_few _ _ _ _ _ _ c.site.invariant.0 in
     let added = c.loop-edge.invariant.added in
     omega arith
 

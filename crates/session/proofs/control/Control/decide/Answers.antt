@@ -37,6 +37,13 @@ pub returns-in-SetChannelInterpretation-clause-decided : goal.returns-in-SetChan
 unfolding decided
 returns-in-SetChannelInterpretation-clause-decided c = rw c.in-SetChannelInterpretation.is c.set_attribute-in-SetChannelInterpretation.ensures
 
+pub returns-in-CreateDelay-clause-decided : goal.returns-in-CreateDelay-clause-decided
+unfolding decided
+returns-in-CreateDelay-clause-decided c =
+    let longest : SFits w32 c.in-CreateDelay.max_delay_time = search rules in
+    let time : SFits w32 c.in-CreateDelay.delay_time = search rules in
+    rw c.in-CreateDelay.is (rw (to_z-of_z w32 c.in-CreateDelay.max_delay_time longest, to_z-of_z w32 c.in-CreateDelay.delay_time time) at c.create_delay.ensures)
+
 pub returns-in-CreateBufferSource-clause-decided : goal.returns-in-CreateBufferSource-clause-decided
 unfolding decided
 returns-in-CreateBufferSource-clause-decided c =
@@ -78,6 +85,7 @@ default : (c : goal.After-decide_on_shaper) (o : Op) → c.args.op.now ≡ o →
 unfolding decided
 default c (op.CreateConstantSource name offset) is = absurd (c.in_default.not-CreateConstantSource name offset is)
 default c (op.CreateGain name gain) is = absurd (c.in_default.not-CreateGain name gain is)
+default c (op.CreateDelay name max_delay_time delay_time) is = absurd (c.in_default.not-CreateDelay name max_delay_time delay_time is)
 default c (op.CreateChannelSplitter name number_of_outputs) is = absurd (c.in_default.not-CreateChannelSplitter name number_of_outputs is)
 default c (op.CreateChannelMerger name number_of_inputs) is = absurd (c.in_default.not-CreateChannelMerger name number_of_inputs is)
 default c (op.CreateBufferSource name buffer looping loop_start loop_end playback_rate) is = absurd (c.in_default.not-CreateBufferSource name buffer looping loop_start loop_end playback_rate is)

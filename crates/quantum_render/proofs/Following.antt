@@ -1,0 +1,31 @@
+-- A renderer whose memory keeps what it had stands for the same tapes.
+use Rattle.std.proofs.Common.{ℕ, ◌≡◌, ◌<◌, ◌*◌, List, take, slice_index_or, None, sym, ◌∙◌, ap, subst}
+use Rattle.std.proofs.lemmas.List.{get_or-take}
+use Rattle.meaning.specs.declared.world.World.{World}
+use Rattle.meaning.specs.World.{node_at}
+use Rattle.meaning.specs.Pasts.{last_world, past}
+use Rattle.filter_bank.specs.Heard.{IsHeard}
+use Rattle.filter_bank.proofs.Same.{kept_heard}
+use Rattle.delay_bank.specs.Kept.{IsKept}
+use Rattle.delay_bank.specs.Banks.{BankView as DelayBank, delay_at}
+use Rattle.quantum_render.specs.Stands.{RendererView, past_writer, StandsFor}
+
+-- delays of which so many are as they were
+kept_delays : (old new : DelayBank) (k : ℕ) → take k new.delays ≡ take k old.delays → (n : ℕ) → n < k → delay_at new n ≡ delay_at old n
+kept_delays old new k same n low = sym (get_or-take k new.delays n None low) ∙ ap (λ xs. slice_index_or xs n None) same ∙ get_or-take k old.delays n None low
+
+-- so many nodes had a quantum behind them, and what they remember stays
+pub stands_like : (r r' : RendererView) → r'.quanta ≡ r.quanta → (k l : ℕ) → r.memory.filters.known ≡ k → r'.memory.filters.known ≡ k → take k r'.memory.filters.filters ≡ take k r.memory.filters.filters
+    → r.memory.delays.known ≡ l → r'.memory.delays.known ≡ l → take l r'.memory.delays.delays ≡ take l r.memory.delays.delays → (tape : List World) → StandsFor r tape → StandsFor r' tape
+stands_like r r' quanta k l old_filters new_filters filters old_delays new_delays delays tape stands = record {
+  quanta = quanta ∙ stands.quanta;
+  nodes = (new_filters ∙ sym old_filters ∙ stands.nodes.0, new_delays ∙ sym old_delays ∙ stands.nodes.1);
+  filters = λ n forward back low is.
+      subst (λ q. IsHeard (slice_index_or r'.memory.filters.filters n None) forward back (node_at (last_world tape) n).attrs.birth (128 * q) ((past 128 tape).heard n)) (sym quanta)
+      (subst (λ o. IsHeard o forward back (node_at (last_world tape) n).attrs.birth (128 * r.quanta) ((past 128 tape).heard n))
+      (sym (kept_heard r.memory.filters r'.memory.filters k filters n (subst (λ m. n < m) (sym stands.nodes.0 ∙ old_filters) low))) (stands.filters n forward back low is));
+  delays = λ n longest time capacity low is.
+      subst (λ q. IsKept (delay_at r'.memory.delays n) capacity (node_at (last_world tape) n).attrs.birth (128 * q) (past_writer (past 128 tape) n)) (sym quanta)
+      (subst (λ o. IsKept o capacity (node_at (last_world tape) n).attrs.birth (128 * r.quanta) (past_writer (past 128 tape) n))
+      (sym (kept_delays r.memory.delays r'.memory.delays l delays n (subst (λ m. n < m) (sym stands.nodes.1 ∙ old_delays) low))) (stands.delays n longest time capacity low is));
+}

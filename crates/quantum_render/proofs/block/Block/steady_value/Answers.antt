@@ -1,0 +1,21 @@
+use Rattle.std.proofs.Common.{rules, Bool, pos, length, ◌<◌, ◌≡◌, sym, ◌∙◌, ap, arith, FitsSigned}
+use Rattle.std.specs.Int.{w32}
+use Rattle.std.proofs.lemmas.Int.{to_z-of_z}
+use Rattle.std.proofs.lemmas.List.{get_or_default}
+use Rattle.channel_mix.specs.Blocks.{sample}
+use Rattle.quantum_render.specs.Blocks.{BlockView, at, all_values}
+use Rattle.quantum_render.proofs.Holding.{steady_at}
+use Rattle.quantum_render.proofs.block.Block.steady_value.Goals as goal
+
+pub returns-then-self : goal.returns-then-self
+returns-then-self c m now =
+    let value : FitsSigned w32 c.index.result.now = search rules in
+    let lanes : c.self.inside.lanes ≡ 1 = ap (λ (b : BlockView). b.lanes) c.self.view_is ∙ c.requires in
+    let room = c.self.invariant.room in
+    let some : 0 < length c.self.inside.values.items = search rules in
+    to_z-of_z _ _ value
+    ∙ c.index.ensures
+    ∙ sym (get_or_default c.self.inside.values.items 0 (pos 0) c.index.result.now some)
+    ∙ sym (steady_at c.self.inside.lanes c.self.inside.values.items 0 m (omega (arith, lanes)) now)
+    ∙ sym (ap (λ (b : Bool). sample 128 (all_values b c.self.inside.lanes c.self.inside.values.items) 0 m) c.if-self.true)
+    ∙ ap (λ (b : BlockView). at b 0 m) c.self.view_is

@@ -1,0 +1,28 @@
+use Rattle.std.proofs.Common.{rules, ℤ, List, pos, ◌≡◌, ◌*◌, length, take, slice_index_or, ◌∙◌, ap, ap₂, arith, FitsSigned}
+use Rattle.std.specs.Int.{w32}
+use Rattle.std.proofs.lemmas.Int.{to_z-of_z}
+use Rattle.std.proofs.lemmas.List.{length-take-le}
+use Rattle.meaning.specs.World.{up_to}
+use Rattle.quantum_render.specs.Blocks.{BlockView, at}
+use Rattle.quantum_render.proofs.Made.{front_first, front_at}
+use Rattle.quantum_render.proofs.Holding.{moved}
+use Rattle.quantum_render.proofs.block.Block.up_to_moving.Goals as goal
+
+pub returns-clause-values : goal.returns-clause-values
+returns-clause-values c m now =
+    let room = c.self.invariant.room in
+    let one : c.self.inside.lanes ≡ 1 = ap (λ (b : BlockView). b.lanes) c.self.view_is ∙ c.requires in
+    let long = c.up_to_each.ensures.length in
+    let items : List ℤ = c.self.inside.values.items in
+    let whole = c.deref_mut.ensures.value in
+    let most : FitsSigned w32 c.args.most = search rules in
+    let was : slice_index_or c.move_on.new.values m (pos 0) ≡ at c.args.self.now 0 m =
+    moved c.self.inside.steady c.self.inside.lanes items (take 128 c.deref_mut.result.now) c.move_on.new.values one (ap (λ (xs : List ℤ). take 128 xs) whole)
+    (length-take-le 128 c.deref_mut.result.now (omega (arith, ap length whole))) c.move_on.ensures.stay c.move_on.ensures.spread m now
+    ∙ ap (λ (b : BlockView). at b 0 m) c.self.view_is in
+    front_first (c.self.inside.lanes * 128) _ c.up_to_each.new.values _ _ m (omega arith) (omega arith)
+    ∙ c.up_to_each.ensures.values m (omega arith)
+    ∙ ap₂ up_to (to_z-of_z _ _ most)
+    (ap (λ (xs : List ℤ). slice_index_or (take 128 xs) m (pos 0)) c.deref_mut-2.ensures.value
+    ∙ front_at 128 _ c.move_on.new.values _ _ m (c.move_on.ensures.length ∙ length-take-le 128 c.deref_mut.result.now (omega (arith, ap length whole))) (omega arith)
+    ∙ was)

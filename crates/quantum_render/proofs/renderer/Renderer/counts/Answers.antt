@@ -1,0 +1,38 @@
+use Rattle.std.proofs.Common.{◌≡◌, ◌*◌, length, refl, sym, ◌∙◌, ap, subst}
+use Rattle.wa_base.specs.Contexts.{quantum_of}
+use Rattle.meaning.specs.declared.world.World.{World}
+use Rattle.meaning.specs.Pasts.{last_world, past}
+use Rattle.automation.specs.Ready.{IsReady}
+use Rattle.delay_bank.specs.Banks.{AreKept}
+use Rattle.filter_bank.proofs.Growing.{rewritten}
+use Rattle.quantum_render.specs.Fits.{AreInRange}
+use Rattle.quantum_render.specs.Plans.{IsPlan, AreCycles, AreCounted}
+use Rattle.quantum_render.specs.Stands.{RendererView, past_writer, StandsFor, HasMemory}
+use Rattle.quantum_render.proofs.Following.{stands_like}
+use Rattle.quantum_render.proofs.Kept.{remembered_delays}
+use Rattle.quantum_render.proofs.renderer.Renderer.counts.Goals as goal
+
+pub returns-clause-counted : goal.returns-clause-counted
+returns-clause-counted g c =
+    let w : World = c.args.world.now in
+    let has = subst (λ (r : RendererView). HasMemory r w) (sym c.self.view_is) c.requires.prepared.memory in
+    let kept = rewritten _ c.count_channels.new.counts _ (c.count_channels.auto.counts ∙ c.as_mut_slice.ensures.len) in
+    let time : c.args.first ≡ 128 * c.self.inside.quanta = c.requires.first ∙ ap (λ (r : RendererView). 128 * r.quanta) (sym c.self.view_is) in
+    record {
+      plan = subst (λ (r : RendererView). IsPlan w r.order r.muted r.into) (sym c.self.view_is) c.requires.prepared.plan;
+      cycles = subst (λ (r : RendererView). AreCycles w.graph.value r.cycles) (sym c.self.view_is) c.requires.prepared.cycles;
+      range = subst (AreInRange w) (sym kept) c.count_channels.ensures.range;
+      automation = subst (λ (r : RendererView). IsReady w.params.items (quantum_of r.spec * r.quanta) r.automation) (sym c.self.view_is) c.requires.prepared.automation;
+      memory = record { filter_count = has.filter_count; delay_count = has.delay_count; fresh_filters = has.fresh_filters; fresh_delays = has.fresh_delays };
+      counted = λ tape stands regular.
+          let begins : c.args.first ≡ 128 * length tape = time ∙ ap (λ n. 128 * n) stands.quanta in
+          subst (λ ns. AreCounted 128 w ns tape) (sym kept)
+          (c.count_channels.ensures.counted tape begins (remembered_delays w tape regular c.self.inside.memory.delays c.args.first begins stands.nodes.1
+          (subst (λ t. AreKept c.self.inside.memory.delays (last_world tape) t (past_writer (past 128 tape))) (sym time) stands.delays) has.fresh_delays));
+    }
+
+pub returns-clause-stands : goal.returns-clause-stands
+returns-clause-stands g c tape = (
+  λ stands. stands_like _ _ refl c.self.inside.memory.filters.known c.self.inside.memory.delays.known refl refl refl refl refl refl tape (subst (λ (r : RendererView). StandsFor r tape) (sym c.self.view_is) stands),
+  λ stands. subst (λ (r : RendererView). StandsFor r tape) c.self.view_is (stands_like _ _ refl c.self.inside.memory.filters.known c.self.inside.memory.delays.known refl refl refl refl refl refl tape stands),
+)
