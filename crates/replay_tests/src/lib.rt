@@ -9,6 +9,10 @@ mod automation_rows;
 #[cfg(test)]
 mod buffer_rows;
 #[cfg(test)]
+mod delaying;
+#[cfg(test)]
+mod echoing;
+#[cfg(test)]
 mod filtering;
 #[cfg(test)]
 mod graphs;

@@ -2,6 +2,8 @@
 #![tactic(auto)]
 
 #[cfg(test)]
+mod delays;
+#[cfg(test)]
 mod sessions;
 #[cfg(test)]
 mod shapers;
