@@ -26,17 +26,14 @@ the folder that it runs in, as they are for the program.
                                                    tools/worked_delays.py)
     python3 tools/expected.py --write FOLDER       writes the scripts of these sessions with their
                                                    transcripts and assets into a new folder, so that
-                                                   tools/compare.sh FOLDER/*.json runs them; with
-                                                   --delays also those that the program of today does
-                                                   not read
+                                                   tools/compare.sh FOLDER/*.json runs them
 
 The sums are of samples as the WAV file has them: whole numbers of 24 bits, in units of 2^-23. They
 are not sums of rendered values, which are in units of 2^-24 and are rounded for the file.
 
-The operations are those of docs/FORMATS.md that are built, those that are left out, and createDelay,
-which the program does not read yet. Of a script with a fault of reading, the transcript is the fault's
-line. Where an asset cannot be read there is no transcript, and nothing is printed. Only a script that is
-too long is not told.
+The operations are those of docs/FORMATS.md, those that are left out too. Of a script with a fault of
+reading, the transcript is the fault's line. Where an asset cannot be read there is no transcript, and
+nothing is printed. Only a script that is too long is not told.
 
 Its parts are the modules of tools/expecting/, each of one subject.
 """
@@ -59,13 +56,12 @@ def main():
     words.add_argument("--check", metavar="WAV")
     words.add_argument("--rows", action="store_true")
     words.add_argument("--write", metavar="FOLDER")
-    words.add_argument("--delays", action="store_true")
     words = words.parse_args()
     if words.script is None and not words.rows and not words.write:
         print("a SCRIPT, --rows or --write is wanted")
         return 2
     if words.write:
-        write_sessions(words.write, words.delays)
+        write_sessions(words.write)
         return 0
     if words.rows:
         return 0 if rows_are_met() else 1

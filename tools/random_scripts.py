@@ -26,10 +26,6 @@ itself. It needs Python 3, and for --measure GNU time.
     python3 tools/random_scripts.py --measure FOLDER      runs the scripts of a folder, and prints the
                                                           least user time of three runs and the peak
                                                           memory of each
-    python3 tools/random_scripts.py --delays ..           the same with what the program of today does not
-                                                          read: delays (see AHEAD in
-                                                          tools/expecting/reading.py). The scripts are others
-                                                          then, of a program that reads it
 
 A comparison prints a line for each difference, then how often each answer came up and which of those
 that can come up did not, and last how many scripts differ. The status is 0 where none does.
@@ -1513,9 +1509,9 @@ def write_assets(folder, assets):
             write_asset(path, it)
 
 
-def operations(delays):
-    """The operations of random scripts, with those that are ahead of the program of today or without them."""
-    return [op for op in FIELDS if delays or op not in AHEAD]
+def operations():
+    """The operations of random scripts: those that the program of today reads."""
+    return [op for op in FIELDS if op not in AHEAD]
 
 
 def read_by(program, wanted):
@@ -1915,9 +1911,8 @@ def main():
     words.add_argument("--folder", metavar="FOLDER")
     words.add_argument("--loads", metavar="FOLDER")
     words.add_argument("--measure", metavar="FOLDER")
-    words.add_argument("--delays", action="store_true")
     words = words.parse_args()
-    program, wanted = os.path.abspath(words.program), operations(words.delays)
+    program, wanted = os.path.abspath(words.program), operations()
     if words.print is not None:
         read = read_by(program, wanted) if os.access(program, os.X_OK) else wanted
         give(words.folder, *script_of(words.seed, words.print, read))

@@ -129,14 +129,14 @@ def write_assets(folder):
         write_asset(os.path.join(folder, path), data)
 
 
-def write_sessions(folder, delays):
-    """Writes the scripts of the sessions into a new folder, each with its text beside it, and their assets. Those
-    with operations that the program does not read yet come only where they are wanted."""
+def write_sessions(folder):
+    """Writes the scripts of the sessions into a new folder, each with its text beside it, and their assets, but
+    for those with operations that the program does not read yet."""
     os.makedirs(folder)
     write_assets(folder)
     for what, them in sessions().items():
         for number, (_, script, text, _) in enumerate(them):
-            if not delays and any(op.encode() in script for op in AHEAD):
+            if any(op.encode() in script for op in AHEAD):
                 continue
             path = os.path.join(folder, "%s-%d" % (what.replace(" ", "-"), number))
             write_asset(path + ".json", script)

@@ -66,7 +66,7 @@ OPERATIONS = {
 }
 
 # The operations of these that the program does not read yet.
-AHEAD = ("createDelay",)
+AHEAD = ()
 
 RANGES = {"fix": (-(2**31), 2**31 - 1), "time": (-(2**40), 2**40), "count": (0, 2**32 - 1)}
 
