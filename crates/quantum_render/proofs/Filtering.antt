@@ -3,7 +3,7 @@ use Rattle.std.proofs.Common.{ℕ, ℤ, pos, ◌≡◌, ◌+◌, ◌-◌, ◌*�
 use Rattle.std.specs.Prelude.{if◌then◌else◌, nat_lt, ◌==◌}
 use Rattle.std.proofs.lemmas.Bool.{cases_lt}
 use Rattle.std.proofs.lemmas.Bool.Decides.{nat_tests}
-use Rattle.std.proofs.lemmas.List.{get_or-take, get_or_past, length-take}
+use Rattle.std.proofs.lemmas.List.{get_or-take, get_or_past, length-take-le}
 use Rattle.channel_mix.specs.Blocks.{sample}
 use Rattle.causal_core.specs.Filters.{filter_value}
 use Rattle.causal_core.specs.Frames.{item}
@@ -20,22 +20,29 @@ use Rattle.meaning.proofs.Seeing.{plain_end, plain_reader, same_since}
 use Rattle.filter_bank.specs.Heard.{FilterView, Brings, IsHeard, room_of as filter_room}
 use Rattle.filter_bank.specs.Banks.{BankView, filter_at, HaveRoom, Hears}
 use Rattle.quantum_render.specs.Blocks.{BlockView, at, shown, slot, counts_in}
+use Rattle.quantum_render.specs.Held.{IsWidened}
 use Rattle.quantum_render.specs.Sites.{SiteView, IsSite}
 use Rattle.quantum_render.specs.declared.memory.Memory.{Memory}
 use Rattle.quantum_render.specs.Renders.{IsReadyFor, past_of, here_of}
 use Rattle.quantum_render.proofs.Listening.{heard_like}
 use Rattle.quantum_render.proofs.Sources.{site_slot}
 
--- a part of a widened input: the lanes that it has, and silence
-pub widened : (wide : List ℤ) (heard : BlockView) (lanes c k : ℕ) → lanes ≤ 32 → k < 128 → ((c m : ℕ) → c < 32 → m < 128 → sample 128 wide c m ≡ shown heard m c) → heard.lanes ≤ lanes
-    → item (take (lanes * 128) wide) (c * 128 + k) ≡ shown heard k c
-widened wide heard lanes c k few now each within = elim (cases_lt c lanes) [
-  | inl low ↦ get_or-take (lanes * 128) wide (c * 128 + k) (pos 0) (omega arith) ∙ each c k (omega arith) now
-  | inr past ↦ get_or_past (take (lanes * 128) wide) (c * 128 + k) (pos 0) (let short = length-take (lanes * 128) wide in omega arith) ∙ sym (nothing past)
+-- a widened block has its lanes, and is silent past them
+pub widened : (x : List ℤ) (heard : BlockView) (lanes c k : ℕ) → IsWidened heard lanes x → heard.lanes ≤ lanes → k < 128 → item x (c * 128 + k) ≡ shown heard k c
+widened x heard lanes c k is within now = elim (cases_lt c lanes) [
+  | inl low ↦ is.values c k low now
+  | inr past ↦ get_or_past x (c * 128 + k) (pos 0) (let all = is.length in omega arith) ∙ sym (nothing past)
 ]
   where
     nothing : lanes ≤ c → shown heard k c ≡ pos 0
     nothing past = ap (λ b. if b then at heard c k else pos 0) (let no : nat_lt c heard.lanes ≡ false = grind (arith, nat_tests) in no)
+
+-- the front of what a block was written to
+pub widened_front : (wide : List ℤ) (heard : BlockView) (lanes : ℕ) → lanes * 128 ≤ length wide → ((c m : ℕ) → c < lanes → m < 128 → sample 128 wide c m ≡ shown heard m c) → IsWidened heard lanes (take (lanes * 128) wide)
+widened_front wide heard lanes room each = record {
+  length = length-take-le (lanes * 128) wide room;
+  values = λ c m low now. get_or-take (lanes * 128) wide (c * 128 + m) (pos 0) (omega arith) ∙ each c m low now;
+}
 
 module _ (s : SiteView) (site : IsSite s.world s.end s.into s.counts s.levels s.first) (forward back : List ℤ) (kind : kind_of s.world s.end.node.0 ≡ Iir forward back) where
   -- its end has the second of the node's two places
@@ -88,12 +95,12 @@ module _ (s : SiteView) (site : IsSite s.world s.end s.into s.counts s.levels s.
   has_heard = heard_like _ forward back _ s.first _ takes (λ g c low high. ap (λ x. taken_in x n c) (sym (past_before g high))) (ready.heard forward back kind)
 
   -- the block that the filter hears brings the quantum
-  pub brings : (channels lanes : ℕ) (wide : List ℤ) (heard : BlockView) → lanes ≤ 32 → heard.lanes ≡ channels → channels ≤ lanes → channels ≡ input_channels (plain s.world) (counts_in s.counts) n 0
-      → ((c m : ℕ) → c < 32 → m < 128 → sample 128 wide c m ≡ shown heard m c) → ((c m : ℕ) → c < channels → m < 128 → at heard c m ≡ input_value (here_of s old m) n 0 c)
-      → Brings s.first (take (lanes * 128) wide) takes
+  pub brings : (channels lanes : ℕ) (x : List ℤ) (heard : BlockView) → IsWidened heard lanes x → heard.lanes ≡ channels → channels ≤ lanes → channels ≡ input_channels (plain s.world) (counts_in s.counts) n 0
+      → ((c m : ℕ) → c < channels → m < 128 → at heard c m ≡ input_value (here_of s old m) n 0 c)
+      → Brings s.first x takes
   unfolding input_value
-  brings channels lanes wide heard few count within counted each input c k now =
-      takes_now k c ∙ by_test (nat_lt c channels) refl ∙ sym (widened wide heard lanes c k few now each (subst (λ m. m ≤ lanes) (sym count) within))
+  brings channels lanes x heard is count within counted input c k now =
+      takes_now k c ∙ by_test (nat_lt c channels) refl ∙ sym (widened x heard lanes c k is (subst (λ m. m ≤ lanes) (sym count) within) now)
     where
       by_test : (b : Bool) → nat_lt c channels ≡ b → input_value (here_of s old k) n 0 c ≡ shown heard k c
       by_test true t =

@@ -1,4 +1,4 @@
-ghost use Rattle.std.specs.Prelude.{[], ◌∷◌, true, ◌≡◌, ◌≤◌, ◌<◌, ◌+◌, ◌*◌, ◌^◌, ◌+ℤ◌, ℕ, pos, length, slice_index_or, max, IsSome, IfSome};
+ghost use Rattle.std.specs.Prelude.{[], ◌∷◌, true, ◌≡◌, ◌≤◌, ◌<◌, ◌+◌, ◌*◌, ◌^◌, ◌+ℤ◌, ℕ, ℤ, pos, List, Some, length, slice_index_or, max, IsSome, IfSome};
 ghost use Rattle.wa_base.specs.Numbers.{sat as saturated};
 ghost use Rattle.meaning.specs.World.{plain, kind_of, param_id};
 ghost use Rattle.node_table.specs.Kinds.{param_base};
@@ -9,6 +9,11 @@ ghost use Rattle.std.specs.List.{list_any};
 ghost use Rattle.quantum_render.specs.Blocks.{at, counts_in};
 ghost use Rattle.quantum_render.specs.Connections.{leads_to};
 ghost use Rattle.quantum_render.specs.Fits.{AreFit};
+ghost use Rattle.quantum_render.specs.Held.{IsWidened};
+ghost use Rattle.filter_bank.specs.Heard.{FilterView as a_filter, room_of as filter_room};
+ghost use Rattle.filter_bank.specs.Banks.{filter_at, Hears};
+ghost use Rattle.delay_bank.specs.Kept.{DelayView as a_delay, room_of as delay_room};
+ghost use Rattle.delay_bank.specs.Banks.{delay_at, Writes as DelayWrites};
 ghost use Rattle.quantum_render.specs.Parameters.{unclamped_value};
 ghost use Rattle.quantum_render.specs.Sites.{IsLone};
 ghost use Rattle.quantum_render.specs.Renders.{past_of, here_of};
@@ -19,10 +24,12 @@ use crate::site::{Site, reader, slot};
 use crate::spans::{span_all, span_each};
 use crate::sums::{CHANNELS, Inlet, Sums};
 use conn_graph::{Edge, Target};
+use delay_bank::Delays;
+use filter_bank::Filters;
 use node_table::Kind;
 use std::alloc::Global;
 use std::marker::Model;
-use wa_base::{Fix, Interp, NoMemory, ParamId, ParamName, Rate};
+use wa_base::{Fix, Interp, NoMemory, NodeId, ParamId, ParamName, Rate};
 
 // What is at hand while an end is rendered, one end after another: what its input carries, the
 // levels of its parameter, what its inputs carry, one lane each, its input with silent lanes behind it,
@@ -156,6 +163,45 @@ impl Bench {
         match self.levels.held() {
             Held::Steady(held) => span_all(self.spans.as_mut_slice(), held[0], rate, least),
             Held::Moving(levels) => span_each(self.spans.as_mut_slice(), levels, rate, least),
+        }
+    }
+
+    // In `merged`, what a node's filter puts out for what is heard, with silent lanes behind it up to so
+    // many.
+    pub(crate) fn filter_heard(&mut self, lanes: usize, filters: &mut Filters, node: NodeId)
+        requires few { lanes ≤ 32 }
+        requires within { self.old.heard.lanes ≤ lanes }
+        requires there { node.0 < length filters.old.filters }
+        requires wide { (f : a_filter) → filter_at filters.old node.0 ≡ Some f → lanes ≡ filter_room f }
+        ensures lanes { self.new.merged.lanes ≡ lanes }
+        ensures hears { (x : List ℤ) × IsWidened self.old.heard lanes x × Hears filters.old filters.new node.0 x self.new.merged.values }
+    {
+        match self.heard.plain(lanes) {
+            Some(heard) => self.merged.filter(heard, lanes, filters, node),
+            None => {
+                self.heard.copy_out(self.wide.as_mut_slice(), lanes);
+                let wide = &self.wide[..lanes * QUANTUM];
+                self.merged.filter(wide, lanes, filters, node);
+            }
+        }
+    }
+
+    // The writer of a node's delay writes what is heard in the quantum that begins at `first`.
+    pub(crate) fn write_heard(&mut self, delays: &mut Delays, node: NodeId, first: u64)
+        requires there { node.0 < length delays.old.delays }
+        requires room { (d : a_delay) → delay_at delays.old node.0 ≡ Some d → self.old.heard.lanes ≤ delay_room d }
+        requires time { first ≤ 2 ^ 62 }
+        ensures heard { self.new.heard ≡ self.old.heard }
+        ensures writes { (x : List ℤ) × IsWidened self.old.heard self.old.heard.lanes x × DelayWrites delays.old delays.new node.0 first self.old.heard.lanes x }
+    {
+        let lanes = self.heard.lanes();
+        match self.heard.plain(lanes) {
+            Some(heard) => delays.write(node, heard, lanes as u32, first),
+            None => {
+                self.heard.copy_out(self.wide.as_mut_slice(), lanes);
+                let wide = &self.wide[..lanes * QUANTUM];
+                delays.write(node, wide, lanes as u32, first);
+            }
         }
     }
 }

@@ -15,7 +15,7 @@ ghost use Rattle.delay_bank.specs.Banks.{delay_at};
 ghost use Rattle.meaning.specs.World.{node_at};
 ghost use Rattle.quantum_render.specs.Blocks.{at, shown, carried, room_of, lanes_of, counts_in};
 ghost use Rattle.quantum_render.specs.Sums.{sum_at};
-ghost use Rattle.quantum_render.specs.Held.{IsHeld, IsCarried};
+ghost use Rattle.quantum_render.specs.Held.{IsHeld, IsCarried, IsWidened};
 
 use crate::held::Held;
 use crate::kernels::{
@@ -127,18 +127,30 @@ impl Block {
         }
     }
 
-    // Writes the lanes into room for 32, with silence for those that are not there.
-    pub(crate) fn copy_out(&self, out: &mut [Fix])
-        requires { length out.old ≡ 4096 }
-        ensures length { length out.new ≡ 4096 }
-        ensures values { (lane m : ℕ) → lane < 32 → m < 128 → sample 128 out.new lane m ≡ shown self.now m lane }
+    // Writes the lanes into the front of a room, with silent lanes behind them up to so many.
+    pub(crate) fn copy_out(&self, out: &mut [Fix], lanes: usize)
+        requires few { lanes ≤ 32 }
+        requires within { self.now.lanes ≤ lanes }
+        requires room { lanes * 128 ≤ length out.old }
+        ensures length { length out.new ≡ length out.old }
+        ensures values { (lane m : ℕ) → lane < lanes → m < 128 → sample 128 out.new lane m ≡ shown self.now m lane }
     {
         let filled = self.lanes() * QUANTUM;
         match self.held() {
             Held::Steady(held) => spread(&mut out[0..filled], held),
             Held::Moving(values) => copy_values(&mut out[0..filled], values),
         }
-        silence(out, filled, out.len());
+        silence(out, filled, lanes * QUANTUM);
+    }
+
+    // All values as they are, where there are so many lanes and each has a value for each frame.
+    pub(crate) fn plain(&self, lanes: usize) -> Option<&[Fix]>
+        ensures { IfSome result (λ values. IsWidened self.now lanes values.now) }
+    {
+        if self.steady || self.lanes != lanes {
+            return None;
+        }
+        Some(&self.values[0..self.lanes * QUANTUM])
     }
 
     // Silences the lanes.

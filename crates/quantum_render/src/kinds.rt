@@ -13,7 +13,7 @@ ghost use Rattle.quantum_render.specs.Listening.{HasRooms};
 ghost use Rattle.quantum_render.specs.Renders.{Renders, RendersWith, Listens, Stores};
 
 use crate::bench::Bench;
-use crate::block::{Block, QUANTUM};
+use crate::block::Block;
 use crate::memory::Memory;
 use crate::places::play_place;
 use crate::playing::sounding;
@@ -129,10 +129,8 @@ impl Bench {
         let node = site.end.node;
         let channels = site.channels();
         self.take_input(blocks, site, 0, channels);
-        self.heard.copy_out(self.wide.as_mut_slice());
         let room = memory.filters.room(node).max(channels);
-        let wide = &self.wide[..room * QUANTUM];
-        self.merged.filter(wide, room, &mut memory.filters, node);
+        self.filter_heard(room, &mut memory.filters, node);
         blocks[slot(site.end)].copy_output(&self.merged, 0, channels);
     }
 
@@ -166,11 +164,8 @@ impl Bench {
         ensures stores { Stores site.now blocks.new delays.old delays.new }
         ensures room { HaveDelayRoom delays.new site.now.counts }
     {
-        let channels = site.channels();
-        self.take_input(blocks, site, 0, channels);
-        self.heard.copy_out(self.wide.as_mut_slice());
-        let written = &self.wide[..channels * QUANTUM];
-        delays.write(site.end.node, written, channels as u32, site.first);
+        self.take_input(blocks, site, 0, site.channels());
+        self.write_heard(delays, site.end.node, site.first);
         blocks[slot(site.end)].copy(&self.heard);
     }
 

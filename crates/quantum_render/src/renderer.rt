@@ -194,7 +194,7 @@ impl Renderer {
             quantum,
         );
         let blocks: &[Block] = &*blocks;
-        blocks[slot(reader(NodeId(0)))].copy_out(self.out.as_mut_slice());
+        blocks[slot(reader(NodeId(0)))].copy_out(self.out.as_mut_slice(), CHANNELS);
         self.quanta += 1;
     }
 

@@ -1,7 +1,6 @@
-use Rattle.std.proofs.Common.{ℕ, ℤ, ◌≡◌, ◌<◌, ◌≤◌, ◌+◌, ◌*◌, length, List, take, Some, slice_index_or, true, pos, inl, inr, sym, ◌∙◌, ap, arith, subst}
+use Rattle.std.proofs.Common.{ℕ, ℤ, ◌≡◌, ◌<◌, ◌≤◌, ◌+◌, ◌*◌, length, List, Some, slice_index_or, true, pos, inl, inr, sym, ◌∙◌, ap, arith, subst}
 use Rattle.std.specs.Prelude.{if◌then◌else◌, nat_lt}
 use Rattle.std.proofs.lemmas.Bool.Decides.{nat_tests}
-use Rattle.channel_mix.specs.Blocks.{sample}
 use Rattle.node_table.specs.Kinds.{outputs}
 use Rattle.node_table.specs.declared.kinds.Kind.TheVariants.{Iir}
 use Rattle.meaning.specs.World.{plain, kind_of}
@@ -15,12 +14,11 @@ use Rattle.quantum_render.specs.Sites.{SiteView}
 use Rattle.quantum_render.specs.Renders.{IsReadyFor}
 use Rattle.quantum_render.proofs.Filtering.{lanes_are, takes, has_heard, brings, puts_out, hears_on}
 use Rattle.quantum_render.proofs.Listening.{this_or_other}
-use Rattle.quantum_render.proofs.Made.{rewritten}
 use Rattle.quantum_render.proofs.Rendering.{site_is, writes_own, renders_own}
 use Rattle.quantum_render.proofs.bench.Bench.render_filter.Goals as goal
 
-pub filter-requires-clause-wide : goal.filter-requires-clause-wide
-filter-requires-clause-wide c f is =
+pub filter_heard-requires-clause-wide : goal.filter_heard-requires-clause-wide
+filter_heard-requires-clause-wide c f is =
     let s : SiteView = c.args.site.now in
     let site = site_is s _ _ _ _ _ _ c.site.invariant.0 c.site.view_is in
     lanes_are s site c.requires.kind.0 c.requires.kind.1 c.requires.kind.2 c.args.memory.now.filters c.requires.rooms.filter_rooms f (subst (λ k. filter_at c.args.memory.now.filters k ≡ Some f) (ap (λ (x : SiteView). x.end.node.0) c.site.view_is) is)
@@ -32,30 +30,27 @@ returns-clause-writes c =
     writes_own c.args.site.now site c.args.blocks.now c.requires.fit c.slot.result (c.slot.ensures ∙ ap (λ (x : SiteView). slot x.end) c.site.view_is) (ap outputs c.requires.kind.2)
     c.copy_output.new.self (c.copy_output.ensures.lanes ∙ c.channels-channels.ensures.count)
 
+-- the input with silent lanes behind it, which the filter hears
+abbrev input_of : goal.After-copy_output → List ℤ
+input_of c = c.filter_heard.ensures.hears.0
+
 -- what is heard is what the input carries
 heard_brings : (c : goal.After-copy_output) (forward back : List ℤ) → (is : kind_of c.args.site.now.world c.args.site.now.end.node.0 ≡ Iir forward back) → (before : ℕ → Frame) → (ready : IsReadyFor c.args.site.now c.args.memory.now c.args.blocks.now before)
     → counts_in c.args.site.now.counts c.args.site.now.end ≡ input_channels (plain c.args.site.now.world) (counts_in c.args.site.now.counts) c.args.site.now.end.node.0 0
-    → Brings c.args.site.now.first (take (c.max-room.result * 128) c.deref.result.now)
-    (takes c.args.site.now (site_is c.args.site.now _ _ _ _ _ _ c.site.invariant.0 c.site.view_is) c.args.memory.now c.args.blocks.now forward back is before ready)
+    → Brings c.args.site.now.first (input_of c) (takes c.args.site.now (site_is c.args.site.now _ _ _ _ _ _ c.site.invariant.0 c.site.view_is) c.args.memory.now c.args.blocks.now forward back is before ready)
 heard_brings c forward back is before ready counted =
     let s : SiteView = c.args.site.now in
     let site = site_is s _ _ _ _ _ _ c.site.invariant.0 c.site.view_is in
-    let heard : c.self.inside.heard ≡ c.take_input.new.self.heard = ap (λ (b : BenchView). b.heard) c.self.view_is in
     let channels : c.channels-channels.result ≡ counts_in s.counts s.end = c.channels-channels.ensures.count in
-    let written = c.deref.ensures.value ∙ rewritten _ c.copy_out.new.out _ (c.copy_out.ensures.length ∙ sym c.self.invariant.wide ∙ sym (ap length c.as_mut_slice.ensures.value) ∙ c.as_mut_slice.ensures.len) in
-    brings s site c.args.memory.now c.args.blocks.now forward back is before ready c.channels-channels.result c.max-room.result c.deref.result.now c.self.inside.heard
-    (few c) (ap (λ (b : BlockView). b.lanes) heard ∙ c.take_input.ensures.lanes) (within c) (channels ∙ counted)
-    (λ k m low now. ap (λ xs. sample 128 xs k m) written ∙ c.copy_out.ensures.values k m low now)
-    (λ k m low now. ap (λ (b : BlockView). at b k m) heard ∙ c.take_input.ensures.input (channels ∙ counted) k m low now)
+    brings s site c.args.memory.now c.args.blocks.now forward back is before ready c.channels-channels.result c.max-room.result (input_of c) c.take_input.new.self.heard
+    c.filter_heard.ensures.hears.1 c.take_input.ensures.lanes (within c) (channels ∙ counted)
+    (λ k m low now. c.take_input.ensures.input (channels ∙ counted) k m low now)
   where
-    few : (c : goal.After-copy_output) → c.max-room.result ≤ 32
-    few c = let most = c.max-room.ensures in let a = c.room.ensures.few in let b = c.channels-channels.ensures.high in grind arith
-
     within : (c : goal.After-copy_output) → c.channels-channels.result ≤ c.max-room.result
     within c = let most = c.max-room.ensures in grind arith
 
-hears_own : (c : goal.After-copy_output) → Hears c.args.memory.now.filters c.filter.new.filters c.args.site.now.end.node.0 (take (c.max-room.result * 128) c.deref.result.now) c.filter.new.self.values
-hears_own c = subst (λ k. Hears c.args.memory.now.filters c.filter.new.filters k (take (c.max-room.result * 128) c.deref.result.now) c.filter.new.self.values) (ap (λ (x : SiteView). x.end.node.0) c.site.view_is) c.filter.ensures.hears
+hears_own : (c : goal.After-copy_output) → Hears c.args.memory.now.filters c.filter_heard.new.filters c.args.site.now.end.node.0 (input_of c) c.filter_heard.new.self.merged.values
+hears_own c = subst (λ k. Hears c.args.memory.now.filters c.filter_heard.new.filters k (input_of c) c.filter_heard.new.self.merged.values) (ap (λ (x : SiteView). x.end.node.0) c.site.view_is) c.filter_heard.ensures.hears.2
 
 pub returns-clause-renders : goal.returns-clause-renders
 returns-clause-renders c forward back is j earlier begins counted before ready =
@@ -70,9 +65,12 @@ returns-clause-renders c forward back is j earlier begins counted before ready =
     (λ channel m low now.
     let low' : channel < c.channels-channels.result = subst (λ k. channel < k) (sym channels) low in
     let few : channel < c.max-room.result = lower c channel low' in
+    let merged : c.self.inside.merged ≡ c.filter_heard.new.self.merged = ap (λ (b : BenchView). b.merged) c.self.view_is in
+    let all : c.self.inside.merged.lanes ≡ c.max-room.result = ap (λ (b : BlockView). b.lanes) merged ∙ c.filter_heard.ensures.lanes in
     c.copy_output.ensures.values channel m low' now
-    ∙ carried_first c.filter.new.self c.channels-channels.result channel m low' (subst (λ k. channel < k) (sym c.filter.ensures.lanes) few)
-    ∙ puts_out s site c.args.memory.now c.args.blocks.now forward back is before ready _ c.filter.new.self.values c.filter.new.filters (hears_own c) (heard_brings c forward back is before ready counted) site.begun.time channel m (subst (λ k. channel < k) lanes few) now)
+    ∙ carried_first c.self.inside.merged c.channels-channels.result channel m low' (subst (λ k. channel < k) (sym all) few)
+    ∙ ap (λ (b : BlockView). at b channel m) merged
+    ∙ puts_out s site c.args.memory.now c.args.blocks.now forward back is before ready (input_of c) c.filter_heard.new.self.merged.values c.filter_heard.new.filters (hears_own c) (heard_brings c forward back is before ready counted) site.begun.time channel m (subst (λ k. channel < k) lanes few) now)
   where
     lower : (c : goal.After-copy_output) → (k : ℕ) → k < c.channels-channels.result → k < c.max-room.result
     lower c k low = let most = c.max-room.ensures in grind arith
@@ -85,19 +83,19 @@ returns-clause-renders c forward back is j earlier begins counted before ready =
 
 pub returns-clause-listens : goal.returns-clause-listens
 returns-clause-listens c = record {
-  known = c.filter.ensures.hears.known;
-  count = c.filter.ensures.hears.count;
+  known = (hears_own c).known;
+  count = (hears_own c).count;
   others = (hears_own c).others;
   own = λ forward back is j earlier begins counted before ready.
       let s : SiteView = c.args.site.now in
       let site = site_is s _ _ _ _ _ _ c.site.invariant.0 c.site.view_is in
-      hears_on s site c.args.memory.now c.args.blocks.now forward back is before ready _ c.filter.new.self.values c.filter.new.filters (hears_own c) (heard_brings c forward back is before ready counted) site.begun.time;
+      hears_on s site c.args.memory.now c.args.blocks.now forward back is before ready (input_of c) c.filter_heard.new.self.merged.values c.filter_heard.new.filters (hears_own c) (heard_brings c forward back is before ready counted) site.begun.time;
 }
 
 pub returns-clause-room : goal.returns-clause-room
 returns-clause-room c n g is low = elim (this_or_other n c.args.site.now.end.node.0) [
   | inl here ↦
-      let old = (hears_own c).rooms g (subst (λ k. filter_at c.filter.new.filters k ≡ Some g) here is) in
+      let old = (hears_own c).rooms g (subst (λ k. filter_at c.filter_heard.new.filters k ≡ Some g) here is) in
       let fits = c.requires.rooms.filter_rooms c.args.site.now.end.node.0 old.0 old.1 (subst (λ k. 2 * k + 1 < length c.args.site.now.counts) here low) in
       subst (λ k. (slice_index_or c.args.site.now.counts (2 * k + 1) 1 ≤ filter_room g) × (filter_room g ≤ 32)) (sym here) (rw old.2 fits)
   | inr apart ↦ c.requires.rooms.filter_rooms n g (sym ((hears_own c).others n apart) ∙ is) low

@@ -1,20 +1,17 @@
-use Rattle.std.proofs.Common.{pos, ◌≡◌, ◌+◌, ◌*◌, ◌<◌, ◌≤◌, length, take, Bool, true, Some, slice_index_or, inl, inr, sym, ◌∙◌, ap, arith, subst}
+use Rattle.std.proofs.Common.{List, ℤ, pos, ◌≡◌, ◌+◌, ◌*◌, ◌<◌, ◌≤◌, length, Bool, true, Some, slice_index_or, inl, inr, sym, ◌∙◌, ap, arith, subst}
 use Rattle.std.specs.Prelude.{if◌then◌else◌, nat_lt}
 use Rattle.std.proofs.lemmas.Bool.Decides.{nat_tests}
 use Rattle.node_table.specs.Kinds.{outputs}
 use Rattle.delay_bank.specs.Kept.{room_of as delay_room}
-use Rattle.channel_mix.specs.Blocks.{sample}
 use Rattle.meaning.specs.World.{plain}
 use Rattle.meaning.specs.Counts.{input_channels, reader_channels}
 use Rattle.meaning.specs.Values.{input_value, delayed}
 use Rattle.delay_bank.specs.Banks.{delay_at, Writes}
-use Rattle.quantum_render.specs.Blocks.{BlockView, at, slot, counts_in, room_of}
+use Rattle.quantum_render.specs.Blocks.{BlockView, at, shown, slot, counts_in, room_of}
 use Rattle.quantum_render.specs.Benches.{BenchView}
 use Rattle.quantum_render.specs.Sites.{SiteView}
 use Rattle.quantum_render.specs.Renders.{past_of, here_of}
-use Rattle.quantum_render.proofs.Filtering.{widened}
 use Rattle.quantum_render.proofs.Listening.{this_or_other}
-use Rattle.quantum_render.proofs.Made.{rewritten}
 use Rattle.quantum_render.proofs.Sources.{end_low, site_slot}
 use Rattle.quantum_render.proofs.Rendering.{site_is, own_within, own_room, writes_own, renders_own, lane_own}
 use Rattle.quantum_render.proofs.bench.Bench.render_writer.Goals as goal
@@ -27,32 +24,32 @@ bounds-blocks-slot c =
 pub copy-requires : goal.copy-requires
 copy-requires c =
     let site = site_is c.args.site.now _ _ _ _ _ _ c.site.invariant.0 c.site.view_is in
-    let heard : c.self.inside.heard ≡ c.take_input.new.self.heard = ap (λ (b : BenchView). b.heard) c.self.view_is in
-    subst (λ n. n * 128 ≤ room_of (slice_index_or c.args.blocks.now c.slot.result c.index-blocks-slot.result)) (sym (ap (λ (b : BlockView). b.lanes) heard ∙ c.take_input.ensures.lanes ∙ c.channels-channels.ensures.count))
+    let heard : c.self.inside.heard ≡ c.take_input.new.self.heard = ap (λ (b : BenchView). b.heard) c.self.view_is ∙ c.write_heard.ensures.heard in
+    subst (λ n. n * 128 ≤ room_of (slice_index_or c.args.blocks.now c.slot.result c.index-blocks-slot.result)) (sym (ap (λ (b : BlockView). b.lanes) heard ∙ c.take_input.ensures.lanes ∙ c.channels.ensures.count))
     (own_room c.args.site.now site c.args.blocks.now c.requires.fit c.slot.result (c.slot.ensures ∙ ap (λ (x : SiteView). slot x.end) c.site.view_is) (ap outputs c.requires.kind.3) c.index-blocks-slot.result)
 
 pub returns-clause-writes : goal.returns-clause-writes
 returns-clause-writes c =
     let site = site_is c.args.site.now _ _ _ _ _ _ c.site.invariant.0 c.site.view_is in
-    let heard : c.self.inside.heard ≡ c.take_input.new.self.heard = ap (λ (b : BenchView). b.heard) c.self.view_is in
+    let heard : c.self.inside.heard ≡ c.take_input.new.self.heard = ap (λ (b : BenchView). b.heard) c.self.view_is ∙ c.write_heard.ensures.heard in
     writes_own c.args.site.now site c.args.blocks.now c.requires.fit c.slot.result (c.slot.ensures ∙ ap (λ (x : SiteView). slot x.end) c.site.view_is) (ap outputs c.requires.kind.3)
-    c.copy.new.self (c.copy.ensures.lanes ∙ ap (λ (b : BlockView). b.lanes) heard ∙ c.take_input.ensures.lanes ∙ c.channels-channels.ensures.count)
+    c.copy.new.self (c.copy.ensures.lanes ∙ ap (λ (b : BlockView). b.lanes) heard ∙ c.take_input.ensures.lanes ∙ c.channels.ensures.count)
 
 -- the writer's place is the first of its node's two
 own_slot : (s : SiteView) → s.end.writer ≡ true → slot s.end ≡ 2 * s.end.node.0
 own_slot s writer = ap (λ (b : Bool). 2 * s.end.node.0 + (if b then 0 else 1)) writer ∙ omega arith
 
-pub write-requires-clause-room : goal.write-requires-clause-room
-write-requires-clause-room c d is =
+pub write_heard-requires-clause-room : goal.write_heard-requires-clause-room
+write_heard-requires-clause-room c d is =
     let s : SiteView = c.args.site.now in
     let site = site_is s _ _ _ _ _ _ c.site.invariant.0 c.site.view_is in
     let here = own_slot s c.requires.writer in
     let place : 2 * s.end.node.0 < length s.counts = subst (λ k. k < length s.counts) here (site_slot s.world s.end s.into s.counts s.levels s.first site) in
     let fits = c.requires.room s.end.node.0 d (subst (λ k. delay_at c.args.delays.now k ≡ Some d) (ap (λ (x : SiteView). x.end.node.0) c.site.view_is) is) place in
-    subst (λ n. n ≤ delay_room d) (sym (c.channels-channels.ensures.count ∙ ap (λ k. slice_index_or s.counts k 1) here)) fits
+    subst (λ n. n ≤ delay_room d) (sym (c.take_input.ensures.lanes ∙ c.channels.ensures.count ∙ ap (λ k. slice_index_or s.counts k 1) here)) fits
 
-pub write-requires-clause-there : goal.write-requires-clause-there
-write-requires-clause-there c =
+pub write_heard-requires-clause-there : goal.write_heard-requires-clause-there
+write_heard-requires-clause-there c =
     let low = end_low c.site.inside.world.now c.site.invariant.0.valid c.site.inside.end c.site.invariant.0.there in
     let count = subst (λ (x : SiteView). length x.world.nodes ≤ length c.args.delays.now.delays) (sym c.site.view_is) c.requires.count in
     omega arith
@@ -61,30 +58,34 @@ pub returns-clause-renders : goal.returns-clause-renders
 returns-clause-renders c longest time capacity j earlier begins counted before =
     let s : SiteView = c.args.site.now in
     let site = site_is s _ _ _ _ _ _ c.site.invariant.0 c.site.view_is in
-    let heard : c.self.inside.heard ≡ c.take_input.new.self.heard = ap (λ (b : BenchView). b.heard) c.self.view_is in
-    let channels : c.channels-channels.result ≡ counts_in s.counts s.end = c.channels-channels.ensures.count in
-    let lanes : c.self.inside.heard.lanes ≡ c.channels-channels.result = ap (λ (b : BlockView). b.lanes) heard ∙ c.take_input.ensures.lanes in
+    let heard : c.self.inside.heard ≡ c.take_input.new.self.heard = ap (λ (b : BenchView). b.heard) c.self.view_is ∙ c.write_heard.ensures.heard in
+    let channels : c.channels.result ≡ counts_in s.counts s.end = c.channels.ensures.count in
+    let lanes : c.self.inside.heard.lanes ≡ c.channels.result = ap (λ (b : BlockView). b.lanes) heard ∙ c.take_input.ensures.lanes in
     let own = counted ∙ ap (λ b. if b then input_channels (plain s.world) (counts_in s.counts) s.end.node.0 0 else reader_channels 128 (plain s.world) j earlier (counts_in s.counts) s.end.node.0) c.requires.writer in
     renders_own s site c.args.blocks.now c.requires.fit c.slot.result (c.slot.ensures ∙ ap (λ (x : SiteView). slot x.end) c.site.view_is) (ap outputs c.requires.kind.3) c.copy.new.self _
     (λ channel m low now.
-    let low' : channel < c.channels-channels.result = subst (λ n. channel < n) (sym channels) low in
+    let low' : channel < c.channels.result = subst (λ n. channel < n) (sym channels) low in
     c.copy.ensures.values channel m (subst (λ n. channel < n) (sym lanes) low') now
     ∙ ap (λ (b : BlockView). at b channel m) heard
     ∙ c.take_input.ensures.input (channels ∙ own) channel m low' now
     ∙ ap (λ b. if b then input_value (here_of s c.args.blocks.now m) s.end.node.0 0 channel else delayed 128 (s.first + m) (past_of s c.args.blocks.now before) (here_of s c.args.blocks.now m) s.end.node.0 channel) (sym c.requires.writer))
 
--- what is written is what the end's block has
-writes_it : (c : goal.After-copy) → Writes c.args.delays.now c.write.new.self c.args.site.now.end.node.0 c.args.site.now.first c.channels-channels.result (take (c.channels-channels.result * 128) c.deref.result.now)
-writes_it c = subst (λ (x : SiteView). Writes c.args.delays.now c.write.new.self x.end.node.0 x.first c.channels-channels.result (take (c.channels-channels.result * 128) c.deref.result.now)) c.site.view_is c.write.ensures
+-- the lanes of the input, which are written
+abbrev input_of : goal.After-copy → List ℤ
+input_of c = c.write_heard.ensures.writes.0
+
+writes_it : (c : goal.After-copy) → Writes c.args.delays.now c.write_heard.new.delays c.args.site.now.end.node.0 c.args.site.now.first c.channels.result (input_of c)
+writes_it c =
+    subst (λ n. Writes c.args.delays.now c.write_heard.new.delays c.args.site.now.end.node.0 c.args.site.now.first n (input_of c)) c.take_input.ensures.lanes
+    (subst (λ (x : SiteView). Writes c.args.delays.now c.write_heard.new.delays x.end.node.0 x.first c.take_input.new.self.heard.lanes (input_of c)) c.site.view_is c.write_heard.ensures.writes.2)
 
 pub returns-clause-stores : goal.returns-clause-stores
 returns-clause-stores c =
     let s : SiteView = c.args.site.now in
     let site = site_is s _ _ _ _ _ _ c.site.invariant.0 c.site.view_is in
-    let heard : c.self.inside.heard ≡ c.take_input.new.self.heard = ap (λ (b : BenchView). b.heard) c.self.view_is in
-    let channels : c.channels-channels.result ≡ counts_in s.counts s.end = c.channels-channels.ensures.count in
-    let lanes : c.self.inside.heard.lanes ≡ c.channels-channels.result = ap (λ (b : BlockView). b.lanes) heard ∙ c.take_input.ensures.lanes in
-    let written = c.deref.ensures.value ∙ rewritten _ c.copy_out.new.out _ (c.copy_out.ensures.length ∙ sym c.self.invariant.wide ∙ sym (ap length c.as_mut_slice.ensures.value) ∙ c.as_mut_slice.ensures.len) in
+    let heard : c.self.inside.heard ≡ c.take_input.new.self.heard = ap (λ (b : BenchView). b.heard) c.self.view_is ∙ c.write_heard.ensures.heard in
+    let channels : c.channels.result ≡ counts_in s.counts s.end = c.channels.ensures.count in
+    let lanes : c.self.inside.heard.lanes ≡ c.channels.result = ap (λ (b : BlockView). b.lanes) heard ∙ c.take_input.ensures.lanes in
     let wrote = writes_it c in
     record {
       known = wrote.known;
@@ -98,15 +99,15 @@ returns-clause-stores c =
             ∙ lane_own s site c.args.blocks.now c.requires.fit c.slot.result (c.slot.ensures ∙ ap (λ (x : SiteView). slot x.end) c.site.view_is) c.copy.new.self k m
             ∙ c.copy.ensures.values k m (subst (λ n. k < n) (sym lanes) low) now
             ∙ ap (λ b. if b then at c.self.inside.heard k m else pos 0) (let within : k < c.self.inside.heard.lanes = subst (λ n. k < n) (sym lanes) low in let is_within : true ≡ nat_lt k c.self.inside.heard.lanes = grind (arith, nat_tests) in is_within)
-            ∙ sym (widened c.deref.result.now c.self.inside.heard c.channels-channels.result k m c.channels-channels.ensures.high now
-            (λ l i few soon. ap (λ xs. sample 128 xs l i) written ∙ c.copy_out.ensures.values l i few soon) (let e = lanes in omega arith));
+            ∙ ap (λ (b : BlockView). shown b m k) heard
+            ∙ sym (c.write_heard.ensures.writes.1.values k m (let e = c.take_input.ensures.lanes in let own = subst (λ n. k < n) channels low in omega arith) now);
       });
     }
 
 pub returns-clause-room : goal.returns-clause-room
 returns-clause-room c n d is low = elim (this_or_other n c.args.site.now.end.node.0) [
   | inl here ↦
-      let old = (writes_it c).rooms d (subst (λ k. delay_at c.write.new.self k ≡ Some d) here is) in
+      let old = (writes_it c).rooms d (subst (λ k. delay_at c.write_heard.new.delays k ≡ Some d) here is) in
       let fits = c.requires.room c.args.site.now.end.node.0 old.0 old.1 (subst (λ k. 2 * k < length c.args.site.now.counts) here low) in
       subst (λ k. slice_index_or c.args.site.now.counts (2 * k) 1 ≤ delay_room d) (sym here) (subst (λ m. slice_index_or c.args.site.now.counts (2 * c.args.site.now.end.node.0) 1 ≤ m) (sym old.2) fits)
   | inr apart ↦ c.requires.room n d (sym ((writes_it c).others n apart) ∙ is) low
