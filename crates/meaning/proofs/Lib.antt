@@ -21,6 +21,8 @@ pub mod OneChanged
 pub mod Sourcing
 pub mod Buffering
 pub mod Automating
+pub mod Sounding
+pub mod Alike
 pub mod Loops
 pub mod Changing
 pub mod Rows

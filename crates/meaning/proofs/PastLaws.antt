@@ -16,7 +16,7 @@ use Rattle.conn_graph.specs.Graph.{Connections}
 use Rattle.conn_graph.specs.Ends.{writer_of, reader_of, input_end, ends, is_delay, height, muted}
 use Rattle.conn_graph.proofs.EndLaws.{has_end, has_writer}
 use Rattle.meaning.specs.declared.world.World.{World}
-use Rattle.meaning.specs.World.{plain, node_at, kind_of}
+use Rattle.meaning.specs.World.{sounding, node_at, kind_of}
 use Rattle.meaning.specs.Validity.{IsJoined}
 use Rattle.meaning.specs.Counts.{Counts, world_in, count_rule, count_scheme, count_at, count}
 use Rattle.meaning.specs.Values.{Frame, Values, no_frame, world_at, known_at, taken_in, computed_value, equation, value_scheme, value_at, value, frame, frames_before, param_value}
@@ -27,7 +27,7 @@ use Rattle.meaning.proofs.Successors.{div-le-div, SamePast}
 use Rattle.meaning.proofs.ValueLaws.{value_suc}
 use Rattle.meaning.proofs.TapeLaws.{world_after, count_before, quantum_below, frame_before}
 
-module _ (q : ℕ) (some : 0 < q) (w : World) (joined : IsJoined (plain w)) (tape tape' : List World) (same : SamePast q w tape tape') where
+module _ (q : ℕ) (some : 0 < q) (w : World) (joined : IsJoined (sounding w)) (tape tape' : List World) (same : SamePast q w tape tape') where
   abbrev g : Connections
   g = w.graph.value
 
@@ -37,10 +37,10 @@ module _ (q : ℕ) (some : 0 < q) (w : World) (joined : IsJoined (plain w)) (tap
   abbrev longer' : List World
   longer' = tape' ++ w ∷ []
 
-  world_new : world_in longer (length tape) ≡ plain w
+  world_new : world_in longer (length tape) ≡ sounding w
   world_new = world_after tape w (length tape) refl
 
-  world_new' : world_in longer' (length tape) ≡ plain w
+  world_new' : world_in longer' (length tape) ≡ sounding w
   world_new' = world_after tape' w (length tape) same.quanta
 
   -- the writers of the delays had as many channels before
@@ -50,7 +50,7 @@ module _ (q : ℕ) (some : 0 < q) (w : World) (joined : IsJoined (plain w)) (tap
       below : (a b : ℕ) → a < b → nat_lt a b ≡ true
       below a b l = grind (arith, nat_tests)
 
-  same_before : SameBefore q (plain w) (length tape) (before (count_scheme q) (world_in longer) (length tape)) (before (count_scheme q) (world_in longer') (length tape))
+  same_before : SameBefore q (sounding w) (length tape) (before (count_scheme q) (world_in longer) (length tape)) (before (count_scheme q) (world_in longer') (length tape))
   same_before n k is low high =
       ap (λ (c : Counts). c (writer_of n)) (counted_before longer k high ∙ count_before q tape w k high)
       ∙ same.counts n k is low high
@@ -62,22 +62,22 @@ module _ (q : ℕ) (some : 0 < q) (w : World) (joined : IsJoined (plain w)) (tap
       let past : ℕ → Counts = before (count_scheme q) (world_in longer) (length tape) in
       let past' : ℕ → Counts = before (count_scheme q) (world_in longer') (length tape) in
       ap (λ x. at_height (λ e. 1) (count_rule q x (length tape) past) (height x.graph.value)) world_new
-      ∙ ap (λ r. at_height (λ e. 1) r (height g)) (count_rule_alike q (plain w) (length tape) past past' same_before)
+      ∙ ap (λ r. at_height (λ e. 1) r (height g)) (count_rule_alike q (sounding w) (length tape) past past' same_before)
       ∙ sym (ap (λ x. at_height (λ e. 1) (count_rule q x (length tape) past') (height x.graph.value)) world_new')
 
   -- a frame of the new quantum in the one tape and in the other
   frame_new : (f : ℕ) → f / q ≡ length tape → (s : Values)
-      → (let x : Frame = record { world = world_at q longer f; counts = count q longer (f / q); values = s } in x) ≡ record { world = plain w; counts = count q longer (length tape); values = s }
+      → (let x : Frame = record { world = world_at q longer f; counts = count q longer (f / q); values = s } in x) ≡ record { world = sounding w; counts = count q longer (length tape); values = s }
   frame_new f here s =
       ap (λ k. let x : Frame = record { world = world_in longer k; counts = count q longer k; values = s } in x) here
       ∙ ap (λ x. let y : Frame = record { world = x; counts = count q longer (length tape); values = s } in y) world_new
 
   frame_new' : (f : ℕ) → f / q ≡ length tape → (s : Values)
-      → (let x : Frame = record { world = world_at q longer' f; counts = count q longer' (f / q); values = s } in x) ≡ record { world = plain w; counts = count q longer (length tape); values = s }
+      → (let x : Frame = record { world = world_at q longer' f; counts = count q longer' (f / q); values = s } in x) ≡ record { world = sounding w; counts = count q longer (length tape); values = s }
   frame_new' f here s =
       ap (λ k. let x : Frame = record { world = world_in longer' k; counts = count q longer' k; values = s } in x) here
       ∙ ap (λ x. let y : Frame = record { world = x; counts = count q longer' (length tape); values = s } in y) world_new'
-      ∙ ap (λ c. let y : Frame = record { world = plain w; counts = c; values = s } in y) (sym counts_new)
+      ∙ ap (λ c. let y : Frame = record { world = sounding w; counts = c; values = s } in y) (sym counts_new)
 
   -- the frames of the new quantum before f agree on each end
   abbrev AgreeBefore : ℕ → Type 0
@@ -113,7 +113,7 @@ module _ (q : ℕ) (some : 0 < q) (w : World) (joined : IsJoined (plain w)) (tap
             ∙ sym (ap (λ (x : Frame). x.values (writer_of i) 0) frames.1),
       )
 
-  sees_at : (f : ℕ) → f / q ≡ length tape → AgreeBefore f → (e : End) → SeesFor q f (plain w) e (frames_before q longer f) (frames_before q longer' f)
+  sees_at : (f : ℕ) → f / q ≡ length tape → AgreeBefore f → (e : End) → SeesFor q f (sounding w) e (frames_before q longer f) (frames_before q longer' f)
   sees_at f here agree e = record {
     recent = λ n low high.
         let low' : q * length tape ≤ n = subst (λ j. q * j ≤ n) here low in
@@ -144,7 +144,7 @@ module _ (q : ℕ) (some : 0 < q) (w : World) (joined : IsJoined (plain w)) (tap
   one_up f h here agree below e is =
       ap (λ (v : Values). v e) (value_suc q longer f h)
       ∙ ap (λ (x : Frame). equation q f (frames_before q longer f) x e) (frame_new f here (value_at q longer f h))
-      ∙ equation_sees q some (plain w) joined f (frames_before q longer f) (frames_before q longer' f) e is (sees_at f here agree e)
+      ∙ equation_sees q some (sounding w) joined f (frames_before q longer f) (frames_before q longer' f) e is (sees_at f here agree e)
       (count q longer (length tape)) (count q longer (length tape)) refl (λ d in_d a. refl)
       (value_at q longer f h) (value_at q longer' f h) (λ d in_d a. below d in_d)
       ∙ sym (ap (λ (x : Frame). equation q f (frames_before q longer' f) x e) (frame_new' f here (value_at q longer' f h)))
@@ -194,7 +194,7 @@ module _ (q : ℕ) (some : 0 < q) (w : World) (joined : IsJoined (plain w)) (tap
       let high : f < q * (f / q) + q = omega arith in
       let before : AgreeBefore f = λ n from to d in_d. agree n from (let top = subst (λ j. f < q * j + q) here high in omega arith) d in_d in
       ap (λ x. computed_value q f (frames_before q longer f) x id) (frame_new f here (value q longer f))
-      ∙ computed_like q some (plain w) joined f (frames_before q longer f) (frames_before q longer' f) e (has_end g id.node.0 there) (sees_at f here before e)
+      ∙ computed_like q some (sounding w) joined f (frames_before q longer f) (frames_before q longer' f) e (has_end g id.node.0 there) (sees_at f here before e)
       (count q longer (length tape)) (count q longer (length tape)) refl (λ d in_d a. refl)
       (value q longer f) (value q longer' f) (λ d in_d a. value_new f d here in_d) refl id.name
       ∙ sym (ap (λ x. computed_value q f (frames_before q longer' f) x id) (frame_new' f here (value q longer' f)))
@@ -221,7 +221,7 @@ module _ (q : ℕ) (some : 0 < q) (w : World) (joined : IsJoined (plain w)) (tap
         let e : End = input_end g n in
         ap (λ x. taken_in x n c) (frame_new f here (value q longer f))
         ∙ ap (λ x. if muted g e then pos 0 else x)
-        (input_like (plain w) joined (count q longer (length tape)) (count q longer (length tape)) (value q longer f) (value q longer' f) e refl (λ d in_d a. refl) (λ d in_d a. value_new f d here in_d) 0 c)
+        (input_like (sounding w) joined (count q longer (length tape)) (count q longer (length tape)) (value q longer f) (value q longer' f) e refl (λ d in_d a. refl) (λ d in_d a. value_new f d here in_d) 0 c)
         ∙ sym (ap (λ x. taken_in x n c) (frame_new' f here (value q longer' f)))
   ]
 
@@ -254,10 +254,10 @@ module _ (q : ℕ) (some : 0 < q) (w : World) (joined : IsJoined (plain w)) (tap
   abbrev kept_counts : World → ℕ → (ℕ → ℕ → ℕ) → ℕ → ℕ → ℕ
   kept_counts x k h n j = let node = node_at x n in if is_delay_kind node.kind && (nat_le (node.attrs.birth / q) j && nat_lt j k) then h n j else 1
 
-  last_is : last_world longer ≡ plain w
+  last_is : last_world longer ≡ sounding w
   last_is = world_after tape w (length longer - 1) (omega (arith, length-append tape (w ∷ [])))
 
-  last_is' : last_world longer' ≡ plain w
+  last_is' : last_world longer' ≡ sounding w
   last_is' = world_after tape' w (length longer' - 1) (omega (arith, length-append tape' (w ∷ [])))
 
   frames_same : (test : Kind → Bool) (h h' : ℕ → ℕ → ℕ → ℤ)
@@ -266,7 +266,7 @@ module _ (q : ℕ) (some : 0 < q) (w : World) (joined : IsJoined (plain w)) (tap
   frames_same test h h' each = fun_ext (λ n. fun_ext (λ f. fun_ext (λ c.
       ap (λ x. kept_frames test x (length longer) h n f c) last_is
       ∙ by_test n f c (test (kind_of w n)) (nat_le (node_at w n).attrs.birth f) (nat_lt f (q * length longer)) refl refl refl
-      ∙ ap (λ k. kept_frames test (plain w) k h' n f c) same_length
+      ∙ ap (λ k. kept_frames test (sounding w) k h' n f c) same_length
       ∙ sym (ap (λ x. kept_frames test x (length longer') h' n f c) last_is'))))
     where
       by_test : (n f c : ℕ) (a b d : Bool) → test (kind_of w n) ≡ a → nat_le (node_at w n).attrs.birth f ≡ b → nat_lt f (q * length longer) ≡ d
@@ -280,7 +280,7 @@ module _ (q : ℕ) (some : 0 < q) (w : World) (joined : IsJoined (plain w)) (tap
   counts_same = fun_ext (λ n. fun_ext (λ j.
       ap (λ x. kept_counts x (length longer) (λ i k. count q longer k (writer_of i)) n j) last_is
       ∙ by_test n j (is_delay_kind (kind_of w n)) (nat_le ((node_at w n).attrs.birth / q) j) (nat_lt j (length longer)) refl refl refl
-      ∙ ap (λ k. kept_counts (plain w) k (λ i k. count q longer' k (writer_of i)) n j) same_length
+      ∙ ap (λ k. kept_counts (sounding w) k (λ i k. count q longer' k (writer_of i)) n j) same_length
       ∙ sym (ap (λ x. kept_counts x (length longer') (λ i k. count q longer' k (writer_of i)) n j) last_is')))
     where
       by_test : (n j : ℕ) (a b d : Bool) → is_delay_kind (kind_of w n) ≡ a → nat_le ((node_at w n).attrs.birth / q) j ≡ b → nat_lt j (length longer) ≡ d

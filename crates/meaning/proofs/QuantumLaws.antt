@@ -4,7 +4,7 @@ use Rattle.wa_base.specs.declared.graph_names.End.{End}
 use Rattle.law_base.specs.Members.{IsIn}
 use Rattle.conn_graph.specs.Ends.{ends, input_end, arrow, muted}
 use Rattle.meaning.specs.declared.world.World.{World}
-use Rattle.meaning.specs.World.{plain}
+use Rattle.meaning.specs.World.{sounding}
 use Rattle.meaning.specs.Validity.{IsJoined}
 use Rattle.meaning.specs.Counts.{Counts, world_in, count_rule, count, counts_before}
 use Rattle.meaning.specs.Values.{silence, taken_in, frame, value}
@@ -26,26 +26,26 @@ HasCounts q tape j w counts = (d : End) → IsIn d (ends w.graph.value) → coun
 abbrev pub HasSources : World → List End → End → Type 0
 HasSources w done e = (d : End) → IsIn d (ends w.graph.value) → muted w.graph.value d ≡ false → arrow w.graph.value d e ≡ true → IsIn d done
 
-module _ (q : ℕ) (some : 0 < q) (w : World) (joined : IsJoined (plain w)) (tape : List World) where
+module _ (q : ℕ) (some : 0 < q) (w : World) (joined : IsJoined (sounding w)) (tape : List World) where
   abbrev longer : List World
   longer = tape ++ w ∷ []
 
   abbrev j : ℕ
   j = length tape
 
-  there : world_in longer j ≡ plain w
+  there : world_in longer j ≡ sounding w
   there = world_after tape w j refl
 
   -- Where the blocks of all ends with an arrow to e are right, the block of e is.
   pub block_right : (counts : Counts) → HasCounts q longer j w counts → (drafts : Drafts) (done : List End) → AreRight q longer j w drafts done → (e : End) → IsIn e (ends w.graph.value)
-      → HasSources w done e → (m : ℕ) → m < q → block q (frame q longer) (q * j) (plain w) counts drafts e m ≡ value q longer (q * j + m) e
+      → HasSources w done e → (m : ℕ) → m < q → block q (frame q longer) (q * j) (sounding w) counts drafts e m ≡ value q longer (q * j + m) e
   block_right = subst (λ x. (counts : Counts) → HasCounts q longer j x counts → (drafts : Drafts) (done : List End) → AreRight q longer j x drafts done → (e : End) → IsIn e (ends x.graph.value)
       → HasSources x done e → (m : ℕ) → m < q → block q (frame q longer) (q * j) x counts drafts e m ≡ value q longer (q * j + m) e)
       there (λ counts counted drafts done right e is sources m l. blocks.block_right q some longer j (subst IsJoined (sym there) joined) counts counted drafts done right e is sources m l)
 
   -- What an end's node takes in is right, where the blocks of all ends with an arrow to it are.
   pub taken_right : (counts : Counts) → HasCounts q longer j w counts → (drafts : Drafts) (done : List End) → AreRight q longer j w drafts done → (e : End) → IsIn e (ends w.graph.value)
-      → e ≡ input_end w.graph.value e.node.0 → HasSources w done e → (m : ℕ) → m < q → (c : ℕ) → taken_in (drafted (plain w) counts (drafts m)) e.node.0 c ≡ taken_in (frame q longer (q * j + m)) e.node.0 c
+      → e ≡ input_end w.graph.value e.node.0 → HasSources w done e → (m : ℕ) → m < q → (c : ℕ) → taken_in (drafted (sounding w) counts (drafts m)) e.node.0 c ≡ taken_in (frame q longer (q * j + m)) e.node.0 c
   taken_right = subst (λ x. (counts : Counts) → HasCounts q longer j x counts → (drafts : Drafts) (done : List End) → AreRight q longer j x drafts done → (e : End) → IsIn e (ends x.graph.value)
       → e ≡ input_end x.graph.value e.node.0 → HasSources x done e → (m : ℕ) → m < q → (c : ℕ) → taken_in (drafted x counts (drafts m)) e.node.0 c ≡ taken_in (frame q longer (q * j + m)) e.node.0 c)
       there (λ counts counted drafts done right e is plain sources m l c. blocks.taken_right q some longer j (subst IsJoined (sym there) joined) counts counted drafts done right e is plain sources m l c)
@@ -61,8 +61,8 @@ module _ (q : ℕ) (some : 0 < q) (w : World) (joined : IsJoined (plain w)) (tap
       (blocks.muted_right q some longer j (subst IsJoined (sym there) joined) (count q longer j) (λ d in_d. refl))
 
   -- The rule gives an end's count, wherever the ends that it sees have theirs, and the quanta before too.
-  pub count_right : (past : ℕ → Counts) → SameBefore q (plain w) j past (counts_before q longer j) → (counts : Counts) (e : End) → IsIn e (ends w.graph.value) → AgreeFor w e counts (count q longer j)
-      → count_rule q (plain w) j past counts e ≡ count q longer j e
+  pub count_right : (past : ℕ → Counts) → SameBefore q (sounding w) j past (counts_before q longer j) → (counts : Counts) (e : End) → IsIn e (ends w.graph.value) → AgreeFor w e counts (count q longer j)
+      → count_rule q (sounding w) j past counts e ≡ count q longer j e
   count_right = subst (λ x. (past : ℕ → Counts) → SameBefore q x j past (counts_before q longer j) → (counts : Counts) (e : End) → IsIn e (ends x.graph.value) → AgreeFor x e counts (count q longer j)
       → count_rule q x j past counts e ≡ count q longer j e)
       there (λ past before counts e is agree. count_gives q longer j (subst IsJoined (sym there) joined) past before counts e is agree)

@@ -13,7 +13,7 @@ use Rattle.node_table.specs.declared.kinds.Kind.TheVariants.{Destination}
 use Rattle.node_table.specs.declared.nodes.Node.{Node}
 use Rattle.conn_graph.specs.Ends.{writer_of}
 use Rattle.meaning.specs.declared.world.World.{World}
-use Rattle.meaning.specs.World.{plain, no_node, node_at, kind_of}
+use Rattle.meaning.specs.World.{sounding, no_node, node_at, kind_of}
 use Rattle.meaning.specs.Counts.{world_in, count}
 use Rattle.meaning.specs.Worlds.{Stays, IsRegular}
 use Rattle.meaning.specs.Pasts.{last_world, is_lived, is_lived_quantum, heard, written, past}
@@ -61,16 +61,16 @@ module _ (q : ℕ) (some : 0 < q) (w : World) (tape : List World) (regular : IsR
   long = length-append tape (w ∷ [])
 
   -- A node of the world whose life began before was in the last world of the tape.
-  pub stayed : (n : ℕ) → n < length w.nodes → (node_at w n).attrs.birth < q * length tape → Stays n (last_world tape) (plain w)
+  pub stayed : (n : ℕ) → n < length w.nodes → (node_at w n).attrs.birth < q * length tape → Stays n (last_world tape) (sounding w)
   stayed n there old =
       let quanta : 0 < length tape = some_quanta (length tape) old in
       let j : ℕ = length tape - 1 in
       let next : suc j ≡ length tape = omega arith in
       let last : world_in longer j ≡ last_world tape = world_before tape w j (omega arith) in
-      let now : world_in longer (suc j) ≡ plain w = world_after tape w (suc j) next in
+      let now : world_in longer (suc j) ≡ sounding w = world_after tape w (suc j) next in
       elim (below_or_past n (length (world_in longer j).nodes)) [
-        | inl l ↦ subst (λ x. Stays n x (plain w)) last (subst (Stays n (world_in longer j)) now (regular.stays j n (omega (arith, long)) l))
-        | inr l ↦ let here : world_in longer (length tape) ≡ plain w = world_after tape w (length tape) refl in
+        | inl l ↦ subst (λ x. Stays n x (sounding w)) last (subst (Stays n (world_in longer j)) now (regular.stays j n (omega (arith, long)) l))
+        | inr l ↦ let here : world_in longer (length tape) ≡ sounding w = world_after tape w (length tape) refl in
             let birth : (node_at w n).attrs.birth ≡ q * length tape =
             ap (λ x. (node_at x n).attrs.birth) (sym here)
             ∙ regular.born (length tape) n (omega (arith, long)) (subst (λ (x : World). n < length x.nodes) (sym here) there, inr l) in

@@ -6,7 +6,7 @@ use Rattle.law_base.specs.Heights.{state}
 use Rattle.law_base.proofs.SchemeLaws.{state_same}
 use Rattle.conn_graph.specs.Ends.{height}
 use Rattle.meaning.specs.declared.world.World.{World}
-use Rattle.meaning.specs.World.{plain}
+use Rattle.meaning.specs.World.{sounding}
 use Rattle.meaning.specs.Counts.{Counts, world_in, count_scheme, count_at, count}
 use Rattle.meaning.specs.Values.{world_at, known_at, value_scheme, value_at, value, frame}
 
@@ -29,7 +29,7 @@ world_before [] w k l = absurd (omega arith)
 world_before (x ∷ xs) w zero l = refl
 world_before (x ∷ xs) w (suc k) l = world_before xs w k (omega arith)
 
-pub world_after : (tape : List World) (w : World) (k : ℕ) → k ≡ length tape → world_in (tape ++ w ∷ []) k ≡ plain w
+pub world_after : (tape : List World) (w : World) (k : ℕ) → k ≡ length tape → world_in (tape ++ w ∷ []) k ≡ sounding w
 world_after [] w zero e = refl
 world_after [] w (suc k) e = absurd (omega arith)
 world_after (x ∷ xs) w zero e = absurd (omega arith)

@@ -9,11 +9,11 @@ use Rattle.conn_graph.specs.Graph.{edges_to_input}
 use Rattle.conn_graph.specs.Ends.{writer_of, reader_of, in_cycle, height, muted}
 use Rattle.meaning.specs.declared.world.World.{World}
 use Rattle.meaning.specs.Lists.{since}
-use Rattle.meaning.specs.World.{plain, no_world, node_at, kind_of, played_channels}
+use Rattle.meaning.specs.World.{sounding, no_world, node_at, kind_of, played_channels}
 
--- the world in force in a quantum
+-- the world in force in a quantum, as it sounds
 abbrev pub world_in : List World → ℕ → World
-world_in tape j = plain (slice_index_or tape j no_world)
+world_in tape j = sounding (slice_index_or tape j no_world)
 
 abbrev pub Counts : Type 0
 Counts = End → ℕ

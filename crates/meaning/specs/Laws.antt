@@ -1,5 +1,5 @@
 -- What is said of the definitions. Each law holds for every size of a quantum from 1 to 1,024 frames.
-use Rattle.std.specs.Prelude.{ℕ, suc, ◌+◌, ◌-◌, ◌*◌, ◌/◌, ◌≡◌, ◌<◌, ◌≤◌, length, List, [], ◌∷◌, ◌++◌, All, true, false, Some}
+use Rattle.std.specs.Prelude.{ℕ, suc, ◌+◌, ◌-◌, ◌*◌, ◌/◌, ◌≡◌, ◌<◌, ◌≤◌, length, List, [], ◌∷◌, ◌++◌, map, All, true, false, Some}
 use Rattle.wa_base.specs.Numbers.{IsFix}
 use Rattle.wa_base.specs.declared.graph_names.End.{End}
 use Rattle.wa_base.specs.declared.graph_names.ParamId.{ParamId}
@@ -11,8 +11,9 @@ use Rattle.node_table.specs.declared.kinds.Kind.TheVariants.{Shaper}
 use Rattle.conn_graph.specs.Ends.{writer_of, reader_of, ends, in_cycle, height, muted}
 use Rattle.conn_graph.specs.Orders.{IsLegalOrder}
 use Rattle.meaning.specs.declared.world.World.{World}
-use Rattle.meaning.specs.World.{node_at, kind_of}
+use Rattle.meaning.specs.World.{sounding, node_at, kind_of}
 use Rattle.meaning.specs.Validity.{IsValid}
+use Rattle.meaning.specs.Automation.{slot_set, with_params}
 use Rattle.meaning.specs.Counts.{world_in, count_rule, count_at, count, counts_before}
 use Rattle.meaning.specs.Values.{silence, delay_frames, equation, world_at, value_at, value, frame, frames_before, frame_at, param_value}
 use Rattle.meaning.specs.Orders.{values_by}
@@ -76,6 +77,14 @@ PastLaw = (q : ℕ) → 0 < q → q ≤ 1024 → (w : World) (tape tape' : List 
     × ((f : ℕ) (e : End) → f / q ≡ length tape → IsIn e (ends w.graph.value) → value q (tape ++ w ∷ []) f e ≡ value q (tape' ++ w ∷ []) f e)
     × ((f : ℕ) (id : ParamId) → f / q ≡ length tape → id.node.0 < length w.graph.value.nodes → param_value q (tape ++ w ∷ []) f id ≡ param_value q (tape' ++ w ∷ []) f id)
     × (past q (tape ++ w ∷ []) ≡ past q (tape' ++ w ∷ []))
+
+-- No sample hangs on when slots are set: a world sounds as it did, and two tapes whose worlds sound alike have the same counts, values and parameters.
+abbrev pub SlotLaw : Type 0
+SlotLaw = ((w : World) (first : ℕ) → sounding (with_params w (map (slot_set first) w.params.items)) ≡ sounding w)
+    × ((q : ℕ) → 0 < q → q ≤ 1024 → (tape tape' : List World) → map sounding tape ≡ map sounding tape' →
+    ((j : ℕ) → count q tape j ≡ count q tape' j)
+    × ((f : ℕ) → value q tape f ≡ value q tape' f)
+    × ((f : ℕ) (id : ParamId) → param_value q tape f id ≡ param_value q tape' f id))
 
 -- how many frames a delay lasts at frame f of a tape
 abbrev pub frames_back : ℕ → List World → ℕ → ℕ → ℕ

@@ -1,5 +1,5 @@
 -- What is in force in one render quantum.
-use Rattle.std.specs.Prelude.{ℕ, ℤ, pos, List, [], slice_index_or, Bool, true, false, ◌==◌, if◌then◌else◌, slice_get, option_and_then, min, Option, None, Some, is_some}
+use Rattle.std.specs.Prelude.{ℕ, ℤ, pos, List, [], map, slice_index_or, Bool, true, false, ◌==◌, if◌then◌else◌, slice_get, option_and_then, min, Option, None, Some, is_some}
 use Rattle.std.specs.List.{position}
 use Rattle.std.specs.Option.{option_map_or}
 use Rattle.wa_base.specs.Numbers.{sat}
@@ -42,6 +42,14 @@ plain w = record {
   scheds = listed w.scheds.items;
   store = w.store;
 }
+
+-- a parameter whose current value slot is not looked at: it is 0
+abbrev pub unread : Param → Param
+unread p = record p { line = record p.line { slot = pos 0 } }
+
+-- What of a world can be heard: a slot is what a call reads, and no sample comes from it.
+abbrev pub sounding : World → World
+sounding w = record (plain w) { params = listed (map unread w.params.items) }
 
 -- The world without nodes. It stands for the quanta past the end of a tape, and what is said of other worlds begins with it.
 abbrev pub no_world : World

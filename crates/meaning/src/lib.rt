@@ -2,7 +2,7 @@
 //! carries at each frame, and the laws of these values.
 #![tactic(auto)]
 
-ghost use Rattle.meaning.specs.Laws.{RecursionLaw, HeightLaw, FixpointLaw, RangeLaw, OrderLaw, BlockLaw, PastLaw, ReachLaw};
+ghost use Rattle.meaning.specs.Laws.{RecursionLaw, HeightLaw, FixpointLaw, RangeLaw, OrderLaw, BlockLaw, PastLaw, SlotLaw, ReachLaw};
 ghost use Rattle.meaning.specs.Changes.{ChangeLaw};
 
 mod automation;
@@ -61,6 +61,11 @@ pub fn block_law()
 /// the same counts, values and parameters, and it leaves one past.
 pub fn past_law()
     ensures { PastLaw }
+{}
+
+/// The current value slots are never heard: no sample hangs on when they are set.
+pub fn slot_law()
+    ensures { SlotLaw }
 {}
 
 /// The reader of a delay asks only for frames that the delay keeps, and in a cycle only for frames of

@@ -14,9 +14,10 @@ use Rattle.param_events.specs.Values.{value_at}
 use Rattle.meaning.specs.declared.params.Param.{Param}
 use Rattle.meaning.specs.declared.world.World.{World}
 use Rattle.node_table.specs.Kinds.{param_base}
-use Rattle.meaning.specs.World.{kind_of, param_id, find_param, intrinsic_value, is_k, is_k_rate}
+use Rattle.meaning.specs.World.{sounding, kind_of, param_id, find_param, intrinsic_value, is_k, is_k_rate}
 use Rattle.meaning.specs.Validity.{IsValid, param_ids}
 use Rattle.meaning.proofs.Automating.{found_param}
+use Rattle.meaning.proofs.Sounding.{intrinsic_sounding, k_rate_sounding}
 use Rattle.automation.specs.Levels.{LevelView, HasRoom, IsLevelOf, AreLevels, level_at, level_of, no_level, taken_at}
 use Rattle.automation.specs.Ready.{AreOfNodes}
 use Rattle.quantum_render.proofs.LevelLaws.{taken_at as taken_in}
@@ -83,11 +84,12 @@ module _ (w : World) (valid : IsValid w) (first : ℕ) (levels : List LevelView)
           let empty : length level.values ≡ 0 = ap (λ (v : LevelView). length v.values) none in
           absurd (omega arith)
 
-  pub rate_is : is_k_rate w id ≡ is_k level.rate
-  rate_is = ap (λ o. option_map_or (λ (q : Param). is_k q.rate) o false) is_found ∙ ap is_k (sym own.rate)
+  pub rate_is : is_k_rate (sounding w) id ≡ is_k level.rate
+  rate_is = k_rate_sounding w id ∙ ap (λ o. option_map_or (λ (q : Param). is_k q.rate) o false) is_found ∙ ap is_k (sym own.rate)
 
-  pub intrinsic_is : (m : ℕ) → m < 128 → intrinsic_value w id (first + taken_in w id m) ≡ level_at level m
+  pub intrinsic_is : (m : ℕ) → m < 128 → intrinsic_value (sounding w) id (first + taken_in (sounding w) id m) ≡ level_at level m
   intrinsic_is m low =
-      ap (λ o. option_map_or (λ (q : Param). value_at q.line.base q.line.events (first + taken_in w id m)) o (pos 0)) is_found
+      intrinsic_sounding w id (first + taken_in (sounding w) id m)
+      ∙ ap (λ o. option_map_or (λ (q : Param). value_at q.line.base q.line.events (first + taken_in (sounding w) id m)) o (pos 0)) is_found
       ∙ ap (λ k. value_at p.line.base p.line.events (first + k)) (ap (λ b. if b then 0 else m) (rate_is ∙ ap is_k own.rate) ∙ sym (taken_by p.rate m))
       ∙ sym (own.values m low)

@@ -11,7 +11,7 @@ use Rattle.conn_graph.specs.Ends.{same_end, ends}
 use Rattle.conn_graph.specs.Orders.{IsLegalAfter, IsLegalOrder}
 use Rattle.conn_graph.proofs.EndLaws.{same_end_is}
 use Rattle.meaning.specs.declared.world.World.{World}
-use Rattle.meaning.specs.World.{plain, kind_of}
+use Rattle.meaning.specs.World.{sounding, kind_of}
 use Rattle.meaning.specs.Validity.{IsValid}
 use Rattle.meaning.specs.Counts.{Counts, count_rule, count_by_kind, count, counts_before}
 use Rattle.meaning.proofs.Joined.{joined}
@@ -67,12 +67,12 @@ module _ (w : World) (valid : IsValid w) (delays : DelayBank) (first : ℕ) (ord
   pub next_slot : slot x < length counts
   next_slot = subst (λ n. slot x < n) (sym c.range.places) (slot_low x (length w.nodes) (end_low w valid x next.0))
 
-  module _ (v : ℕ) (is : (j : ℕ) (earlier : ℕ → Counts) → first ≡ 128 * j → AreMost delays w j earlier → v ≡ count_by_kind 128 (plain w) j earlier (counts_in counts) (kind_of w x.node.0) x) where
+  module _ (v : ℕ) (is : (j : ℕ) (earlier : ℕ → Counts) → first ≡ 128 * j → AreMost delays w j earlier → v ≡ count_by_kind 128 (sounding w) j earlier (counts_in counts) (kind_of w x.node.0) x) where
     own_count : (tape : List World) → first ≡ 128 * length tape → HasKept delays w tape first → v ≡ count 128 (tape ++ w ∷ []) (length tape) x
     unfolding count_rule
     own_count tape time kept =
         is (length tape) (counts_before 128 (tape ++ w ∷ []) (length tape)) time (are_most delays w tape first time kept)
-        ∙ ap (λ b. if b then 1 else count_by_kind 128 (plain w) (length tape) (counts_before 128 (tape ++ w ∷ []) (length tape)) (counts_in counts) (kind_of w x.node.0) x) (sym next.1)
+        ∙ ap (λ b. if b then 1 else count_by_kind 128 (sounding w) (length tape) (counts_before 128 (tape ++ w ∷ []) (length tape)) (counts_in counts) (kind_of w x.node.0) x) (sym next.1)
         ∙ count_right 128 (omega arith) w (joined w valid) tape (counts_before 128 (tape ++ w ∷ []) (length tape)) (λ n k delay low high. refl) (counts_in counts) x next.0
         (λ d in_d a. c.known tape time kept d in_d (known_source w.graph.value c.done x next.3 d in_d a))
 

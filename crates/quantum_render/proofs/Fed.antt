@@ -14,7 +14,7 @@ use Rattle.conn_graph.specs.Orders.{IsLegalAfter}
 use Rattle.conn_graph.proofs.EndLaws.{has_writer, writer_arrow}
 use Rattle.conn_graph.proofs.MutingLaws.{writer_unmuted}
 use Rattle.meaning.specs.declared.world.World.{World}
-use Rattle.meaning.specs.World.{plain, node_at, kind_of}
+use Rattle.meaning.specs.World.{sounding, node_at, kind_of}
 use Rattle.meaning.specs.Validity.{IsValid, IsJoined}
 use Rattle.meaning.specs.Counts.{world_in, count}
 use Rattle.meaning.specs.Values.{frame, value}
@@ -75,7 +75,7 @@ module _ (w : World) (valid : IsValid w) (tape : List World) (first : ℕ) (begi
       → (in_cycle w.graph.value n ≡ true → 128 ≤ d) → (node_at w n).attrs.birth + d ≤ f → (writer_in (frame 128 longer) n).counts ((f - d) / 128) ≤ counts_in counts (reader_of n)
   few_for n d f longest time capacity kind unmuted there now long born =
       let u : World = world_in longer (f / 128) in
-      let same : u ≡ plain w = world_after tape w (f / 128) now in
+      let same : u ≡ sounding w = world_after tape w (f / 128) now in
       let few = asked_count 128 (omega arith) longer f (subst IsJoined (sym same) (joined w valid)) n d
       (subst (λ (x : World). is_delay_kind (kind_of x n) ≡ true) (sym same) (ap is_delay_kind kind))
       (subst (λ (x : World). muted x.graph.value (reader_of n) ≡ false) (sym same) unmuted)
@@ -122,7 +122,7 @@ module _ (w : World) (valid : IsValid w) (tape : List World) (first : ℕ) (begi
         by_done false = inl refl
 
         by_counts : (g : ℕ) → g < first + 128 → (b : Bool) → nat_lt g first ≡ b
-            → (if b then frame 128 longer g else drafted (plain w) (counts_in counts) (drafts_of blocks counts (g - first))).counts (writer_of n) ≡ (writer_in (frame 128 longer) n).counts (g / 128)
+            → (if b then frame 128 longer g else drafted (sounding w) (counts_in counts) (drafts_of blocks counts (g - first))).counts (writer_of n) ≡ (writer_in (frame 128 longer) n).counts (g / 128)
         by_counts g l true t = sym (count_of_writer n (g / 128))
         by_counts g l false t =
             let late : first ≤ g = grind (arith, nat_tests) in
@@ -131,7 +131,7 @@ module _ (w : World) (valid : IsValid w) (tape : List World) (first : ℕ) (begi
             ∙ sym (count_of_writer n (g / 128))
 
         by_values : (g : ℕ) → g < written_until done first n → (b : Bool) → nat_lt g first ≡ b → (among : Bool) → is_among done (writer_of n) ≡ among
-            → (if b then frame 128 longer g else drafted (plain w) (counts_in counts) (drafts_of blocks counts (g - first))).values (writer_of n) 0 ≡ (writer_in (frame 128 longer) n).frames g
+            → (if b then frame 128 longer g else drafted (sounding w) (counts_in counts) (drafts_of blocks counts (g - first))).values (writer_of n) 0 ≡ (writer_in (frame 128 longer) n).frames g
         by_values g l true t among is = refl
         by_values g l false t true is =
             let late : first ≤ g = grind (arith, nat_tests) in

@@ -10,7 +10,7 @@ use Rattle.causal_core.specs.Frames.{item}
 use Rattle.node_table.specs.Kinds.{is_delay_kind}
 use Rattle.node_table.specs.declared.kinds.Kind.TheVariants.{Iir}
 use Rattle.conn_graph.specs.Ends.{input_end, muted}
-use Rattle.meaning.specs.World.{plain, node_at, kind_of}
+use Rattle.meaning.specs.World.{sounding, node_at, kind_of}
 use Rattle.meaning.specs.Counts.{input_channels}
 use Rattle.conn_graph.specs.Graph.{edges_to_input}
 use Rattle.meaning.specs.Lists.{since}
@@ -47,7 +47,7 @@ widened_front wide heard lanes room each = record {
 module _ (s : SiteView) (site : IsSite s.world s.end s.into s.counts s.levels s.first) (forward back : List ℤ) (kind : kind_of s.world s.end.node.0 ≡ Iir forward back) where
   -- its end has the second of the node's two places
   own_slot : slot s.end ≡ 2 * s.end.node.0 + 1
-  own_slot = ap slot (plain_reader (plain s.world) (joined s.world site.valid) s.end site.there (ap is_delay_kind kind))
+  own_slot = ap slot (plain_reader (sounding s.world) (joined s.world site.valid) s.end site.there (ap is_delay_kind kind))
 
   pub own_place : 2 * s.end.node.0 + 1 < length s.counts
   own_place = subst (λ k. k < length s.counts) own_slot (site_slot s.world s.end s.into s.counts s.levels s.first site)
@@ -85,7 +85,7 @@ module _ (s : SiteView) (site : IsSite s.world s.end s.into s.counts s.levels s.
   past_before g low = ap (λ b. if b then before g else here_of s old (g - s.first)) (let yes : nat_lt g s.first ≡ true = grind (arith, nat_tests) in yes)
 
   unmuted : muted s.world.graph.value (input_end s.world.graph.value n) ≡ false
-  unmuted = subst (λ e. muted s.world.graph.value e ≡ false) (plain_end (plain s.world) (joined s.world site.valid) s.end site.there (ap is_delay_kind kind)) ready.unmuted
+  unmuted = subst (λ e. muted s.world.graph.value e ≡ false) (plain_end (sounding s.world) (joined s.world site.valid) s.end site.there (ap is_delay_kind kind)) ready.unmuted
 
   pub takes_now : (k c : ℕ) → takes (s.first + k) c ≡ input_value (here_of s old k) n 0 c
   takes_now k c = ap (λ x. taken_in x n c) (past_now k) ∙ ap (λ b. if b then pos 0 else input_value (here_of s old k) n 0 c) unmuted
@@ -95,7 +95,7 @@ module _ (s : SiteView) (site : IsSite s.world s.end s.into s.counts s.levels s.
   has_heard = heard_like _ forward back _ s.first _ takes (λ g c low high. ap (λ x. taken_in x n c) (sym (past_before g high))) (ready.heard forward back kind)
 
   -- the block that the filter hears brings the quantum
-  pub brings : (channels lanes : ℕ) (x : List ℤ) (heard : BlockView) → IsWidened heard lanes x → heard.lanes ≡ channels → channels ≤ lanes → channels ≡ input_channels (plain s.world) (counts_in s.counts) n 0
+  pub brings : (channels lanes : ℕ) (x : List ℤ) (heard : BlockView) → IsWidened heard lanes x → heard.lanes ≡ channels → channels ≤ lanes → channels ≡ input_channels (sounding s.world) (counts_in s.counts) n 0
       → ((c m : ℕ) → c < channels → m < 128 → at heard c m ≡ input_value (here_of s old m) n 0 c)
       → Brings s.first x takes
   unfolding input_value
@@ -107,7 +107,7 @@ module _ (s : SiteView) (site : IsSite s.world s.end s.into s.counts s.levels s.
           sym (input c k (let low : c < channels = grind (arith, nat_tests) in low) now)
           ∙ ap (λ b. if b then at heard c k else pos 0) (sym (ap (nat_lt c) count ∙ t))
       by_test false t =
-          ap (λ b. if b then mixed_sum (here_of s old k) (node_at s.world n).attrs.interp (input_channels (plain s.world) (counts_in s.counts) n 0) c (edges_to_input s.world.graph.value n 0) else pos 0) (ap (nat_lt c) (sym counted) ∙ t)
+          ap (λ b. if b then mixed_sum (here_of s old k) (node_at s.world n).attrs.interp (input_channels (sounding s.world) (counts_in s.counts) n 0) c (edges_to_input s.world.graph.value n 0) else pos 0) (ap (nat_lt c) (sym counted) ∙ t)
           ∙ ap (λ b. if b then at heard c k else pos 0) (sym (ap (nat_lt c) count ∙ t))
 
   -- all that the node takes in up to a frame of the quantum

@@ -12,7 +12,7 @@ use Rattle.conn_graph.specs.declared.edges.Edge.{Edge}
 use Rattle.conn_graph.specs.declared.edges.Target.TheVariants.{Input}
 use Rattle.conn_graph.specs.Ends.{reader_of}
 use Rattle.meaning.specs.declared.world.World.{World}
-use Rattle.meaning.specs.World.{plain, node_at}
+use Rattle.meaning.specs.World.{sounding, node_at}
 use Rattle.meaning.specs.Counts.{input_channels}
 use Rattle.meaning.specs.Values.{Frame, part, mixed_sum, input_value}
 use Rattle.quantum_render.specs.Blocks.{BlockView, block_of, carried, counts_in, frame_of}
@@ -25,9 +25,9 @@ sat_of_fix (pos n) fits = let k = fits.sfits in ap pos (omega arith)
 sat_of_fix (negsuc n) fits = let k = fits.sfits in ap negsuc (omega arith)
 
 module _ (w : World) (blocks : List BlockView) (counts : List ℕ) (node input c m to : ℕ) (low : c < to) (edges : List Edge) (here : edges ≡ into w.graph.value node)
-    (channels : to ≡ input_channels (plain w) (counts_in counts) node input) where
+    (channels : to ≡ input_channels (sounding w) (counts_in counts) node input) where
   abbrev x : Frame
-  x = frame_of (plain w) blocks counts m
+  x = frame_of (sounding w) blocks counts m
 
   pub input_is : (interp : Interp) (sum : ℤ) → (node_at w node).attrs.interp ≡ interp
       → sum ≡ total (map (part x interp to c) (filter (leads_to (Input (record { 0 = node }) input)) edges))

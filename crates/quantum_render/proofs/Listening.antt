@@ -12,7 +12,7 @@ use Rattle.conn_graph.specs.Ends.{same_end, reader_of, input_end, ends, muted}
 use Rattle.conn_graph.specs.Orders.{IsLegalAfter}
 use Rattle.conn_graph.proofs.EndLaws.{same_end-refl, same_end_is}
 use Rattle.meaning.specs.declared.world.World.{World}
-use Rattle.meaning.specs.World.{plain, node_at, kind_of}
+use Rattle.meaning.specs.World.{sounding, node_at, kind_of}
 use Rattle.meaning.specs.Validity.{IsJoined}
 use Rattle.meaning.specs.Values.{taken_in, frame}
 use Rattle.meaning.specs.Blocks.{drafted, with_drafts}
@@ -104,7 +104,7 @@ with_memory s memory old new kind renders j earlier begins counted before ready 
 
 -- ---- one more end of an order
 
-module _ (w : World) (joined : IsJoined (plain w)) (tape : List World) (blocks : List BlockView) (counts : List ℕ)
+module _ (w : World) (joined : IsJoined (sounding w)) (tape : List World) (blocks : List BlockView) (counts : List ℕ)
     (counted : HasCounts 128 (tape ++ w ∷ []) (length tape) w (counts_in counts)) (done : List End) (right : AreRight 128 (tape ++ w ∷ []) (length tape) w (drafts_of blocks counts) done)
     (x : End) (in_x : IsIn x (ends w.graph.value)) (sources : HasSources w done x) (plain_x : x ≡ input_end w.graph.value x.node.0) where
   abbrev longer : List World
@@ -114,10 +114,10 @@ module _ (w : World) (joined : IsJoined (plain w)) (tape : List World) (blocks :
   first = 128 * length tape
 
   -- what its node takes in, by the blocks and by the tape
-  pub takes_in : (g c : ℕ) → g < first + 128 → taken_in (with_drafts (frame 128 longer) first (plain w) (counts_in counts) (drafts_of blocks counts) g) x.node.0 c ≡ taken_in (frame 128 longer g) x.node.0 c
+  pub takes_in : (g c : ℕ) → g < first + 128 → taken_in (with_drafts (frame 128 longer) first (sounding w) (counts_in counts) (drafts_of blocks counts) g) x.node.0 c ≡ taken_in (frame 128 longer g) x.node.0 c
   takes_in g c low = by_test (nat_lt g first) refl
     where
-      by_test : (b : Bool) → nat_lt g first ≡ b → taken_in (if b then frame 128 longer g else drafted (plain w) (counts_in counts) (drafts_of blocks counts (g - first))) x.node.0 c ≡ taken_in (frame 128 longer g) x.node.0 c
+      by_test : (b : Bool) → nat_lt g first ≡ b → taken_in (if b then frame 128 longer g else drafted (sounding w) (counts_in counts) (drafts_of blocks counts (g - first))) x.node.0 c ≡ taken_in (frame 128 longer g) x.node.0 c
       by_test true t = refl
       by_test false t =
           let high : first ≤ g = grind (arith, nat_tests) in
@@ -128,7 +128,7 @@ module _ (w : World) (joined : IsJoined (plain w)) (tape : List World) (blocks :
   -- of the ends that are done, x is none yet, and then it is one
   module _ (kind : is_delay_kind (kind_of w x.node.0) ≡ false) (new : IsIn x done → ⊥) where
     here : x ≡ reader_of x.node.0
-    here = plain_reader (plain w) joined x in_x kind
+    here = plain_reader (sounding w) joined x in_x kind
 
     pub not_done : is_done done x.node.0 ≡ false
     not_done = subst (λ e. is_among done e ≡ false) here (not_among done x new)
@@ -143,14 +143,14 @@ other_done x done n apart = other_among done x (reader_of n) (λ e. apart (ap (�
 -- ---- after the last end
 
 -- the filter of a muted node hears silence, and the others have heard the quantum
-pub rested_heard : (w : World) → IsJoined (plain w) → (tape : List World) (first : ℕ) → first ≡ 128 * length tape → (done : List End) → IsLegalAfter w.graph.value done [] → (n : ℕ) → IsIn (reader_of n) (ends w.graph.value)
+pub rested_heard : (w : World) → IsJoined (sounding w) → (tape : List World) (first : ℕ) → first ≡ 128 * length tape → (done : List End) → IsLegalAfter w.graph.value done [] → (n : ℕ) → IsIn (reader_of n) (ends w.graph.value)
     → (forward back : List ℤ) → is_delay_kind (kind_of w n) ≡ false → (birth : ℕ) (old new : Option FilterView) → IsHeard old forward back birth (heard_until done first n) (λ g c. taken_in (frame 128 (tape ++ w ∷ []) g) n c)
     → IsRestedIfThere first old new → IsHeard new forward back birth (first + 128) (λ g c. taken_in (frame 128 (tape ++ w ∷ []) g) n c)
 rested_heard w joined tape first begins done legal n in_n forward back no_delay birth old new is rested = by_test (is_done done n) refl is
   where
     -- an end that is not done is muted
     quiet : is_done done n ≡ false → muted w.graph.value (input_end w.graph.value n) ≡ true
-    quiet t = subst (λ e. muted w.graph.value e ≡ true) (plain_end (plain w) joined (reader_of n) in_n no_delay) (by_mute (muted w.graph.value (reader_of n)) refl)
+    quiet t = subst (λ e. muted w.graph.value e ≡ true) (plain_end (sounding w) joined (reader_of n) in_n no_delay) (by_mute (muted w.graph.value (reader_of n)) refl)
       where
         by_mute : (b : Bool) → muted w.graph.value (reader_of n) ≡ b → muted w.graph.value (reader_of n) ≡ true
         by_mute true m = m

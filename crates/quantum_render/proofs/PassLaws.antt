@@ -10,7 +10,7 @@ use Rattle.node_table.specs.Kinds.{outputs}
 use Rattle.conn_graph.specs.Ends.{same_end, ends, muted}
 use Rattle.conn_graph.proofs.EndLaws.{same_end_is}
 use Rattle.meaning.specs.declared.world.World.{World}
-use Rattle.meaning.specs.World.{plain, kind_of}
+use Rattle.meaning.specs.World.{sounding, kind_of}
 use Rattle.meaning.specs.Validity.{IsJoined}
 use Rattle.meaning.specs.Values.{frame, equation, value_by_kind, value}
 use Rattle.meaning.specs.Blocks.{with_drafts}
@@ -19,12 +19,12 @@ use Rattle.meaning.proofs.QuantumLaws.{AreRight, HasCounts, HasSources, block_ri
 use Rattle.quantum_render.specs.Blocks.{BlockView, at, shown, carried, block_of, counts_in, drafts_of, frame_of, IsSilent, Writes}
 use Rattle.quantum_render.proofs.Slots.{not_same, lane_low, lane_high}
 
-module _ (w : World) (joined : IsJoined (plain w)) (tape : List World) (blocks blocks' : List BlockView) (counts : List ℕ)
+module _ (w : World) (joined : IsJoined (sounding w)) (tape : List World) (blocks blocks' : List BlockView) (counts : List ℕ)
     (counted : HasCounts 128 (tape ++ w ∷ []) (length tape) w (counts_in counts)) (done : List End) (right : AreRight 128 (tape ++ w ∷ []) (length tape) w (drafts_of blocks counts) done)
     (x : End) (in_x : IsIn x (ends w.graph.value)) (unmuted : muted w.graph.value x ≡ false) (sources : HasSources w done x)
     (lanes : (block_of blocks' x).lanes ≡ outputs (kind_of w x.node.0) * counts_in counts x) (writes : Writes blocks blocks' x)
     (renders : (o c m : ℕ) → o < outputs (kind_of w x.node.0) → c < counts_in counts x → m < 128 → at (block_of blocks' x) (o * counts_in counts x + c) m
-    ≡ value_by_kind 128 (128 * length tape + m) (with_drafts (frame 128 (tape ++ w ∷ [])) (128 * length tape) (plain w) (counts_in counts) (drafts_of blocks counts)) (frame_of (plain w) blocks counts m) (kind_of w x.node.0) x o c) where
+    ≡ value_by_kind 128 (128 * length tape + m) (with_drafts (frame 128 (tape ++ w ∷ [])) (128 * length tape) (sounding w) (counts_in counts) (drafts_of blocks counts)) (frame_of (sounding w) blocks counts m) (kind_of w x.node.0) x o c) where
   abbrev longer : List World
   longer = tape ++ w ∷ []
 
@@ -45,7 +45,7 @@ module _ (w : World) (joined : IsJoined (plain w)) (tape : List World) (blocks b
       ∙ block_right 128 (omega arith) w joined tape (counts_in counts) counted (drafts_of blocks counts) done right x in_x sources m l
     where
       v : ℕ → ℕ → ℤ
-      v o c = value_by_kind 128 (first + m) (with_drafts (frame 128 longer) first (plain w) (counts_in counts) (drafts_of blocks counts)) (frame_of (plain w) blocks counts m) (kind_of w x.node.0) x o c
+      v o c = value_by_kind 128 (first + m) (with_drafts (frame 128 longer) first (sounding w) (counts_in counts) (drafts_of blocks counts)) (frame_of (sounding w) blocks counts m) (kind_of w x.node.0) x o c
 
       by_channel : (o c : ℕ) (a b : Bool) → nat_lt o outs ≡ a → nat_lt c n ≡ b
           → (if b then shown (block_of blocks' x) m (o * n + c) else pos 0) ≡ (if muted w.graph.value x then pos 0 else if a && b then v o c else pos 0)

@@ -13,7 +13,7 @@ use Rattle.conn_graph.specs.declared.edges.Edge.{Edge}
 use Rattle.conn_graph.specs.Ends.{ends, muted}
 use Rattle.conn_graph.specs.Orders.{IsLegalAfter}
 use Rattle.meaning.specs.declared.world.World.{World}
-use Rattle.meaning.specs.World.{plain, node_at, kind_of}
+use Rattle.meaning.specs.World.{sounding, node_at, kind_of}
 use Rattle.meaning.specs.Validity.{IsValid, IsJoined}
 use Rattle.meaning.specs.Counts.{count_rule, count_by_kind, counts_before}
 use Rattle.meaning.specs.Values.{taken_in, frame, value_by_kind, value}
@@ -50,13 +50,13 @@ still_fit w counts old new same fit = record {
 }
 
 -- the channels of an unmuted end are those that its kind asks for
-has_count : (w : World) → IsJoined (plain w) → (counts : List ℕ) (tape : List World) → AreCounted 128 w counts tape → (x : End) → IsIn x (ends w.graph.value) → muted w.graph.value x ≡ false
-    → counts_in counts x ≡ count_by_kind 128 (plain w) (length tape) (counts_before 128 (tape ++ w ∷ []) (length tape)) (counts_in counts) (kind_of w x.node.0) x
+has_count : (w : World) → IsJoined (sounding w) → (counts : List ℕ) (tape : List World) → AreCounted 128 w counts tape → (x : End) → IsIn x (ends w.graph.value) → muted w.graph.value x ≡ false
+    → counts_in counts x ≡ count_by_kind 128 (sounding w) (length tape) (counts_before 128 (tape ++ w ∷ []) (length tape)) (counts_in counts) (kind_of w x.node.0) x
 unfolding count_rule
 has_count w joined counts tape counted x in_x unmuted =
     counted x in_x
     ∙ sym (count_right 128 (omega arith) w joined tape (counts_before 128 (tape ++ w ∷ []) (length tape)) (λ n k delay low high. refl) (counts_in counts) x in_x (λ d in_d a. counted d in_d))
-    ∙ ap (λ b. if b then 1 else count_by_kind 128 (plain w) (length tape) (counts_before 128 (tape ++ w ∷ []) (length tape)) (counts_in counts) (kind_of w x.node.0) x) unmuted
+    ∙ ap (λ b. if b then 1 else count_by_kind 128 (sounding w) (length tape) (counts_before 128 (tape ++ w ∷ []) (length tape)) (counts_in counts) (kind_of w x.node.0) x) unmuted
 
 -- what holds of each tape whose quanta are remembered before the quantum begins
 abbrev pub OfTapes : World → List ℕ → ℕ → Memory → (List World → Type 0) → Type 0
@@ -74,7 +74,7 @@ pub record Passing (w : World) (order : List End) (i : ℕ) (counts : List ℕ) 
   pub heard : OfTapes w counts first old (λ tape. AreHeardBy memory.filters w tape first done)
   pub kept : OfTapes w counts first old (λ tape. AreKeptBy memory.delays w tape first done)
 
-pub passing_begins : (w : World) → IsJoined (plain w) → (order mute : List End) (sources : List (List Edge)) → IsPlan w order mute sources → (counts : List ℕ) (first : ℕ) (memory : Memory) → HasRooms memory w counts → (blocks : List BlockView)
+pub passing_begins : (w : World) → IsJoined (sounding w) → (order mute : List End) (sources : List (List Edge)) → IsPlan w order mute sources → (counts : List ℕ) (first : ℕ) (memory : Memory) → HasRooms memory w counts → (blocks : List BlockView)
     → AreFit w counts blocks → ((i : ℕ) (d : End) → i < length mute → IsSilent blocks (slice_index_or mute i d)) → Passing w order 0 counts first memory memory blocks
 passing_begins w joined order mute sources plan counts first memory rooms blocks fit silent = record {
   done = [];
@@ -133,7 +133,7 @@ module _ (w : World) (valid : IsValid w) (order : List End) (i : ℕ) (counts : 
         unmuted = next.1;
         heard = λ forward back is.
             subst (λ b. IsHeard (filter_at memory.filters x.node.0) forward back (node_at w x.node.0).attrs.birth (if b then first + 128 else first) (λ g k. taken_in (frame 128 longer g) x.node.0 k))
-            (not_done w (joined w valid) tape blocks counts counted c.done (c.right tape begins counted timely ready) x next.0 next.3 (plain_end (plain w) (joined w valid) x next.0 (no_delay forward back is)) (no_delay forward back is) next.2)
+            (not_done w (joined w valid) tape blocks counts counted c.done (c.right tape begins counted timely ready) x next.0 next.3 (plain_end (sounding w) (joined w valid) x next.0 (no_delay forward back is)) (no_delay forward back is) next.2)
             (c.heard tape begins counted timely ready x.node.0 forward back there is);
         fed = λ longest time capacity is. is_fed w valid tape first begins counts counted timely blocks c.done (c.right tape begins counted timely ready) memory.delays (c.kept tape begins counted timely ready)
             x next.0 next.1 next.2 next.3 edges levels longest time capacity is;
@@ -144,7 +144,7 @@ module _ (w : World) (valid : IsValid w) (order : List End) (i : ℕ) (counts : 
           let fit' = still_fit w counts blocks blocks' writes.lanes c.fit in
           one_more_right w (joined w valid) tape blocks blocks' counts counted c.done (c.right tape begins counted timely ready) x next.0 next.1 next.3 (fit'.lanes x next.0) writes
           (subst (λ f. (o k m : ℕ) → o < outputs (kind_of w x.node.0) → k < counts_in counts x → m < 128 → at (block_of blocks' x) (o * counts_in counts x + k) m
-          ≡ value_by_kind 128 (f + m) (with_drafts (frame 128 longer) f (plain w) (counts_in counts) (drafts_of blocks counts)) (frame_of (plain w) blocks counts m) (kind_of w x.node.0) x o k) begins
+          ≡ value_by_kind 128 (f + m) (with_drafts (frame 128 longer) f (sounding w) (counts_in counts) (drafts_of blocks counts)) (frame_of (sounding w) blocks counts m) (kind_of w x.node.0) x o k) begins
           (renders (length tape) (counts_before 128 (tape ++ w ∷ []) (length tape)) begins (has_count w (joined w valid) counts tape counted x next.0 next.1) (frame 128 longer) ready_now))
 
       -- its node's filter has heard the quantum
@@ -152,8 +152,8 @@ module _ (w : World) (valid : IsValid w) (order : List End) (i : ℕ) (counts : 
           → IsHeard (filter_at memory'.filters x.node.0) forward back (node_at w x.node.0).attrs.birth (first + 128) (λ g k. taken_in (frame 128 longer g) x.node.0 k)
       own_heard forward back is =
           heard_like _ forward back _ (first + 128) (λ g k. taken_in (past_of (site_of edges levels) blocks (frame 128 longer) g) x.node.0 k) _
-          (λ g k low high. subst (λ f. g < f + 128 → taken_in (with_drafts (frame 128 longer) f (plain w) (counts_in counts) (drafts_of blocks counts) g) x.node.0 k ≡ taken_in (frame 128 longer g) x.node.0 k) (sym begins)
-          (λ high. takes_in w (joined w valid) tape blocks counts counted c.done (c.right tape begins counted timely ready) x next.0 next.3 (plain_end (plain w) (joined w valid) x next.0 (no_delay forward back is)) g k high) high)
+          (λ g k low high. subst (λ f. g < f + 128 → taken_in (with_drafts (frame 128 longer) f (sounding w) (counts_in counts) (drafts_of blocks counts) g) x.node.0 k ≡ taken_in (frame 128 longer g) x.node.0 k) (sym begins)
+          (λ high. takes_in w (joined w valid) tape blocks counts counted c.done (c.right tape begins counted timely ready) x next.0 next.3 (plain_end (sounding w) (joined w valid) x next.0 (no_delay forward back is)) g k high) high)
           (listens.own forward back is (length tape) (counts_before 128 (tape ++ w ∷ []) (length tape)) begins (subst (λ kind. HasCount (site_of edges levels) (length tape) (counts_before 128 (tape ++ w ∷ []) (length tape)) kind) is (has_count w (joined w valid) counts tape counted x next.0 next.1)) (frame 128 longer) ready_now)
 
       heard_now : AreHeardBy memory'.filters w tape first (x ∷ c.done)
@@ -162,7 +162,7 @@ module _ (w : World) (valid : IsValid w) (order : List End) (i : ℕ) (counts : 
             let own : kind_of w x.node.0 ≡ Iir forward back = subst (λ k. kind_of w k ≡ Iir forward back) here is in
             subst (λ k. IsHeard (filter_at memory'.filters k) forward back (node_at w k).attrs.birth (heard_until (x ∷ c.done) first k) (λ g r. taken_in (frame 128 longer g) k r)) (sym here)
             (subst (λ b. IsHeard (filter_at memory'.filters x.node.0) forward back (node_at w x.node.0).attrs.birth (if b then first + 128 else first) (λ g r. taken_in (frame 128 longer g) x.node.0 r))
-            (sym (now_done w (joined w valid) tape blocks counts counted c.done (c.right tape begins counted timely ready) x next.0 next.3 (plain_end (plain w) (joined w valid) x next.0 (no_delay forward back own)) (no_delay forward back own) next.2))
+            (sym (now_done w (joined w valid) tape blocks counts counted c.done (c.right tape begins counted timely ready) x next.0 next.3 (plain_end (sounding w) (joined w valid) x next.0 (no_delay forward back own)) (no_delay forward back own) next.2))
             (own_heard forward back own))
         | inr apart ↦
             subst (λ b. IsHeard (filter_at memory'.filters n) forward back (node_at w n).attrs.birth (if b then first + 128 else first) (λ g r. taken_in (frame 128 longer g) n r)) (sym (other_done x c.done n apart))

@@ -8,7 +8,7 @@ use Rattle.node_table.specs.Nodes.{IsCreated}
 use Rattle.node_table.specs.declared.kinds.Kind.{Kind}
 use Rattle.node_table.specs.declared.kinds.Kind.TheVariants.{Destination, Constant, Buffer, Gain, Delay, Splitter, Merger, Shaper, Iir}
 use Rattle.meaning.specs.declared.world.World.{World}
-use Rattle.meaning.specs.World.{plain, node_at, kind_of}
+use Rattle.meaning.specs.World.{sounding, node_at, kind_of}
 use Rattle.meaning.specs.Validity.{IsValid}
 use Rattle.meaning.specs.Counts.{Counts, input_channels}
 use Rattle.meaning.proofs.NodeKinds.{limits_there}
@@ -39,15 +39,15 @@ explicit_count mode count first counts explicit same = rw explicit same
 module _ (w : World) (valid : IsValid w) (i : ℕ) (there : i < length w.nodes) (counts : Counts) (ports : ℕ) where
   -- each input has the count of the node's creation
   fixed_channels : (kind : Kind) → kind_of w i ≡ kind → is_destination kind ≡ false → fixed_count kind ≡ true → fixed_mode kind ≡ true → first_mode kind ≡ Explicit
-      → (input : ℕ) → input_channels (plain w) counts i input ≡ first_count kind
+      → (input : ℕ) → input_channels (sounding w) counts i input ≡ first_count kind
   fixed_channels kind is other count mode explicit input =
       let node : IsCreated (node_at w i) = created_at w valid i there (ap is_destination is ∙ other) in
       explicit_count (node_at w i).attrs.mode (node_at w i).attrs.count (first_count kind) _
       (node.fixed.mode (ap fixed_mode is ∙ mode) ∙ ap first_mode is ∙ explicit)
       (node.fixed.count (ap fixed_count is ∙ count) ∙ ap first_count is)
 
-  pub splitter_channels : kind_of w i ≡ Splitter ports → input_channels (plain w) counts i 0 ≡ ports
+  pub splitter_channels : kind_of w i ≡ Splitter ports → input_channels (sounding w) counts i 0 ≡ ports
   splitter_channels is = fixed_channels (Splitter ports) is refl refl refl refl 0
 
-  pub merger_channels : kind_of w i ≡ Merger ports → (input : ℕ) → input_channels (plain w) counts i input ≡ 1
+  pub merger_channels : kind_of w i ≡ Merger ports → (input : ℕ) → input_channels (sounding w) counts i input ≡ 1
   merger_channels is input = fixed_channels (Merger ports) is refl refl refl refl input

@@ -8,7 +8,7 @@ use Rattle.node_table.specs.Kinds.{remembers, lasting}
 use Rattle.node_table.specs.declared.kinds.Kind.TheVariants.{Iir}
 use Rattle.node_table.proofs.Lasting.{lasting_filter}
 use Rattle.meaning.specs.declared.world.World.{World}
-use Rattle.meaning.specs.World.{plain, node_at, kind_of}
+use Rattle.meaning.specs.World.{sounding, node_at, kind_of}
 use Rattle.meaning.specs.Counts.{world_in}
 use Rattle.meaning.specs.Values.{taken_in, frame}
 use Rattle.meaning.specs.Worlds.{Stays, IsRegular}
@@ -27,14 +27,14 @@ module _ (w : World) (tape : List World) (regular : IsRegular 128 (tape ++ w ∷
   long : length longer ≡ length tape + 1
   long = length-append tape (w ∷ [])
 
-  pub now : world_in longer (length tape) ≡ plain w
+  pub now : world_in longer (length tape) ≡ sounding w
   now = world_after tape w (length tape) refl
 
   -- a node of the last world is there still
-  pub stays_last : (n : ℕ) → n < length (last_world tape).nodes → Stays n (last_world tape) (plain w)
+  pub stays_last : (n : ℕ) → n < length (last_world tape).nodes → Stays n (last_world tape) (sounding w)
   stays_last n low = by_length (length tape) refl
     where
-      by_length : (k : ℕ) → length tape ≡ k → Stays n (last_world tape) (plain w)
+      by_length : (k : ℕ) → length tape ≡ k → Stays n (last_world tape) (sounding w)
       by_length zero e = absurd (none tape e low)
         where
           none : (t : List World) → length t ≡ 0 → n < length (last_world t).nodes → ⊥
@@ -42,8 +42,8 @@ module _ (w : World) (tape : List World) (regular : IsRegular 128 (tape ++ w ∷
           none (x ∷ xs) e low = absurd (omega arith)
       by_length (suc j) e =
           let last : world_in longer j ≡ last_world tape = world_before tape w j (omega arith) ∙ ap (world_in tape) (let back : j ≡ length tape - 1 = omega arith in back) in
-          let next : world_in longer (suc j) ≡ plain w = world_after tape w (suc j) (sym e) in
-          subst (λ x. Stays n x (plain w)) last (subst (Stays n (world_in longer j)) next (regular.stays j n (omega (arith, long)) (subst (λ (x : World). n < length x.nodes) (sym last) low)))
+          let next : world_in longer (suc j) ≡ sounding w = world_after tape w (suc j) (sym e) in
+          subst (λ x. Stays n x (sounding w)) last (subst (Stays n (world_in longer j)) next (regular.stays j n (omega (arith, long)) (subst (λ (x : World). n < length x.nodes) (sym last) low)))
 
   -- the last world has no more nodes
   pub last_few : length (last_world tape).nodes ≤ length w.nodes
@@ -79,7 +79,7 @@ module _ (w : World) (tape : List World) (regular : IsRegular 128 (tape ++ w ∷
         (fresh n forward back (subst (λ k. k ≤ n) (sym known) new) low is))
   ]
 
-  pub last_now : last_world longer ≡ plain w
+  pub last_now : last_world longer ≡ sounding w
   last_now = world_after tape w (length longer - 1) (omega (arith, long))
 
   -- and what they have heard they remember

@@ -6,7 +6,7 @@ use Rattle.node_table.specs.declared.kinds.Kind.TheVariants.{Delay, Iir}
 use Rattle.node_table.specs.Delays.{delay_capacity}
 use Rattle.delay_line.specs.Delays.{Writer}
 use Rattle.conn_graph.specs.Ends.{writer_of, reader_of, in_cycle, muted}
-use Rattle.meaning.specs.World.{plain, node_at, kind_of}
+use Rattle.meaning.specs.World.{sounding, node_at, kind_of}
 use Rattle.meaning.specs.Counts.{Counts, count_by_kind}
 use Rattle.meaning.specs.Values.{Frame, taken_in, value_by_kind}
 use Rattle.meaning.specs.Blocks.{with_drafts}
@@ -21,14 +21,14 @@ use Rattle.quantum_render.specs.Sites.{SiteView}
 
 -- the frames that an equation sees: those before the quantum, and of the quantum what the blocks have
 abbrev pub past_of : SiteView → List BlockView → (ℕ → Frame) → ℕ → Frame
-past_of s blocks before = with_drafts before s.first (plain s.world) (counts_in s.counts) (drafts_of blocks s.counts)
+past_of s blocks before = with_drafts before s.first (sounding s.world) (counts_in s.counts) (drafts_of blocks s.counts)
 
 abbrev pub here_of : SiteView → List BlockView → ℕ → Frame
-here_of s blocks m = frame_of (plain s.world) blocks s.counts m
+here_of s blocks m = frame_of (sounding s.world) blocks s.counts m
 
 -- The number of channels of a site's end is what its kind asks for, in quantum j and with these channels in the quanta before.
 abbrev pub HasCount : SiteView → ℕ → (ℕ → Counts) → Kind → Type 0
-HasCount s j earlier kind = counts_in s.counts s.end ≡ count_by_kind 128 (plain s.world) j earlier (counts_in s.counts) kind s.end
+HasCount s j earlier kind = counts_in s.counts s.end ≡ count_by_kind 128 (sounding s.world) j earlier (counts_in s.counts) kind s.end
 
 -- The new block of a site's end has in quantum j the values of its kind, whatever the frames before the quantum were.
 abbrev pub Renders : SiteView → List BlockView → List BlockView → Kind → Type 0

@@ -1,6 +1,6 @@
 ghost use Rattle.std.specs.Prelude.{[], ◌∷◌, true, ◌≡◌, ◌≤◌, ◌<◌, ◌+◌, ◌*◌, ◌^◌, ◌+ℤ◌, ℕ, ℤ, pos, List, Some, length, slice_index_or, max, IsSome, IfSome};
 ghost use Rattle.wa_base.specs.Numbers.{sat as saturated};
-ghost use Rattle.meaning.specs.World.{plain, kind_of, param_id};
+ghost use Rattle.meaning.specs.World.{sounding, kind_of, param_id};
 ghost use Rattle.node_table.specs.Kinds.{param_base};
 ghost use Rattle.node_table.specs.Delays.{frames_of as whole_frames};
 ghost use Rattle.meaning.specs.Counts.{input_channels};
@@ -74,7 +74,7 @@ impl Bench {
         requires fit { AreFit site.now.world site.now.counts blocks.now }
         ensures merged { self.new.merged ≡ self.old.merged }
         ensures lanes { self.new.heard.lanes ≡ channels }
-        ensures input { channels ≡ input_channels (plain site.now.world) (counts_in site.now.counts) site.now.end.node.0 input →
+        ensures input { channels ≡ input_channels (sounding site.now.world) (counts_in site.now.counts) site.now.end.node.0 input →
             (c m : ℕ) → c < channels → m < 128 → at self.new.heard c m ≡ input_value (here_of site.now blocks.now m) site.now.end.node.0 input c }
     {
         let node = site.end.node;
@@ -98,7 +98,7 @@ impl Bench {
         requires few { inputs ≤ 32 }
         requires fit { AreFit site.now.world site.now.counts blocks.now }
         ensures lanes { self.new.merged.lanes ≡ inputs }
-        ensures inputs { ((i : ℕ) → i < inputs → 1 ≡ input_channels (plain site.now.world) (counts_in site.now.counts) site.now.end.node.0 i) →
+        ensures inputs { ((i : ℕ) → i < inputs → 1 ≡ input_channels (sounding site.now.world) (counts_in site.now.counts) site.now.end.node.0 i) →
             (i m : ℕ) → i < inputs → m < 128 → at self.new.merged i m ≡ input_value (here_of site.now blocks.now m) site.now.end.node.0 i 0 }
     {
         self.merged.begin(inputs);

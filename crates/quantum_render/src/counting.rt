@@ -7,7 +7,7 @@ ghost use Rattle.wa_base.specs.declared.graph_names.End.{End as an_end};
 ghost use Rattle.conn_graph.specs.declared.edges.Edge.{Edge as an_edge};
 ghost use Rattle.conn_graph.specs.Ends.{ends, reader_of};
 ghost use Rattle.meaning.specs.declared.world.World.{World as a_world};
-ghost use Rattle.meaning.specs.World.{plain, kind_of, played_channels};
+ghost use Rattle.meaning.specs.World.{sounding, kind_of, played_channels};
 ghost use Rattle.meaning.specs.Validity.{IsValid};
 ghost use Rattle.meaning.specs.Counts.{Counts as some_counts, input_channels, count_by_kind};
 ghost use Rattle.quantum_render.specs.Blocks.{slot as slot_of, counts_in};
@@ -64,7 +64,7 @@ fn count_of(counts: &[u32], census: Census<'_>, end: End, into: &[Edge]) -> u32
     requires into { into.now ≡ leads_into census.world.now.graph.value end.node.0 }
     requires cycles { AreCycles census.world.now.graph.value census.cycles.now }
     requires time { census.first ≤ 2 ^ 62 }
-    ensures value { (j : ℕ) (earlier : ℕ → some_counts) → census.entry.first ≡ 128 * j → AreMost census.entry.delays.now census.entry.world.now j earlier → result ≡ count_by_kind 128 (plain census.entry.world.now) j earlier (counts_in counts.now) (kind_of census.entry.world.now end.node.0) end }
+    ensures value { (j : ℕ) (earlier : ℕ → some_counts) → census.entry.first ≡ 128 * j → AreMost census.entry.delays.now census.entry.world.now j earlier → result ≡ count_by_kind 128 (sounding census.entry.world.now) j earlier (counts_in counts.now) (kind_of census.entry.world.now end.node.0) end }
     ensures range { (1 ≤ result) × (result ≤ 32) }
     ensures lanes { outputs (kind_of census.entry.world.now end.node.0) * result ≤ 32 }
     ensures mono { is_mono (kind_of census.entry.world.now end.node.0) ≡ true → result ≡ 1 }
@@ -92,7 +92,7 @@ fn delay_count(counts: &[u32], census: Census<'_>, end: End, into: &[Edge]) -> u
     requires kind { (longest : ℤ) × (time : ℤ) × (capacity : ℕ) × (kind_of census.world.now end.node.0 ≡ Delay longest time capacity) }
     requires into { into.now ≡ leads_into census.world.now.graph.value end.node.0 }
     requires cycles { AreCycles census.world.now.graph.value census.cycles.now }
-    ensures value { (j : ℕ) (earlier : ℕ → some_counts) (longest time : ℤ) (capacity : ℕ) → kind_of census.entry.world.now end.node.0 ≡ Delay longest time capacity → AreMost census.entry.delays.now census.entry.world.now j earlier → result ≡ count_by_kind 128 (plain census.entry.world.now) j earlier (counts_in counts.now) (Delay longest time capacity) end }
+    ensures value { (j : ℕ) (earlier : ℕ → some_counts) (longest time : ℤ) (capacity : ℕ) → kind_of census.entry.world.now end.node.0 ≡ Delay longest time capacity → AreMost census.entry.delays.now census.entry.world.now j earlier → result ≡ count_by_kind 128 (sounding census.entry.world.now) j earlier (counts_in counts.now) (Delay longest time capacity) end }
     ensures range { (1 ≤ result) × (result ≤ 32) }
 {
     if end.writer {
@@ -124,7 +124,7 @@ fn input_count(counts: &[u32], world: &World, node: NodeId, into: &[Edge]) -> u3
     requires range { AreInRange world.now counts.now }
     requires node { node.0 < length world.now.nodes }
     requires into { into.now ≡ leads_into world.now.graph.value node.0 }
-    ensures value { result ≡ input_channels (plain world.now) (counts_in counts.now) node.0 0 }
+    ensures value { result ≡ input_channels (sounding world.now) (counts_in counts.now) node.0 0 }
     ensures range { (1 ≤ result) × (result ≤ 32) }
 {
     let attrs = world.nodes.attrs(node);

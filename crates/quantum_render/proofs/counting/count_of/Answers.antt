@@ -1,7 +1,7 @@
 use Rattle.std.proofs.Common.{ℕ, false, ◌≡◌, inl, inr, sym, ◌∙◌, ap, subst, arith}
 use Rattle.node_table.specs.Kinds.{outputs, is_mono, IsInLimits}
 use Rattle.node_table.specs.declared.kinds.Kind.{Kind}
-use Rattle.meaning.specs.World.{plain, kind_of, played_channels}
+use Rattle.meaning.specs.World.{sounding, kind_of, played_channels}
 use Rattle.meaning.specs.Counts.{count_by_kind}
 use Rattle.quantum_render.specs.Blocks.{counts_in}
 use Rattle.meaning.proofs.NodeKinds.{kind_is}
@@ -19,7 +19,7 @@ input_count-requires-clause-node c = end_low c.args.census.world.now c.requires.
 pub returns-in-Constant-clause-value : goal.returns-in-Constant-clause-value
 returns-in-Constant-clause-value c j earlier time most =
     let table = kind_is c.args.census.world.now c.args.end.node.0 c.kind.result.now (end_low c.args.census.world.now c.requires.valid c.args.end c.requires.there) c.kind.ensures.value in
-    let counted : Kind → ℕ = λ k. count_by_kind 128 (plain c.args.census.world.now) j earlier (counts_in c.args.counts.now) k c.args.end in
+    let counted : Kind → ℕ = λ k. count_by_kind 128 (sounding c.args.census.world.now) j earlier (counts_in c.args.counts.now) k c.args.end in
     elim c.in-Constant.is [
       | inl is ↦ ap counted (sym (table ∙ is.1))
       | inr is ↦ ap counted (sym (table ∙ is.1))
@@ -29,7 +29,7 @@ returns-in-Constant-clause-value c j earlier time most =
 pub returns-in-Buffer-clause-value : goal.returns-in-Buffer-clause-value
 returns-in-Buffer-clause-value c j earlier time most =
     let table = kind_is c.args.census.world.now c.args.end.node.0 c.kind.result.now (end_low c.args.census.world.now c.requires.valid c.args.end c.requires.there) c.kind.ensures.value in
-    let counted : Kind → ℕ = λ k. count_by_kind 128 (plain c.args.census.world.now) j earlier (counts_in c.args.counts.now) k c.args.end in
+    let counted : Kind → ℕ = λ k. count_by_kind 128 (sounding c.args.census.world.now) j earlier (counts_in c.args.counts.now) k c.args.end in
     c.played_count.ensures.value ∙ ap (played_channels c.args.census.world.now c.args.end.node.0 128) time ∙ ap counted (sym (table ∙ c.in-Buffer.is))
 
 pub returns-in-Buffer-clause-lanes : goal.returns-in-Buffer-clause-lanes
@@ -51,7 +51,7 @@ returns-in-Constant-clause-lanes c = let few = outputs_few c.args.census.world.n
 pub returns-in-Merger-clause-value : goal.returns-in-Merger-clause-value
 returns-in-Merger-clause-value c j earlier time most =
     let table = kind_is c.args.census.world.now c.args.end.node.0 c.kind.result.now (end_low c.args.census.world.now c.requires.valid c.args.end c.requires.there) c.kind.ensures.value in
-    let counted : Kind → ℕ = λ k. count_by_kind 128 (plain c.args.census.world.now) j earlier (counts_in c.args.counts.now) k c.args.end in
+    let counted : Kind → ℕ = λ k. count_by_kind 128 (sounding c.args.census.world.now) j earlier (counts_in c.args.counts.now) k c.args.end in
     ap counted (sym (table ∙ c.in-Merger.is))
 
 -- the inputs of a merger are 1 to 32
@@ -76,7 +76,7 @@ returns-in-Merger-clause-mono c mono =
 pub returns-in-Destination-clause-value : goal.returns-in-Destination-clause-value
 returns-in-Destination-clause-value c j earlier time most =
     let table = kind_is c.args.census.world.now c.args.end.node.0 c.kind.result.now (end_low c.args.census.world.now c.requires.valid c.args.end c.requires.there) c.kind.ensures.value in
-    let counted : Kind → ℕ = λ k. count_by_kind 128 (plain c.args.census.world.now) j earlier (counts_in c.args.counts.now) k c.args.end in
+    let counted : Kind → ℕ = λ k. count_by_kind 128 (sounding c.args.census.world.now) j earlier (counts_in c.args.counts.now) k c.args.end in
     c.input_count.ensures.value ∙ elim c.in-Destination.is [
       | inl is ↦ ap counted (sym (table ∙ is))
       | inr (inl is) ↦ ap counted (sym (table ∙ is.1))
@@ -103,7 +103,7 @@ pub returns-in-Delay-clause-value : goal.returns-in-Delay-clause-value
 returns-in-Delay-clause-value c j earlier time most =
     let kind = kind_is c.args.census.world.now c.args.end.node.0 c.kind.result.now (end_low c.args.census.world.now c.requires.valid c.args.end c.requires.there) c.kind.ensures.value ∙ c.in-Delay.is in
     c.delay_count.ensures.value j earlier c.in-Delay.longest c.in-Delay.time c.in-Delay.capacity kind most
-    ∙ ap (λ k. count_by_kind 128 (plain c.args.census.world.now) j earlier (counts_in c.args.counts.now) k c.args.end) (sym kind)
+    ∙ ap (λ k. count_by_kind 128 (sounding c.args.census.world.now) j earlier (counts_in c.args.counts.now) k c.args.end) (sym kind)
 
 pub returns-in-Delay-clause-lanes : goal.returns-in-Delay-clause-lanes
 returns-in-Delay-clause-lanes c =

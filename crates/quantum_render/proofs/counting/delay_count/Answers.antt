@@ -5,7 +5,7 @@ use Rattle.node_table.specs.Kinds.{is_delay_kind}
 use Rattle.node_table.specs.declared.kinds.Kind.TheVariants.{Delay}
 use Rattle.conn_graph.specs.Ends.{writer_of, in_cycle}
 use Rattle.meaning.specs.declared.world.World.{World}
-use Rattle.meaning.specs.World.{plain, kind_of}
+use Rattle.meaning.specs.World.{sounding, kind_of}
 use Rattle.meaning.specs.Validity.{IsValid}
 use Rattle.meaning.specs.Counts.{Counts, input_channels, reader_channels}
 use Rattle.meaning.proofs.Joined.{joined}
@@ -36,9 +36,9 @@ returns-then-census-end-clause-value c j earlier longest time capacity kind most
     let cycle = mark_is w c.requires.valid c.args.census.cycles.now c.requires.cycles n low longest time capacity kind _ true (sym c.if-census-end.true) in
     c.most-most.ensures.most had.delay had.there
     ∙ had.most
-    ∙ ap (λ b. if b then most_before (plain w) n j earlier now had.lived else max (most_before (plain w) n j earlier now had.lived) (now (writer_of n))) cycle
-    ∙ sym (reader_split (plain w) n j earlier now had.lived)
-    ∙ ap (λ b. if b then input_channels (plain w) now n 0 else reader_channels 128 (plain w) j earlier now n) (sym c.if-end.false)
+    ∙ ap (λ b. if b then most_before (sounding w) n j earlier now had.lived else max (most_before (sounding w) n j earlier now had.lived) (now (writer_of n))) cycle
+    ∙ sym (reader_split (sounding w) n j earlier now had.lived)
+    ∙ ap (λ b. if b then input_channels (sounding w) now n 0 else reader_channels 128 (sounding w) j earlier now n) (sym c.if-end.false)
 
 -- what the writer has in the quantum
 written : (c : goal.After-greater) → slice_index_or c.args.counts.now c.slot.result 1 ≡ counts_in c.args.counts.now (writer_of c.args.end.node.0)
@@ -59,9 +59,9 @@ returns-else-census-end-clause-value c j earlier longest time capacity kind most
     let cycle = mark_is w c.requires.valid c.args.census.cycles.now c.requires.cycles n low longest time capacity kind _ false (sym c.if-census-end.false) in
     c.greater.ensures
     ∙ ap₂ max (c.most-most.ensures.most had.delay had.there ∙ had.most) (get_or_default c.args.counts.now c.slot.result _ 1 (within c) ∙ written c)
-    ∙ ap (λ b. if b then most_before (plain w) n j earlier now had.lived else max (most_before (plain w) n j earlier now had.lived) (now (writer_of n))) cycle
-    ∙ sym (reader_split (plain w) n j earlier now had.lived)
-    ∙ ap (λ b. if b then input_channels (plain w) now n 0 else reader_channels 128 (plain w) j earlier now n) (sym c.if-end.false)
+    ∙ ap (λ b. if b then most_before (sounding w) n j earlier now had.lived else max (most_before (sounding w) n j earlier now had.lived) (now (writer_of n))) cycle
+    ∙ sym (reader_split (sounding w) n j earlier now had.lived)
+    ∙ ap (λ b. if b then input_channels (sounding w) now n 0 else reader_channels 128 (sounding w) j earlier now n) (sym c.if-end.false)
 
 pub returns-else-census-end-clause-range : goal.returns-else-census-end-clause-range
 returns-else-census-end-clause-range c =

@@ -3,7 +3,7 @@ use Rattle.std.specs.Prelude.{if◌then◌else◌, nat_lt}
 use Rattle.std.proofs.lemmas.Bool.Decides.{nat_tests}
 use Rattle.node_table.specs.Kinds.{outputs}
 use Rattle.node_table.specs.declared.kinds.Kind.TheVariants.{Iir}
-use Rattle.meaning.specs.World.{plain, kind_of}
+use Rattle.meaning.specs.World.{sounding, kind_of}
 use Rattle.meaning.specs.Counts.{input_channels}
 use Rattle.meaning.specs.Values.{Frame}
 use Rattle.filter_bank.specs.Heard.{Brings, room_of as filter_room}
@@ -36,7 +36,7 @@ input_of c = c.filter_heard.ensures.hears.0
 
 -- what is heard is what the input carries
 heard_brings : (c : goal.After-copy_output) (forward back : List ℤ) → (is : kind_of c.args.site.now.world c.args.site.now.end.node.0 ≡ Iir forward back) → (before : ℕ → Frame) → (ready : IsReadyFor c.args.site.now c.args.memory.now c.args.blocks.now before)
-    → counts_in c.args.site.now.counts c.args.site.now.end ≡ input_channels (plain c.args.site.now.world) (counts_in c.args.site.now.counts) c.args.site.now.end.node.0 0
+    → counts_in c.args.site.now.counts c.args.site.now.end ≡ input_channels (sounding c.args.site.now.world) (counts_in c.args.site.now.counts) c.args.site.now.end.node.0 0
     → Brings c.args.site.now.first (input_of c) (takes c.args.site.now (site_is c.args.site.now _ _ _ _ _ _ c.site.invariant.0 c.site.view_is) c.args.memory.now c.args.blocks.now forward back is before ready)
 heard_brings c forward back is before ready counted =
     let s : SiteView = c.args.site.now in

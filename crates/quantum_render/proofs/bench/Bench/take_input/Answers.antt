@@ -7,7 +7,7 @@ use Rattle.conn_graph.specs.declared.edges.Edge.{Edge}
 use Rattle.conn_graph.specs.declared.edges.Target.TheVariants.{Input}
 use Rattle.conn_graph.specs.Ends.{reader_of}
 use Rattle.meaning.specs.Values.{part}
-use Rattle.meaning.specs.World.{plain}
+use Rattle.meaning.specs.World.{sounding}
 use Rattle.quantum_render.specs.Blocks.{BlockView, no_block, slot, block_of, carried, frame_of}
 use Rattle.quantum_render.specs.Connections.{into, leads_to, no_edge}
 use Rattle.quantum_render.specs.Fits.{AreFit, IsSource}
@@ -67,5 +67,5 @@ returns-clause-input c channels channel m low now =
     c.saturate.ensures.values channel m low' now
     ∙ input_is s.world blocks s.counts s.end.node.0 c.args.input channel m c.args.channels low s.into site.into channels c.attrs.result.interp (sum_at c.gather.new.self channel m)
     (ap (λ (a : Attrs). a.interp) (attrs_are s.world s.end.node.0 c.attrs.result (end_low s.world site.valid s.end site.there) (subst (λ (x : SiteView). attrs_at x.world.nodes x.end.node.0 ≡ Some c.attrs.result) c.site.view_is c.attrs.ensures.value)))
-    (subst (λ (x : SiteView). sum_at c.gather.new.self channel m ≡ total (map (part (frame_of (plain s.world) blocks s.counts m) c.attrs.result.interp c.args.channels channel) (filter (leads_to (Input (record { 0 = x.end.node.0 }) c.args.input)) s.into))) c.site.view_is
-    (c.gather.ensures.sums (plain s.world) channel m low now))
+    (subst (λ (x : SiteView). sum_at c.gather.new.self channel m ≡ total (map (part (frame_of (sounding s.world) blocks s.counts m) c.attrs.result.interp c.args.channels channel) (filter (leads_to (Input (record { 0 = x.end.node.0 }) c.args.input)) s.into))) c.site.view_is
+    (c.gather.ensures.sums (sounding s.world) channel m low now))

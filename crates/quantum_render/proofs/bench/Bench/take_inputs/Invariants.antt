@@ -1,5 +1,5 @@
 use Rattle.std.proofs.Common.{ℕ, ◌≡◌, ◌<◌}
-use Rattle.meaning.specs.World.{plain}
+use Rattle.meaning.specs.World.{sounding}
 use Rattle.meaning.specs.Counts.{input_channels}
 use Rattle.meaning.specs.Values.{input_value}
 use Rattle.quantum_render.specs.Blocks.{at, counts_in}
@@ -10,6 +10,6 @@ use Rattle.quantum_render.proofs.bench.Bench.take_inputs.Given as goal
 abbrev pub invariant-loop-input : goal.invariant-loop-input
 invariant-loop-input l = record {
   lanes : l.self.merged.lanes ≡ l.inputs;
-  so_far : ((i : ℕ) → i < l.inputs → 1 ≡ input_channels (plain l.site.world) (counts_in l.site.counts) l.site.end.node.0 i)
+  so_far : ((i : ℕ) → i < l.inputs → 1 ≡ input_channels (sounding l.site.world) (counts_in l.site.counts) l.site.end.node.0 i)
       → (i m : ℕ) → i < l.input → m < 128 → at l.self.merged i m ≡ input_value (here_of l.site l.blocks m) l.site.end.node.0 i 0;
 }

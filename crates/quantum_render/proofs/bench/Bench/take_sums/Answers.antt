@@ -13,7 +13,7 @@ use Rattle.std.specs.List.{list_any}
 use Rattle.law_base.specs.Members.{IsIn}
 use Rattle.meaning.specs.Validity.{param_ids}
 use Rattle.meaning.specs.Values.{part}
-use Rattle.meaning.specs.World.{plain, kind_of, is_k, is_k_rate, intrinsic_value, param_id}
+use Rattle.meaning.specs.World.{sounding, kind_of, is_k, is_k_rate, intrinsic_value, param_id}
 use Rattle.automation.specs.Levels.{LevelView, HasRoom, level_at, level_of, no_level}
 use Rattle.quantum_render.specs.Blocks.{frame_of}
 use Rattle.quantum_render.specs.Connections.{leads_to}
@@ -53,12 +53,12 @@ here s site name there level d is =
     get_or_default s.levels s.end.node.0 no_level d (level_within s.world site.valid s.first s.levels site.levels (param_id s.end.node.0 name) there) ∙ sym is
 
 intrinsic : (s : SiteView) → IsSite s.world s.end s.into s.counts s.levels s.first → (name : ParamName) → IsIn (param_id s.end.node.0 name) (param_ids s.world) → (level d : LevelView)
-    → level ≡ slice_index_or s.levels s.end.node.0 d → (m : ℕ) → m < 128 → intrinsic_value s.world (param_id s.end.node.0 name) (s.first + taken_at s.world (param_id s.end.node.0 name) m) ≡ level_at level m
+    → level ≡ slice_index_or s.levels s.end.node.0 d → (m : ℕ) → m < 128 → intrinsic_value (sounding s.world) (param_id s.end.node.0 name) (s.first + taken_at (sounding s.world) (param_id s.end.node.0 name) m) ≡ level_at level m
 intrinsic s site name there level d is m now =
     intrinsic_is s.world site.valid s.first s.levels site.levels (param_id s.end.node.0 name) there m now ∙ ap (λ (l : LevelView). level_at l m) (here s site name there level d is)
 
 rate : (s : SiteView) → IsSite s.world s.end s.into s.counts s.levels s.first → (name : ParamName) → IsIn (param_id s.end.node.0 name) (param_ids s.world) → (level d : LevelView)
-    → level ≡ slice_index_or s.levels s.end.node.0 d → is_k_rate s.world (param_id s.end.node.0 name) ≡ is_k level.rate
+    → level ≡ slice_index_or s.levels s.end.node.0 d → is_k_rate (sounding s.world) (param_id s.end.node.0 name) ≡ is_k level.rate
 rate s site name there level d is = rate_is s.world site.valid s.first s.levels site.levels (param_id s.end.node.0 name) there ∙ ap (λ (l : LevelView). is_k l.rate) (here s site name there level d is)
 
 -- at k-rate all frames take the first one's
@@ -76,12 +76,12 @@ returns-then-not-is_reached-clause-levels c before m now =
     c.take_level.ensures.values m now
     ∙ sym (sat_of_fix value (c.take_level.ensures.fit m now))
     ∙ ap sat (sym (+ℤ_idr value))
-    ∙ level_unreached (plain s.world) c.args.blocks.now s.counts (param_id s.end.node.0 c.args.name) s.first m s.into value (is_k level.rate) now
+    ∙ level_unreached (sounding s.world) c.args.blocks.now s.counts (param_id s.end.node.0 c.args.name) s.first m s.into value (is_k level.rate) now
     site.into
     (intrinsic s site c.args.name (is_there s site c.args.name c.requires.there) level d is m now)
     (rate s site c.args.name (is_there s site c.args.name c.requires.there) level d is)
     (subst (λ (x : SiteView). list_any (leads_to (Param (param_id x.end.node.0 c.args.name))) x.into ≡ false) c.site.view_is (sym c.is_reached.ensures ∙ c.if-not-is_reached.true))
-    ∙ unclamped_is (plain s.world) c.args.blocks.now s.counts before s.first m site.begun now (param_id s.end.node.0 c.args.name)
+    ∙ unclamped_is (sounding s.world) c.args.blocks.now s.counts before s.first m site.begun now (param_id s.end.node.0 c.args.name)
 
 pub returns-in-A-clause-levels : goal.returns-in-A-clause-levels
 returns-in-A-clause-levels c before m now =
@@ -92,14 +92,14 @@ returns-in-A-clause-levels c before m now =
     let is = subst (λ (x : SiteView). level ≡ slice_index_or x.levels x.end.node.0 d) c.site.view_is refl in
     c.add.ensures.values m now
     ∙ ap (λ v. sat (v +ℤ sat (sum_at c.gather.new.self 0 m))) (c.take_level.ensures.values m now)
-    ∙ level_is (plain s.world) c.args.blocks.now s.counts (param_id s.end.node.0 c.args.name) s.first m s.into (λ k. sum_at c.gather.new.self 0 k) (level_at level m) false now
+    ∙ level_is (sounding s.world) c.args.blocks.now s.counts (param_id s.end.node.0 c.args.name) s.first m s.into (λ k. sum_at c.gather.new.self 0 k) (level_at level m) false now
     site.into
     (intrinsic s site c.args.name (is_there s site c.args.name c.requires.there) level d is m now)
     (rate s site c.args.name (is_there s site c.args.name c.requires.there) level d is ∙ ap is_k (sym c.rate.ensures ∙ c.in-A.is))
     (λ k low.
-    subst (λ (x : SiteView). sum_at c.gather.new.self 0 k ≡ total (map (part (frame_of (plain s.world) c.args.blocks.now s.counts k) Speakers 1 0) (filter (leads_to (Param (param_id x.end.node.0 c.args.name))) s.into))) c.site.view_is
-    (c.gather.ensures.sums (plain s.world) 0 k (omega arith) low))
-    ∙ unclamped_is (plain s.world) c.args.blocks.now s.counts before s.first m site.begun now (param_id s.end.node.0 c.args.name)
+    subst (λ (x : SiteView). sum_at c.gather.new.self 0 k ≡ total (map (part (frame_of (sounding s.world) c.args.blocks.now s.counts k) Speakers 1 0) (filter (leads_to (Param (param_id x.end.node.0 c.args.name))) s.into))) c.site.view_is
+    (c.gather.ensures.sums (sounding s.world) 0 k (omega arith) low))
+    ∙ unclamped_is (sounding s.world) c.args.blocks.now s.counts before s.first m site.begun now (param_id s.end.node.0 c.args.name)
 
 pub returns-in-K-clause-levels : goal.returns-in-K-clause-levels
 returns-in-K-clause-levels c before m now =
@@ -112,12 +112,12 @@ returns-in-K-clause-levels c before m now =
     c.hold_first.ensures.values m now
     ∙ c.add.ensures.values 0 (omega arith)
     ∙ ap (λ v. sat (v +ℤ sat (sum_at c.gather.new.self 0 0))) (c.take_level.ensures.values 0 (omega arith))
-    ∙ level_is (plain s.world) c.args.blocks.now s.counts (param_id s.end.node.0 c.args.name) s.first m s.into (λ k. sum_at c.gather.new.self 0 k) (level_at level 0) true now
+    ∙ level_is (sounding s.world) c.args.blocks.now s.counts (param_id s.end.node.0 c.args.name) s.first m s.into (λ k. sum_at c.gather.new.self 0 k) (level_at level 0) true now
     site.into
-    (subst (λ j. intrinsic_value s.world (param_id s.end.node.0 c.args.name) (s.first + j) ≡ level_at level 0)
-    (at_first s.world (param_id s.end.node.0 c.args.name) m k_rate) (intrinsic s site c.args.name (is_there s site c.args.name c.requires.there) level d is 0 (omega arith)))
+    (subst (λ j. intrinsic_value (sounding s.world) (param_id s.end.node.0 c.args.name) (s.first + j) ≡ level_at level 0)
+    (at_first (sounding s.world) (param_id s.end.node.0 c.args.name) m k_rate) (intrinsic s site c.args.name (is_there s site c.args.name c.requires.there) level d is 0 (omega arith)))
     k_rate
     (λ k low.
-    subst (λ (x : SiteView). sum_at c.gather.new.self 0 k ≡ total (map (part (frame_of (plain s.world) c.args.blocks.now s.counts k) Speakers 1 0) (filter (leads_to (Param (param_id x.end.node.0 c.args.name))) s.into))) c.site.view_is
-    (c.gather.ensures.sums (plain s.world) 0 k (omega arith) low))
-    ∙ unclamped_is (plain s.world) c.args.blocks.now s.counts before s.first m site.begun now (param_id s.end.node.0 c.args.name)
+    subst (λ (x : SiteView). sum_at c.gather.new.self 0 k ≡ total (map (part (frame_of (sounding s.world) c.args.blocks.now s.counts k) Speakers 1 0) (filter (leads_to (Param (param_id x.end.node.0 c.args.name))) s.into))) c.site.view_is
+    (c.gather.ensures.sums (sounding s.world) 0 k (omega arith) low))
+    ∙ unclamped_is (sounding s.world) c.args.blocks.now s.counts before s.first m site.begun now (param_id s.end.node.0 c.args.name)
