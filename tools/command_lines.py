@@ -9,19 +9,22 @@ word, whatever it is. The word `--` ends the options. OUT is not empty and not `
     python3 tools/command_lines.py --program FILE        runs a program on 1,000 lines
     python3 tools/command_lines.py --count 5000 --seed 7 --program FILE
                                                          on so many, of this seed
-    python3 tools/command_lines.py --without-generator --program FILE
-                                                         a program that generates no scripts
     python3 tools/command_lines.py --seed 7 --print 12   the line with the number 12, and its reading
 
-The program is run in a folder of its own, over a script that starts no rendering. So it has to end
-with 2 and the usage line where the line has no reading, with 0 where a script is generated, and else
-with 3. One that generates no scripts has to end with 2 where a script would be generated. It prints a
-line for each difference, then how often each answer came up, and last how many lines differ. The status
-is 0 where none does and each answer came up.
+The program is run in a folder of its own, in which a file out.wav stands, over an input that is no script,
+or one that starts no rendering, or one of one frame. Compared are the status, the text, the folder's files
+to the byte, that nothing is printed on standard error, and how much was read of standard input: all of it
+where the line has a reading without a number, and else nothing. With a number the text is the summary of a
+load (tools/load_script.py), and the file is the one that the program writes for that load's script. What
+the greatest value and the sum are is looked at by tools/generated.py, and not here.
+
+It prints a line for each difference, then how often each answer came up, and last how many lines differ.
+The status is 0 where none does and each answer came up.
 """
 
 import argparse
 import collections
+import json
 import os
 import random
 import re
@@ -29,10 +32,13 @@ import subprocess
 import sys
 import tempfile
 
+sys.dont_write_bytecode = True
+import load_script
+
 USAGE = b"words: waplay [--bits 16|24] [--order up|down] [--mode render|check] [--gen N] OUT\n"
-IDLE = b'{"version":1,"context":{"channels":1,"length":128,"rate":48000},"calls":[]}'
 READ = "reading"
-GENERATED = "reading with a number"
+CHECKED = "reading with a number, in mode check"
+RENDERED = "reading with a number, in mode render"
 
 
 # The reading.
@@ -117,9 +123,10 @@ def reading(words):
 def answer(words):
     """The name of the answer to a line: that it has a reading, or why not."""
     try:
-        return READ if reading(words).generated is None else GENERATED
+        asked = reading(words)
     except NoReading as reason:
         return str(reason)
+    return READ if asked.generated is None else CHECKED if asked.mode == "check" else RENDERED
 
 
 # The lines. No word has a slash, a full stop in front, or more bytes than a file's name may have: OUT
@@ -127,13 +134,16 @@ def answer(words):
 
 
 GOOD = {"bits": ["16", "24"], "order": ["up", "down"], "mode": ["render", "check"]}
-OUTS = ["out.wav", "o", "a b", "a=b", "a-", "help", "16", "up", "\u00e9.wav", "\U0001f3b9", "x" * 200]
-DASHED_OUTS = ["--", "--bits=16", "--help", "-x", "---", "-5", *OUTS]
+OUTS = ["out.wav", "out.wav", "o", "0012", "a b", "a=b", "a-", "help", "16", "up", "\u00e9.wav", "\U0001f3b9", "x" * 200]
+DASHED_OUTS = ["--", "--bits=16", "--gen", "--gen=0", "--mode=check", "--help", "-x", "---", "-5", *OUTS]
 TEXTS_NEARBY = ["", "-", "--", "-1", "+1", "016", "8", " 16", "16 ", "1e1", "1.0", "0x10", "Up", "UP", "sideways",
                 "migrate", "check ", "=16", "=", "12345", "00000", "\u0663", "\uff11\uff16", "--order",
                 "--bits=16", "-b"]
+NUMBERS_NEARBY = ["10000", "010000", "99999", "00012", "65536", "4294967296", "18446744073709551616", "9" * 40, "-0", "+0",
+                  "-12", "+9999", "x", "0x1", "12x", "x12", "1e3", "1.0", "1,0", "1_0", "1 2", " 12", "12 ", "\t12", "12\n",
+                  "\u0661\u0662", "\uff11", "\u00b2", "N", "--mode", "--gen"]
 UNKNOWNS = ["--help", "--version", "-h", "-V", "--quiet", "--bits16", "---", "--=16", "-", "-\u00e9", "--\u00e9=1",
-            "-=", "--gen-", "--no-bits", "-o"]
+            "-=", "--gen-", "--generate", "--no-bits", "-o"]
 NOT_UTF8 = [b"\xff", b"\xc3", b"\xc0\xaf", b"\xed\xa0\x80", b"\xf4\x90\x80\x80", b"\x80"]
 
 
@@ -148,7 +158,9 @@ def text_for(rng, name):
     some = rng.random()
     if some < 0.85:
         return good_text(rng, name)
-    return good_text(rng, rng.choice(OPTIONS)) if some < 0.9 else rng.choice(TEXTS_NEARBY)
+    if some < 0.9:
+        return good_text(rng, rng.choice(OPTIONS))
+    return rng.choice(TEXTS_NEARBY + NUMBERS_NEARBY if name == "gen" else TEXTS_NEARBY)
 
 
 def misspelled(rng, name):
@@ -157,9 +169,8 @@ def misspelled(rng, name):
                        "--" + name + " ", "--" + name + "s", name])
 
 
-def option_words(rng, name):
+def option_words(rng, name, text):
     """One use of an option: in one word, in two, or, now and then, misspelled or without its text."""
-    text = text_for(rng, name)
     option = "--" + name if rng.random() < 0.95 else misspelled(rng, name)
     if rng.random() < 0.02:
         return [option]
@@ -167,12 +178,16 @@ def option_words(rng, name):
 
 
 def uses(rng):
-    """Uses of options. A number is seldom given, since a script that is generated takes its time."""
-    names = [name for name in OPTIONS if rng.random() < (0.08 if name == "gen" else 0.35)]
+    """Uses of options. With a number the mode is mostly check, since rendering a load takes its time."""
+    names = [name for name in OPTIONS if rng.random() < 0.35]
     if rng.random() < 0.08:
         names.append(rng.choice(names or OPTIONS))
+    is_checked = "gen" in names and rng.random() < 0.98
+    if is_checked and "mode" not in names:
+        names.append("mode")
     rng.shuffle(names)
-    return [option_words(rng, name) for name in names]
+    return [option_words(rng, name, "check" if is_checked and name == "mode" and rng.random() < 0.9 else text_for(rng, name))
+            for name in names]
 
 
 def others(rng, names):
@@ -202,7 +217,7 @@ def spoiled(rng, words):
 
 
 def line(seed, number):
-    """The line of a seed with this number: its words as bytes."""
+    """The line of a seed with this number: its words as bytes. Each line is run over one of the inputs."""
     rng = random.Random("command line %d %d" % (seed, number))
     parts = uses(rng)
     if rng.random() < 0.3:
@@ -217,36 +232,113 @@ def line(seed, number):
 # The comparison.
 
 
-def status_for(words, generates):
-    """The status that a program has to end with, which generates scripts or has no generator."""
-    return {READ: 3, GENERATED: 0 if generates else 2}.get(answer(words), 2)
+def input_of(calls):
+    return json.dumps({"version": 1, "context": {"channels": 1, "length": 1, "rate": 48000}, "calls": calls}).encode()
 
 
-def differences(program, words, generates, folder):
-    """What differs where the program is run on these words in this folder."""
-    wanted = status_for(words, generates)
-    ran = subprocess.run([os.fsencode(program), *words], input=IDLE, stdout=subprocess.PIPE, cwd=folder, timeout=600)
-    wrong = []
-    if ran.returncode != wanted:
-        wrong.append("status %d in place of %d" % (ran.returncode, wanted))
-    if (ran.stdout == USAGE) != (wanted == 2):
-        wrong.append("the usage line" if ran.stdout == USAGE else "no usage line")
-    return wrong
+# An input, and where a line reads it, the status, the text, and whether a file is written: one sample, 1.0.
+Input = collections.namedtuple("Input", "data status text is_rendered")
+INPUTS = [
+    Input(input_of([]), 3, b"end idle\n", False),
+    Input(input_of([{"op": "start"}]), 4, b"script: 1 node MissingField\n", False),
+    Input(b"\xff", 4, b"script: BadJson\n", False),
+    Input(json.dumps(load_script.script(0)).encode()[:-1], 4, b"script: BadJson\n", False),
+    Input(input_of([{"op": "createConstantSource", "as": "c"}, load_script.connected("c", "destination"),
+                    {"op": "start", "node": "c"}, {"op": "startRendering"}]),
+          0, b"1 ok\n2 ok\n3 ok\n4 pending\n4 resolved\ncomplete 1\nend completed\n", True),
+]
+ONE_SAMPLE = {
+    16: bytes.fromhex("524946462600000057415645666d7420100000000100010080bb000000770100020010006461746102000000ff7f"),
+    24: bytes.fromhex("524946462800000057415645666d7420100000000100010080bb0000803202000300180064617461"
+                      "03000000ffff7f00"),
+}
+BEFORE = {b"out.wav": b"before\n"}  # the files of the folder before a run
+
+SUMMARY = b"summary calls 1768 quanta 3750 ended 200 refused 0"
+WHOLE = rb"(0|-?[1-9][0-9]*)"
+SUMMARY_OF_SAMPLES = SUMMARY + b" peak " + WHOLE + b" sum " + WHOLE
+LAST = b"\nend completed\n"
+
+# What a run is to give. The text is what all of it matches, and the files are all of the folder.
+Wanted = collections.namedtuple("Wanted", "status text files bytes_read")
 
 
-def compare(program, lines, generates, folder):
-    """Runs the program on the lines, tells what differs, and gives the status."""
+def run(program, words, data, folder):
+    """Runs the program over this input in a folder: what it gives, and how many bytes it has read."""
+    with tempfile.TemporaryFile(buffering=0) as file:
+        file.write(data)
+        file.seek(0)
+        ran = subprocess.run([os.fsencode(program), *words], stdin=file, capture_output=True, cwd=folder, timeout=600)
+        return ran, os.lseek(file.fileno(), 0, os.SEEK_CUR)
+
+
+def files_in(folder):
+    """The files of a folder, which is empty afterwards."""
+    files = {}
+    for entry in os.scandir(os.fsencode(folder)):
+        with open(entry, "rb") as file:
+            files[entry.name] = file.read()
+        os.remove(entry)
+    return files
+
+
+def load_file(program, number, bits, folder):
+    """The file that the program writes for the script of a load."""
+    data = json.dumps(load_script.script(number)).encode()
+    run(program, [b"--bits", b"%d" % bits, b"load.wav"], data, folder)
+    return files_in(folder).get(b"load.wav")
+
+
+def wanted_of(program, words, input, folder):
+    """What a run on these words and this input is to give."""
+    try:
+        asked = reading(words)
+    except NoReading:
+        return Wanted(2, re.escape(USAGE), BEFORE, 0)
+    out, is_checked = asked.out.encode(), asked.mode == "check"
+    if asked.generated is None:
+        is_written = input.is_rendered and not is_checked
+        files = {**BEFORE, out: ONE_SAMPLE[asked.bits]} if is_written else BEFORE
+        return Wanted(input.status, re.escape(input.text), files, len(input.data))
+    if is_checked:
+        return Wanted(0, SUMMARY + LAST, BEFORE, 0)
+    written = load_file(program, asked.generated, asked.bits, folder)
+    return Wanted(0, SUMMARY_OF_SAMPLES + LAST, {**BEFORE, out: written}, 0)
+
+
+def differences(program, words, input, folder):
+    """What differs where the program is run on these words and this input in this folder."""
+    wanted, wrong = wanted_of(program, words, input, folder), []
+    with open(os.path.join(folder, "out.wav"), "wb") as file:
+        file.write(BEFORE[b"out.wav"])
+    ran, bytes_read = run(program, words, input.data, folder)
+    files = files_in(folder)
+    if ran.returncode != wanted.status:
+        wrong.append("status %d in place of %d" % (ran.returncode, wanted.status))
+    if not re.fullmatch(wanted.text, ran.stdout):
+        wrong.append("the usage line" if ran.stdout == USAGE else "the text %r" % ran.stdout[:100])
+    if ran.stderr:
+        wrong.append("%r on standard error" % ran.stderr[:100])
+    if bytes_read != wanted.bytes_read:
+        wrong.append("%d bytes read in place of %d" % (bytes_read, wanted.bytes_read))
+    names = sorted({*files, *wanted.files})
+    return wrong + ["another file %r" % name for name in names if files.get(name) != wanted.files.get(name)]
+
+
+def compare(program, seed, count, folder):
+    """Runs the program on lines of a seed, tells what differs, and gives the status."""
     wrong, times = 0, collections.Counter()
-    for number, words in enumerate(lines):
+    for number in range(count):
+        words, input = line(seed, number), random.Random("input %d %d" % (seed, number)).choice(INPUTS)
         times[answer(words)] += 1
-        found = differences(program, words, generates, folder)
+        found = differences(program, words, input, folder)
         if found:
             wrong += 1
-            print("line %d: %s: %r" % (number, ", ".join(found), words))
-    answers = [READ, GENERATED, *REASONS]
+            print("line %d: %s: %r" % (number, ", ".join(found), words), flush=True)
+    answers = [READ, CHECKED, RENDERED, *REASONS]
     for name in answers:
         print("%s: %d" % (name, times[name]))
-    print("%d of %d lines differ" % (wrong, len(lines)))
+    print("%d of %d lines differ" % (wrong, count))
     return 1 if wrong or not all(times[name] for name in answers) else 0
 
 
@@ -264,7 +356,6 @@ def main():
     parser.add_argument("--count", type=int, default=1000)
     parser.add_argument("--seed", type=int, default=1)
     parser.add_argument("--program", metavar="FILE")
-    parser.add_argument("--without-generator", action="store_true")
     parser.add_argument("--print", type=int, metavar="NUMBER")
     given = parser.parse_args()
     if given.print is not None:
@@ -273,9 +364,8 @@ def main():
     if given.program is None or not os.access(given.program, os.X_OK):
         print("command_lines: --program FILE has to name a program", file=sys.stderr)
         return 2
-    lines = [line(given.seed, number) for number in range(given.count)]
     with tempfile.TemporaryDirectory() as work:
-        return compare(os.path.abspath(given.program), lines, not given.without_generator, work)
+        return compare(os.path.abspath(given.program), given.seed, given.count, work)
 
 
 if __name__ == "__main__":

@@ -13,8 +13,13 @@ the folder that it runs in, as they are for the program.
                                                    ended and calls refused, and of all rendered values,
                                                    in units of 2^-24, the greatest one without its sign
                                                    and the sum
+    python3 tools/expected.py SCRIPT --summary --mode check
+                                                   the same without samples, and so without the greatest
+                                                   value and the sum; --lines takes it too
     python3 tools/expected.py SCRIPT --check WAV   no output and status 0 where WAV is the file to the
                                                    byte, else a line on what differs and status 1
+    python3 tools/expected.py SCRIPT --bits 16     samples of 16 bits in place of 24, in sums, file and
+                                                   --check
     python3 tools/expected.py --rows               compares mixing with rows that were worked out by
                                                    hand, and with all pairs of 1 to 32 channels that
                                                    have no equation; and compares whole sessions of
@@ -28,8 +33,9 @@ the folder that it runs in, as they are for the program.
                                                    transcripts and assets into a new folder, so that
                                                    tools/compare.sh FOLDER/*.json runs them
 
-The sums are of samples as the WAV file has them: whole numbers of 24 bits, in units of 2^-23. They
-are not sums of rendered values, which are in units of 2^-24 and are rounded for the file.
+The sums are of samples as the WAV file has them: whole numbers of 24 bits, in units of 2^-23, or of
+16 bits, in units of 2^-15. They are not sums of rendered values, which are in units of 2^-24 and are
+rounded for the file.
 
 The operations are those of docs/FORMATS.md, those that are left out too. Of a script with a fault of
 reading, the transcript is the fault's line. Where an asset cannot be read there is no transcript, and
@@ -45,7 +51,7 @@ import sys
 
 sys.dont_write_bytecode = True
 from expecting.by_hand import rows_are_met, write_sessions
-from expecting.sessions import replayed, summary_of, wav_bytes
+from expecting.sessions import replayed, samples_of, summary_of, wav_bytes
 
 
 def main():
@@ -53,12 +59,18 @@ def main():
     words.add_argument("script", nargs="?")
     words.add_argument("--lines", action="store_true")
     words.add_argument("--summary", action="store_true")
+    words.add_argument("--mode", choices=["render", "check"], default="render")
+    words.add_argument("--bits", type=int, choices=[16, 24], default=24)
     words.add_argument("--check", metavar="WAV")
     words.add_argument("--rows", action="store_true")
     words.add_argument("--write", metavar="FOLDER")
     words = words.parse_args()
+    is_checked = words.mode == "check"
     if words.script is None and not words.rows and not words.write:
         print("a SCRIPT, --rows or --write is wanted")
+        return 2
+    if is_checked and words.check:
+        print("a session that is only checked has no file")
         return 2
     if words.write:
         write_sessions(words.write)
@@ -66,11 +78,11 @@ def main():
     if words.rows:
         return 0 if rows_are_met() else 1
     with open(words.script, "rb") as file:
-        status, text, session = replayed(file.read())
+        status, text, session = replayed(file.read(), is_checked=is_checked)
     if words.summary and session:
         print(summary_of(session), text.splitlines()[-1], sep="\n")
         return 0
-    wav = wav_bytes(session) if status == 0 else b""
+    wav = wav_bytes(session, words.bits) if status == 0 and not is_checked else b""
     if words.check:
         with open(words.check, "rb") as file:
             found = file.read()
@@ -81,8 +93,8 @@ def main():
         return 1 if found != wav else 0
     print(text, end="")
     if not words.lines and wav:
-        for channel in range(session.channels):
-            print("channel %d sum %d" % (channel, sum(row[channel] for row in session.samples)))
+        for channel, samples in enumerate(zip(*samples_of(session.values, words.bits))):
+            print("channel %d sum %d" % (channel, sum(samples)))
         print("wav sha256 " + hashlib.sha256(wav).hexdigest())
     return 0
 

@@ -37,8 +37,9 @@ def summed(blocks):
     return bounded(total, *FIX)
 
 
-def sample_of(value):
-    return max(-(2**23), min(2**23 - 1, rounded_quotient(value, 2)))
+def sample_of(value, bits=24):
+    end = 2**(bits - 1)
+    return max(-end, min(end - 1, rounded_quotient(value, 2**(25 - bits))))
 
 
 # Mixing. The equations are those of the recommendation's "Channel Up-Mixing and Down-Mixing", for

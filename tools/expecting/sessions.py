@@ -1,6 +1,7 @@
 """Sessions: what each call of a script does, and the lines and the file that come of it. The rules are
 those of docs/PROFILE.md and docs/FORMATS.md."""
 
+import functools
 import itertools
 import os
 import struct
@@ -33,9 +34,11 @@ PROMISES = ("suspend", "startRendering", "resume", "decodeAudioData")
 
 
 class Session:
-    def __init__(self, context, folder):
+    """One session. Where it is only checked, nothing is rendered, and it has no values."""
+
+    def __init__(self, context, folder, is_checked=False):
         self.channels, self.length, self.rate = (context[k] for k in ("channels", "length", "rate"))
-        self.folder = folder
+        self.folder, self.is_checked = folder, is_checked
         self.nodes = [Node("destination", "destination", self.channels)]
         self.buffers = []
         self.names = {"destination": 0}  # of a node its number, and a buffer itself
@@ -45,7 +48,7 @@ class Session:
         self.suspensions = {}  # those to come, by their frames: of each its ordinal and its list
         self.lines = []
         self.calls_run = 0
-        self.samples = None  # of each frame those of its channels, when it is through
+        self.values = None  # of each frame those of its channels, when it is through
         self.peak = self.sum = 0  # of all values that were rendered: the greatest one without its sign, and their sum
 
     def find(self, name, kinds=tuple(FIXED)):
@@ -343,30 +346,36 @@ class Session:
         self.run(held)
 
     def pass_quantum(self):
-        """What comes after each quantum: the current values are those of its first frame, and sources end."""
-        for node in self.nodes:
-            for timeline in node.timelines.values():
-                timeline.slot = timeline.value(self.now)
+        """What comes after each quantum: sources end."""
         self.now += QUANTUM
         for number, node in enumerate(self.nodes):
             if not node.ended and node.end() is not None and node.end() <= self.now:
                 node.ended = True
                 self.lines.append("ended %d %s" % (number, node.name))
 
+    def pass_quanta(self, end):
+        """What comes after each quantum up to a frame, before which no call is run. The current values are then
+        those of the last one's first frame."""
+        while self.now < end:
+            self.pass_quantum()
+        for node in self.nodes:
+            for timeline in node.timelines.values():
+                timeline.slot = timeline.value(self.now - QUANTUM)
+
     def rendered(self, end):
-        """The samples from now on up to a frame. Of frames that are alike one is kept."""
-        alike, samples = {}, []
+        """The values from now on up to a frame."""
+        values = []
         for first, blocks in enumerate(Rendering(self).quanta(self.now, end)):
             frames = list(zip(*blocks))[:end - self.now - QUANTUM * first]
-            for frame in frames:
-                if frame not in alike:
-                    if len(alike) == KEPT:
-                        alike.clear()
-                    alike[frame] = [sample_of(value) for value in frame]
-                samples.append(alike[frame])
+            values += frames
             self.peak = max(self.peak, *map(abs, itertools.chain(*frames)))
             self.sum += sum(itertools.chain(*frames))
-        return samples
+        return values
+
+    @functools.cached_property
+    def samples(self):
+        """Of each frame the samples of its channels, when the session is through."""
+        return None if self.values is None else samples_of(self.values, 24)
 
     def replay(self, calls):
         """The last line. The other lines and the samples stand in the session afterwards. Nothing is changed
@@ -377,53 +386,66 @@ class Session:
         self.run(calls)
         if self.rendering is None:
             return "end idle"
-        samples = []
+        values = []
         while self.now < self.length:
             following = min(self.suspensions, default=self.length)
-            samples += self.rendered(following)
-            while self.now < following:
-                self.pass_quantum()
+            if not self.is_checked:
+                values += self.rendered(following)
+            self.pass_quanta(following)
             if self.now < self.length:
                 self.state = "suspended"
                 self.settle(*self.suspensions.pop(self.now))
                 if self.state == "suspended":
                     return "end stalled %d" % self.now
-        self.samples, self.state = samples, "closed"
+        self.values, self.state = None if self.is_checked else values, "closed"
         self.settle(*self.rendering)
         self.lines.append("complete %d" % self.length)
         return "end completed"
 
 
-def wav_bytes(session):
-    channels, rate = session.channels, session.rate
-    body = b"".join(struct.pack("<i", s)[:3] for row in session.samples for s in row)
+def samples_of(values, bits):
+    """Of each frame the samples of so many bits. Of frames that are alike one is kept."""
+    alike, samples = {}, []
+    for frame in values:
+        if frame not in alike:
+            if len(alike) == KEPT:
+                alike.clear()
+            alike[frame] = [sample_of(value, bits) for value in frame]
+        samples.append(alike[frame])
+    return samples
+
+
+def wav_bytes(session, bits=24):
+    channels, rate, width = session.channels, session.rate, bits // 8
+    samples = session.samples if bits == 24 else samples_of(session.values, bits)
+    body = b"".join(s.to_bytes(width, "little", signed=True) for row in samples for s in row)
     padding = len(body) % 2
     return (b"RIFF" + struct.pack("<I", 36 + len(body) + padding) + b"WAVEfmt "
-            + struct.pack("<IHHIIHH", 16, 1, channels, rate, rate * channels * 3, channels * 3, 24)
+            + struct.pack("<IHHIIHH", 16, 1, channels, rate, rate * channels * width, channels * width, bits)
             + b"data" + struct.pack("<I", len(body)) + body + b"\0" * padding)
 
 
 def summary_of(session):
     """What is told in place of the lines: how many calls were run, quanta rendered, sources ended and calls refused,
-    and, where the session is through, what the rendered values come to."""
+    and, where it was rendered to its end, what the rendered values come to."""
     words = [line.split() for line in session.lines]
     numbers = {"calls": session.calls_run, "quanta": session.now // QUANTUM,
                "ended": sum(first == "ended" for first, *_ in words),
                "refused": sum(second in ("throw", "rejected") for _, second, *_ in words)}
-    if session.samples is not None:
+    if session.values is not None:
         numbers.update(peak=session.peak, sum=session.sum)
     return " ".join(["summary", *("%s %d" % it for it in numbers.items())])
 
 
-def replayed(data, folder=os.curdir):
+def replayed(data, folder=os.curdir, is_checked=False):
     """What a script of these bytes gives, whose assets are in the folder: the status, the text, and the
-    session when it is through."""
+    session when it is over. Where it is only checked, nothing is rendered."""
     try:
         script = script_of(data)
-        session = Session(script["context"], folder)
+        session = Session(script["context"], folder, is_checked)
         last = session.replay(numbered(script["calls"], 1)[0])
     except Fault as fault:
         return 4, "script: %s\n" % fault, None
     except AssetFault:
         return 7, "", None
-    return 3 if session.samples is None else 0, "\n".join(session.lines + [last]) + "\n", session
+    return 0 if last == "end completed" else 3, "\n".join(session.lines + [last]) + "\n", session
