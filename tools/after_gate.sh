@@ -27,13 +27,18 @@ saw() {
 
 # Runs the program on the file `in`, with all but the first two of these words. It must end with the
 # first and write what the file `wanted` has; then out.wav must have what the file has that the second
-# names. Before the run it holds the word `before`, and so does the file `before`.
+# names. Before the run it holds the word `before`, and so does the file `before`. Where there is no
+# file `in`, standard input is closed.
 looks() {
     status=$1
     file=$2
     shift 2
     echo before | tee before >out.wav
-    "$program" "$@" <in >lines 2>&1
+    if [ -e in ]; then
+        "$program" "$@" <in >lines 2>&1
+    else
+        "$program" "$@" <&- >lines 2>&1
+    fi
     found=$?
     [ "$found" -eq "$status" ]
     saw $? "$program $*: status $found in place of $status"
@@ -100,7 +105,29 @@ sys.stdout.buffer.write(bytes.fromhex(header) + 128 * b"\xff\x7f")' >short.wav
     writes up.wav --order down out.wav
     writes up.wav --order=up --mode=render --bits=24 out.wav
 
-    # Status 2: words that have no reading, and, until the generator is built, a number.
+    # Status 0: a number. The script is generated, the summary stands for the lines, and the input, which
+    # is no script, is not read. The file is the one that the script gives as input, in either order, and
+    # has the digest that tools/expected.py works out.
+    python3 "$top/tools/load_script.py" 0 >in
+    "$program" load.wav <in >load.txt
+    saw $? "$program: the script of the load is not rendered"
+    [ "$(wc -c <load.wav)" -eq 2880044 ]
+    saw $? "$program: the file of the load has another length than wanted"
+    [ "$(sha256sum <load.wav)" = 'e499f2a9fe115d8819822d99f6bd86dedf661f0c01e0cd0a21d442a1e631ac63  -' ]
+    saw $? "$program: the file of the load is another one than was worked out"
+    [ "$(grep -c '^ended ' load.txt) $(grep -cE ' (throw|rejected) ' load.txt)" = '200 0' ]
+    saw $? "$program: the transcript of the load has other counts than its summary"
+    printf '\377' >in
+    printf 'summary calls 1768 quanta 3750 ended 200 refused 0 peak 146959 sum 35229630880\nend completed\n' >wanted
+    writes load.wav --gen 0 out.wav
+    writes load.wav --order down --gen=0000 out.wav
+    printf 'summary calls 1768 quanta 3750 ended 200 refused 0\nend completed\n' >wanted
+    run 0 --gen 0 --mode check out.wav
+    run 0 out.wav --order=down --mode=check --gen=9999 --bits=16
+    rm -f in
+    run 0 --gen 0 --mode check out.wav
+
+    # Status 2: words that have no reading.
     cp "$constant.json" in
     echo "$usage" >wanted
     run 2
@@ -114,7 +141,11 @@ sys.stdout.buffer.write(bytes.fromhex(header) + 128 * b"\xff\x7f")' >short.wav
     run 2 --help
     run 2 -- --mode=check out.wav
     run 2 "$(printf '\377')"
-    run 2 --gen 0 out.wav
+    run 2 --gen 10000 out.wav
+    run 2 --gen x out.wav
+    run 2 --gen= out.wav
+    run 2 --gen 0 --gen 0 out.wav
+    run 2 --gen 0
 
     # Status 3: rendering is not started; the context is refused.
     echo '{"version":1,"context":{"channels":1,"length":128,"rate":48000},"calls":[{"op":"readTime"}]}' >in

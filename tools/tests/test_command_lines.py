@@ -11,6 +11,7 @@ import unittest
 
 import fixtures
 import command_lines
+from expecting import sessions
 from command_lines import BAD_OUT, BAD_TEXT, NO_OUT, NOT_TEXT, REPEATED, SEVERAL, UNKNOWN, WITHOUT_TEXT, NoReading
 
 PLAIN = command_lines.Reading("o", 24, "up", "render", None)
@@ -81,18 +82,33 @@ UNREAD = {
     "-\u00e9 o": UNKNOWN,
 }
 
-# A program that reads a command line as the second reading does, but for what the test has it do otherwise.
+# A program that does as the second reading wants, but for what the test has it do otherwise. It renders no loads, but
+# writes a text that hangs on the load and the bits.
 PROGRAM = """#!%s
-import os, sys
+import hashlib, json, os, sys
 sys.path.insert(0, %r)
 sys.dont_write_bytecode = True
-import command_lines
-words = [os.fsencode(word) for word in sys.argv[1:]]
-answer = command_lines.answer(words)
+from command_lines import *
+asked, reason = None, None
+try:
+    asked = reading([os.fsencode(word) for word in sys.argv[1:]])
+except NoReading as it:
+    reason = str(it)
+if asked is None:
+    given = Input(b"", 2, USAGE, False)
+elif asked.generated is None:
+    data = sys.stdin.buffer.read()
+    given = next((it for it in INPUTS if it.data == data), Input(data, 0, b"", True))
+else:
+    text = SUMMARY + (b" peak 12 sum -34" if asked.mode == "render" else b"") + LAST
+    given = Input(json.dumps(load_script.script(asked.generated)).encode(), 0, text, True)
 %s
-status = {command_lines.READ: 3, command_lines.GENERATED: 0}.get(answer, 2)
-sys.stdout.write(command_lines.USAGE.decode() if status == 2 else "end idle\\n")
-sys.exit(status)
+sys.stdout.buffer.write(given.text)
+if given.is_rendered and asked.mode == "render":
+    with open(asked.out, "wb") as file:
+        is_load = len(given.data) > 1000
+        file.write(hashlib.sha256(given.data + b"%%d" %% asked.bits).digest() if is_load else ONE_SAMPLE[asked.bits])
+sys.exit(given.status)
 """
 
 
@@ -165,10 +181,26 @@ class Lines(unittest.TestCase):
 class RandomLines(unittest.TestCase):
     def test_each_answer_comes_up(self):
         times = collections.Counter(command_lines.answer(command_lines.line(1, number)) for number in range(1000))
-        for name in [command_lines.READ, command_lines.GENERATED, *command_lines.REASONS]:
+        read = command_lines.READ, command_lines.CHECKED, command_lines.RENDERED
+        for name in [*read, *command_lines.REASONS]:
             self.assertGreater(times[name], 0, name)
         self.assertGreater(times[command_lines.READ], 300)
-        self.assertGreater(1000 - times[command_lines.READ] - times[command_lines.GENERATED], 300)
+        self.assertGreater(times[command_lines.CHECKED], 100)
+        self.assertLess(times[command_lines.RENDERED], 20)  # which take their time
+        self.assertGreater(1000 - sum(times[name] for name in read), 300)
+
+    def test_a_number_is_given_in_many_ways(self):
+        wanted = {"--gen", "--ge", "--g", "-g", "-gen", "---gen", "--GEN", "gen", "--gen=", "--gens", "--generate"}
+        wanted |= {"--gen=" + text for text in ["10000", "x", "-0", "+0", "00012", "\u0661\u0662", "0"]}
+        seen, spoiled, behind, zeros = set(), 0, 0, 0
+        for number in range(30000):
+            words = command_lines.line(3, number)
+            seen.update(word.decode(errors="replace") for word in words)
+            spoiled += any(word.startswith(b"--gen=") and "\ufffd" in word.decode(errors="replace") for word in words)
+            behind += b"--" in words and b"--gen=0" in words[words.index(b"--"):]
+            zeros += any(len(word) == len("--gen=0012") and word.startswith(b"--gen=00") for word in words)
+        self.assertFalse(wanted - seen)
+        self.assertGreater(min(spoiled, behind, zeros), 10)
 
     def test_a_line_hangs_on_its_seed_and_number(self):
         for number in range(20):
@@ -192,28 +224,37 @@ class Comparison(unittest.TestCase):
         self.assertEqual(ran.stderr, b"")
         return ran.returncode, ran.stdout.decode().splitlines()
 
-    def test_a_program_that_reads_lines_so_does_not_differ(self):
+    def test_a_program_that_does_so_does_not_differ(self):
         self.assertEqual(self.compared("")[1][-1], "0 of 40 lines differ")
 
-    def test_a_program_that_reads_them_otherwise_differs(self):
-        status, lines = self.compared("answer = command_lines.READ if answer == command_lines.UNKNOWN else answer")
+    def test_a_program_that_reads_lines_otherwise_differs(self):
+        status, lines = self.compared("""
+if reason == UNKNOWN:
+    given = Input(b"", 3, b"end idle\\n", False)""")
         self.assertEqual(status, 1)
-        self.assertIn(": status 3 in place of 2, no usage line: [", lines[0])
-        status, lines = self.compared("answer = command_lines.UNKNOWN if answer == command_lines.READ else answer")
-        self.assertIn(": status 2 in place of 3, the usage line: [", lines[0])
+        self.assertIn(": status 3 in place of 2, the text b'end idle\\n': [", lines[0])
+        status, lines = self.compared("""
+if asked and asked.generated is not None:
+    given = Input(b"", 2, USAGE, False)""")
+        self.assertIn(": status 2 in place of 0, the usage line: [", lines[0])
 
-    def test_a_program_without_a_generator_is_told_so(self):
-        change = "answer = command_lines.UNKNOWN if answer == command_lines.GENERATED else answer"
-        self.assertEqual(self.compared(change, "--without-generator")[1][-1], "0 of 40 lines differ")
-        self.assertIn(": status 2 in place of 0, the usage line: [", self.compared(change)[1][0])
-        self.assertIn(": status 0 in place of 2, no usage line: [", self.compared("", "--without-generator")[1][0])
+    def test_a_program_that_does_otherwise_differs(self):
+        is_generated = "\nif asked and asked.generated is not None:\n    "
+        for change, told in [
+                (is_generated + "sys.stdin.buffer.read()", "bytes read in place of 0: ["),
+                (is_generated + "given = given._replace(text=given.text.replace(b'1768', b'1767'))", ": the text b'summary calls 1767 "),
+                (is_generated + "given = given._replace(text=SUMMARY + b' peak 0 sum -0' + LAST)", ": the text b'summary calls "),
+                (is_generated + "asked = asked._replace(mode='render')", ": another file b'"),
+                (is_generated + "sys.stderr.write('load')", ": b'load' on standard error: ["),
+                ("open('other.wav', 'w').close()", ": another file b'other.wav': ["),
+                ("given = given._replace(is_rendered=False)", ": another file b'")]:
+            status, lines = self.compared(change, count=20)
+            self.assertEqual(status, 1)
+            self.assertIn(told, "\n".join(lines[:-1]), change)
 
-    def test_a_line_is_shown_with_its_reading(self):
-        shown = [fixtures.run("command_lines.py", "--seed", "1", "--print", str(number)).stdout for number in range(8)]
-        self.assertTrue(any(b"\nReading(" in text for text in shown))
-        self.assertTrue(any(b"\nno reading: " in text for text in shown))
-
-    def test_a_program_is_wanted(self):
-        for words in [[], ["--program", os.devnull + ".none"]]:
-            ran = fixtures.run("command_lines.py", *words)
-            self.assertEqual((ran.returncode, ran.stdout), (2, b""))
+    def test_the_file_of_one_sample_is_that_of_the_second_calculation(self):
+        for it in command_lines.INPUTS:
+            status, text, session = sessions.replayed(it.data)
+            self.assertEqual((it.status, it.text, it.is_rendered), (status, text.encode(), status == 0))
+            for bits, file in command_lines.ONE_SAMPLE.items():
+                self.assertEqual(sessions.wav_bytes(session, bits) if status == 0 else file, file)
