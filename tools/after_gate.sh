@@ -118,7 +118,8 @@ sys.stdout.buffer.write(bytes.fromhex(header) + 128 * b"\xff\x7f")' >short.wav
     [ "$(grep -c '^ended ' load.txt) $(grep -cE ' (throw|rejected) ' load.txt)" = '200 0' ]
     saw $? "$program: the transcript of the load has other counts than its summary"
     printf '\377' >in
-    printf 'summary calls 1768 quanta 3750 ended 200 refused 0 peak 146959 sum 35229630880\nend completed\n' >wanted
+    printf 'summary calls 1768 quanta 3750 ended 200 refused 0 peak 146959 sum 35229630880\nend completed\n' >load.sums
+    cp load.sums wanted
     writes load.wav --gen 0 out.wav
     writes load.wav --order down --gen=0000 out.wav
     printf 'summary calls 1768 quanta 3750 ended 200 refused 0\nend completed\n' >wanted
@@ -205,6 +206,8 @@ END
     cp "$constant.json" in
     cp "$constant.txt" wanted
     run 9 no_folder/out.wav
+    cp load.sums wanted
+    run 9 --gen 0 no_folder/out.wav
 done
 
 if [ "$programs" -eq 0 ]; then

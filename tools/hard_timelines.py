@@ -181,6 +181,16 @@ def as_many_timelines(events):
     return script_with(1, 2560, calls)
 
 
+def many_timelines_at_once():
+    """1,000 timelines of as many events as a script has room for: values that are set before the first frame."""
+    calls = [{"op": "createConstantSource", "as": "c"}, {"op": "start", "node": "c"}]
+    for i in range(1000):
+        name = "%x" % i
+        calls += [{"op": "createGain", "as": name}, joined("c", name), joined(name, "destination")]
+        calls += [{"op": "setValue", "node": name, "param": "gain", "value": k % 10} for k in range(285)]
+    return script_with(1, 2560, calls)
+
+
 SCRIPTS = {
     "every_parameter": every_parameter,
     "times": times,
@@ -202,6 +212,7 @@ SCRIPTS = {
     "many_reads_of_the_state": random_scripts.many_reads_of_the_state,
     "reads_of_a_long_timeline": reads_of_a_long_timeline,
     "many_timelines": lambda: as_many_timelines(200),
+    "many_timelines_at_once": many_timelines_at_once,
     "too_many_timelines": lambda: as_many_timelines(1000),
 }
 
