@@ -1,15 +1,19 @@
 ghost use Rattle.std.specs.Prelude.{◌≡◌};
 ghost use Rattle.node_table.specs.Delays as spec;
 
-use wa_base::{Fix, ONE, rnd_div};
+use wa_base::Fix;
+
+const FRACTION_BITS: u32 = 24;
+
+const HALF: i64 = 8_388_608;
 
 /// A time from 0 on, in seconds and units of 2^-24, as whole frames at a rate: the nearest number, and
 /// the higher one for a half.
 pub fn frames_of(seconds: Fix, rate: u32) -> u64
     ensures { result ≡ spec.frames_of seconds rate }
 {
-    let frames = rnd_div(i128::from(seconds) * i128::from(rate), i128::from(ONE));
-    frames.unsigned_abs() as u64
+    let product = i64::from(seconds) * i64::from(rate);
+    ((product + HALF) >> FRACTION_BITS).unsigned_abs()
 }
 
 /// How many frames a delay (DelayNode) keeps of what comes in, by its longest delay (maxDelayTime, in

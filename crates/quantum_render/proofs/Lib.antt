@@ -1,5 +1,4 @@
 mod Automated
-pub mod Shifting
 pub mod Slots
 pub mod Connections
 pub mod Made

@@ -1,5 +1,5 @@
 -- What filters have heard, and of whom.
-use Rattle.std.proofs.Common.{ℕ, zero, suc, ℤ, ◌≡◌, ◌+◌, ◌-◌, ◌*◌, ◌<◌, ◌≤◌, length, List, [], ◌∷◌, ◌++◌, Bool, true, false, ◌||◌, Option, Some, None, ◌⊎◌, inl, inr, refl, sym, ◌∙◌, ap, arith, subst}
+use Rattle.std.proofs.Common.{ℕ, ℤ, ◌≡◌, ◌+◌, ◌-◌, ◌*◌, ◌<◌, ◌≤◌, length, List, [], ◌∷◌, ◌++◌, Bool, true, false, ◌||◌, Option, Some, None, inl, inr, refl, sym, ◌∙◌, ap, arith, subst}
 use Rattle.std.specs.Prelude.{if◌then◌else◌, nat_lt}
 use Rattle.std.proofs.lemmas.Bool.Decides.{nat_tests}
 use Rattle.wa_base.specs.declared.graph_names.End.{End}
@@ -39,12 +39,6 @@ heard_like found forward back birth now at at' same is = record {
   where
     within : (g : ℕ) → is.filter.birth ≤ g → g < is.filter.birth + (is.filter.time - is.filter.birth) → g < now
     within g low high = let t = is.time in omega arith
-
-pub this_or_other : (n node : ℕ) → (n ≡ node) ⊎ (n ≡ node → ⊥)
-this_or_other zero zero = inl refl
-this_or_other zero (suc node) = inr (λ e. absurd (omega arith))
-this_or_other (suc n) zero = inr (λ e. absurd (omega arith))
-this_or_other (suc n) (suc node) = elim (this_or_other n node) [ inl e ↦ inl (ap suc e) | inr other ↦ inr (λ e. other (omega arith)) ]
 
 -- whether an end is among those that are done
 abbrev pub is_among : List End → End → Bool

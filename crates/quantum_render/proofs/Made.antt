@@ -1,7 +1,6 @@
 -- Lists that are made item by item.
 use Rattle.std.proofs.Common.{ℕ, zero, suc, ℤ, pos, ◌≡◌, ◌+◌, ◌*◌, ◌<◌, ◌≤◌, ◌++◌, [], ◌∷◌, length, List, take, slice_index_or, slice_set, ◌⊎◌, inl, inr, refl, sym, ap, ◌∙◌, arith, subst}
 use Rattle.std.proofs.lemmas.List.{get_or-set_same, get_or-set_other, append_assoc}
-use Rattle.std.proofs.Math.Seq.{take-append_seam}
 
 -- the first i items are those of f
 abbrev pub IsMade : (ℕ → ℤ) → ℕ → List ℤ → Type 0
@@ -15,10 +14,6 @@ made_more f i xs x made l is k low = elim (here_or_before k i low) [
   where
     here_or_before : (k i : ℕ) → k < i + 1 → (k ≡ i) ⊎ (k < i)
     here_or_before k i low = grind arith
-
--- a list that was written over as a whole
-pub rewritten : (n : ℕ) (new rest : List ℤ) → length new ≡ n → take n (new ++ rest) ≡ new
-rewritten n new rest e = subst (λ k. take k (new ++ rest) ≡ new) e (take-append_seam new rest)
 
 -- the front of a longer list that was written over
 pub front : (len : ℕ) (xs rest : List ℤ) → length xs ≤ len → take (length xs) (take len (xs ++ rest)) ≡ xs

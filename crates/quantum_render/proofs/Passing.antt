@@ -35,7 +35,8 @@ use Rattle.quantum_render.specs.declared.memory.Memory.{Memory}
 use Rattle.quantum_render.specs.Renders.{RendersWith, Listens, Stores, IsReadyFor, HasCount, past_of}
 use Rattle.quantum_render.specs.Listening.{writer_in, IsTimely, IsMemory, HasRooms}
 use Rattle.quantum_render.proofs.Fed.{AreKeptBy, is_fed, kept_more, all_kept}
-use Rattle.quantum_render.proofs.Listening.{heard_like, AreHeardBy, heard_until, takes_in, not_done, now_done, other_done, this_or_other, rested_heard}
+use Rattle.quantum_render.proofs.Listening.{heard_like, AreHeardBy, heard_until, takes_in, not_done, now_done, other_done, rested_heard}
+use Rattle.filter_bank.proofs.Growing.{this_or_other}
 use Rattle.quantum_render.proofs.Slots.{slot_low}
 use Rattle.quantum_render.proofs.Sources.{IsIn-get_or, end_low, same_nodes}
 use Rattle.quantum_render.proofs.Connections.{lanes_kept}

@@ -19,8 +19,8 @@ ghost use Rattle.quantum_render.specs.Held.{IsHeld, IsCarried, IsWidened};
 
 use crate::held::Held;
 use crate::kernels::{
-    copy_values, fill, is_silent, is_throughout, level_of, move_on, saturate, scale_all,
-    scale_channels, scale_steady, silence, sound, spread, unfold_if, up_to, up_to_each,
+    copy_values, fill, is_silent, is_throughout, level_of, move_on, scale_all, scale_channels,
+    scale_steady, silence, sound, spread, unfold_if, up_to, up_to_each,
 };
 use crate::playing::Source;
 use crate::site::Site;
@@ -28,6 +28,7 @@ use crate::sums::Sums;
 use automation::{Level, Values};
 use delay_bank::Delays;
 use filter_bank::Filters;
+use lane_kern::sat_into;
 use shaper_iir::shape_all;
 use std::alloc::Global;
 use std::marker::Model;
@@ -327,7 +328,7 @@ impl Block {
         match sums.steady() {
             Some(held) => {
                 self.steady = true;
-                saturate(&mut self.values[0..self.lanes], held);
+                sat_into(&mut self.values[0..self.lanes], held);
             }
             None => {
                 self.steady = false;

@@ -1,20 +1,8 @@
 ghost use Rattle.std.specs.Prelude.{◌≡◌, ◌<◌, ℕ, pos, length, slice_index_or, max};
 ghost use Rattle.node_table.specs.Delays.{frames_of as whole_frames};
 
+use node_table::frames_of;
 use wa_base::Fix;
-
-const FRACTION_BITS: u32 = 24;
-
-const HALF: i64 = 8_388_608;
-
-// A time from 0 on, in seconds and units of 2^-24, as whole frames at a rate: the nearest number, and
-// the higher one for a half.
-fn frames_of(seconds: Fix, rate: u32) -> u64
-    ensures { result ≡ whole_frames seconds rate }
-{
-    let product = i64::from(seconds) * i64::from(rate);
-    ((product + HALF) >> FRACTION_BITS).unsigned_abs()
-}
 
 // How many frames a delay of a level lasts, and at least so many: the same at all frames.
 pub(crate) fn span_all(spans: &mut [u64], level: Fix, rate: u32, least: u64)

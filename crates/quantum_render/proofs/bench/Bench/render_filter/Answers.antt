@@ -13,7 +13,7 @@ use Rattle.quantum_render.specs.Benches.{BenchView}
 use Rattle.quantum_render.specs.Sites.{SiteView}
 use Rattle.quantum_render.specs.Renders.{IsReadyFor}
 use Rattle.quantum_render.proofs.Filtering.{lanes_are, takes, has_heard, brings, puts_out, hears_on}
-use Rattle.quantum_render.proofs.Listening.{this_or_other}
+use Rattle.filter_bank.proofs.Growing.{this_or_other}
 use Rattle.quantum_render.proofs.Rendering.{site_is, writes_own, renders_own}
 use Rattle.quantum_render.proofs.bench.Bench.render_filter.Goals as goal
 

@@ -11,7 +11,7 @@ use Rattle.quantum_render.specs.Blocks.{BlockView, at, shown, slot, counts_in, r
 use Rattle.quantum_render.specs.Benches.{BenchView}
 use Rattle.quantum_render.specs.Sites.{SiteView}
 use Rattle.quantum_render.specs.Renders.{past_of, here_of}
-use Rattle.quantum_render.proofs.Listening.{this_or_other}
+use Rattle.filter_bank.proofs.Growing.{this_or_other}
 use Rattle.quantum_render.proofs.Sources.{end_low, site_slot}
 use Rattle.quantum_render.proofs.Rendering.{site_is, own_within, own_room, writes_own, renders_own, lane_own}
 use Rattle.quantum_render.proofs.bench.Bench.render_writer.Goals as goal

@@ -10,7 +10,7 @@ returns-in-Some-clause-values c channel m low now =
     let same = c.count-self-inside.ensures.count in
     let held = c.in-Some.ensures in
     let long = held.0 in
-    let made = c.saturate.ensures.length in
-    steady_is c.count-self-inside.result _ c.saturate.new.block _ _ channel m (omega arith) now (omega arith) (omega arith)
-    ∙ c.saturate.ensures.values channel (omega arith)
+    let made = c.sat_into.ensures.length in
+    steady_is c.count-self-inside.result _ c.sat_into.new.out _ _ channel m (omega arith) now (omega arith) (omega arith)
+    ∙ c.sat_into.ensures.values channel (omega arith)
     ∙ ap sat (sym (held.2 channel m low now))

@@ -2,8 +2,8 @@ use Rattle.std.proofs.Common.{rules, ◌*ℤ◌, pos, FitsSigned, ap, ◌∙◌,
 use Rattle.std.specs.Prelude.{unsigned_abs}
 use Rattle.std.specs.Int.{w64}
 use Rattle.std.proofs.lemmas.Int.{to_z-of_z}
-use Rattle.quantum_render.proofs.Shifting.{rnd_by_shift, abs_of_product, product_fits, with_half_fits, shifted_fits, rate_fits}
-use Rattle.quantum_render.proofs.spans.frames_of.Goals as goal
+use Rattle.node_table.proofs.Frames.{rnd_by_shift, abs_of_product, product_fits, with_half_fits, shifted_fits, rate_fits}
+use Rattle.node_table.proofs.delays.frames_of.Goals as goal
 
 pub returns : goal.returns
 returns c =
