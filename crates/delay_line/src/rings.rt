@@ -44,7 +44,7 @@ pub(crate) fn read_ring(ring: &Ring, out: &mut [Fix], written: u64, first: u64, 
     }
 }
 
-// The same frame by frame.
+// The same frame by frame, over the at most two slices that the ring lies in.
 fn gather(ring: &Ring, out: &mut [Fix], written: u64, first: u64, delays: &[u64])
     requires same { length delays.now ≡ length out.old }
     requires small { (written ≤ 2 ^ 63) × (first ≤ 2 ^ 63) × (length out.old ≤ 1024) }
@@ -52,8 +52,9 @@ fn gather(ring: &Ring, out: &mut [Fix], written: u64, first: u64, delays: &[u64]
     requires written { (k : ℕ) → k < length delays.now → first + k - delay_at delays.now k < written }
     ensures { (k : ℕ) → k < length out.old → at out.new k ≡ from_end ring.now.items (written - (first + k - delay_at delays.now k) - 1) (pos 0) }
 {
+    let (front, rear) = ring.as_slices();
     for (k, value) in out.iter_mut().enumerate() {
-        *value = frame_back(ring, distance(written, first + k as u64, delays[k]));
+        *value = frame_back(front, rear, distance(written, first + k as u64, delays[k]));
     }
 }
 
@@ -68,11 +69,20 @@ pub(crate) fn is_steady(delays: &[u64]) -> bool
     is_steady
 }
 
-// The frame of a ring that so many others follow, and silence where there is none.
-fn frame_back(ring: &Ring, back: usize) -> Fix
-    ensures { result ≡ from_end ring.now.items back (pos 0) }
+// The item of two slices that follow one another that so many others follow, and silence where there
+// is none.
+fn frame_back(front: &[Fix], rear: &[Fix], back: usize) -> Fix
+    ensures { result ≡ from_end (front.now ++ rear.now) back (pos 0) }
 {
-    ring.nth_back(back).copied().unwrap_or(0)
+    if back < rear.len() {
+        return rear[rear.len() - back - 1];
+    }
+    let back = back - rear.len();
+    if back < front.len() {
+        front[front.len() - back - 1]
+    } else {
+        0
+    }
 }
 
 // Frames of a ring one after another, from the one that so many others follow on.

@@ -67,11 +67,29 @@ fn moving_end(
     ensures order { (start < result) × (result ≤ length delays.now) }
     ensures between { (k : ℕ) → start ≤ k → k < result → IsBetween written (first + k) (delay_at delays.now k) near far }
 {
+    // Mostly it is so of all frames, and one fold over them is faster than a loop that may end at each.
+    let begin = first + start as u64;
+    if are_between(written, begin, &delays[start..delays.len()], near, far) {
+        return delays.len();
+    }
     let mut end = start + 1;
     while end < delays.len() && is_between(written, first + end as u64, delays[end], near, far) {
         end += 1;
     }
     end
+}
+
+// Whether it is so of all frames from one on.
+fn are_between(written: u64, first: u64, delays: &[u64], near: usize, far: usize) -> bool
+    requires short { (first ≤ 2 ^ 63) × (length delays.now ≤ 1024) }
+    requires written { (k : ℕ) → k < length delays.now → delay_at delays.now k ≤ first + k → first + k - delay_at delays.now k < written }
+    ensures { result ≡ true → (k : ℕ) → k < length delays.now → IsBetween written (first + k) (delay_at delays.now k) near far }
+{
+    let mut are_between = true;
+    for (k, delay) in delays.iter().enumerate() {
+        are_between &= is_between(written, first + k as u64, *delay, near, far);
+    }
+    are_between
 }
 
 fn is_between(written: u64, f: u64, delay: u64, near: usize, far: usize) -> bool
