@@ -1,4 +1,4 @@
-//! Tests of script_ast and script_json over their public calls.
+//! Tests of script_ast, script_json and load_gen over their public calls.
 #![tactic(auto)]
 
 #[cfg(test)]
@@ -17,6 +17,8 @@ mod event_cases;
 mod field_texts;
 #[cfg(test)]
 mod filter_cases;
+#[cfg(test)]
+mod loads;
 #[cfg(test)]
 mod op_texts;
 #[cfg(test)]

@@ -1,0 +1,135 @@
+-- The script of a number is well-formed.
+use Rattle.std.proofs.Common.{◌≡◌, ◌≤◌, ◌<◌, ℕ, suc, zero, List, [], ◌∷◌, ◌++◌, ◌+◌, ◌*◌, ◌%◌, ◌==◌, refl, subst, length, arith, Bool, true, false, if◌then◌else◌, pos, None}
+use Rattle.std.proofs.lemmas.Int.{ints}
+use Rattle.std.specs.Prelude.{codes}
+use Rattle.script_ast.specs.Ranges.{IsInRange, IsCount}
+use Rattle.script_ast.specs.WellFormed.{IsWellFormed, AreCallsAfter}
+use Rattle.script_ast.specs.declared.call_list.Call.{Call}
+use Rattle.script_ast.specs.declared.operations.Op.{Op}
+use Rattle.script_ast.specs.declared.operations.Op.TheVariants.{CreateConstantSource, CreateGain, CreateDelay, LinearRampToValueAtTime, SetValue, Start, Stop, Suspend, Resume, StartRendering}
+use Rattle.load_gen.specs.Voices.{Voice, IsVoice, voice, ramp_ops, way_ops, delay_ops, time_ops, voice_ops, ops_of_voices, connected, level_of, source, gain, delay, feedback}
+use Rattle.load_gen.specs.Generator.{in_list, muting_ops, ops_before, held_ops, calls, script}
+use Rattle.load_gen.proofs.Listing.{in_list_length}
+use Rattle.load_gen.proofs.NewNames.{names_are_new}
+
+abbrev AreInRange : List Op → Type 0
+AreInRange [] = Unit {0}
+AreInRange (op ∷ ops) = IsInRange op × AreInRange ops
+
+both_in_range : (xs ys : List Op) → AreInRange xs → AreInRange ys → AreInRange (xs ++ ys)
+both_in_range [] ys first second = second
+both_in_range (x ∷ xs) ys first second = (first.0, both_in_range xs ys first.1 second)
+
+either_in_range : (b : Bool) (xs ys : List Op) → AreInRange xs → AreInRange ys → AreInRange (if b then xs else ys)
+either_in_range true xs ys first second = first
+either_in_range false xs ys first second = second
+
+-- ---- voices
+
+in_source : (v : Voice) → IsVoice v → IsInRange (CreateConstantSource (source v.place) (level_of v.offset))
+in_source v is = ((names_are_new v.place is.place).source, (omega (arith, ints, is.offset), omega (arith, ints, is.offset)))
+
+in_gain : (v : Voice) → IsVoice v → IsInRange (CreateGain (gain v.place) (pos 0))
+in_gain v is = ((names_are_new v.place is.place).gain, (omega (arith, ints), omega (arith, ints)))
+
+in_ramp : (v : Voice) → IsVoice v → IsInRange (LinearRampToValueAtTime (gain v.place) (codes "gain") (pos (v.gain * 256)) (pos (1 + 64 * v.time)))
+in_ramp v is = ((omega (arith, ints, is.gain), omega (arith, ints, is.gain)), (omega (arith, ints, is.time), omega (arith, ints, is.time)))
+
+in_delay : (v : Voice) → IsVoice v → IsInRange (CreateDelay (delay v.place) (pos 16777216) (pos (v.delay * 65536)))
+in_delay v is = ((names_are_new v.place is.place).delay, (omega (arith, ints), omega (arith, ints)), (omega (arith, ints, is.delay), omega (arith, ints, is.delay)))
+
+in_feedback : (v : Voice) → IsVoice v → IsInRange (CreateGain (feedback v.place) (pos 8388608))
+in_feedback v is = ((names_are_new v.place is.place).feedback, (omega (arith, ints), omega (arith, ints)))
+
+-- whatever is connected
+in_connection : IsCount 0 × IsCount 0
+in_connection = (omega arith, omega arith)
+
+ramp_in_range : (v : Voice) → IsVoice v → AreInRange (ramp_ops v)
+ramp_in_range v is = (in_source v is, (in_gain v is, (((omega (arith, ints), omega (arith, ints)), (omega (arith, ints), omega (arith, ints))), (in_ramp v is, (in_connection, tt)))))
+
+delay_in_range : (v : Voice) → IsVoice v → AreInRange (delay_ops v)
+delay_in_range v is = (in_delay v is, (in_feedback v is, (in_connection, (in_connection, (in_connection, (in_connection, tt))))))
+
+way_in_range : (v : Voice) → IsVoice v → AreInRange (way_ops v)
+way_in_range v is =
+    let other : AreInRange (connected (gain v.place) (codes "destination") ∷ []) = (in_connection, tt) in
+    either_in_range (v.place % 8 == 7) (delay_ops v) (connected (gain v.place) (codes "destination") ∷ []) (delay_in_range v is) other
+
+in_start : (v : Voice) → IsVoice v → IsInRange (Start (source v.place) (pos (128 * (v.place % 50))) (pos 0) None)
+in_start v is = ((omega (arith, ints, is.place), omega (arith, ints, is.place)), (omega (arith, ints), omega (arith, ints)), tt)
+
+in_stop : (v : Voice) → IsVoice v → IsInRange (Stop (source v.place) (pos (240000 + 128 * v.place)))
+in_stop v is = (omega (arith, ints, is.place), omega (arith, ints, is.place))
+
+time_in_range : (v : Voice) → IsVoice v → AreInRange (time_ops v)
+time_in_range v is = (in_start v is, (in_stop v is, tt))
+
+voice_in_range : (v : Voice) → IsVoice v → AreInRange (voice_ops v)
+voice_in_range v is = both_in_range (ramp_ops v) (way_ops v ++ time_ops v) (ramp_in_range v is) (both_in_range (way_ops v) (time_ops v) (way_in_range v is) (time_in_range v is))
+
+is_voice : (seed place : ℕ) → place < 200 → IsVoice (voice seed place)
+is_voice seed place less = record { place = less; offset = omega arith; gain = omega arith; time = omega arith; delay = omega arith }
+
+voices_in_range : (seed voices : ℕ) → voices ≤ 200 → AreInRange (ops_of_voices seed voices)
+voices_in_range seed zero few = tt
+voices_in_range seed (suc voices) few =
+    both_in_range (ops_of_voices seed voices) (voice_ops (voice seed voices)) (voices_in_range seed voices (omega (arith, few))) (voice_in_range (voice seed voices) (is_voice seed voices (omega (arith, few))))
+
+muting_in_range : (voices : ℕ) → AreInRange (muting_ops voices)
+muting_in_range zero = tt
+muting_in_range (suc voices) =
+    let last : AreInRange (SetValue (gain (5 * voices)) (codes "gain") (pos 0) ∷ []) = ((omega (arith, ints), omega (arith, ints)), tt) in
+    both_in_range (muting_ops voices) (SetValue (gain (5 * voices)) (codes "gain") (pos 0) ∷ []) (muting_in_range voices) last
+
+before_in_range : (seed : ℕ) → AreInRange (ops_before seed)
+before_in_range seed =
+    let last : AreInRange (Suspend (pos 240000) ∷ []) = ((omega (arith, ints), omega (arith, ints)), tt) in
+    both_in_range (ops_of_voices seed 200) (Suspend (pos 240000) ∷ []) (voices_in_range seed 200 (omega arith)) last
+
+held_in_range : AreInRange held_ops
+held_in_range =
+    let last : AreInRange (Resume ∷ []) = (tt, tt) in
+    both_in_range (muting_ops 40) (Resume ∷ []) (muting_in_range 40) last
+
+-- ---- calls
+
+listed_after : (n holder : ℕ) (ops : List Op) → holder ≤ n → AreInRange ops → AreCallsAfter n (in_list (suc n) holder ops)
+listed_after n holder [] low within = tt
+listed_after n holder (op ∷ ops) low within =
+    let next : suc n ≡ n + 1 = omega arith in
+    let rest = listed_after (suc n) holder ops (omega (arith, low)) within.1 in
+    ((next, omega (arith, low), within.0), subst (λ m. AreCallsAfter m (in_list (suc (suc n)) holder ops)) next rest)
+
+both_after : (n : ℕ) (xs ys : List Call) → AreCallsAfter n xs → AreCallsAfter (length xs + n) ys → AreCallsAfter n (xs ++ ys)
+both_after n [] ys first second = let none : 0 + n ≡ n = omega arith in subst (λ m. AreCallsAfter m ys) none second
+both_after n (x ∷ xs) ys first second =
+    let next : length (x ∷ xs) + n ≡ length xs + (n + 1) = omega arith in
+    (first.0, both_after (n + 1) xs ys first.1 (subst (λ m. AreCallsAfter m ys) next second))
+
+-- operations as calls that go on behind n calls
+list_after : (n first holder : ℕ) (ops : List Op) → first ≡ n + 1 → holder ≤ n → AreInRange ops → AreCallsAfter n (in_list first holder ops)
+list_after n first holder ops is low within =
+    let next : suc n ≡ first = omega (arith, is) in
+    subst (λ m. AreCallsAfter n (in_list m holder ops)) next (listed_after n holder ops low within)
+
+calls_after : (seed : ℕ) → AreCallsAfter 0 (calls seed)
+unfolding calls
+calls_after seed =
+    let before : List Op = ops_before seed in
+    let s = length before in
+    let calls_before = in_list 1 0 before in
+    let calls_held = in_list (s + 1) s held_ops in
+    let first = in_list_length 1 0 before in
+    let second = in_list_length (s + 1) s held_ops in
+    let start : AreInRange (StartRendering ∷ []) = (tt, tt) in
+    let calls_start = in_list (s + length held_ops + 1) 0 (StartRendering ∷ []) in
+    let last : AreCallsAfter (length calls_held + (length calls_before + 0)) calls_start =
+    list_after (length calls_held + (length calls_before + 0)) (s + length held_ops + 1) 0 (StartRendering ∷ []) (omega (arith, first, second)) (omega arith) start in
+    let middle : AreCallsAfter (length calls_before + 0) calls_held =
+    list_after (length calls_before + 0) (s + 1) s held_ops (omega (arith, first)) (omega (arith, first)) held_in_range in
+    both_after 0 calls_before (calls_held ++ calls_start) (list_after 0 1 0 before refl (omega arith) (before_in_range seed))
+    (both_after (length calls_before + 0) calls_held calls_start middle last)
+
+pub well_formed : (number : ℕ) → IsWellFormed (script number)
+well_formed number = record { channels = omega arith; frames = omega arith; rate = omega arith; calls = calls_after number }

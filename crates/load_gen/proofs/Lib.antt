@@ -1,0 +1,5 @@
+mod Drawing
+mod FirstDraws
+mod InRange
+mod Listing
+mod NewNames
