@@ -1,6 +1,6 @@
 use std::alloc::Global;
 use std::test::Fail;
-use transcript::{Answer, EndWord, Line, Lines, text};
+use transcript::{Answer, EndWord, Line, Lines, Loudness, summary, text};
 use wa_base::{Exc, Feature, Name, NoMemory, NodeId, State};
 
 const ANSWERS: [(u32, Answer); 14] = [
@@ -31,7 +31,7 @@ const TEXT: &[u8] = b"1 ok\n2 throw IndexSizeError\n3 throw NotSupportedError\n\
     7 rejected TypeError\n8 rejected NotSupportedError profile:asset-size\n\
     9 value 16777216\n10 value -2147483648\n\
     11 state suspended\n12 state running\n13 state closed\n4294967295 time 0\n\
-    ended 31 tone_2\xff\ncomplete 48000\nend completed\n";
+    5 resolved\nended 31 tone_2\xff\ncomplete 48000\nend completed\n";
 
 const ENDS: [(EndWord, &str); 9] = [
     (EndWord::Completed, "end completed\n"),
@@ -71,6 +71,7 @@ fn all_lines(alloc: Global) -> Result<Lines, NoMemory> {
     for byte in *b"tone_2\xff" {
         name.push(byte)?;
     }
+    lines.push(Line::Resolved(5))?;
     lines.push(Line::Ended(NodeId(31), name))?;
     lines.push(Line::Complete(48_000))?;
     Ok(lines)
@@ -79,7 +80,7 @@ fn all_lines(alloc: Global) -> Result<Lines, NoMemory> {
 fn writes_each_line(alloc: Global) -> Result<bool, NoMemory> {
     let lines = all_lines(alloc)?;
     let bytes = text(alloc, &lines, &EndWord::Completed)?;
-    Ok(Lines::new(alloc).is_empty() && lines.len() == 16 && bytes.as_slice() == TEXT)
+    Ok(Lines::new(alloc).is_empty() && lines.len() == 17 && bytes.as_slice() == TEXT)
 }
 
 #[test]
@@ -101,5 +102,37 @@ fn writes_each_end(alloc: Global) -> Result<bool, NoMemory> {
 #[test]
 fn every_end_has_its_line(rt: HostRuntime) -> Result<(), Fail> {
     assert!(rt; writes_each_end(rt.alloc())?);
+    Ok(())
+}
+
+// The counts of these lines: each answer is that of a call, five of which were refused.
+const SUMMARY: &[u8] = b"summary calls 14 quanta 375 ended 1 refused 5\nend completed\n";
+
+const LOUD_SUMMARY: &[u8] =
+    b"summary calls 14 quanta 375 ended 1 refused 5 peak 2147483648 sum -2147483643\nend stalled 48000\n";
+
+fn sums_up(alloc: Global) -> Result<bool, NoMemory> {
+    let lines = all_lines(alloc)?;
+    let quiet = summary(alloc, &lines, 375, None, &EndWord::Completed)?;
+    let loudness = Loudness::of(&[7, -2_147_483_648, -2]);
+    let loud = summary(
+        alloc,
+        &lines,
+        375,
+        Some(loudness),
+        &EndWord::Stalled(48_000),
+    )?;
+    Ok(quiet.as_slice() == SUMMARY && loud.as_slice() == LOUD_SUMMARY)
+}
+
+#[test]
+fn a_summary_has_counts_and_loudness(rt: HostRuntime) -> Result<(), Fail> {
+    assert!(rt; sums_up(rt.alloc())?);
+    Ok(())
+}
+
+#[test]
+fn no_samples_are_silent(rt: HostRuntime) -> Result<(), Fail> {
+    assert_eq!(rt; Loudness::of(&[]), Loudness { peak: 0, sum: 0 });
     Ok(())
 }

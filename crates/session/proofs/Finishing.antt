@@ -1,7 +1,7 @@
 -- What a session leaves at its end.
-use Rattle.std.proofs.Common.{ℕ, ℤ, ◌≡◌, List, Bool, true, false, ◌&&◌, Option, Some, None, refl, ◌∙◌, ap}
+use Rattle.std.proofs.Common.{ℕ, ◌*◌, ◌/◌, length, arith, ℤ, ◌≡◌, List, Bool, true, false, ◌&&◌, Option, Some, None, refl, ◌∙◌, ap}
 use Rattle.std.specs.Prelude.{IsSome, IfSome, is_some, if◌then◌else◌}
-use Rattle.wa_base.specs.Contexts.{IsSupported}
+use Rattle.wa_base.specs.Contexts.{IsSupported, quantum_of}
 use Rattle.wa_base.specs.declared.contexts.ContextSpec.{ContextSpec}
 use Rattle.transcript.specs.declared.lines.EndWord.TheVariants.{Completed, Stalled, Idle}
 use Rattle.meaning.specs.declared.world.World.{World}
@@ -40,13 +40,19 @@ left_supported : (some : Bool) (spec : ContextSpec) (samples : List ℤ) → IsS
 left_supported true spec samples supported = supported
 left_supported false spec samples supported = tt
 
+-- as many quanta as the tape has worlds
+quanta_of_tape : (n time : ℕ) → time ≡ 128 * n → time / 128 ≡ n
+quanta_of_tape n time is = omega (arith, is)
+
 pub outcome_is : (view : SessionView) (tape : List World) (outcome : Outcome) → IsSupported view.told.machine.world.spec → Stands view tape → (has_closed view.told.machine.context.state ≡ true → IsSome view.told.machine.context.started)
     → outcome.lines.items ≡ lines_at_end view.told → outcome.end ≡ end_of view.told.machine.context
+    → outcome.quanta ≡ view.told.machine.context.time / quantum_of view.told.machine.world.spec
     → outcome.rendered ≡ left_if (view.audio && has_closed view.told.machine.context.state) view.told.machine.world.spec view.samples
     → IsOutcomeOf view.audio view.told.machine.world.spec (finished view.told tape) outcome
-outcome_is view tape outcome supported stands begun lines end rendered = record {
+outcome_is view tape outcome supported stands begun lines end quanta rendered = record {
   lines = lines;
   end = end;
+  quanta = quanta ∙ quanta_of_tape (length tape) view.told.machine.context.time stands.time;
   rendered = rendered_is view tape stands begun outcome.rendered rendered;
   supported = rw rendered (left_supported (view.audio && has_closed view.told.machine.context.state) view.told.machine.world.spec view.samples supported);
 }

@@ -1,8 +1,8 @@
 -- What a session comes to once its main list ran.
-use Rattle.std.proofs.Common.{ℕ, ◌≡◌, List, [], length, Bool, true, false, ◌&&◌, Option, Some, None, inr, refl, sym, ◌∙◌, ap, subst}
+use Rattle.std.proofs.Common.{ℕ, ◌≡◌, ◌/◌, List, [], length, Bool, true, false, ◌&&◌, Option, Some, None, inr, refl, sym, ◌∙◌, ap, subst}
 use Rattle.std.specs.Prelude.{is_some, IsSome, IsTrue, OnOk, if◌then◌else◌, Result, Ok, Err}
 use Rattle.io_edge.specs.Paths.{Paths, SamePaths}
-use Rattle.wa_base.specs.Contexts.{is_supported, IsSupported}
+use Rattle.wa_base.specs.Contexts.{is_supported, IsSupported, quantum_of}
 use Rattle.wa_base.specs.declared.contexts.State.{State}
 use Rattle.wa_base.specs.declared.contexts.State.TheVariants as state
 use Rattle.ctx_state.specs.Context.{IsInState}
@@ -98,11 +98,12 @@ both_ok P Q R (Err e) f p q = tt
 -- what is handed over of a session that was replayed
 pub replayed_outcome : (tells : Bool) (paths : Paths) (script : Script) (audio : Bool) (first last : SessionView) (outcome : Outcome) (is : IsReplayed tells paths script.calls first last) → is_supported script.context ≡ true
     → IsFirst script.context audio first → last.audio ≡ first.audio → outcome.lines.items ≡ lines_at_end last.told → outcome.end ≡ end_of last.told.machine.context
+    → outcome.quanta ≡ last.told.machine.context.time / quantum_of last.told.machine.world.spec
     → outcome.rendered ≡ (if last.audio && has_closed last.told.machine.context.state then Some (record { spec = last.told.machine.world.spec; samples = last.samples }) else None)
     → IsOutcomeOf audio script.context (session_of is.folder script) outcome
 unfolding session_of
-replayed_outcome tells paths script audio first last outcome is supported fresh heard lines end rendered =
-    let here = outcome_is last is.tape outcome is.supported is.stands is.begun lines end rendered in
+replayed_outcome tells paths script audio first last outcome is supported fresh heard lines end quanta rendered =
+    let here = outcome_is last is.tape outcome is.supported is.stands is.begun lines end quanta rendered in
     let spec : last.told.machine.world.spec ≡ script.context = is.spec ∙ ap (λ t. t.machine.world.spec) fresh.told in
     let told : finished last.told is.tape ≡ replayed is.folder script.calls (first_told script.context) = sym is.played ∙ ap (replayed is.folder script.calls) fresh.told in
     rw supported (subst (λ p. IsOutcomeOf audio script.context p outcome) told (subst (λ (s : ContextSpec). IsOutcomeOf audio s (finished last.told is.tape) outcome) spec
@@ -113,13 +114,14 @@ not_off true on = refl
 not_off false on = absurd (on refl)
 
 -- what is handed over of a context that was refused
-pub refused_outcome : (folder : Folder) (script : Script) (audio : Bool) (outcome : Outcome) → is_supported script.context ≡ false → outcome.lines.items ≡ [] → outcome.end ≡ Refused (NotSupported None) → outcome.rendered ≡ None
+pub refused_outcome : (folder : Folder) (script : Script) (audio : Bool) (outcome : Outcome) → is_supported script.context ≡ false → outcome.lines.items ≡ [] → outcome.end ≡ Refused (NotSupported None) → outcome.quanta ≡ 0 → outcome.rendered ≡ None
     → IsOutcomeOf audio script.context (session_of folder script) outcome
 unfolding session_of rendering_of
-refused_outcome folder script audio outcome unsupported lines end nothing =
+refused_outcome folder script audio outcome unsupported lines end quanta nothing =
     rw unsupported record {
       lines = lines;
       end = end;
+      quanta = quanta;
       rendered = nothing ∙ sym (none_rendered audio script.context);
       supported = rw nothing tt;
     }

@@ -13,7 +13,6 @@ use Rattle.ctx_state.specs.declared.context.Turn.TheVariants.{Went, Due, Done}
 use Rattle.control_msgs.specs.Messages.{ends_by, after}
 use Rattle.script_ast.specs.declared.call_list.Call.{Call}
 use Rattle.script_ast.specs.declared.call_list.Script.{Script}
-use Rattle.transcript.specs.declared.lines.Answer.TheVariants.{Resolved}
 use Rattle.transcript.specs.declared.lines.Line.{Line}
 use Rattle.transcript.specs.declared.lines.Line.TheVariants as line
 use Rattle.transcript.specs.declared.lines.EndWord.{EndWord}
@@ -66,8 +65,8 @@ ended_lines names now (play ∷ plays) =
 -- a promise resolves where a suspension is due, and at the length
 abbrev pub promise_lines : Turn → List Line
 promise_lines Went = []
-promise_lines (Due ordinal) = line.Call ordinal Resolved ∷ []
-promise_lines (Done ordinal) = line.Call ordinal Resolved ∷ []
+promise_lines (Due ordinal) = line.Resolved ordinal ∷ []
+promise_lines (Done ordinal) = line.Resolved ordinal ∷ []
 
 -- the lines that a turn adds
 abbrev pub lines_after : Machine → List Line

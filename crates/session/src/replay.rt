@@ -26,6 +26,8 @@ pub struct Outcome {
     /// The lines of its transcript, without that of its end.
     pub lines: Lines,
     pub end: EndWord,
+    /// How many quanta were rendered, or gone over where there is no audio.
+    pub quanta: u64,
     /// With audio, the samples of a context that was rendered to its length.
     pub rendered: Option<Rendered>,
 }
@@ -64,6 +66,7 @@ pub fn run<F: Files>(
         Err(Refusal::Exc(exception)) => Ok(Outcome {
             lines: Lines::new(alloc),
             end: EndWord::Refused(exception),
+            quanta: 0,
             rendered: None,
         }),
         Err(Refusal::NoMemory) => Err(Stop::NoMemory),

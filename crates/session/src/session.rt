@@ -1,9 +1,9 @@
-ghost use Rattle.std.specs.Prelude.{◌≡◌, ◌↔◌, ◌≤◌, ◌<◌, ◌*◌, ℕ, Some, ◌⊎◌, nat_le, ◌∷◌, ◌++◌, [], List, true, false, length, replicate, pos, IsTrue, IsSome, IsNone, IfOk, IfSome, IfErr, IsErrOf, OnOk, OnErr, Ok, ◌&&◌, if◌then◌else◌};
+ghost use Rattle.std.specs.Prelude.{◌≡◌, ◌↔◌, ◌≤◌, ◌<◌, ◌*◌, ◌/◌, ℕ, Some, ◌⊎◌, nat_le, ◌∷◌, ◌++◌, [], List, true, false, length, replicate, pos, IsTrue, IsSome, IsNone, IfOk, IfSome, IfErr, IsErrOf, OnOk, OnErr, Ok, ◌&&◌, if◌then◌else◌};
 ghost use Rattle.io_edge.specs.Faults.{Rose};
 ghost use Rattle.io_edge.specs.Paths.{Paths, SamePaths};
 ghost use Rattle.script_ast.specs.Ranges.{IsInRange};
 ghost use Rattle.ctx_state.specs.Context.{IsInState, turn_of};
-ghost use Rattle.wa_base.specs.Contexts.{IsSupported};
+ghost use Rattle.wa_base.specs.Contexts.{IsSupported, quantum_of};
 ghost use Rattle.control_msgs.specs.Messages.{IsAcceptedBy};
 ghost use Rattle.meaning.specs.Changes.{Accepts};
 ghost use Rattle.session.specs.Session.{after_call, after_turn, has_closed, end_of, lines_at_end};
@@ -25,7 +25,7 @@ use script_ast::{Call, Op};
 use std::alloc::Global;
 use std::marker::Model;
 use thiserror::Error;
-use transcript::{Answer, EndWord, Line, Lines};
+use transcript::{EndWord, Line, Lines};
 use wa_base::{ContextSpec, Exc, Fix, NoMemory, Refusal, Samples, State, Tie};
 
 /// How a session is run.
@@ -161,9 +161,9 @@ impl Session {
         self.lines.append_reserved(ended);
         match turn {
             Turn::Went => {}
-            Turn::Due(ordinal) | Turn::Done(ordinal) => self
-                .lines
-                .push_reserved(Line::Call(ordinal, Answer::Resolved)),
+            Turn::Due(ordinal) | Turn::Done(ordinal) => {
+                self.lines.push_reserved(Line::Resolved(ordinal));
+            }
         }
         Ok(turn)
     }
@@ -200,6 +200,7 @@ impl Session {
     pub fn finish(self) -> Outcome
         ensures lines { result.lines.items ≡ lines_at_end self.told }
         ensures end { result.end ≡ end_of self.told.machine.context }
+        ensures quanta { result.quanta ≡ self.told.machine.context.time / quantum_of self.told.machine.world.spec }
         ensures rendered { result.rendered ≡ (if self.audio && has_closed self.told.machine.context.state then Some (record { spec = self.told.machine.world.spec; samples = self.samples }) else None) }
     {
         let context = self.control.context();
@@ -215,11 +216,13 @@ impl Session {
 
     // The outcome of a session that did not complete.
     fn unrendered(self, end: EndWord) -> Outcome
-        ensures { result ≡ record { lines = record { items = self.told.lines; room = result.lines.room }; end = end; rendered = None } }
+        ensures { result ≡ record { lines = record { items = self.told.lines; room = result.lines.room }; end = end; quanta = self.told.machine.context.time / quantum_of self.told.machine.world.spec; rendered = None } }
     {
+        let quanta = self.quanta();
         Outcome {
             lines: self.lines,
             end,
+            quanta,
             rendered: None,
         }
     }
@@ -228,8 +231,10 @@ impl Session {
     fn completed(self) -> Outcome
         ensures lines { result.lines.items ≡ self.told.lines ++ Line.Complete self.told.machine.world.spec.length ∷ [] }
         ensures end { result.end ≡ EndWord.Completed }
+        ensures quanta { result.quanta ≡ self.told.machine.context.time / quantum_of self.told.machine.world.spec }
         ensures rendered { result.rendered ≡ (if self.audio then Some (record { spec = self.told.machine.world.spec; samples = self.samples }) else None) }
     {
+        let quanta = self.quanta();
         let Session {
             control,
             mut lines,
@@ -243,8 +248,16 @@ impl Session {
         Outcome {
             lines,
             end: EndWord::Completed,
+            quanta,
             rendered,
         }
+    }
+
+    // How many quanta were rendered, or gone over where there is no audio.
+    fn quanta(&self) -> u64
+        ensures { result ≡ self.now.told.machine.context.time / quantum_of self.now.told.machine.world.spec }
+    {
+        self.control.now() / QUANTUM
     }
 
     /// The state of the context.

@@ -1,2 +1,4 @@
 pub mod LinesView
+pub mod Loudness
+pub mod Summary
 pub mod Text

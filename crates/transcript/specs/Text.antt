@@ -37,6 +37,7 @@ answer_text (answers.Time frame) = codes "time " ++ decimal frame
 -- a line with its end
 unfoldable pub line_text : Line → List ℕ
 line_text (lines.Call ordinal answer) = decimal ordinal ++ codes " " ++ answer_text answer ++ codes "\n"
+line_text (lines.Resolved ordinal) = decimal ordinal ++ codes " resolved\n"
 line_text (lines.Ended node name) = codes "ended " ++ decimal node.0 ++ codes " " ++ name ++ codes "\n"
 line_text (lines.Complete length) = codes "complete " ++ decimal length ++ codes "\n"
 

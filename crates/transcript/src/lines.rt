@@ -17,7 +17,8 @@ pub enum EndWord {
     Refused(Exc),
 }
 
-/// The answer to a call, or the settling of its promise.
+/// The answer to a call. A promise that is settled within the call is `Resolved` or `Rejected`, and one
+/// that is settled later is `Pending`.
 #[derive(Clone, Copy, Debug, PartialEq, Eq)]
 pub enum Answer {
     Ok,
@@ -36,6 +37,8 @@ pub enum Answer {
 pub enum Line {
     /// The call with this ordinal was answered so.
     Call(u32, Answer),
+    /// The promise that the call with this ordinal gave is resolved.
+    Resolved(u32),
     /// A source ended; the name is the one under which it was created.
     Ended(NodeId, Name),
     /// The complete event, with the context's length in frames.

@@ -90,6 +90,10 @@ fn push_line(alloc: Global, out: &mut Vec<u8>, line: &Line) -> Result<(), AllocE
             let text = format!(in alloc; "{ordinal} {answer}\n")?;
             out.extend_from_slice(text.as_bytes())
         }
+        Line::Resolved(ordinal) => {
+            let text = format!(in alloc; "{ordinal} resolved\n")?;
+            out.extend_from_slice(text.as_bytes())
+        }
         Line::Ended(node, name) => {
             let number = node.0;
             let text = format!(in alloc; "ended {number} ")?;
@@ -104,9 +108,9 @@ fn push_line(alloc: Global, out: &mut Vec<u8>, line: &Line) -> Result<(), AllocE
     }
 }
 
-// Appends the last line with its end.
+/// Appends the last line with its end.
 #[tactic(auto, unfolding(crate::specs::Text::end_text))]
-fn push_end(alloc: Global, out: &mut Vec<u8>, end: EndWord) -> Result<(), AllocError>
+pub fn push_end(alloc: Global, out: &mut Vec<u8>, end: EndWord) -> Result<(), AllocError>
     ensures { OnOk result (out.new.items ≡ out.old.items ++ spec.end_text end) }
 {
     let text = format!(in alloc; "end {end}\n")?;

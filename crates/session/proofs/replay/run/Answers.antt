@@ -11,7 +11,7 @@ returns-in-Err-Exc-clause-outcome g c =
     let exception : c.in-Err-Exc.exception ≡ NotSupported None = search rules in
     let no : is_supported c.args.script.now.context ≡ false = search rules in
     let folder : Folder = λ n. g.F.Files.paths c.args.files.now in
-    (folder, (λ n told q. refl), refused_outcome folder c.args.script.now c.args.options.audio _ no c.new-in-Err-Exc.ensures (rw exception refl) refl)
+    (folder, (λ n told q. refl), refused_outcome folder c.args.script.now c.args.options.audio _ no c.new-in-Err-Exc.ensures (rw exception refl) refl refl)
 
 pub returns-in-Ok-replay_calls-clause-outcome : goal.returns-in-Ok-replay_calls-clause-outcome
 returns-in-Ok-replay_calls-clause-outcome g c =
@@ -21,5 +21,5 @@ returns-in-Ok-replay_calls-clause-outcome g c =
       is.folder,
       is.of,
       replayed_outcome (g.F.Files.tells c.args.files.now) (g.F.Files.paths c.args.files.now) c.args.script.now c.args.options.audio c.in-Ok.session c.replay_calls.new.session c.finish.result is supported fresh c.replay_calls.ensures.audio
-          c.finish.ensures.lines c.finish.ensures.end c.finish.ensures.rendered,
+          c.finish.ensures.lines c.finish.ensures.end c.finish.ensures.quanta c.finish.ensures.rendered,
     )
