@@ -112,8 +112,8 @@ fn either_order_takes_each_of_80_gains_once(rt: HostRuntime) -> Result<(), Fail>
     Ok(())
 }
 
-// Words with options that have no reading. A number has none until the generator is built.
-const BAD_OPTIONS: [&[&str]; 9] = [
+// Words with options that have no reading.
+const BAD_OPTIONS: [&[&str]; 10] = [
     &["--bits", "16"],
     &["--bits=8", "out.wav"],
     &["--bits", "--", "out.wav"],
@@ -122,7 +122,8 @@ const BAD_OPTIONS: [&[&str]; 9] = [
     &["--mode", "migrate", "out.wav"],
     &["--quiet", "out.wav"],
     &["--", "--bits=16", "out.wav"],
-    &["--gen", "0", "out.wav"],
+    &["--gen", "10000", "out.wav"],
+    &["--gen", "0"],
 ];
 
 #[test]
@@ -138,5 +139,44 @@ fn bad_options_get_the_usage_line(rt: HostRuntime) -> Result<(), Fail> {
             )?
         );
     }
+    Ok(())
+}
+
+// What is no script, and is not read where a load is asked for.
+const NO_SCRIPT: &[u8] = b"no script";
+
+// The summary of each load that is checked.
+const CHECKED_LOAD: &str = "summary calls 1768 quanta 3750 ended 200 refused 0\nend completed\n";
+
+#[test]
+fn a_load_that_is_checked_has_a_summary(rt: HostRuntime) -> Result<(), Fail> {
+    for number in ["0", "9999"] {
+        let words = ["--gen", number, "--mode", "check", "out.wav"];
+        assert!(rt;
+            leaves_only_text(
+                rt.alloc(),
+                &words,
+                NO_SCRIPT,
+                Status::Rendered,
+                CHECKED_LOAD
+            )?,
+            "{number}"
+        );
+    }
+    Ok(())
+}
+
+// The summary of the load of 0.
+const LOAD_OF_0: &[u8] =
+    b"summary calls 1768 quanta 3750 ended 200 refused 0 peak 146959 sum 35229630880\nend completed\n";
+
+// The load of 0 has 480,000 frames of two samples, of three bytes each.
+#[test]
+fn a_load_is_summed_up(rt: HostRuntime) -> Result<(), Fail> {
+    let words = ["--order=down", "--gen=0", "out.wav"];
+    let left = replay(rt.alloc(), &words, NO_SCRIPT, NONE)?;
+    assert!(rt; left.status == Status::Rendered);
+    assert_eq!(rt; left.text.as_slice(), LOAD_OF_0);
+    assert!(rt; left.file.is_some_and(|file| file.len() == 2_880_044));
     Ok(())
 }

@@ -1,5 +1,5 @@
 -- Where the answer of the program is Rendered.
-use Rattle.std.proofs.Common.{ℕ, ◌≡◌, ◌≤◌, List, [], length, Bool, true, false, ◌||◌, Option, Some, None, Result, Ok, Err, refl, sym, ◌∙◌, ap, subst, arith, zero, suc, ◌++◌, ◌∷◌}
+use Rattle.std.proofs.Common.{ℕ, ◌≡◌, ◌≤◌, List, [], length, Bool, true, false, ◌||◌, ◌&&◌, Option, Some, None, Result, Ok, Err, refl, sym, ◌∙◌, ap, subst, arith, zero, suc, ◌++◌, ◌∷◌}
 use Rattle.std.specs.Prelude.{is_some, IsSome, if◌then◌else◌, nat_lt}
 use Rattle.std.specs.List.{list_any}
 use Rattle.std.proofs.lemmas.Bool.Decides.{nat_tests}
@@ -8,7 +8,6 @@ use Rattle.wa_base.specs.declared.contexts.ContextSpec.{ContextSpec}
 use Rattle.wa_base.specs.declared.exceptions.Exc.TheVariants.{NotSupported}
 use Rattle.script_ast.specs.declared.call_list.Call.{Call}
 use Rattle.script_ast.specs.declared.call_list.Script.{Script}
-use Rattle.script_json.specs.Script.{script_of}
 use Rattle.script_json.specs.declared.faults.ScriptErr.{ScriptErr}
 use Rattle.transcript.specs.declared.lines.EndWord.{EndWord}
 use Rattle.transcript.specs.declared.lines.EndWord.TheVariants.{Completed, Stalled, Idle, Refused}
@@ -19,10 +18,10 @@ use Rattle.ctx_state.specs.declared.context.Turn.TheVariants.{Went, Due, Done}
 use Rattle.session.specs.Session.{Told, Played, session_of, replayed, first_told, main_list, held_by, after_turn, after_list, quanta_from, quanta_left, by_turn, ByTurn, finished, turns, has_closed, is_running}
 use Rattle.session.specs.Step.{is_start}
 use Rattle.meaning.specs.declared.world.World.{World}
-use Rattle.command_line.specs.Words.{Reading}
-use Rattle.replay_top.specs.Answer.{max_script, status_of, without_file, answer_to_script, answer_to_bytes, answer_to_reading, answer}
+use Rattle.command_line.specs.Words.{Reading, reading_by_word}
+use Rattle.replay_top.specs.Answer.{Answer, max_script, status_of, without_file, answer_to_script, answer_to_bytes, answer_to_reading, answer}
 use Rattle.replay_top.specs.Laws.{has_resume, EachResumes, started, Renders, IsRendered}
-use Rattle.replay_top.specs.Words.{reading}
+use Rattle.replay_top.specs.Words.{reads_source, script_asked}
 use Rattle.replay_top.specs.declared.status.Status.TheVariants.{Rendered, ScriptTooLong}
 use Rattle.session.proofs.Starting.{calls_start, calls_time, calls_open, calls_context, calls_spec}
 use Rattle.replay_top.proofs.Turns.{closed_completes, completed_closed, listed, still, listed_still, runs_on, waits, stays_closed, listed_context}
@@ -170,29 +169,40 @@ renders_of_script : (asked : Reading) (folder : Folder) (read : Result Script Sc
 renders_of_script asked folder (Err fault) is = absurd cc
 renders_of_script asked folder (Ok script) is = (script, refl, completes_renders folder script (end_completed (session_of folder script).end is))
 
-short_of_answer : (asked : Reading) (folder : Folder) (bytes : List ℕ) → (answer_to_bytes asked folder bytes).status ≡ Rendered → (length bytes ≤ max_script) × ((answer_to_script asked folder (script_of bytes)).status ≡ Rendered)
-short_of_answer asked folder bytes is = by_test (nat_lt max_script (length bytes)) refl is
+abbrev by_length : Reading → Folder → List ℕ → Bool → Answer
+by_length asked folder bytes long = if long then without_file ScriptTooLong [] else answer_to_script asked folder (script_asked asked bytes)
+
+short_where : (reads : Bool) (bytes : List ℕ) → (reads && nat_lt max_script (length bytes)) ≡ false → reads ≡ true → length bytes ≤ max_script
+short_where true bytes is on = grind (arith, nat_tests)
+short_where false bytes is on = absurd cc
+
+where_short : (reads : Bool) (bytes : List ℕ) → (reads ≡ true → length bytes ≤ max_script) → (reads && nat_lt max_script (length bytes)) ≡ false
+where_short true bytes short = let within = short refl in grind (arith, nat_tests)
+where_short false bytes short = refl
+
+short_of_answer : (asked : Reading) (folder : Folder) (bytes : List ℕ) → (answer_to_bytes asked folder bytes).status ≡ Rendered
+    → (reads_source asked ≡ true → length bytes ≤ max_script) × ((answer_to_script asked folder (script_asked asked bytes)).status ≡ Rendered)
+short_of_answer asked folder bytes is = by_test (reads_source asked && nat_lt max_script (length bytes)) refl is
   where
-    by_test : (b : Bool) → nat_lt max_script (length bytes) ≡ b → (if b then without_file ScriptTooLong [] else answer_to_script asked folder (script_of bytes)).status ≡ Rendered
-        → (length bytes ≤ max_script) × ((answer_to_script asked folder (script_of bytes)).status ≡ Rendered)
+    by_test : (b : Bool) → (reads_source asked && nat_lt max_script (length bytes)) ≡ b → (by_length asked folder bytes b).status ≡ Rendered
+        → (reads_source asked ≡ true → length bytes ≤ max_script) × ((answer_to_script asked folder (script_asked asked bytes)).status ≡ Rendered)
     by_test true t whole = absurd cc
-    by_test false t whole = (grind (arith, nat_tests), whole)
+    by_test false t whole = (short_where (reads_source asked) bytes t, whole)
 
 pub rendered_where : (words : List (List ℕ)) (bytes : List ℕ) (folder : Folder) → (answer words bytes folder).status ≡ Rendered → IsRendered words bytes
-rendered_where words bytes folder is = by_reading (reading words) refl is
+rendered_where words bytes folder is = by_reading (reading_by_word words) refl is
   where
-    by_reading : (read : Option Reading) → reading words ≡ read → (answer_to_reading read folder bytes).status ≡ Rendered → IsRendered words bytes
+    by_reading : (read : Option Reading) → reading_by_word words ≡ read → (answer_to_reading read folder bytes).status ≡ Rendered → IsRendered words bytes
     by_reading None n whole = absurd cc
     by_reading (Some asked) n whole =
         let parts = short_of_answer asked folder bytes whole in
-        let script = renders_of_script asked folder (script_of bytes) parts.1 in
+        let script = renders_of_script asked folder (script_asked asked bytes) parts.1 in
         record { asked = asked; reads = n; short = parts.0; script = script.0; read = script.1; renders = script.2 }
 
 -- and back
 pub where_rendered : (words : List (List ℕ)) (bytes : List ℕ) (folder : Folder) → IsRendered words bytes → (answer words bytes folder).status ≡ Rendered
 where_rendered words bytes folder is =
-    let not_long : nat_lt max_script (length bytes) ≡ false = let short = is.short in grind (arith, nat_tests) in
     ap (λ r. (answer_to_reading r folder bytes).status) is.reads
-    ∙ ap (λ b. (if b then without_file ScriptTooLong [] else answer_to_script is.asked folder (script_of bytes)).status) not_long
+    ∙ ap (λ b. (by_length is.asked folder bytes b).status) (where_short (reads_source is.asked) bytes is.short)
     ∙ ap (λ r. (answer_to_script is.asked folder r).status) is.read
     ∙ ap status_of (renders_completes folder is.script is.renders)

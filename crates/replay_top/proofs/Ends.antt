@@ -1,6 +1,7 @@
 -- How the ends of a run meet the answer.
-use Rattle.std.proofs.Common.{◌≡◌, ◌≤◌, ◌<◌, ℕ, List, [], length, Option, ◌∷◌, Some, None, Bool, true, false, if◌then◌else◌, Result, Ok, Err, nat_lt, arith, refl, sym, inl, inr, ◌∙◌}
-use Rattle.std.specs.Prelude.{unwrap_or, option_and_then, take, IsTrue}
+use Rattle.std.proofs.Common.{◌≡◌, ◌≤◌, ◌<◌, ℕ, List, [], length, Option, Some, None, Bool, true, false, if◌then◌else◌, Result, Ok, Err, nat_lt, arith, refl, sym, inl, inr, ◌∙◌, ◌&&◌, ap, subst}
+use Rattle.std.specs.Prelude.{unwrap_or, take, IsTrue, is_none}
+use Rattle.std.proofs.Math.Bool.{and-false}
 use Rattle.std.specs.Io.KnownBytes.{IsAtEnd}
 use Rattle.std.proofs.lemmas.Bool.Decides.{nat_tests}
 use Rattle.io_edge.specs.Paths.{Paths, SamePaths, Sets}
@@ -11,11 +12,12 @@ use Rattle.script_json.specs.declared.faults.ScriptErr.{ScriptErr}
 use Rattle.transcript.specs.declared.lines.EndWord.{EndWord}
 use Rattle.transcript.specs.declared.lines.EndWord.TheVariants.{Completed, Stalled, Idle, Refused}
 use Rattle.command_line.specs.Words.{Reading, reading_by_word}
+use Rattle.load_gen.specs.Generator as generator
 use Rattle.session.specs.Assets.{Folder}
 use Rattle.session.specs.Session.{session_of}
-use Rattle.replay_top.specs.Answer.{Answer, File, status_of, without_file, answer_to_bytes, answer_to_script}
+use Rattle.replay_top.specs.Answer.{Answer, File, Decodes, AskedDecodes, status_of, without_file, answer, answer_to_reading, answer_to_bytes, answer_to_script}
 use Rattle.replay_top.specs.Run.{Outside, outside, SameFiles, HasFile, HasFrontOfFile, IsWhole, IsCutShort, Answers, Replays, Counts, Ran, IsReadToEnd, TextEnds}
-use Rattle.replay_top.specs.Words.{reads_source, without_generator, reading, asks_source}
+use Rattle.replay_top.specs.Words.{reads_source, asks_source, script_by, script_asked}
 use Rattle.replay_top.specs.declared.status.Status.{Status}
 use Rattle.replay_top.specs.declared.status.Status.TheVariants.{Rendered, Unrendered, BadWords, BadScript, ScriptTooLong, ScriptFault, AssetFault, TranscriptFault, WavFault, NoMemory}
 
@@ -103,11 +105,9 @@ pub told_bytes : (left : Option (List ℕ)) → IsToldAs left (unwrap_or left []
 told_bytes None = tt
 told_bytes (Some bytes) = refl
 
-pub answer_to_bytes-within : (asked : Reading) (folder : Folder) (bytes : List ℕ) → length bytes ≤ 16777216 → answer_to_bytes asked folder bytes ≡ answer_to_script asked folder (script_of bytes)
-answer_to_bytes-within asked folder bytes within = let short : nat_lt 16777216 (length bytes) ≡ false = grind (arith, nat_tests) in rw short refl
-
-pub answer_to_bytes-past : (asked : Reading) (folder : Folder) (bytes : List ℕ) → 16777216 < length bytes → answer_to_bytes asked folder bytes ≡ without_file ScriptTooLong []
-answer_to_bytes-past asked folder bytes past = let long : nat_lt 16777216 (length bytes) ≡ true = grind (arith, nat_tests) in rw long refl
+pub answer_to_bytes-past : (asked : Reading) (folder : Folder) (bytes : List ℕ) → asked.generated ≡ None → 16777216 < length bytes
+    → answer_to_bytes asked folder bytes ≡ without_file ScriptTooLong []
+answer_to_bytes-past asked folder bytes none past = let long : nat_lt 16777216 (length bytes) ≡ true = grind (arith, nat_tests) in rw (none, long) refl
 
 reads_end : (end : EndWord) → status_of end ≡ BadWords → ⊥
 reads_end Completed is = cc
@@ -120,17 +120,39 @@ reads_script : (asked : Reading) (folder : Folder) (script : Result Script Scrip
 reads_script asked folder (Ok script) is = reads_end (session_of folder script).end is
 reads_script asked folder (Err fault) is = cc
 
--- a reading that words have asks for the source
-pub reading_asks : (words : List (List ℕ)) (asked : Reading) → reading words ≡ Some asked → asks_source (reading words) ≡ true
-reading_asks words asked is = by_word (reading_by_word words) is
-  where
-    by_test : (read : Reading) (b : Bool) → reads_source read ≡ b → (if b then Some read else None) ≡ Some asked → asks_source (if b then Some read else None) ≡ true
-    by_test read true t found = t
-    by_test read false t found = absurd cc
+-- words with this reading ask for the source where no script is generated
+pub asks_where : (words : List (List ℕ)) (asked : Reading) → reading_by_word words ≡ Some asked → asked.generated ≡ None → asks_source (reading_by_word words) ≡ true
+asks_where words asked is none = rw (is, none) refl
 
-    by_word : (read : Option Reading) → option_and_then without_generator read ≡ Some asked → asks_source (option_and_then without_generator read) ≡ true
-    by_word None found = absurd cc
-    by_word (Some read) found = by_test read (reads_source read) refl found
+-- and do not where one is
+pub asks_not : (words : List (List ℕ)) (asked : Reading) (number : ℕ) → reading_by_word words ≡ Some asked → asked.generated ≡ Some number → asks_source (reading_by_word words) ≡ false
+asks_not words asked number is some = rw (is, some) refl
+
+-- how a run ends whose script was there
+module _ (status : Status) (words : List (List ℕ)) (asked : Reading) (folder : Folder) (bytes : List ℕ) (count : Counts) (old new : Outside) (is : reading_by_word words ≡ Some asked) where
+  abbrev Asked : Result Script ScriptErr → Type 0
+  Asked script = Replays status (answer_to_script asked folder script) (Decodes folder script) count.read_faults count.read_now old new
+
+  abbrev RanBy : Option Reading → Answer → Type 0
+  RanBy read answer = Ran status read answer (AskedDecodes read folder bytes) count old new
+
+  -- the script that was asked for
+  ran_asked : (reads_source asked && nat_lt 16777216 (length bytes)) ≡ false → Asked (script_asked asked bytes) → RanBy (reading_by_word words) (answer words bytes folder)
+  ran_asked short ends =
+      let whole = ap (λ long. if long then without_file ScriptTooLong [] else answer_to_script asked folder (script_asked asked bytes)) short in
+      subst (λ (read : Option Reading). RanBy read (answer_to_reading read folder bytes)) (sym is)
+      (subst (RanBy (Some asked)) (sym whole) (ran status (Some asked) (answer_to_script asked folder (script_asked asked bytes)) (Decodes folder (script_asked asked bytes)) count old new ends))
+
+  -- that of the source
+  pub ran_read : asked.generated ≡ None → length bytes ≤ 16777216 → Asked (script_of bytes) → RanBy (reading_by_word words) (answer words bytes folder)
+  ran_read none within ends =
+      let few : nat_lt 16777216 (length bytes) ≡ false = grind (arith, nat_tests) in
+      ran_asked (ap (λ b. reads_source asked && b) few ∙ and-false (reads_source asked)) (subst Asked (sym (ap (λ g. script_by g bytes) none)) ends)
+
+  -- that of a number
+  pub ran_generated : (number : ℕ) → asked.generated ≡ Some number → Asked (Ok (generator.script number)) → RanBy (reading_by_word words) (answer words bytes folder)
+  ran_generated number some ends =
+      ran_asked (ap (λ g. is_none g && nat_lt 16777216 (length bytes)) some) (subst Asked (sym (ap (λ g. script_by g bytes) some)) ends)
 
 -- where the script's bytes were read to their end, the source is at its end
 pub IsReadToEnd-answered : (status : Status) (asked : Reading) (folder : Folder) (script : Result Script ScriptErr) (decodes : Type 0) (read_faults read_now : ℕ) (old new : Outside) (left now : Option (List ℕ))

@@ -1,5 +1,5 @@
 -- What a session hands over can be written, and the answer to it is the session's.
-use Rattle.std.proofs.Common.{◌≡◌, ◌*◌, ℕ, List, length, Option, Some, None, Bool, true, false, ◌&&◌, if◌then◌else◌, arith, refl, inl, inr}
+use Rattle.std.proofs.Common.{◌≡◌, ◌*◌, ℕ, List, length, Option, Some, None, Bool, true, false, ◌&&◌, if◌then◌else◌, arith, refl, inl, inr, ap, ◌∙◌}
 use Rattle.std.proofs.Math.Bool.{and-false}
 use Rattle.std.specs.Prelude.{IfSome}
 use Rattle.std.proofs.lemmas.Bool.{cases_Bool}
@@ -9,18 +9,22 @@ use Rattle.wa_base.specs.declared.contexts.ContextSpec.{ContextSpec}
 use Rattle.wa_base.specs.Contexts.{is_supported, IsSupported}
 use Rattle.script_ast.specs.declared.call_list.Script.{Script}
 use Rattle.transcript.specs.Text.{text_of}
+use Rattle.transcript.specs.Summary.{summary_of}
+use Rattle.transcript.specs.Loudness.{loudness_of}
+use Rattle.transcript.specs.declared.loudness.Loudness.{Loudness}
 use Rattle.transcript.specs.declared.lines.EndWord.{EndWord}
 use Rattle.transcript.specs.declared.lines.EndWord.TheVariants.{Completed, Stalled, Idle, Refused}
 use Rattle.session.specs.declared.rendered.Rendered.{Rendered}
 use Rattle.session.specs.Rendering.{completes, rendering_of}
 use Rattle.session.specs.Rows.{sample_in, samples_of}
 use Rattle.session.specs.Assets.{Folder}
-use Rattle.session.specs.Session.{session_of}
+use Rattle.session.specs.Session.{Played, session_of}
 use Rattle.meaning.specs.declared.world.World.{World}
 use Rattle.command_line.specs.Words.{Reading, renders}
 use Rattle.session.proofs.Interleaving.{interleaved_rendered}
-use Rattle.replay_top.specs.Answer.{File, status_of, wav_of_tape, answer_to_session}
-use Rattle.replay_top.specs.Outcome.{answer_to_rendering}
+use Rattle.replay_top.specs.Answer.{Answer, File, status_of, wav_of_tape, file_of, text_in, has_samples, answer_to_session}
+use Rattle.replay_top.specs.Outcome.{answer_to_rendering, loudness_left, text_to}
+use Rattle.replay_top.specs.Words.{reads_source}
 use Rattle.replay_top.specs.WavFile.{IsWritable}
 use Rattle.replay_top.proofs.FrameRows.{wav-rows}
 
@@ -76,12 +80,36 @@ writable audio folder script = elim (cases_Bool (is_supported script.context)) [
   | inr fails ↦ rw (fails, and-false) tt
 ]
 
--- the answer to what it hands over is the session's
-pub rendering_answered : (asked : Reading) (folder : Folder) (script : Script)
-    → answer_to_rendering asked (session_of folder script).end (text_of (session_of folder script).lines (session_of folder script).end) (rendering_of (renders asked.mode) script.context (session_of folder script))
-    ≡ answer_to_session asked script.context (session_of folder script)
+-- what is left is as loud as the tape
+loudness_if : (some : Bool) (rendered : Rendered) → loudness_left (if some then Some rendered else None) ≡ (if some then Some (loudness_of rendered.samples) else None)
+loudness_if true rendered = refl
+loudness_if false rendered = refl
+
+-- the text of what is handed over
+abbrev text_left : Reading → ContextSpec → Played → List ℕ
+text_left asked spec played = text_to asked played.lines (length played.tape) played.end (rendering_of (renders asked.mode) spec played)
+
+text_is : (asked : Reading) (spec : ContextSpec) (played : Played) → text_left asked spec played ≡ text_in asked spec played
+unfolding rendering_of
+text_is asked spec played =
+    ap (λ (loudness : Option Loudness). if reads_source asked then text_of played.lines played.end else summary_of played.lines (length played.tape) loudness played.end)
+    (loudness_if (has_samples asked played) (record { spec = spec; samples = samples_of played.tape spec }))
+
+-- with any text
+any_text : (asked : Reading) (folder : Folder) (script : Script) (text : List ℕ)
+    → answer_to_rendering asked (session_of folder script).end text (rendering_of (renders asked.mode) script.context (session_of folder script))
+    ≡ record { status = status_of (session_of folder script).end; text = text; file = file_of asked script.context (session_of folder script) }
 unfolding session_of rendering_of
-rendering_answered asked folder script = elim (cases_Bool (is_supported script.context)) [
-  | inl holds ↦ answer_at (renders asked.mode) (session_of folder script).end asked _ script.context (session_of folder script).tape (ranges_of script.context holds)
+any_text asked folder script text = elim (cases_Bool (is_supported script.context)) [
+  | inl holds ↦ answer_at (renders asked.mode) (session_of folder script).end asked text script.context (session_of folder script).tape (ranges_of script.context holds)
   | inr fails ↦ rw (fails, and-false) refl
 ]
+
+-- the answer to what it hands over is the session's
+pub rendering_answered : (asked : Reading) (folder : Folder) (script : Script)
+    → answer_to_rendering asked (session_of folder script).end (text_left asked script.context (session_of folder script)) (rendering_of (renders asked.mode) script.context (session_of folder script))
+    ≡ answer_to_session asked script.context (session_of folder script)
+rendering_answered asked folder script =
+    let played = session_of folder script in
+    any_text asked folder script (text_left asked script.context played)
+    ∙ ap (λ (text : List ℕ). let answer : Answer = record { status = status_of played.end; text = text; file = file_of asked script.context played } in answer) (text_is asked script.context played)

@@ -1,23 +1,26 @@
 -- The answer of the program to a command line and a script.
-use Rattle.std.specs.Prelude.{ℕ, List, [], length, nat_lt, ◌&&◌, if◌then◌else◌, Option, Some, None, Result, Ok, Err}
+use Rattle.std.specs.Prelude.{ℕ, List, [], length, nat_lt, Bool, ◌&&◌, if◌then◌else◌, Option, Some, None, Result, Ok, Err}
 use Rattle.wa_base.specs.Contexts.{quantum_of}
 use Rattle.wa_base.specs.declared.contexts.ContextSpec.{ContextSpec}
 use Rattle.script_ast.specs.declared.call_list.Script.{Script}
-use Rattle.script_json.specs.Script.{script_of}
 use Rattle.script_json.specs.declared.faults.ScriptErr.{ScriptErr}
 use Rattle.transcript.specs.Text.{text_of}
+use Rattle.transcript.specs.Summary.{summary_of}
+use Rattle.transcript.specs.Loudness.{loudness_of}
+use Rattle.transcript.specs.declared.loudness.Loudness.{Loudness}
 use Rattle.transcript.specs.declared.lines.EndWord.{EndWord}
 use Rattle.transcript.specs.declared.lines.EndWord.TheVariants.{Completed, Stalled, Idle, Refused}
 use Rattle.wav_io.specs.WavText.{wav_bytes}
-use Rattle.command_line.specs.Words.{Reading, renders, usage}
+use Rattle.command_line.specs.Words.{Reading, reading_by_word, renders, usage}
 use Rattle.session.specs.Rendering.{completes}
+use Rattle.session.specs.Rows.{samples_of}
 use Rattle.session.specs.Assets.{Folder}
 use Rattle.session.specs.Session as session
 use Rattle.session.specs.Session.{Played, session_of}
 use Rattle.meaning.specs.declared.world.World.{World}
 use Rattle.meaning.specs.Rendered.{rows}
 use Rattle.replay_top.specs.FaultLine.{fault_line}
-use Rattle.replay_top.specs.Words.{reading}
+use Rattle.replay_top.specs.Words.{reads_source, script_asked}
 use Rattle.replay_top.specs.declared.status.Status.{Status}
 use Rattle.replay_top.specs.declared.status.Status.TheVariants.{Rendered, Unrendered, BadWords, BadScript, ScriptTooLong}
 
@@ -56,15 +59,30 @@ file_at_out asked bytes = record { path = asked.out; bytes = bytes }
 abbrev pub wav_of_tape : Reading → ContextSpec → List World → File
 wav_of_tape asked spec tape = file_at_out asked (wav_bytes spec.rate spec.channels asked.bits (rows (quantum_of spec) tape spec))
 
--- a session that completed has a WAV file, where samples are rendered; one that ended otherwise has none
-abbrev pub file_of : Reading → ContextSpec → Played → Option File
-file_of asked spec session = if renders asked.mode && completes session.end then Some (wav_of_tape asked spec session.tape) else None
+-- whether there are samples: they are rendered, and the session completed
+abbrev pub has_samples : Reading → Played → Bool
+has_samples asked session = renders asked.mode && completes session.end
 
--- the text of a session's lines and of its end, and its WAV file
+-- where there are samples there is a WAV file
+abbrev pub file_of : Reading → ContextSpec → Played → Option File
+file_of asked spec session = if has_samples asked session then Some (wav_of_tape asked spec session.tape) else None
+
+-- and they have a loudness
+abbrev pub loudness_in : Reading → ContextSpec → Played → Option Loudness
+loudness_in asked spec session = if has_samples asked session then Some (loudness_of (samples_of session.tape spec)) else None
+
+-- the text of a session: its transcript, or its summary where the script is generated
+abbrev pub text_in : Reading → ContextSpec → Played → List ℕ
+text_in asked spec session =
+    if reads_source asked
+    then text_of session.lines session.end
+    else summary_of session.lines (length session.tape) (loudness_in asked spec session) session.end
+
+-- the text of a session, and its WAV file
 abbrev pub answer_to_session : Reading → ContextSpec → Played → Answer
 answer_to_session asked spec session = record {
   status = status_of session.end;
-  text = text_of session.lines session.end;
+  text = text_in asked spec session;
   file = file_of asked spec session;
 }
 
@@ -75,20 +93,27 @@ answer_to_script asked folder (Ok script) = answer_to_session asked script.conte
 answer_to_script asked folder (Err fault) = without_file BadScript (fault_line fault)
 
 abbrev pub answer_to_bytes : Reading → Folder → List ℕ → Answer
-answer_to_bytes asked folder bytes = if nat_lt max_script (length bytes) then without_file ScriptTooLong [] else answer_to_script asked folder (script_of bytes)
+answer_to_bytes asked folder bytes =
+    if reads_source asked && nat_lt max_script (length bytes)
+    then without_file ScriptTooLong []
+    else answer_to_script asked folder (script_asked asked bytes)
 
 -- ---- words
 
--- every reading reads the source, until the generator of scripts is built
 abbrev pub answer_to_reading : Option Reading → Folder → List ℕ → Answer
 answer_to_reading None folder bytes = without_file BadWords usage
 answer_to_reading (Some asked) folder bytes = answer_to_bytes asked folder bytes
 
 -- the answer to the words of a command line and the bytes of a script, over a folder of assets
 abbrev pub answer : List (List ℕ) → List ℕ → Folder → Answer
-answer words bytes folder = answer_to_reading (reading words) folder bytes
+answer words bytes folder = answer_to_reading (reading_by_word words) folder bytes
 
--- the session of a script that was read looks into the folder
+-- the session of a script looks into the folder
 abbrev pub Decodes : Folder → Result Script ScriptErr → Type 0
 Decodes folder (Ok script) = session.Decodes folder script.calls (session.first_told script.context)
 Decodes folder (Err fault) = ⊥
+
+-- the session of the script that is asked for does
+abbrev pub AskedDecodes : Option Reading → Folder → List ℕ → Type 0
+AskedDecodes None folder bytes = ⊥
+AskedDecodes (Some asked) folder bytes = Decodes folder (script_asked asked bytes)

@@ -4,15 +4,14 @@ use Rattle.std.specs.List.{list_any}
 use Rattle.wa_base.specs.Contexts.{is_supported}
 use Rattle.script_ast.specs.declared.call_list.Call.{Call}
 use Rattle.script_ast.specs.declared.call_list.Script.{Script}
-use Rattle.script_json.specs.Script.{script_of}
-use Rattle.command_line.specs.Words.{Reading}
+use Rattle.command_line.specs.Words.{Reading, reading_by_word}
 use Rattle.ctx_state.specs.Context.{ContextView, first_context, turn_of, after_turn}
 use Rattle.session.specs.Assets.{Folder}
 use Rattle.session.specs.Contexts.{context_after_calls}
 use Rattle.session.specs.Session.{held_by, quanta_from, has_closed, ByTurn}
 use Rattle.session.specs.Step.{is_start, is_resume}
 use Rattle.replay_top.specs.Answer.{answer, max_script}
-use Rattle.replay_top.specs.Words.{reading}
+use Rattle.replay_top.specs.Words.{reads_source, script_asked}
 use Rattle.replay_top.specs.declared.status.Status.TheVariants.{Rendered}
 
 -- whether a list has a resume
@@ -38,13 +37,13 @@ pub record Renders (script : Script) : Type 0 where
   pub starts : list_any (λ (call : Call). is_start call.op) (held_by 0 script.calls) ≡ true
   pub resumes : EachResumes (quanta_from 0 script.context) script.calls (started script)
 
--- words that have a reading, and no more bytes than a script may have, which are a script that renders
+-- words that have a reading, no more bytes than a script may have where they are asked for, and a script that is asked for and renders
 pub record IsRendered (words : List (List ℕ)) (bytes : List ℕ) : Type 0 where
   pub asked : Reading
-  pub reads : reading words ≡ Some asked
-  pub short : length bytes ≤ max_script
+  pub reads : reading_by_word words ≡ Some asked
+  pub short : reads_source asked ≡ true → length bytes ≤ max_script
   pub script : Script
-  pub read : script_of bytes ≡ Ok script
+  pub read : script_asked asked bytes ≡ Ok script
   pub renders : Renders script
 
 -- The answer is Rendered exactly there, whatever the folder of assets holds.

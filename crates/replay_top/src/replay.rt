@@ -1,35 +1,37 @@
-ghost use Rattle.std.specs.Prelude.{◌≡◌, ◌≤◌, ℕ, List, map, string_bytes, Ok, IfSome};
+ghost use Rattle.std.specs.Prelude.{◌≡◌, ◌≤◌, ℕ, List, map, string_bytes, Ok, IfOk, IfSome};
+ghost use Rattle.command_line.specs.Words.{reading_by_word};
 ghost use Rattle.io_edge.specs.Told.{IsToldAs};
 ghost use Rattle.script_ast.specs.WellFormed.{IsWellFormed};
 ghost use Rattle.script_json.specs.Script.{script_of};
 ghost use Rattle.session.specs.Assets.{Folder, IsFolderOf};
 ghost use Rattle.session.specs.Session.{session_of};
-ghost use Rattle.transcript.specs.Text.{text_of};
 ghost use Rattle.replay_top.specs.Answer as answers;
 ghost use Rattle.replay_top.specs.FaultLine as faults;
-ghost use Rattle.replay_top.specs.Outcome.{answer_to_rendering, with_wav};
+ghost use Rattle.replay_top.specs.Outcome.{answer_to_rendering, loudness_left, text_to, with_wav};
 ghost use Rattle.replay_top.specs.Run.{outside, counts, Ran, Replays, Answers, IsRead, TextEnds};
 ghost use Rattle.replay_top.specs.WavFile.{IsWritable};
-ghost use Rattle.replay_top.specs.Words.{asks_source, reading as reading_in};
+ghost use Rattle.replay_top.specs.Words.{asks_source};
+ghost use Rattle.load_gen.specs.Generator as generator;
 
 use crate::fault_line::fault_line;
 use crate::status::Status;
 use crate::wav_file::write_wav;
-use crate::words::reading_of;
-use command_line::{Reading, USAGE};
+use command_line::{Reading, USAGE, reading_of};
 use io_edge::{EdgeErr, Files, ReadErr, Sink, Source, read_all, write_all};
 use script_ast::Script;
 use script_json::{ScriptErr, read};
 use session::{Options, Outcome, Rendered, Stop};
 use std::alloc::Global;
-use transcript::{EndWord, text};
-use wa_base::NoMemory;
+use transcript::{EndWord, Loudness, summary, text};
+use wa_base::{Bytes, NoMemory};
 
 const MAX_SCRIPT: usize = 16_777_216;
 
 /// Replays a session: reads the words of a command line and a script, and the assets that the script
 /// decodes; writes the transcript into the sink and, where the session completes and samples are rendered,
-/// a WAV file at the path that the words name.
+/// a WAV file at the path that the words name. Where the words give the number of a script that is
+/// generated, the source is not read, and the sink gets the summary of the session in place of its
+/// transcript.
 ///
 /// There are bytes, those of the source at entry where it tells them, and a folder of assets, that of the
 /// store at entry where it tells it, such that the run ended as the program's answer to the words, these
@@ -47,8 +49,8 @@ pub fn run<S: Source, F: Files, T: Sink>(
         let count = counts (S.faults script.old) (S.faults script.new) (F.read_faults files.old) (F.read_faults files.new) in
         (bytes : List ℕ) × IsToldAs (S.left script.old) bytes
         × ((folder : Folder) × IsFolderOf (F.tells files.old) (F.paths files.old) folder
-        × Ran result (reading_in (map string_bytes words.now)) (answers.answer (map string_bytes words.now) bytes folder) (answers.Decodes folder (script_of bytes)) count before after) }
-    ensures read { IsRead (asks_source (reading_in (map string_bytes words.now))) result (S.left script.old) (S.left script.new) }
+        × Ran result (reading_by_word (map string_bytes words.now)) (answers.answer (map string_bytes words.now) bytes folder) (answers.AskedDecodes (reading_by_word (map string_bytes words.now)) folder bytes) count before after) }
+    ensures read { IsRead (asks_source (reading_by_word (map string_bytes words.now))) result (S.left script.old) (S.left script.new) }
     ensures tells { F.tells files.new ≡ F.tells files.old }
     ensures source_later { S.faults script.old ≤ S.faults script.new }
     ensures sink_later { T.faults transcript.old ≤ T.faults transcript.new }
@@ -60,11 +62,37 @@ pub fn run<S: Source, F: Files, T: Sink>(
         Ok(None) => return answer_text(transcript, USAGE, Status::BadWords),
         Err(NoMemory) => return Status::NoMemory,
     };
+    if let Some(number) = reading.generated {
+        return replay_generated(alloc, &reading, number, files, transcript);
+    }
     match read_all(alloc, script, MAX_SCRIPT) {
         Ok(bytes) => replay_bytes(alloc, &reading, bytes.as_slice(), files, transcript),
         Err(ReadErr::TooLong) => Status::ScriptTooLong,
         Err(ReadErr::Failed) => Status::ScriptFault,
         Err(ReadErr::NoMemory) => Status::NoMemory,
+    }
+}
+
+// Replays the script of a number.
+fn replay_generated<F: Files, T: Sink>(
+    alloc: Global,
+    reading: &Reading<'_>,
+    number: u32,
+    files: &mut F,
+    transcript: &mut T,
+) -> Status
+    ensures ends { let before = outside (T.written transcript.old) (T.faults transcript.old) (F.tells files.old) (F.paths files.old) (F.write_faults files.old) in
+        let after = outside (T.written transcript.new) (T.faults transcript.new) (F.tells files.new) (F.paths files.new) (F.write_faults files.new) in
+        (folder : Folder) × IsFolderOf (F.tells files.old) (F.paths files.old) folder
+        × Replays result (answers.answer_to_script reading.now folder (Ok (generator.script number))) (answers.Decodes folder (Ok (generator.script number))) (F.read_faults files.old) (F.read_faults files.new) before after }
+    ensures tells { F.tells files.new ≡ F.tells files.old }
+    ensures sink_later { T.faults transcript.old ≤ T.faults transcript.new }
+    ensures read_later { F.read_faults files.old ≤ F.read_faults files.new }
+    ensures store_later { F.write_faults files.old ≤ F.write_faults files.new }
+{
+    match load_gen::script(alloc, number) {
+        Ok(script) => replay_script(alloc, reading, &script, files, transcript),
+        Err(NoMemory) => Status::NoMemory,
     }
 }
 
@@ -121,7 +149,7 @@ fn replay_script<F: Files, T: Sink>(
     }
 }
 
-// Writes the transcript of a session and then, where something was rendered, the WAV file.
+// Writes the text of a session and then, where something was rendered, the WAV file.
 fn answer_outcome<F: Files, T: Sink>(
     alloc: Global,
     reading: &Reading<'_>,
@@ -132,18 +160,47 @@ fn answer_outcome<F: Files, T: Sink>(
     requires { IfSome outcome.now.rendered IsWritable }
     ensures ends { let before = outside (T.written transcript.old) (T.faults transcript.old) (F.tells files.old) (F.paths files.old) (F.write_faults files.old) in
         let after = outside (T.written transcript.new) (T.faults transcript.new) (F.tells files.new) (F.paths files.new) (F.write_faults files.new) in
-        Answers result (answer_to_rendering reading.now outcome.now.end (text_of outcome.now.lines.items outcome.now.end) outcome.now.rendered) before after }
+        Answers result (answer_to_rendering reading.now outcome.now.end (text_to reading.now outcome.now.lines.items outcome.now.quanta outcome.now.end outcome.now.rendered) outcome.now.rendered) before after }
     ensures tells { F.tells files.new ≡ F.tells files.old }
     ensures sink_later { T.faults transcript.old ≤ T.faults transcript.new }
     ensures read_later { F.read_faults files.old ≤ F.read_faults files.new }
     ensures store_later { F.write_faults files.old ≤ F.write_faults files.new }
 {
-    let Ok(text) = text(alloc, &outcome.lines, &outcome.end) else {
+    let Ok(text) = text_of(alloc, reading, outcome) else {
         return Status::NoMemory;
     };
     match &outcome.rendered {
         Some(rendered) => answer_rendered(reading, text.as_slice(), rendered, files, transcript),
         None => answer_text(transcript, text.as_slice(), status_of(outcome.end)),
+    }
+}
+
+// The text of what a session told: its transcript, or its summary where the script was generated.
+fn text_of(alloc: Global, reading: &Reading<'_>, outcome: &Outcome) -> Result<Bytes, NoMemory>
+    requires { IfSome outcome.now.rendered IsWritable }
+    ensures { IfOk result (λ text. text ≡ text_to reading.now outcome.now.lines.items outcome.now.quanta outcome.now.end outcome.now.rendered) }
+{
+    if reading.generated.is_none() {
+        return text(alloc, &outcome.lines, &outcome.end);
+    }
+    let loudness = loudness_of(&outcome.rendered);
+    summary(
+        alloc,
+        &outcome.lines,
+        outcome.quanta,
+        loudness,
+        &outcome.end,
+    )
+}
+
+// How loud it is what was rendered.
+fn loudness_of(rendered: &Option<Rendered>) -> Option<Loudness>
+    requires { IfSome rendered.now IsWritable }
+    ensures { result ≡ loudness_left rendered.now }
+{
+    match rendered {
+        Some(rendered) => Some(Loudness::of(rendered.samples.as_slice())),
+        None => None,
     }
 }
 

@@ -18,7 +18,7 @@ returns-in-Ok-clause-ends g c =
       outcome.0,
       outcome.1,
       replays _ _ _ _ _ _ _ (answers_since _ _ _ _ _ _ _ c.in-Ok.ensures.paths _ _ (rw (← rendering_answered c.args.reading.now outcome.0 c.args.script.now, ← mode)
-          (rw (outcome.2.lines, outcome.2.end, outcome.2.rendered, c.in-Ok.ensures.tells, c.in-Ok.ensures.writes, audio) at c.answer_outcome.ensures.ends))),
+          (rw (outcome.2.lines, outcome.2.end, outcome.2.quanta, outcome.2.rendered, c.in-Ok.ensures.tells, c.in-Ok.ensures.writes, audio) at c.answer_outcome.ensures.ends))),
     )
 
 pub returns-in-Err-NoMemory-clause-ends : goal.returns-in-Err-NoMemory-clause-ends
