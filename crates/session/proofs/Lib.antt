@@ -15,7 +15,8 @@ mod Parameters
 mod Quanta
 mod Replaying
 mod Samples
-mod Sides
+pub mod Sides
+pub mod CatchingUp
 mod Standing
 pub mod Starting
 pub mod Stepping

@@ -11,14 +11,14 @@ use Rattle.law_base.proofs.SchemeLaws.{moment-zero}
 use Rattle.wa_base.specs.declared.contexts.ContextSpec.{ContextSpec}
 use Rattle.conn_graph.specs.Ends.{reader_of, ends, height}
 use Rattle.meaning.specs.declared.world.World.{World}
-use Rattle.meaning.specs.World.{plain, no_world}
+use Rattle.meaning.specs.World.{sounding, no_world}
 use Rattle.meaning.specs.Counts.{world_in}
 use Rattle.meaning.specs.Values.{Values, silence, value_scheme, known_at, value_at, value}
 use Rattle.meaning.specs.Rendered.{sample}
+use Rattle.meaning.proofs.Alike.{world_alike}
 use Rattle.meaning.proofs.TapeLaws.{value_same, world_before}
 use Rattle.session.specs.Frames.{WritesBelow}
 use Rattle.session.specs.Rows.{sample_in, samples_of}
-use Rattle.session.proofs.Tapes.{plain_world}
 
 -- ---- one sample
 
@@ -26,8 +26,9 @@ use Rattle.session.proofs.Tapes.{plain_world}
 sample_same : (tape other : List World) (frame channel : ℕ) → ((k : ℕ) → k ≤ frame / 128 → world_in tape k ≡ world_in other k) → sample 128 tape frame channel ≡ sample 128 other frame channel
 sample_same tape other frame channel same = ap (λ (v : Values). v (reader_of 0) 0 channel) (value_same 128 (omega arith) tape other frame same)
 
-sample_plain : (tape : List World) (frame channel : ℕ) → sample 128 (map plain tape) frame channel ≡ sample 128 tape frame channel
-sample_plain tape frame channel = sample_same (map plain tape) tape frame channel (λ k l. plain_world tape k)
+-- and so have tapes that sound alike
+sample_alike : (tape other : List World) → map sounding tape ≡ map sounding other → (frame channel : ℕ) → sample 128 tape frame channel ≡ sample 128 other frame channel
+sample_alike tape other same frame channel = sample_same tape other frame channel (λ k l. world_alike 128 tape other same k)
 
 sample_kept : (tape : List World) (w : World) (frame channel : ℕ) → frame / 128 < length tape → sample 128 (tape ++ w ∷ []) frame channel ≡ sample 128 tape frame channel
 sample_kept tape w frame channel before = sample_same (tape ++ w ∷ []) tape frame channel (λ k l. world_before tape w k (omega arith))
@@ -39,7 +40,7 @@ height_none = refl
 value_none : (tape : List World) (frame : ℕ) → length tape ≤ frame / 128 → value 128 tape frame ≡ silence
 unfolding value value_at
 value_none tape frame past =
-    let world : world_in tape (frame / 128) ≡ no_world = ap plain (get_or_past tape (frame / 128) no_world past) in
+    let world : world_in tape (frame / 128) ≡ no_world = ap sounding (get_or_past tape (frame / 128) no_world past) in
     ap (λ (w : World). value_at 128 tape frame (height w.graph.value)) world
     ∙ ap (λ h. value_at 128 tape frame h) height_none
     ∙ moment-zero (value_scheme 128) (known_at 128 tape) frame
@@ -54,9 +55,9 @@ map_same : (f g : ℕ → ℤ) (xs : List ℕ) → ((x : ℕ) → f x ≡ g x) �
 map_same f g [] same = refl
 map_same f g (x ∷ xs) same = let here = same x in let rest = map_same f g xs same in cc
 
-pub samples_of-plain : (tape : List World) (spec : ContextSpec) → samples_of (map plain tape) spec ≡ samples_of tape spec
+pub samples_of-alike : (tape other : List World) → map sounding tape ≡ map sounding other → (spec : ContextSpec) → samples_of tape spec ≡ samples_of other spec
 unfolding samples_of
-samples_of-plain tape spec = map_same (sample_in (map plain tape) spec) (sample_in tape spec) (range_with_len 0 (spec.channels * spec.length)) (λ place. sample_plain tape (place % spec.length) (place / spec.length))
+samples_of-alike tape other same spec = map_same (sample_in tape spec) (sample_in other spec) (range_with_len 0 (spec.channels * spec.length)) (λ place. sample_alike tape other same (place % spec.length) (place / spec.length))
 
 zeros : (spec : ContextSpec) (a n : ℕ) → map (sample_in [] spec) (range_with_len a n) ≡ replicate n (pos 0)
 zeros spec a zero = refl

@@ -4,16 +4,16 @@ use Rattle.std.specs.Prelude.{IfSome, is_some, option_map}
 use Rattle.wa_base.specs.declared.contexts.ContextSpec.{ContextSpec}
 use Rattle.control_msgs.specs.declared.message.Message.{Message}
 use Rattle.control_msgs.specs.declared.message.Message.TheVariants.{Change as of_change, Slots, Ended}
-use Rattle.control_msgs.specs.Messages.{after, after_message}
+use Rattle.control_msgs.specs.Messages.{ended_marked, after_message}
 use Rattle.meaning.specs.declared.change.Change.{Change}
 use Rattle.meaning.specs.declared.world.World.{World}
 use Rattle.meaning.specs.Changes.{Accepts, changed}
 use Rattle.meaning.specs.Worlds.{IsRegular}
 use Rattle.quantum_render.specs.Stands.{RendererView}
-use Rattle.session.specs.Machine.{Machine}
+use Rattle.session.specs.Machine.{Machine, caught_up, world_caught_up}
 use Rattle.session.specs.Rows.{samples_of}
 use Rattle.session.specs.Step.{KeepsTime, Sends}
-use Rattle.session.specs.View.{SideView, sent, IsAt, KeepsUp, Follows, MakesRoom, Gets, Hears, GoesOn, Waits, Renders}
+use Rattle.session.specs.View.{SideView, sent, IsAt, KeepsUp, Follows, MakesRoom, Gets, CatchesUp, Hears, GoesOn, Waits, Renders}
 
 -- ---- steps, where there is a side
 
@@ -63,6 +63,34 @@ room_kept machine more x y made keeps = record {
   renderer = subst (IsAt machine.world.spec machine.context.time) (sym (same_renderer more x y made)) keeps.renderer;
   world = same_sent more x y made ∙ keeps.world;
 }
+
+-- ---- slots that are set late
+
+-- where none are to be set, the side stays
+pub caught_up_already : (a : Option SideView) → Follows (CatchesUp None) a a
+caught_up_already None = tt
+caught_up_already (Some x) = record { world = refl; renderer = refl }
+
+pub catches_up_by : (first : ℕ) (a b c : Option SideView) → Follows (MakesRoom 1) a b → Follows (Gets (Slots first)) b c → Follows (CatchesUp (Some first)) a c
+catches_up_by first a b c made gets = composed (MakesRoom 1) (Gets (Slots first)) (CatchesUp (Some first)) a b c (λ x y z step got. record {
+  world = got.world ∙ ap (λ w. after_message w (Slots first)) (same_sent 1 x y step);
+  renderer = got.renderer ∙ same_renderer 1 x y step;
+}) made gets
+
+-- it keeps up with the machine whose slots are set too
+pub catches_up_keeps : (behind : Option ℕ) (old new : Machine) (a b : Option SideView) → new ≡ caught_up behind old → Follows (CatchesUp behind) a b → IfSome a (KeepsUp old) → IfSome b (KeepsUp new)
+catches_up_keeps behind old new a b is caught keeps =
+    subst (λ (m : Machine). IfSome b (KeepsUp m)) (sym is)
+    (carried (CatchesUp behind) (KeepsUp old) (KeepsUp (caught_up behind old)) a b (λ x y step keep. record {
+      renderer = subst (IsAt old.world.spec old.context.time) (sym step.renderer) keep.renderer;
+      world = step.world ∙ ap (world_caught_up behind) keep.world;
+    }) caught keeps)
+
+pub catches_up_renderer : (behind : Option ℕ) (a b : Option SideView) → Follows (CatchesUp behind) a b → option_map (λ (s : SideView). s.renderer) b ≡ option_map (λ (s : SideView). s.renderer) a
+catches_up_renderer behind None None caught = refl
+catches_up_renderer behind (Some x) (Some y) caught = ap Some caught.renderer
+catches_up_renderer behind None (Some y) caught = absurd caught
+catches_up_renderer behind (Some x) None caught = absurd caught
 
 -- ---- a call
 
@@ -114,45 +142,42 @@ call_audio change a b d made hears = same_audio (Hears change) b d hears ∙ sam
 
 -- what a turn does to a side
 pub record Turned (first last : ℕ) (old_samples new_samples : List ℤ) (old new : SideView) : Type 0 where
-  pub world : sent new ≡ after first last (sent old)
+  pub world : sent new ≡ ended_marked last (sent old)
   pub at : IsAt (sent old).spec (first + 128) new.renderer
   pub renders : (tape : List World) → Renders tape old.renderer → IsRegular 128 (tape ++ sent old ∷ []) → Renders (tape ++ sent old ∷ []) new.renderer
   pub samples : (tape : List World) → Renders tape old.renderer → IsRegular 128 (tape ++ sent old ∷ []) → first ≡ 128 * length tape
       → old_samples ≡ samples_of tape (sent old).spec → new_samples ≡ samples_of (tape ++ sent old ∷ []) (sent old).spec
 
 module _ (first last : ℕ) (samples new_samples : List ℤ) where
-  turned_of : (x y z u v : SideView) → MakesRoom 2 x y → GoesOn first samples new_samples y z → Gets (Slots first) z u → Gets (Ended last) u v → Turned first last samples new_samples x v
-  turned_of x y z u v made goes slots ended =
+  turned_of : (x y z v : SideView) → MakesRoom 1 x y → GoesOn first samples new_samples y z → Gets (Ended last) z v → Turned first last samples new_samples x v
+  turned_of x y z v made goes ended =
       let goes_on : GoesOn first samples new_samples (record x { room = y.room }) z = subst (λ (s : SideView). GoesOn first samples new_samples s z) made.same goes in
-      let renderer : z.renderer ≡ v.renderer = sym (ended.renderer ∙ slots.renderer) in
+      let renderer : z.renderer ≡ v.renderer = sym ended.renderer in
       record {
-        world = ended.world ∙ ap (λ w. after_message w (Ended last)) slots.world ∙ ap (λ w. after_message (after_message w (Slots first)) (Ended last)) goes_on.world;
+        world = ended.world ∙ ap (λ w. after_message w (Ended last)) goes_on.world;
         at = subst (IsAt (sent x).spec (first + 128)) renderer goes_on.at;
         renders = λ tape renders regular. subst (Renders (tape ++ sent x ∷ [])) renderer (goes_on.renders tape renders regular);
         samples = goes_on.samples;
       }
 
-  pub turned_sides : (a b c d e : Option SideView) → Follows (MakesRoom 2) a b → Follows (GoesOn first samples new_samples) b c → Follows (Gets (Slots first)) c d → Follows (Gets (Ended last)) d e
-      → Follows (Turned first last samples new_samples) a e
-  turned_sides None None None None None made goes slots ended = tt
-  turned_sides (Some x) (Some y) (Some z) (Some u) (Some v) made goes slots ended = turned_of x y z u v made goes slots ended
-  turned_sides None (Some y) c d e made goes slots ended = absurd made
-  turned_sides (Some x) None c d e made goes slots ended = absurd made
-  turned_sides None None (Some z) d e made goes slots ended = absurd goes
-  turned_sides (Some x) (Some y) None d e made goes slots ended = absurd goes
-  turned_sides None None None (Some u) e made goes slots ended = absurd slots
-  turned_sides (Some x) (Some y) (Some z) None e made goes slots ended = absurd slots
-  turned_sides None None None None (Some v) made goes slots ended = absurd ended
-  turned_sides (Some x) (Some y) (Some z) (Some u) None made goes slots ended = absurd ended
+  pub turned_sides : (a b c d : Option SideView) → Follows (MakesRoom 1) a b → Follows (GoesOn first samples new_samples) b c → Follows (Gets (Ended last)) c d → Follows (Turned first last samples new_samples) a d
+  turned_sides None None None None made goes ended = tt
+  turned_sides (Some x) (Some y) (Some z) (Some v) made goes ended = turned_of x y z v made goes ended
+  turned_sides None (Some y) c d made goes ended = absurd made
+  turned_sides (Some x) None c d made goes ended = absurd made
+  turned_sides None None (Some z) d made goes ended = absurd goes
+  turned_sides (Some x) (Some y) None d made goes ended = absurd goes
+  turned_sides None None None (Some v) made goes ended = absurd ended
+  turned_sides (Some x) (Some y) (Some z) None made goes ended = absurd ended
 
 -- it keeps up with the machine
-pub turned_keeps : (old new : Machine) (samples new_samples : List ℤ) (x y : SideView) → new.world ≡ after old.context.time (old.context.time + 128) old.world → new.context.time ≡ old.context.time + 128
+pub turned_keeps : (old new : Machine) (samples new_samples : List ℤ) (x y : SideView) → new.world ≡ ended_marked (old.context.time + 128) old.world → new.context.time ≡ old.context.time + 128
     → Turned old.context.time (old.context.time + 128) samples new_samples x y → KeepsUp old x → KeepsUp new y
 turned_keeps old new samples new_samples x y world time turned keeps = record {
   renderer =
       let spec : (sent x).spec ≡ new.world.spec = ap (λ (w : World). w.spec) keeps.world ∙ sym (ap (λ (w : World). w.spec) world) in
       subst (λ t. IsAt new.world.spec t y.renderer) (sym time) (subst (λ (s : ContextSpec). IsAt s (old.context.time + 128) y.renderer) spec turned.at);
-  world = turned.world ∙ ap (after old.context.time (old.context.time + 128)) keeps.world ∙ sym world;
+  world = turned.world ∙ ap (ended_marked (old.context.time + 128)) keeps.world ∙ sym world;
 }
 
 -- ---- what a turn asks for

@@ -4,27 +4,26 @@ use Rattle.std.specs.Prelude.{IsTrue, IsSome, IsNone, IfSome, is_some, option_ma
 use Rattle.std.proofs.lemmas.List.{length-map, map-append}
 use Rattle.wa_base.specs.declared.contexts.ContextSpec.{ContextSpec}
 use Rattle.meaning.specs.declared.world.World.{World}
-use Rattle.meaning.specs.World.{plain}
+use Rattle.meaning.specs.World.{plain, sounding}
 use Rattle.meaning.specs.Validity.{IsValid}
 use Rattle.meaning.specs.Worlds.{IsRegular, first_world}
 use Rattle.quantum_render.specs.Stands.{RendererView, StandsFor}
-use Rattle.control_msgs.specs.Messages.{after}
 use Rattle.meaning.specs.Changes.{Grows}
 use Rattle.session.specs.Frames.{WritesBelow}
 use Rattle.session.specs.Machine.{Machine}
 use Rattle.session.specs.Rows.{samples_of}
 use Rattle.session.specs.Session.{first_told, machine_after}
 use Rattle.session.specs.Step.{KeepsTime}
-use Rattle.session.specs.View.{SessionView, SideView, Stands, IsFirst, Renders, KeepsUp, Follows}
+use Rattle.session.specs.View.{SessionView, SideView, Stands, IsFirst, Renders, KeepsUp, Follows, sent}
 use Rattle.session.proofs.Sides.{Turned, carried, same_audio, on_renderer, of_renderer}
 use Rattle.session.proofs.Stepping.{turned_time, turned_started}
-use Rattle.session.proofs.Samples.{samples_of-empty, samples_of-plain, quantum_written}
-use Rattle.session.proofs.Tapes.{regular_first, regular_grown, regular_after, regular_of_plain}
+use Rattle.session.proofs.Samples.{samples_of-empty, samples_of-alike, quantum_written}
+use Rattle.session.proofs.Tapes.{regular_first, regular_grown, regular_after, regular_alike}
 
 -- ---- before the first call
 
 pub renders_none : (r : RendererView) → StandsFor r [] → Renders [] r
-renders_none r stands = record { worlds = []; plain_worlds = refl; stands = stands }
+renders_none r stands = record { worlds = []; alike = refl; stands = stands }
 
 pub first_session : (spec : ContextSpec) (audio : Bool) (view : SessionView) → view.told ≡ first_told spec → view.audio ≡ audio → view.samples ≡ [] → IsValid (first_world spec) → IfSome view.renderer (Renders [])
     → IsFirst spec audio view
@@ -78,28 +77,35 @@ some_unless_none (Some n) some = refl
 
 -- ---- quanta
 
--- the worlds of a renderer, and one more
-pub longer : (tape worlds : List World) (w : World) → map plain worlds ≡ tape → map plain (worlds ++ w ∷ []) ≡ tape ++ plain w ∷ []
-longer tape worlds w same = map-append plain worlds (w ∷ []) ∙ ap (λ (ws : List World). ws ++ plain w ∷ []) same
+-- tapes that sound alike, and one more world that does
+pub longer : (tape other : List World) (w v : World) → map sounding tape ≡ map sounding other → sounding w ≡ sounding v → map sounding (tape ++ w ∷ []) ≡ map sounding (other ++ v ∷ [])
+longer tape other w v same last =
+    map-append sounding tape (w ∷ [])
+    ∙ ap (λ (ws : List World). ws ++ sounding w ∷ []) same
+    ∙ ap (λ (x : World). map sounding other ++ x ∷ []) last
+    ∙ sym (map-append sounding other (v ∷ []))
 
-pub raw_regular : (tape worlds : List World) (w : World) → map plain worlds ≡ tape → IsRegular 128 (tape ++ plain w ∷ []) → IsRegular 128 (worlds ++ w ∷ [])
-raw_regular tape worlds w same regular = regular_of_plain 128 (worlds ++ w ∷ []) (subst (IsRegular 128) (sym (longer tape worlds w same)) regular)
+pub raw_regular : (tape worlds : List World) (w : World) → map sounding worlds ≡ map sounding tape → IsRegular 128 (tape ++ plain w ∷ []) → IsRegular 128 (worlds ++ w ∷ [])
+raw_regular tape worlds w same regular = regular_alike 128 (tape ++ plain w ∷ []) (worlds ++ w ∷ []) (sym (longer worlds tape w (plain w) same refl)) regular
 
-pub renders_more : (tape worlds : List World) (w : World) (r : RendererView) → map plain worlds ≡ tape → StandsFor r (worlds ++ w ∷ []) → Renders (tape ++ plain w ∷ []) r
-renders_more tape worlds w r same stands = record { worlds = worlds ++ w ∷ []; plain_worlds = longer tape worlds w same; stands = stands }
+pub renders_more : (tape worlds : List World) (w : World) (r : RendererView) → map sounding worlds ≡ map sounding tape → StandsFor r (worlds ++ w ∷ []) → Renders (tape ++ plain w ∷ []) r
+renders_more tape worlds w r same stands = record { worlds = worlds ++ w ∷ []; alike = longer worlds tape w (plain w) same refl; stands = stands }
 
-pub length_worlds : (tape worlds : List World) → map plain worlds ≡ tape → length worlds ≡ length tape
-length_worlds tape worlds same = sym (length-map worlds plain) ∙ ap length same
+-- a renderer that stands for a tape does so for one that sounds alike
+renders_alike : (tape other : List World) (r : RendererView) → map sounding tape ≡ map sounding other → Renders tape r → Renders other r
+renders_alike tape other r same renders = record { worlds = renders.worlds; alike = renders.alike ∙ same; stands = renders.stands }
+
+pub length_worlds : (tape worlds : List World) → map sounding worlds ≡ map sounding tape → length worlds ≡ length tape
+length_worlds tape worlds same = sym (length-map worlds sounding) ∙ ap length same ∙ length-map tape sounding
 
 -- the samples with the quantum's frames written
-pub samples_more : (tape worlds : List World) (w : World) (spec : ContextSpec) (old new : List ℤ) (first : ℕ) → map plain worlds ≡ tape → first ≡ 128 * length tape → old ≡ samples_of tape spec
+pub samples_more : (tape worlds : List World) (w : World) (spec : ContextSpec) (old new : List ℤ) (first : ℕ) → map sounding worlds ≡ map sounding tape → first ≡ 128 * length tape → old ≡ samples_of tape spec
     → WritesBelow old new spec (worlds ++ w ∷ []) first (first + 128) spec.channels → 1 ≤ spec.length → length new ≡ length old → length old ≡ spec.channels * spec.length
     → new ≡ samples_of (tape ++ plain w ∷ []) spec
 samples_more tape worlds w spec old new first same first_is old_is writes some long room =
     let count = length_worlds tape worlds same in
-    quantum_written worlds w spec old new first (omega (arith, count)) (old_is ∙ ap (λ (ws : List World). samples_of ws spec) (sym same) ∙ samples_of-plain worlds spec) writes some long room
-    ∙ sym (samples_of-plain (worlds ++ w ∷ []) spec)
-    ∙ ap (λ (ws : List World). samples_of ws spec) (longer tape worlds w same)
+    quantum_written worlds w spec old new first (omega (arith, count)) (old_is ∙ samples_of-alike tape worlds (sym same) spec) writes some long room
+    ∙ samples_of-alike (worlds ++ w ∷ []) (tape ++ plain w ∷ []) (longer worlds tape w (plain w) same refl) spec
 
 -- a quantum
 pub Stands-after : (old new : SessionView) (tape : List World) → new.audio ≡ old.audio → new.told.machine.context.time ≡ old.told.machine.context.time + 128 → new.told.machine.context.started ≡ old.told.machine.context.started
@@ -113,33 +119,47 @@ Stands-after old new tape audio now started valid spec nodes samples renders sta
   renders = renders;
 }
 
--- from what a turn does to the side that renders
-pub turn_stands : (old new : SessionView) (tape : List World) (a e : Option SideView) → old.renderer ≡ option_map (λ (x : SideView). x.renderer) a → new.renderer ≡ option_map (λ (x : SideView). x.renderer) e
-    → old.audio ≡ is_some a → new.audio ≡ is_some e → IfSome a (KeepsUp old.told.machine)
+-- from what a turn does to the side that renders, which keeps up with a machine that sounds as the session's
+pub turn_stands : (raw : Machine) (old new : SessionView) (tape : List World) (a e : Option SideView) → sounding raw.world ≡ sounding old.told.machine.world
+    → old.renderer ≡ option_map (λ (x : SideView). x.renderer) a → new.renderer ≡ option_map (λ (x : SideView). x.renderer) e
+    → old.audio ≡ is_some a → new.audio ≡ is_some e → IfSome a (KeepsUp raw)
     → Follows (Turned old.told.machine.context.time (old.told.machine.context.time + 128) old.samples new.samples) a e
     → new.told.machine ≡ machine_after old.told.machine → IsValid new.told.machine.world → Stands old tape → Stands new (tape ++ old.told.machine.world ∷ [])
-turn_stands old new tape a e old_renderer new_renderer old_audio new_audio keeps turned machine valid stands =
-    let m : Machine = old.told.machine in
-    let world : new.told.machine.world ≡ after m.context.time (m.context.time + 128) m.world = ap (λ (x : Machine). x.world) machine in
+turn_stands raw old new tape a e sounds old_renderer new_renderer old_audio new_audio keeps turned machine valid stands =
     Stands-after old new tape (new_audio ∙ same_audio _ a e turned ∙ sym old_audio) (ap (λ (x : Machine). x.context.time) machine ∙ turned_time m.context) (ap (λ (x : Machine). x.context.started) machine ∙ turned_started m.context) valid
-    (ap (λ (x : World). x.spec) world) (ap (λ (x : World). x.nodes) world)
+    (ap (λ (x : Machine). x.world.spec) machine) (ap (λ (x : Machine). x.world.nodes) machine)
     (λ on begun. samples_at a e (subst IsTrue old_audio on) (subst (λ r. IfSome r (Renders tape)) old_renderer stands.renders) (stands.samples on begun) keeps turned)
     (subst (λ r. IfSome r (Renders (tape ++ m.world ∷ []))) (sym new_renderer)
     (of_renderer (Renders (tape ++ m.world ∷ [])) e
-    (carried (Turned m.context.time (m.context.time + 128) old.samples new.samples) (λ x. KeepsUp m x × Renders tape x.renderer) (λ y. Renders (tape ++ m.world ∷ []) y.renderer) a e
-    (λ x y t p. subst (λ (w : World). Renders (tape ++ w ∷ []) y.renderer) p.0.world (t.renders tape p.1 (subst (λ (w : World). IsRegular 128 (tape ++ w ∷ [])) (sym p.0.world) stands.regular)))
-    turned (both (KeepsUp m) (λ x. Renders tape x.renderer) a keeps (on_renderer (Renders tape) a (subst (λ r. IfSome r (Renders tape)) old_renderer stands.renders))))))
+    (carried (Turned m.context.time (m.context.time + 128) old.samples new.samples) (λ x. KeepsUp raw x × Renders tape x.renderer) (λ y. Renders (tape ++ m.world ∷ []) y.renderer) a e
+    (λ x y t p. renders_alike (tape ++ raw.world ∷ []) (tape ++ m.world ∷ []) y.renderer alike
+    (subst (λ (w : World). Renders (tape ++ w ∷ []) y.renderer) p.0.world (t.renders tape p.1 (regular_sent x p.0))))
+    turned (both (KeepsUp raw) (λ x. Renders tape x.renderer) a keeps (on_renderer (Renders tape) a (subst (λ r. IfSome r (Renders tape)) old_renderer stands.renders))))))
     stands
   where
+    m : Machine
+    m = old.told.machine
+
+    alike : map sounding (tape ++ raw.world ∷ []) ≡ map sounding (tape ++ m.world ∷ [])
+    alike = longer tape tape raw.world m.world refl sounds
+
+    spec : raw.world.spec ≡ m.world.spec
+    spec = ap (λ (w : World). w.spec) sounds
+
+    regular_sent : (x : SideView) → KeepsUp raw x → IsRegular 128 (tape ++ sent x ∷ [])
+    regular_sent x keep = subst (λ (w : World). IsRegular 128 (tape ++ w ∷ [])) (sym keep.world) (regular_alike 128 (tape ++ m.world ∷ []) (tape ++ raw.world ∷ []) (sym alike) stands.regular)
+
     both : (P Q : SideView → Type 0) (o : Option SideView) → IfSome o P → IfSome o Q → IfSome o (λ x. P x × Q x)
     both P Q None p q = tt
     both P Q (Some x) p q = (p, q)
 
-    samples_at : (a e : Option SideView) → IsTrue (is_some a) → IfSome (option_map (λ (x : SideView). x.renderer) a) (Renders tape) → old.samples ≡ samples_of tape old.told.machine.world.spec → IfSome a (KeepsUp old.told.machine)
-        → Follows (Turned old.told.machine.context.time (old.told.machine.context.time + 128) old.samples new.samples) a e
-        → new.samples ≡ samples_of (tape ++ old.told.machine.world ∷ []) old.told.machine.world.spec
+    samples_at : (a e : Option SideView) → IsTrue (is_some a) → IfSome (option_map (λ (x : SideView). x.renderer) a) (Renders tape) → old.samples ≡ samples_of tape m.world.spec → IfSome a (KeepsUp raw)
+        → Follows (Turned m.context.time (m.context.time + 128) old.samples new.samples) a e
+        → new.samples ≡ samples_of (tape ++ m.world ∷ []) m.world.spec
     samples_at None e on renders so_far keeps turned = absurd cc
     samples_at (Some x) None on renders so_far keeps turned = absurd turned
     samples_at (Some x) (Some y) on renders so_far keeps turned =
-        turned.samples tape renders (subst (λ (w : World). IsRegular 128 (tape ++ w ∷ [])) (sym keeps.world) stands.regular) stands.time (so_far ∙ ap (λ (w : World). samples_of tape w.spec) (sym keeps.world))
+        turned.samples tape renders (regular_sent x keeps) stands.time (so_far ∙ ap (samples_of tape) (sym spec) ∙ ap (λ (w : World). samples_of tape w.spec) (sym keeps.world))
         ∙ ap (λ (w : World). samples_of (tape ++ w ∷ []) w.spec) keeps.world
+        ∙ samples_of-alike (tape ++ raw.world ∷ []) (tape ++ m.world ∷ []) alike raw.world.spec
+        ∙ ap (samples_of (tape ++ m.world ∷ [])) spec

@@ -28,7 +28,7 @@ use Rattle.meaning.proofs.Creating.{IsOwn}
 use Rattle.meaning.proofs.Sourcing.{new_play_is, new_source_is, edited_id, acquired_keeps}
 use Rattle.meaning.proofs.Buffering.{buffers_stay}
 use Rattle.meaning.proofs.Changing.{changed_grows}
-use Rattle.control_msgs.specs.Messages.{after}
+use Rattle.control_msgs.specs.Messages.{ended_marked}
 use Rattle.wa_base.specs.declared.contexts.ContextSpec.{ContextSpec}
 use Rattle.wa_base.specs.declared.contexts.State.TheVariants.{Suspended, Closed}
 use Rattle.ctx_state.specs.Context.{ContextView, next, turn_of, turned_by, after_turn, IsTurned as context_turned}
@@ -159,9 +159,9 @@ steady_context context new w book spec time steady = record { valid = steady.val
 
 -- ---- a quantum
 
-pub steady_turned : (context new : ContextView) (w next : World) (book : BookView) (first last : ℕ) → plain next ≡ after first last (plain w) → IsValid (plain next) → new.spec ≡ context.spec → new.time ≤ 33554560
+pub steady_turned : (context new : ContextView) (w next : World) (book : BookView) (last : ℕ) → plain next ≡ ended_marked last (plain w) → IsValid (plain next) → new.spec ≡ context.spec → new.time ≤ 33554560
     → IsSteady (machine_of context w book) → IsSteady (machine_of new next book)
-steady_turned context new w next book first last is valid spec time steady =
+steady_turned context new w next book last is valid spec time steady =
     let same : play_nodes (plain next) ≡ play_nodes (plain w) = ap play_nodes is ∙ marked_nodes last w.scheds.items in
     record {
       valid = valid;

@@ -10,48 +10,55 @@ use Rattle.node_table.specs.declared.kinds.Kind.{Kind}
 use Rattle.node_table.specs.declared.nodes.Node.{Node}
 use Rattle.node_table.proofs.Lasting.{holds_by_lasting}
 use Rattle.meaning.specs.declared.world.World.{World}
-use Rattle.meaning.specs.World.{plain, no_world, no_node, node_at}
+use Rattle.meaning.specs.World.{sounding, no_world, no_node, node_at}
 use Rattle.meaning.specs.Validity.{IsValid}
 use Rattle.meaning.specs.Worlds.{IsRegular, IsNewIn, Stays, HasCapacity, first_world}
 use Rattle.meaning.specs.Counts.{world_in}
 use Rattle.meaning.proofs.TapeLaws.{world_before, world_after}
 use Rattle.meaning.specs.Changes.{Grows}
-use Rattle.meaning.proofs.Valid.{valid_plain}
+use Rattle.meaning.proofs.Sounding.{sounding_valid, valid_sounding}
+use Rattle.meaning.proofs.Alike.{world_alike}
 
--- ---- worlds made plain
+-- ---- tapes that sound alike
 
-pub plain_world : (tape : List World) (k : ℕ) → world_in (map plain tape) k ≡ world_in tape k
-plain_world [] k = refl
-plain_world (w ∷ ws) zero = refl
-plain_world (w ∷ ws) (suc k) = plain_world ws k
+module _ (q : ℕ) (tape other : List World) (same : map sounding tape ≡ map sounding other) where
+  at : (k : ℕ) → world_in tape k ≡ world_in other k
+  at k = world_alike q tape other same k
 
--- a tape is regular where it is made of plain worlds
-pub regular_of_plain : (q : ℕ) (tape : List World) → IsRegular q (map plain tape) → IsRegular q tape
-regular_of_plain q tape regular =
-    let long = length-map tape plain in
-    let valid : All IsValid tape = λ k d l. valid_plain (slice_index_or tape k d) (subst IsValid (get_or-map plain tape k d (plain d) l) (regular.valid k (plain d) (omega arith))) in
-    record {
-      valid = valid;
-      capacity = λ j i l. subst (λ (w : World). HasCapacity q w.spec (node_at w i).kind) (plain_world tape j) (regular.capacity j i (omega arith));
-      spec = λ j l. ap (λ (w : World). w.spec) (sym (plain_world tape j)) ∙ regular.spec j (omega arith) ∙ ap (λ (w : World). w.spec) (plain_world tape 0);
-      stays = λ j i l below.
-          subst (λ (w : World). Stays i w (world_in tape (suc j))) (plain_world tape j)
-          (subst (λ (w : World). Stays i (world_in (map plain tape) j) w) (plain_world tape (suc j))
-          (regular.stays j i (omega arith) (subst (λ (w : World). i < length w.nodes) (sym (plain_world tape j)) below)));
-      born = λ j i l new.
-          subst (λ (w : World). (node_at w i).attrs.birth ≡ q * j) (plain_world tape j)
-          (regular.born j i (omega arith) (
-            subst (λ (w : World). i < length w.nodes) (sym (plain_world tape j)) new.0,
-            elim new.1 [ inl e ↦ inl e | inr e ↦ inr (subst (λ (w : World). length w.nodes ≤ i) (sym (plain_world tape (j - 1))) e) ],
-          ));
-    }
+  pub long_alike : length other ≡ length tape
+  long_alike = sym (length-map other sounding) ∙ sym (ap length same) ∙ length-map tape sounding
+
+  valid_alike : All IsValid tape → All IsValid other
+  valid_alike each k d l =
+      let count = length-map tape sounding in
+      let count' = length-map other sounding in
+      let sounds : All IsValid (map sounding tape) = λ j e m. subst IsValid (sym (get_or-map sounding tape j e e (omega (arith, count)))) (sounding_valid (slice_index_or tape j e) (each j e (omega (arith, count)))) in
+      valid_sounding (slice_index_or other k d) (subst IsValid (get_or-map sounding other k d (sounding d) l) (subst (All IsValid) same sounds k (sounding d) (omega (arith, count'))))
+
+  -- a tape is regular where one is that sounds as it does
+  pub regular_alike : IsRegular q tape → IsRegular q other
+  regular_alike regular = record {
+    valid = valid_alike regular.valid;
+    capacity = λ j i l. subst (λ (w : World). HasCapacity q w.spec (node_at w i).kind) (at j) (regular.capacity j i (omega (arith, long_alike)));
+    spec = λ j l. ap (λ (w : World). w.spec) (sym (at j)) ∙ regular.spec j (omega (arith, long_alike)) ∙ ap (λ (w : World). w.spec) (at 0);
+    stays = λ j i l below.
+        subst (λ (w : World). Stays i w (world_in other (suc j))) (at j)
+        (subst (λ (w : World). Stays i (world_in tape j) w) (at (suc j))
+        (regular.stays j i (omega (arith, long_alike)) (subst (λ (w : World). i < length w.nodes) (sym (at j)) below)));
+    born = λ j i l new.
+        subst (λ (w : World). (node_at w i).attrs.birth ≡ q * j) (at j)
+        (regular.born j i (omega (arith, long_alike)) (
+          subst (λ (w : World). i < length w.nodes) (sym (at j)) new.0,
+          elim new.1 [ inl e ↦ inl e | inr e ↦ inr (subst (λ (w : World). length w.nodes ≤ i) (sym (at (j - 1))) e) ],
+        ));
+  }
 
 -- ---- the next world of a tape
 
 pub record IsNext (q : ℕ) (tape : List World) (w : World) : Type 0 where
   pub valid : IsValid w
   pub spec : 0 < length tape → w.spec ≡ (world_in tape 0).spec
-  pub stays : (j i : ℕ) → suc j ≡ length tape → i < length (world_in tape j).nodes → Stays i (world_in tape j) (plain w)
+  pub stays : (j i : ℕ) → suc j ≡ length tape → i < length (world_in tape j).nodes → Stays i (world_in tape j) (sounding w)
   pub born : (i : ℕ) → i < length w.nodes → (length tape ≡ 0) ⊎ (length (world_in tape (length tape - 1)).nodes ≤ i) → (node_at w i).attrs.birth ≡ q * length tape
   pub capacity : (i : ℕ) → HasCapacity q w.spec (node_at w i).kind
 
@@ -65,7 +72,7 @@ module _ (q : ℕ) (tape : List World) (w : World) where
   old : (k : ℕ) → k < length tape → world_in longer k ≡ world_in tape k
   old k l = world_before tape w k l
 
-  new : (k : ℕ) → k ≡ length tape → world_in longer k ≡ plain w
+  new : (k : ℕ) → k ≡ length tape → world_in longer k ≡ sounding w
   new k e = world_after tape w k e
 
   -- the world before the last one of a tape
@@ -108,7 +115,7 @@ module _ (q : ℕ) (tape : List World) (w : World) where
     valid = subst IsValid (get_or-append_seam tape w [] no_world) (regular.valid (length tape) no_world (omega (arith, long)));
     spec = λ some. ap (λ (x : World). x.spec) (sym (new (length tape) refl)) ∙ regular.spec (length tape) (omega (arith, long)) ∙ ap (λ (x : World). x.spec) (old 0 some);
     stays = λ j i e below.
-        subst (λ (x : World). Stays i x (plain w)) (old j (omega arith))
+        subst (λ (x : World). Stays i x (sounding w)) (old j (omega arith))
         (subst (λ (x : World). Stays i (world_in longer j) x) (new (suc j) e)
         (regular.stays j i (omega (arith, long)) (subst (λ (x : World). i < length x.nodes) (sym (old j (omega arith))) below)));
     born = λ i below is.
@@ -208,7 +215,7 @@ regular_after q tape w w' regular valid spec nodes = regular_more q (tape ++ w �
   stays = λ j i e below.
       let at : j ≡ length tape = omega (arith, long) in
       let l : i < length w.nodes = subst (λ (x : World). i < length x.nodes) (world_after tape w j at) below in
-      subst (λ (x : World). Stays i x (plain w')) (sym (world_after tape w j at)) (record {
+      subst (λ (x : World). Stays i x (sounding w')) (sym (world_after tape w j at)) (record {
         there = rw nodes l;
         kind = ap (λ (ns : List Node). lasting (slice_index_or ns i no_node).kind) nodes;
         birth = ap (λ (ns : List Node). (slice_index_or ns i no_node).attrs.birth) nodes;

@@ -1,28 +1,29 @@
 -- A turn of a session, put together from its steps.
 use Rattle.std.proofs.Common.{◌≡◌, ◌+◌, ◌*◌, ◌++◌, ◌∷◌, [], ℕ, ℤ, List, length, Option, Some, None, refl, sym, ap, ◌∙◌, subst}
 use Rattle.std.specs.Prelude.{IfSome, IsTrue, IsSome, is_some, option_map}
-use Rattle.control_msgs.specs.declared.message.Message.TheVariants.{Slots, Ended}
+use Rattle.control_msgs.specs.declared.message.Message.TheVariants.{Ended}
 use Rattle.meaning.specs.declared.world.World.{World}
 use Rattle.meaning.specs.Validity.{IsValid}
 use Rattle.transcript.specs.declared.lines.Line.{Line}
-use Rattle.session.specs.Machine.{Machine}
-use Rattle.session.specs.Session.{machine_after}
+use Rattle.session.specs.Machine.{Machine, caught_up, world_caught_up}
+use Rattle.session.specs.Session.{gone_on}
 use Rattle.session.specs.View.{SessionView, SideView, Stands, KeepsUp, HasRoom, Follows, MakesRoom, Gets, GoesOn, sent}
 use Rattle.session.proofs.Sides.{Turned, turned_sides, turned_keeps, carried, same_audio, long_at, room_kept}
 use Rattle.session.proofs.Standing.{turn_stands}
+use Rattle.session.proofs.CatchingUp.{caught_up_sounds, caught_up_valid, caught_up_after}
 use Rattle.session.proofs.Stepping.{turned_time, turned_started}
 
 -- what a session looks like from outside
 abbrev pub seen : Machine → List Line → List ℤ → Option SideView → SessionView
 seen machine lines samples side = record { told = record { machine = machine; lines = lines }; audio = is_some side; samples = samples; renderer = option_map (λ s. s.renderer) side }
 
-module _ (old new : Machine) (samples lent new_samples : List ℤ) (a b c d e : Option SideView) (first : ℕ)
-    (is_first : first ≡ old.context.time) (machine : new ≡ machine_after old) (is_lent : lent ≡ samples)
-    (made : Follows (MakesRoom 2) a b) (goes : Follows (GoesOn first lent new_samples) b c) (slots : Follows (Gets (Slots first)) c d) (ended : Follows (Gets (Ended (first + 128))) d e) where
+module _ (old new : Machine) (samples lent new_samples : List ℤ) (a b c e : Option SideView) (first : ℕ)
+    (is_first : first ≡ old.context.time) (machine : new ≡ gone_on old) (is_lent : lent ≡ samples)
+    (made : Follows (MakesRoom 1) a b) (goes : Follows (GoesOn first lent new_samples) b c) (ended : Follows (Gets (Ended (first + 128))) c e) where
   turned : Follows (Turned old.context.time (old.context.time + 128) samples new_samples) a e
   turned =
       subst (λ n. Follows (Turned n (n + 128) samples new_samples) a e) is_first
-      (subst (λ xs. Follows (Turned first (first + 128) xs new_samples) a e) is_lent (turned_sides first (first + 128) lent new_samples a b c d e made goes slots ended))
+      (subst (λ xs. Follows (Turned first (first + 128) xs new_samples) a e) is_lent (turned_sides first (first + 128) lent new_samples a b c e made goes ended))
 
   pub audio_stays : is_some e ≡ is_some a
   audio_stays = same_audio _ a e turned
@@ -38,13 +39,17 @@ module _ (old new : Machine) (samples lent new_samples : List ℤ) (a b c d e : 
       ∙ room (subst IsTrue audio_stays on) (subst IsSome (ap (λ (m : Machine). m.context.started) machine ∙ turned_started old.context) begun)
       ∙ sym (ap (λ (m : Machine). m.world.spec.channels * m.world.spec.length) machine)
 
-  pub stands_next : (lines more : List Line) (tape : List World) → IfSome a (KeepsUp old) → IsValid new.world → Stands (seen old lines samples a) tape → Stands (seen new more new_samples e) (tape ++ old.world ∷ [])
-  stands_next lines more tape kept valid stands = turn_stands (seen old lines samples a) (seen new more new_samples e) tape a e refl refl refl refl kept turned machine valid stands
+  -- whatever slots were and are left to be set
+  pub stands_next : (behind : Option ℕ) (lines more : List Line) (tape : List World) → IfSome a (KeepsUp old) → IsValid new.world → Stands (seen (caught_up behind old) lines samples a) tape
+      → Stands (seen (caught_up (Some first) new) more new_samples e) (tape ++ world_caught_up behind old.world ∷ [])
+  stands_next behind lines more tape kept valid stands =
+      turn_stands old (seen (caught_up behind old) lines samples a) (seen (caught_up (Some first) new) more new_samples e) tape a e (caught_up_sounds behind old.world) refl refl refl refl kept turned
+      (caught_up_after behind old new first is_first machine) (caught_up_valid (Some first) new.world valid) stands
 
 -- with audio, there are samples to render into
-pub long_room : (machine : Machine) (samples lent : List ℤ) (a b : Option SideView) → lent ≡ samples → IsSome machine.context.started → HasRoom (is_some a) machine samples → IfSome a (KeepsUp machine) → Follows (MakesRoom 2) a b
+pub long_room : (machine : Machine) (samples lent : List ℤ) (a b : Option SideView) → lent ≡ samples → IsSome machine.context.started → HasRoom (is_some a) machine samples → IfSome a (KeepsUp machine) → Follows (MakesRoom 1) a b
     → IfSome b (λ s. length lent ≡ (sent s).spec.channels * (sent s).spec.length)
 long_room machine samples lent None None is_lent begun room keeps made = tt
-long_room machine samples lent (Some x) (Some y) is_lent begun room keeps made = long_at machine lent y (ap length is_lent ∙ room refl begun) (room_kept machine 2 x y made keeps)
+long_room machine samples lent (Some x) (Some y) is_lent begun room keeps made = long_at machine lent y (ap length is_lent ∙ room refl begun) (room_kept machine 1 x y made keeps)
 long_room machine samples lent None (Some y) is_lent begun room keeps made = absurd made
 long_room machine samples lent (Some x) None is_lent begun room keeps made = absurd made

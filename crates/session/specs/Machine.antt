@@ -1,11 +1,14 @@
 -- The state of the machine between two steps.
-use Rattle.std.specs.Prelude.{ℕ, List}
+use Rattle.std.specs.Prelude.{ℕ, List, map, Option, Some, None}
 use Rattle.ctx_state.specs.Context.{ContextView}
 use Rattle.name_book.specs.Book.{BookView}
 use Rattle.name_book.specs.declared.book.Object.{Object}
 use Rattle.meaning.specs.Changes.{Accepts}
 use Rattle.meaning.specs.declared.change.Edit.{Edit}
 use Rattle.meaning.specs.declared.world.World.{World}
+use Rattle.meaning.specs.declared.params.Param.{Param}
+use Rattle.meaning.specs.Automation.{slot_set}
+use Rattle.meaning.specs.Lists.{Listed, listed}
 use Rattle.meaning.specs.World.{plain}
 
 pub record Machine : Type 0 where
@@ -24,6 +27,20 @@ machine_of context world book = record {
   bindings = book.bindings;
   first_names = book.first_names;
 }
+
+-- ---- slots that are left to be set
+
+-- parameters with their slots, where those are still to be set at the first frame of a quantum
+abbrev pub params_caught_up : Option ℕ → Listed Param → Listed Param
+params_caught_up None params = params
+params_caught_up (Some first) params = listed (map (slot_set first) params.items)
+
+abbrev pub world_caught_up : Option ℕ → World → World
+world_caught_up behind w = record w { params = params_caught_up behind w.params }
+
+-- The machine that a session is at whose slots are behind: those of the last quantum are still to be set.
+abbrev pub caught_up : Option ℕ → Machine → Machine
+caught_up behind machine = record machine { world = world_caught_up behind machine.world }
 
 -- the world accepts an edit now
 abbrev pub IsAccepted : Machine → Edit → Type 0

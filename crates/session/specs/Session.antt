@@ -10,7 +10,7 @@ use Rattle.io_edge.specs.Paths.{Paths}
 use Rattle.ctx_state.specs.Context.{ContextView, first_context, next, turn_of, after_turn as context_after}
 use Rattle.ctx_state.specs.declared.context.Turn.{Turn}
 use Rattle.ctx_state.specs.declared.context.Turn.TheVariants.{Went, Due, Done}
-use Rattle.control_msgs.specs.Messages.{ends_by, after}
+use Rattle.control_msgs.specs.Messages.{ends_by, ended_marked, after}
 use Rattle.script_ast.specs.declared.call_list.Call.{Call}
 use Rattle.script_ast.specs.declared.call_list.Script.{Script}
 use Rattle.transcript.specs.declared.lines.Line.{Line}
@@ -77,6 +77,13 @@ abbrev pub machine_after : Machine → Machine
 machine_after machine = record machine {
   context = context_after machine.context;
   world = after machine.context.time (next machine.context) machine.world;
+}
+
+-- the same but for the slots, which are left to be set
+abbrev pub gone_on : Machine → Machine
+gone_on machine = record machine {
+  context = context_after machine.context;
+  world = ended_marked (next machine.context) machine.world;
 }
 
 abbrev pub after_turn : Told → Told

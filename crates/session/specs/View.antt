@@ -7,7 +7,7 @@ use Rattle.ctx_state.specs.declared.context.Turn.{Turn}
 use Rattle.ctx_state.specs.declared.context.Turn.TheVariants.{Went, Due, Done}
 use Rattle.meaning.specs.declared.change.Change.{Change}
 use Rattle.meaning.specs.declared.world.World.{World}
-use Rattle.meaning.specs.World.{plain}
+use Rattle.meaning.specs.World.{sounding}
 use Rattle.meaning.specs.Validity.{IsValid}
 use Rattle.control_msgs.specs.declared.message.Message.{Message}
 use Rattle.control_msgs.specs.Messages.{after_message, after_messages, AreAcceptedBy}
@@ -16,7 +16,7 @@ use Rattle.quantum_render.specs.Stands.{RendererView, StandsFor}
 use Rattle.script_ast.specs.declared.call_list.Call.{Call}
 use Rattle.io_edge.specs.Paths.{Paths}
 use Rattle.session.specs.Assets.{Folder, IsFolderOf, AgreeBetween}
-use Rattle.session.specs.Machine.{Machine}
+use Rattle.session.specs.Machine.{Machine, world_caught_up}
 use Rattle.session.specs.Rows.{samples_of}
 use Rattle.session.specs.Step.{Sends}
 use Rattle.session.specs.Session.{Told, Played, first_told, quanta_left, finished, replayed, turns, has_closed, TurnsDecode}
@@ -57,7 +57,7 @@ pub record IsAt (spec : ContextSpec) (time : ℕ) (renderer : RendererView) : Ty
   pub context : renderer.spec ≡ spec
   pub quanta : time ≡ quantum_of spec * renderer.quanta
 
--- The side that renders went through the quanta before the machine's time, and its world with the messages that are still queued is the machine's.
+-- The side that renders went through the quanta before the machine's time, and its world with the messages that are still queued is the machine's. Both have the same slots still to be set.
 pub record KeepsUp (machine : Machine) (side : SideView) : Type 0 where
   pub renderer : IsAt machine.world.spec machine.context.time side.renderer
   pub world : sent side ≡ machine.world
@@ -86,6 +86,11 @@ pub record Gets (message : Message) (old new : SideView) : Type 0 where
   pub renderer : new.renderer ≡ old.renderer
   pub room : new.room + 1 ≡ old.room
 
+-- it sets the slots that are left to be set
+pub record CatchesUp (behind : Option ℕ) (old new : SideView) : Type 0 where
+  pub world : sent new ≡ world_caught_up behind (sent old)
+  pub renderer : new.renderer ≡ old.renderer
+
 -- it hears of what a call sends
 pub record Hears (change : Option Change) (old new : SideView) : Type 0 where
   pub world : Sends (sent old) (sent new) change
@@ -93,10 +98,10 @@ pub record Hears (change : Option Change) (old new : SideView) : Type 0 where
 
 -- ---- the tape
 
--- A renderer stands for a tape whose worlds, made plain, are these.
+-- A renderer stands for worlds that sound as those of the tape.
 pub record Renders (tape : List World) (renderer : RendererView) : Type 0 where
   pub worlds : List World
-  pub plain_worlds : map plain worlds ≡ tape
+  pub alike : map sounding worlds ≡ map sounding tape
   pub stands : StandsFor renderer worlds
 
 -- It renders the quantum that begins at a frame, in the world that it was sent, into samples.

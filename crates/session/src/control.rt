@@ -8,7 +8,7 @@ ghost use Rattle.meaning.specs.Validity.{IsValid};
 ghost use Rattle.meaning.specs.Changes.{IsNamed, Accepts, Grows, creates};
 ghost use Rattle.meaning.specs.Sources.{IsNamedBy};
 ghost use Rattle.session.specs.Assets.{IsHeld};
-ghost use Rattle.session.specs.Machine.{Machine, IsAccepted};
+ghost use Rattle.session.specs.Machine.{Machine, IsAccepted, caught_up};
 ghost use Rattle.session.specs.Session as session_spec;
 ghost use Rattle.session.specs.Session.{first_machine};
 ghost use Rattle.ctx_state.specs.Context.{IsInState, next, turn_of, start_refusal, with_start, resume_refusal, resumed, suspend_refusal, suspend_frame, may_suspend, with_suspension};
@@ -264,21 +264,25 @@ impl Control {
         )
     }
 
-    /// Goes over one quantum: the time moves on, the sources that end in it are marked, and the current
-    /// value of each parameter becomes its intrinsic value at the quantum's first frame. Says what the
-    /// quantum led to.
+    /// Goes over one quantum: the time moves on, and the sources that end in it are marked. The current
+    /// value of each parameter is left to be set. Says what the quantum led to.
     pub fn turn(&mut self) -> Turn
         requires { self.old.context.state ≡ State.Running }
         ensures turn { result ≡ turn_of self.old.context }
-        ensures machine { self.new ≡ session_spec.machine_after self.old }
+        ensures machine { self.new ≡ session_spec.gone_on self.old }
         ensures state { IsTurned result self.old self.new }
         ensures valid { IsValid self.new.world }
     {
-        let first = self.context.now();
         let turn = self.context.turn();
-        self.world.set_slots(first);
         mark_ended(&mut self.world, self.context.now());
         turn
+    }
+
+    /// Sets the current value of each parameter to its intrinsic value at the first frame of a quantum.
+    pub fn set_slots(&mut self, first: u64)
+        ensures { self.new ≡ caught_up (Some first) self.old }
+    {
+        self.world.set_slots(first);
     }
 }
 

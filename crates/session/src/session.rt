@@ -1,4 +1,4 @@
-ghost use Rattle.std.specs.Prelude.{◌≡◌, ◌↔◌, ◌≤◌, ◌<◌, ◌*◌, ◌/◌, ℕ, Some, ◌⊎◌, nat_le, ◌∷◌, ◌++◌, [], List, true, false, length, replicate, pos, IsTrue, IsSome, IsNone, IfOk, IfSome, IfErr, IsErrOf, OnOk, OnErr, Ok, ◌&&◌, if◌then◌else◌};
+ghost use Rattle.std.specs.Prelude.{◌≡◌, ◌↔◌, ◌≤◌, ◌<◌, ◌*◌, ◌/◌, ℕ, Some, None, ◌⊎◌, nat_le, ◌∷◌, ◌++◌, [], List, true, false, length, replicate, pos, IsTrue, IsSome, IsNone, IfOk, IfSome, IfErr, IsErrOf, OnOk, OnErr, Ok, ◌&&◌, if◌then◌else◌};
 ghost use Rattle.io_edge.specs.Faults.{Rose};
 ghost use Rattle.io_edge.specs.Paths.{Paths, SamePaths};
 ghost use Rattle.script_ast.specs.Ranges.{IsInRange};
@@ -10,7 +10,8 @@ ghost use Rattle.session.specs.Session.{after_call, after_turn, has_closed, end_
 ghost use Rattle.wa_base.specs.Contexts.{is_supported as supports};
 ghost use Rattle.session.specs.Assets.{IsHeld};
 ghost use Rattle.session.specs.Step.{is_start, is_decode, KeepsTime, RunsOnceStarted};
-ghost use Rattle.session.specs.View.{IsFirst, IsAsBefore, IsTurned, Stands, Follows, MakesRoom, Gets, Hears, GoesOn, Waits, IsAt, sent};
+ghost use Rattle.session.specs.Machine.{caught_up};
+ghost use Rattle.session.specs.View.{IsFirst, IsAsBefore, IsTurned, Stands, Follows, MakesRoom, Gets, CatchesUp, Hears, GoesOn, Waits, IsAt, sent};
 ghost use Rattle.meaning.specs.declared.world.World.{World};
 
 use crate::control::{Control, Stepped};
@@ -63,6 +64,9 @@ impl From<NoMemory> for Stop {
 pub struct Session {
     alloc: Global,
     control: Control,
+    // The first frame of the last quantum, where the current values of the parameters are still to be
+    // set to what they were there: no sample hangs on them, so they are set once before a call.
+    behind: Option<u64>,
     lines: Lines,
     // With audio, the side that renders.
     side: Option<RenderSide>,
@@ -71,11 +75,12 @@ pub struct Session {
 
 impl Model for Session {
     ghost use Rattle.std.specs.Prelude.{is_some, option_map};
+    ghost use Rattle.session.specs.Machine.{caught_up};
     ghost use Rattle.session.specs.View.{SessionView, IsSound};
 
     ghost Value = { SessionView };
 
-    ghost view = { λ s. record { told = record { machine = s.control; lines = s.lines.items }; audio = is_some s.side; samples = s.samples.items; renderer = option_map (λ side. side.renderer) s.side } };
+    ghost view = { λ s. record { told = record { machine = caught_up s.behind s.control; lines = s.lines.items }; audio = is_some s.side; samples = s.samples.items; renderer = option_map (λ side. side.renderer) s.side } };
 
     ghost invariant = { λ s. IsSound (is_some s.side) s.control s.lines.room s.samples.items s.side };
 }
@@ -101,6 +106,7 @@ impl Session {
         Ok(Session {
             alloc,
             control: Control::new(alloc, spec)?,
+            behind: None,
             lines,
             side,
             samples: Vec::new(alloc),
@@ -125,6 +131,7 @@ impl Session {
         ensures writes { F.write_faults files.new ≡ F.write_faults files.old }
         ensures cause { IsErrOf result Stop.AssetFault → Rose (F.read_faults files.old) (F.read_faults files.new) × (is_decode call.now.op ≡ true) }
     {
+        catch_up(&mut self.behind, &mut self.control, &mut self.side)?;
         self.lines.reserve(2)?;
         reserve(&mut self.side, 1)?;
         let samples = self.samples_for(&call.op)?;
@@ -152,11 +159,11 @@ impl Session {
     {
         let ended = self.control.lines_of_quantum(self.alloc)?;
         self.lines.reserve(ended.len() + 2)?;
-        reserve(&mut self.side, 2)?;
+        reserve(&mut self.side, 1)?;
         let first = self.control.now();
         render(&mut self.side, first, self.samples.as_mut_slice())?;
         let turn = self.control.turn();
-        post(&mut self.side, Message::Slots(first));
+        self.behind = Some(first);
         post(&mut self.side, Message::Ended(first + QUANTUM));
         self.lines.append_reserved(ended);
         match turn {
@@ -302,6 +309,25 @@ fn post(side: &mut Option<RenderSide>, message: Message)
     if let Some(side) = side {
         side.post(message);
     }
+}
+
+// Sets the current values that are still to be set, on both sides. After `NoMemory` they still are.
+fn catch_up(
+    behind: &mut Option<u64>,
+    control: &mut Control,
+    side: &mut Option<RenderSide>,
+) -> Result<(), NoMemory>
+    ensures ok { OnOk result ((behind.new ≡ None) × (control.new ≡ caught_up behind.old control.old) × Follows (CatchesUp behind.old) side.old side.new) }
+    ensures err { OnErr result ((behind.new ≡ behind.old) × (control.new ≡ control.old) × Follows (MakesRoom 0) side.old side.new) }
+{
+    let Some(first) = *behind else {
+        return Ok(());
+    };
+    reserve(side, 1)?;
+    control.set_slots(first);
+    post(side, Message::Slots(first));
+    *behind = None;
+    Ok(())
 }
 
 // Sends what a call changed to the side that renders.

@@ -1,11 +1,11 @@
 use Rattle.std.proofs.Common.{◌≡◌, ◌≤◌, ◌∙◌, ap, subst}
 use Rattle.ctx_state.specs.Context.{ContextView, next}
-use Rattle.control_msgs.specs.Messages.{after, ended_marked}
+use Rattle.control_msgs.specs.Messages.{ended_marked}
 use Rattle.meaning.specs.World.{plain}
 use Rattle.meaning.specs.Validity.{IsValid}
 use Rattle.meaning.proofs.Valid.{plain_valid, valid_plain}
 use Rattle.session.specs.Machine.{Machine, machine_of}
-use Rattle.session.specs.Session.{machine_after}
+use Rattle.session.specs.Session.{gone_on}
 use Rattle.session.proofs.Stepping.{steady_turned, turned_spec, turned_time, turned_machine}
 use Rattle.session.proofs.control.Control.turn.Goals as goal
 
@@ -13,24 +13,20 @@ use Rattle.session.proofs.control.Control.turn.Goals as goal
 last : (c : goal.After-mark_ended) → c.now.result ≡ next c.self.inside.context
 last c = c.now.ensures.now ∙ ap (λ (x : ContextView). x.time) c.turn-turn.ensures.context ∙ turned_time c.self.inside.context
 
-world : (c : goal.After-mark_ended) → plain c.mark_ended.new.world ≡ after c.now-first.result c.now.result (plain c.self.inside.world)
-world c = c.mark_ended.ensures.marked ∙ ap (ended_marked c.now.result) c.set_slots.ensures.set
-
 valid : (c : goal.After-mark_ended) → IsValid (plain c.mark_ended.new.world)
-valid c = plain_valid c.mark_ended.new.world (c.mark_ended.ensures.valid (c.set_slots.ensures.valid (valid_plain c.self.inside.world c.self.invariant.valid)))
+valid c = plain_valid c.mark_ended.new.world (c.mark_ended.ensures.valid (valid_plain c.self.inside.world c.self.invariant.valid))
 
 pub invariant_of-self : goal.invariant_of-self
 invariant_of-self c =
-    steady_turned c.self.inside.context c.turn-turn.new.self c.self.inside.world c.mark_ended.new.world c.self.inside.book c.now-first.result c.now.result (world c) (valid c)
+    steady_turned c.self.inside.context c.turn-turn.new.self c.self.inside.world c.mark_ended.new.world c.self.inside.book c.now.result c.mark_ended.ensures.marked (valid c)
     (ap (λ (x : ContextView). x.spec) c.turn-turn.ensures.context ∙ turned_spec c.self.inside.context)
     (subst (λ n. n ≤ 33554560) c.now.ensures.now c.now.ensures.short) c.self.invariant
 
 pub returns-clause-machine : goal.returns-clause-machine
 returns-clause-machine c =
-    let is : plain c.mark_ended.new.world ≡ after c.self.inside.context.time (next c.self.inside.context) (plain c.self.inside.world) =
-    world c ∙ ap (λ n. after n c.now.result (plain c.self.inside.world)) c.now-first.ensures.now ∙ ap (λ n. after c.self.inside.context.time n (plain c.self.inside.world)) (last c) in
+    let is : plain c.mark_ended.new.world ≡ ended_marked (next c.self.inside.context) (plain c.self.inside.world) = c.mark_ended.ensures.marked ∙ ap (λ n. ended_marked n (plain c.self.inside.world)) (last c) in
     let old : Machine = machine_of c.self.inside.context c.self.inside.world c.self.inside.book in
-    (λ i. record old { context = c.turn-turn.ensures.context i; world = is i }) ∙ ap machine_after c.self.view_is
+    (λ i. record old { context = c.turn-turn.ensures.context i; world = is i }) ∙ ap gone_on c.self.view_is
 
 pub returns-clause-valid : goal.returns-clause-valid
 returns-clause-valid c = valid c

@@ -26,13 +26,13 @@ returns-clause-ok c =
       renders = λ tape before regular.
           let raw = subst (λ (x : World). IsRegular 128 (tape ++ x ∷ [])) (sym (heard c)) regular in
           subst (λ (x : World). Renders (tape ++ x ∷ []) renderer) (heard c)
-          (renders_more tape before.worlds world renderer before.plain_worlds (rendered.stands before.worlds before.stands (raw_regular tape before.worlds world before.plain_worlds raw)));
+          (renders_more tape before.worlds world renderer before.alike (rendered.stands before.worlds before.stands (raw_regular tape before.worlds world before.alike raw)));
       samples = λ tape before regular first samples.
           let raw = subst (λ (x : World). IsRegular 128 (tape ++ x ∷ [])) (sym (heard c)) regular in
-          let shows = rendered.shows before.worlds before.stands (raw_regular tape before.worlds world before.plain_worlds raw) in
-          let count = length_worlds tape before.worlds before.plain_worlds in
+          let shows = rendered.shows before.worlds before.stands (raw_regular tape before.worlds world before.alike raw) in
+          let count = length_worlds tape before.worlds before.alike in
           let next : c.args.first + 128 ≡ 128 * length (before.worlds ++ world ∷ []) = omega (arith, first, count, length-append before.worlds (world ∷ [])) in
-          samples_more tape before.worlds world world.spec c.args.samples.now c.copy_out.new.samples c.args.first before.plain_worlds first (samples ∙ ap (λ (x : World). samples_of tape x.spec) (sym (heard c)))
+          samples_more tape before.worlds world world.spec c.args.samples.now c.copy_out.new.samples c.args.first before.alike first (samples ∙ ap (λ (x : World). samples_of tape x.spec) (sym (heard c)))
           (c.copy_out.ensures (before.worlds ++ world ∷ []) shows next) c.drain_into.ensures.valid.spec.length_low c.copy_out.auto.samples (long ∙ ap (λ (x : World). x.spec.channels * x.spec.length) (sym (heard c)))
           ∙ ap (λ (x : World). samples_of (tape ++ x ∷ []) x.spec) (heard c);
     }
