@@ -28,6 +28,10 @@ div_ceil_le m rate some = elim (order (div_ceil m rate) m) [
       absurd (omega (arith, bounds.1, more, times))
 ]
 
+-- at rate 1 the frames are the buffer's
+pub div_ceil_one : (m : ℕ) → div_ceil m 1 ≡ m
+div_ceil_one m = let bounds = div_ceil_times m 1 (omega arith) in omega (arith, bounds.0, bounds.1)
+
 -- a frame that is played, of so much of the buffer, lies inside it
 pub frames_inside : (m rate n : ℕ) → 1 ≤ rate → n < div_ceil m rate → n * rate < m
 frames_inside m rate n some l =

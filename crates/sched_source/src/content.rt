@@ -1,4 +1,5 @@
 ghost use Rattle.std.specs.Prelude.{◌≡◌, ◌<◌, ◌≤◌, ◌^◌, Option, IfSome, IsTrue};
+ghost use Rattle.std.specs.Int.{div_ceil};
 ghost use Rattle.sched_source.specs.Playback as spec;
 ghost use Rattle.sched_source.specs.Playback.{IsPlayable};
 
@@ -140,17 +141,30 @@ impl Content {
     }
 
     // In how many frames it plays them, where there is a bound.
-    #[tactic(auto, using(crate::proofs::Positions::div_ceil_le))]
     pub(crate) fn length_played(&self) -> Option<u64>
         requires { IsPlayable self.now }
         ensures value { result ≡ spec.length_played self.now }
         ensures small { IfSome result (λ frames. frames ≤ 2 ^ 63) }
     {
         match self.content_played() {
-            Some(frames) => Some(frames.div_ceil(u64::from(self.rate))),
+            Some(frames) => Some(frames_at(frames, self.rate)),
             None => None,
         }
     }
+}
+
+// In how many frames so many of a buffer are played at a rate: at 1 without a division, which would
+// take longer than the copy of a quantum.
+#[tactic(auto, using(crate::proofs::Positions::div_ceil_le, crate::proofs::Positions::div_ceil_one))]
+fn frames_at(frames: u64, rate: u32) -> u64
+    requires { 1 ≤ rate }
+    ensures value { result ≡ div_ceil frames rate }
+    ensures small { result ≤ frames }
+{
+    if rate == 1 {
+        return frames;
+    }
+    frames.div_ceil(u64::from(rate))
 }
 
 // The content of a source that is started with these.
