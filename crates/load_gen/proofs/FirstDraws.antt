@@ -3,7 +3,7 @@ use Rattle.std.specs.Prelude.{◌≡◌, refl, length}
 use Rattle.load_gen.specs.Generator.{calls}
 use Rattle.load_gen.specs.Voices.{voice}
 
-calls_of_zero : length (calls 0) ≡ 1768
+pub calls_of_zero : length (calls 0) ≡ 1768
 unfolding calls
 calls_of_zero = refl
 

@@ -1,3 +1,4 @@
+mod Counting
 mod Drawing
 mod FirstDraws
 mod InRange

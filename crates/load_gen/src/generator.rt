@@ -20,7 +20,7 @@ const MUTED: u32 = 40;
 /// The script of a number: 200 voices in a context of 2 channels and 480,000 frames at 48,000 Hz,
 /// each a constant source through a gain with a ramp, each eighth one also through a delay with
 /// feedback, and in the middle a suspension in which each fifth voice is muted. What is drawn for a
-/// voice hangs on the number; the calls are 1,768 for every number.
+/// voice hangs on the number; the calls are 1,768 for every number (`count_law`).
 #[tactic(auto, unfolding(crate::specs::Generator::calls))]
 pub fn script(alloc: Global, number: u32) -> Result<Script, NoMemory>
     ensures script { IfOk result (λ script. script ≡ generated.script number) }
@@ -41,6 +41,11 @@ pub fn script(alloc: Global, number: u32) -> Result<Script, NoMemory>
         calls,
     })
 }
+
+/// Every script has 1,768 calls: how many there are does not hang on what is drawn.
+pub fn count_law(number: u32)
+    ensures { length (generated.calls number) ≡ 1768 }
+{}
 
 // Adds the calls of all voices, which are the first ones.
 fn add_voices(alloc: Global, calls: &mut Calls, number: u32) -> Result<(), NoMemory>

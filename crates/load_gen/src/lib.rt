@@ -7,4 +7,4 @@ mod names;
 mod random;
 mod voices;
 
-pub use generator::script;
+pub use generator::{count_law, script};
