@@ -13,6 +13,16 @@ use wa_base::{Fix, Interp, NoMemory};
 // The frames of a render quantum.
 pub(crate) const QUANTUM: u64 = 128;
 
+/// A quantum that is asked of a delay's reader: its first frame, the delay of each of its 128 frames, in
+/// frames, and to how many channels what was written is mixed, and how.
+#[derive(Clone, Copy)]
+pub struct Reading<'a> {
+    pub first: u64,
+    pub delays: &'a [u64],
+    pub channels: u32,
+    pub interp: Interp,
+}
+
 // The delay of a node: what its writer wrote before a frame, and the most channels that it had.
 #[derive(Drop)]
 pub(crate) struct NodeDelay {
@@ -83,28 +93,21 @@ impl NodeDelay {
         self.most = self.most.max(channels);
     }
 
-    // Reads the quantum that begins at the frame `first`, mixed to so many channels, where each frame
-    // has a delay. What is not kept is silent.
-    pub(crate) fn read(
-        &self,
-        out: &mut [Fix],
-        channels: u32,
-        first: u64,
-        delays: &[u64],
-        interp: Interp,
-    )
-        requires out { length out.old ≡ channels * 128 }
-        requires delays { length delays.now ≡ 128 }
-        requires time { first ≤ 2 ^ 62 }
-        ensures values { (longest born now : ℕ) (writer : Writer) → HasKept self.now longest born now writer → IsAsked first now longest delays.now → AreFew born writer channels first delays.now → 128 * (born / 128) ≡ born →
-            (c k : ℕ) → c < channels → k < 128 → sample 128 out.new c k ≡ read_back born writer interp channels (first + k) (delay_at delays.now k) c }
+    // Reads a quantum. What is not kept is silent.
+    pub(crate) fn read(&self, out: &mut [Fix], asked: Reading<'_>)
+        requires out { length out.old ≡ asked.channels * 128 }
+        requires delays { length asked.delays.now ≡ 128 }
+        requires time { asked.first ≤ 2 ^ 62 }
+        ensures values { (longest born now : ℕ) (writer : Writer) → HasKept self.now longest born now writer → IsAsked asked.entry.first now longest asked.entry.delays.now → AreFew born writer asked.entry.channels asked.entry.first asked.entry.delays.now → 128 * (born / 128) ≡ born →
+            (c k : ℕ) → c < asked.entry.channels → k < 128 → sample 128 out.new c k ≡ read_back born writer asked.entry.interp asked.entry.channels (asked.entry.first + k) (delay_at asked.entry.delays.now k) c }
     {
-        if !self.has(first, delays) {
+        if !self.has(asked.first, asked.delays) {
             silence(out);
             return;
         }
-        let since = first - self.birth;
-        self.line.read(out, channels, since, delays, interp);
+        let since = asked.first - self.birth;
+        self.line
+            .read(out, asked.channels, since, asked.delays, asked.interp);
     }
 
     // Whether all that the quantum asks for is kept.

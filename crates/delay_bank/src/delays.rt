@@ -7,12 +7,12 @@ ghost use Rattle.meaning.specs.World.{node_at, kind_of};
 ghost use Rattle.delay_bank.specs.Kept.{DelayView as a_delay, room_of, HasKept, IsKept, KeepSame, Brings, IsAsked, AreFew, read_back, first_delay};
 ghost use Rattle.delay_bank.specs.Banks.{delay_at, AreNew, AreSame, Writes as BankWrites, HaveRoom};
 
-use crate::delay::{NodeDelay, silence};
+use crate::delay::{NodeDelay, Reading, silence};
 use meaning::World;
 use node_table::Kind;
 use std::alloc::Global;
 use std::marker::Model;
-use wa_base::{Fix, Interp, NoMemory, NodeId};
+use wa_base::{Fix, NoMemory, NodeId};
 
 /// The delays of a graph's nodes (DelayNode), by node, each with what its writer wrote.
 ///
@@ -95,25 +95,16 @@ impl Delays {
         write_one(&mut self.delays[node.0 as usize], block, channels, first);
     }
 
-    /// A node's reader reads the quantum that begins at the frame `first`, mixed to so many channels.
-    /// `delays` has the delay of each frame, in frames.
-    pub fn read(
-        &self,
-        node: NodeId,
-        out: &mut [Fix],
-        channels: u32,
-        first: u64,
-        delays: &[u64],
-        interp: Interp,
-    )
-        requires out { length out.old ≡ channels * 128 }
-        requires delays { length delays.now ≡ 128 }
-        requires time { first ≤ 2 ^ 62 }
-        ensures values { (d : a_delay) (longest born now : ℕ) (writer : Writer) → delay_at self.now node.0 ≡ Some d → HasKept d longest born now writer → IsAsked first now longest delays.now → AreFew born writer channels first delays.now → 128 * (born / 128) ≡ born →
-            (c k : ℕ) → c < channels → k < 128 → sample 128 out.new c k ≡ read_back born writer interp channels (first + k) (frames_back delays.now k) c }
+    /// A node's reader reads a quantum.
+    pub fn read(&self, node: NodeId, out: &mut [Fix], asked: Reading<'_>)
+        requires out { length out.old ≡ asked.channels * 128 }
+        requires delays { length asked.delays.now ≡ 128 }
+        requires time { asked.first ≤ 2 ^ 62 }
+        ensures values { (d : a_delay) (longest born now : ℕ) (writer : Writer) → delay_at self.now node.0 ≡ Some d → HasKept d longest born now writer → IsAsked asked.entry.first now longest asked.entry.delays.now → AreFew born writer asked.entry.channels asked.entry.first asked.entry.delays.now → 128 * (born / 128) ≡ born →
+            (c k : ℕ) → c < asked.entry.channels → k < 128 → sample 128 out.new c k ≡ read_back born writer asked.entry.interp asked.entry.channels (asked.entry.first + k) (frames_back asked.entry.delays.now k) c }
     {
         match self.delays.get(node.0 as usize) {
-            Some(Some(delay)) => delay.read(out, channels, first, delays, interp),
+            Some(Some(delay)) => delay.read(out, asked),
             _ => silence(out),
         }
     }

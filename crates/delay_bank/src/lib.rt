@@ -4,4 +4,5 @@
 mod delay;
 mod delays;
 
+pub use delay::Reading;
 pub use delays::Delays;

@@ -8,9 +8,9 @@ use Rattle.wa_base.specs.declared.graph_names.End.{End}
 use Rattle.channel_mix.specs.Mixing.{total}
 use Rattle.conn_graph.specs.declared.edges.Edge.{Edge}
 use Rattle.conn_graph.specs.declared.edges.Target.{Target}
-use Rattle.quantum_render.specs.Blocks.{BlockView, no_block, slot, block_of, lanes_of, Writes}
-use Rattle.quantum_render.specs.Connections.{leads_to}
-use Rattle.quantum_render.proofs.Slots.{slot_apart}
+use Rattle.quantum_blocks.specs.Blocks.{BlockView, no_block, slot, block_of, lanes_of, Writes}
+use Rattle.quantum_blocks.specs.Connections.{leads_to}
+use Rattle.quantum_blocks.proofs.Slots.{slot_apart}
 
 -- the number of lanes at a place
 pub lanes_at : (blocks : List BlockView) (k : ℕ) → slice_index_or (lanes_of blocks) k 0 ≡ (slice_index_or blocks k no_block).lanes

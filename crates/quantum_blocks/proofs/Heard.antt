@@ -22,7 +22,7 @@ use Rattle.meaning.specs.declared.world.World.{World}
 use Rattle.meaning.specs.World.{find_play, frames_in, channels_in, samples_in, played_at, played_channels}
 use Rattle.meaning.specs.Validity.{IsPlayOf}
 use Rattle.meaning.specs.Sources.{IsBufferOf}
-use Rattle.quantum_render.specs.Heard.{SourceView, IsHeard, heard_of, heard_source}
+use Rattle.quantum_blocks.specs.Heard.{SourceView, IsHeard, heard_of, heard_source}
 
 in_range : (first count m : ℕ) → m < count → IsIn (first + m) (range_with_len first count)
 in_range first zero m l = absurd (omega arith)

@@ -9,8 +9,8 @@ use Rattle.std.proofs.lemmas.Int.{ints}
 use Rattle.std.proofs.lemmas.Bool.Decides.{nat_tests}
 use Rattle.lane_kern.specs.Blocks.{IsWithin}
 use Rattle.channel_mix.specs.Blocks.{sample, frame_at}
-use Rattle.quantum_render.specs.Blocks.{BlockView, at, shown, carried, all_values}
-use Rattle.quantum_render.specs.Sums.{moving_sums}
+use Rattle.quantum_blocks.specs.Blocks.{BlockView, at, shown, carried, all_values}
+use Rattle.quantum_blocks.specs.Sums.{moving_sums}
 
 mapped_range : (f : ℕ → ℤ) (n a i : ℕ) → i < n → slice_index_or (map f (range_with_len a n)) i (pos 0) ≡ f (a + i)
 mapped_range f zero a i l = absurd (omega arith)

@@ -5,8 +5,8 @@ use Rattle.std.proofs.lemmas.Bool.{cases_lt}
 use Rattle.std.proofs.lemmas.List.{places, length-drop, length-take-le, get_or-take, get_or-set_same, get_or-set_other, get_or_append_left, append_assoc}
 use Rattle.channel_mix.specs.Blocks.{sample}
 use Rattle.channel_mix.proofs.Sums.{written_before, written_here, written_after}
-use Rattle.quantum_render.specs.Blocks.{all_values}
-use Rattle.quantum_render.proofs.Holding.{steady_at}
+use Rattle.quantum_blocks.specs.Blocks.{all_values}
+use Rattle.quantum_blocks.proofs.Holding.{steady_at}
 
 module _ (n : ℕ) (items : List ℤ) (lane : ℕ) (low : lane < n) (room : n * 128 ≤ length items) where
   -- where each lane has one value

@@ -16,8 +16,8 @@ use Rattle.meaning.specs.Values.{frame, equation, value_by_kind, value}
 use Rattle.meaning.specs.Blocks.{with_drafts}
 use Rattle.meaning.proofs.OrderLaws.{known_before}
 use Rattle.meaning.proofs.QuantumLaws.{AreRight, HasCounts, HasSources, block_right}
-use Rattle.quantum_render.specs.Blocks.{BlockView, at, shown, carried, block_of, counts_in, drafts_of, frame_of, IsSilent, Writes}
-use Rattle.quantum_render.proofs.Slots.{not_same, lane_low, lane_high}
+use Rattle.quantum_blocks.specs.Blocks.{BlockView, at, shown, carried, block_of, counts_in, drafts_of, frame_of, IsSilent, Writes}
+use Rattle.quantum_blocks.proofs.Slots.{not_same, lane_low, lane_high}
 
 module _ (w : World) (joined : IsJoined (sounding w)) (tape : List World) (blocks blocks' : List BlockView) (counts : List ℕ)
     (counted : HasCounts 128 (tape ++ w ∷ []) (length tape) w (counts_in counts)) (done : List End) (right : AreRight 128 (tape ++ w ∷ []) (length tape) w (drafts_of blocks counts) done)

@@ -5,7 +5,7 @@ use Rattle.std.proofs.Math.Nat.{mul-add-div, mul-le-mul_right}
 use Rattle.wa_base.specs.declared.graph_names.End.{End}
 use Rattle.conn_graph.specs.Ends.{same_end}
 use Rattle.conn_graph.proofs.EndLaws.{same_end-refl}
-use Rattle.quantum_render.specs.Blocks.{slot}
+use Rattle.quantum_blocks.specs.Blocks.{slot}
 
 -- no two ends have one place
 pub slot_is : (a b : End) → slot a ≡ slot b → a ≡ b

@@ -23,12 +23,12 @@ use Rattle.conn_graph.proofs.EndLaws.{end_is, has_end}
 use Rattle.meaning.specs.declared.world.World.{World}
 use Rattle.meaning.specs.World.{no_node, kind_of}
 use Rattle.meaning.specs.Validity.{ports_of, IsValid}
-use Rattle.quantum_render.specs.Blocks.{BlockView, slot, counts_in}
-use Rattle.quantum_render.specs.Connections.{into, leads_to}
-use Rattle.quantum_render.specs.Fits.{AreFit, IsSource}
+use Rattle.quantum_blocks.specs.Blocks.{BlockView, slot, counts_in}
+use Rattle.quantum_blocks.specs.Connections.{into, leads_to}
+use Rattle.quantum_blocks.specs.Fits.{AreFit, IsSource}
 use Rattle.automation.specs.Levels.{LevelView}
-use Rattle.quantum_render.specs.Sites.{IsSite}
-use Rattle.quantum_render.proofs.Slots.{slot_low, output_low}
+use Rattle.quantum_blocks.specs.Sites.{IsSite}
+use Rattle.quantum_blocks.proofs.Slots.{slot_low, output_low}
 
 filter_within : {X : Type 0} (p q : X → Bool) → ((x : X) → p x ≡ true → q x ≡ true) → (xs : List X) → filter p (filter q xs) ≡ filter p xs
 filter_within p q each [] = refl

@@ -7,7 +7,7 @@ use Rattle.conn_graph.specs.declared.edges.Edge.{Edge}
 use Rattle.conn_graph.specs.Ends.{reader_of, ends}
 use Rattle.meaning.specs.declared.world.World.{World}
 use Rattle.meaning.specs.World.{kind_of}
-use Rattle.quantum_render.specs.Blocks.{BlockView, slot, block_of, counts_in}
+use Rattle.quantum_blocks.specs.Blocks.{BlockView, slot, block_of, counts_in}
 
 -- two places for each node, each with 1 to 32 channels, and with at most 32 on all outputs together; where a kind has always one, with one
 pub record AreInRange (w : World) (counts : List ℕ) : Type 0 where

@@ -1,9 +1,9 @@
 -- How a block holds its values.
 use Rattle.std.specs.Prelude.{ℕ, ℤ, pos, ◌*◌, ◌≡◌, ◌<◌, List, length, slice_index_or}
 use Rattle.channel_mix.specs.Blocks.{sample, frame_at}
-use Rattle.quantum_render.specs.declared.held.Held.{Held}
-use Rattle.quantum_render.specs.declared.held.Held.TheVariants.{Steady, Moving}
-use Rattle.quantum_render.specs.Blocks.{BlockView, at, shown}
+use Rattle.quantum_blocks.specs.declared.held.Held.{Held}
+use Rattle.quantum_blocks.specs.declared.held.Held.TheVariants.{Steady, Moving}
+use Rattle.quantum_blocks.specs.Blocks.{BlockView, at, shown}
 
 -- one value for each lane, which it has at all frames; or one for each frame of each lane
 abbrev pub IsHeld : BlockView → Held → Type 0

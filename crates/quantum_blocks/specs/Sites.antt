@@ -7,10 +7,10 @@ use Rattle.conn_graph.specs.Ends.{reader_of, ends, is_delay, in_cycle}
 use Rattle.automation.specs.Levels.{LevelView, AreLevels}
 use Rattle.meaning.specs.declared.world.World.{World}
 use Rattle.meaning.specs.Validity.{IsValid}
-use Rattle.quantum_render.specs.declared.sums.Inlet.{Inlet}
-use Rattle.quantum_render.specs.Blocks.{counts_in}
-use Rattle.quantum_render.specs.Connections.{into as leads_into, leads_to}
-use Rattle.quantum_render.specs.Fits.{AreInRange}
+use Rattle.quantum_blocks.specs.declared.sums.Inlet.{Inlet}
+use Rattle.quantum_blocks.specs.Blocks.{counts_in}
+use Rattle.quantum_blocks.specs.Connections.{into as leads_into, leads_to}
+use Rattle.quantum_blocks.specs.Fits.{AreInRange}
 
 -- what contracts see of a site
 pub record SiteView : Type 0 where

@@ -13,9 +13,9 @@ ghost use Rattle.delay_line.specs.Spans.{delay_at as frames_back};
 ghost use Rattle.delay_bank.specs.Kept.{DelayView as a_delay, HasKept, IsAsked, AreFew, read_back};
 ghost use Rattle.delay_bank.specs.Banks.{delay_at};
 ghost use Rattle.meaning.specs.World.{node_at};
-ghost use Rattle.quantum_render.specs.Blocks.{at, shown, carried, room_of, lanes_of, counts_in};
-ghost use Rattle.quantum_render.specs.Sums.{sum_at};
-ghost use Rattle.quantum_render.specs.Held.{IsHeld, IsCarried, IsWidened};
+ghost use Rattle.quantum_blocks.specs.Blocks.{at, shown, carried, room_of, lanes_of, counts_in};
+ghost use Rattle.quantum_blocks.specs.Sums.{sum_at};
+ghost use Rattle.quantum_blocks.specs.Held.{IsHeld, IsCarried, IsWidened};
 
 use crate::held::Held;
 use crate::kernels::{
@@ -26,21 +26,21 @@ use crate::playing::Source;
 use crate::site::Site;
 use crate::sums::Sums;
 use automation::{Level, Values};
-use delay_bank::Delays;
+use delay_bank::{Delays, Reading};
 use filter_bank::Filters;
 use lane_kern::sat_into;
 use shaper_iir::shape_all;
 use std::alloc::Global;
 use std::marker::Model;
-use wa_base::{Fix, Interp, NoMemory, NodeId, Samples};
+use wa_base::{Fix, NoMemory, NodeId, Samples};
 
-// The frames of a render quantum.
-pub(crate) const QUANTUM: usize = 128;
+/// The frames of a render quantum.
+pub const QUANTUM: usize = 128;
 
-// The values of a quantum of 128 frames, on each of up to 32 lanes: one for each channel of each
-// output of an end. Contracts read a lane at frame m as `at`.
+/// The values of a quantum of 128 frames, on each of up to 32 lanes: one for each channel of each
+/// output of an end. Contracts read a lane at frame m as `at`.
 #[derive(Drop)]
-pub(crate) struct Block {
+pub struct Block {
     lanes: usize,
     // Whether each lane has one value, which it has at all frames.
     steady: bool,
@@ -49,7 +49,7 @@ pub(crate) struct Block {
 
 impl Model for Block {
     ghost use Rattle.std.specs.Prelude.{◌*◌, ◌-◌, vec_len};
-    ghost use Rattle.quantum_render.specs.Blocks.{BlockView, IsBlock, all_values};
+    ghost use Rattle.quantum_blocks.specs.Blocks.{BlockView, IsBlock, all_values};
 
     ghost Value = { BlockView };
 
@@ -68,8 +68,8 @@ impl Block {
         }
     }
 
-    // One silent lane, with room for so many.
-    pub(crate) fn new(alloc: Global, room: usize) -> Result<Block, NoMemory>
+    /// One silent lane, with room for so many.
+    pub fn new(alloc: Global, room: usize) -> Result<Block, NoMemory>
         requires low { 1 ≤ room }
         requires high { room ≤ 32 }
         ensures lanes { IfOk result (λ block. block.lanes ≡ 1) }
@@ -94,16 +94,16 @@ impl Block {
         Ok(())
     }
 
-    // The number of lanes.
-    pub(crate) fn lanes(&self) -> usize
+    /// The number of lanes.
+    pub fn lanes(&self) -> usize
         ensures lanes { result ≡ self.now.lanes }
         ensures high { result ≤ 32 }
     {
         self.lanes
     }
 
-    // All values.
-    pub(crate) fn held(&self) -> Held<'_>
+    /// All values.
+    pub fn held(&self) -> Held<'_>
         ensures { IsHeld self.now result }
     {
         if self.steady {
@@ -128,8 +128,8 @@ impl Block {
         }
     }
 
-    // Writes the lanes into the front of a room, with silent lanes behind them up to so many.
-    pub(crate) fn copy_out(&self, out: &mut [Fix], lanes: usize)
+    /// Writes the lanes into the front of a room, with silent lanes behind them up to so many.
+    pub fn copy_out(&self, out: &mut [Fix], lanes: usize)
         requires few { lanes ≤ 32 }
         requires within { self.now.lanes ≤ lanes }
         requires room { lanes * 128 ≤ length out.old }
@@ -144,8 +144,8 @@ impl Block {
         silence(out, filled, lanes * QUANTUM);
     }
 
-    // All values as they are, where there are so many lanes and each has a value for each frame.
-    pub(crate) fn plain(&self, lanes: usize) -> Option<&[Fix]>
+    /// All values as they are, where there are so many lanes and each has a value for each frame.
+    pub fn plain(&self, lanes: usize) -> Option<&[Fix]>
         ensures { IfSome result (λ values. IsWidened self.now lanes values.now) }
     {
         if self.steady || self.lanes != lanes {
@@ -154,8 +154,8 @@ impl Block {
         Some(&self.values[0..self.lanes * QUANTUM])
     }
 
-    // Silences the lanes.
-    pub(crate) fn silence(&mut self)
+    /// Silences the lanes.
+    pub fn silence(&mut self)
         ensures lanes { self.new.lanes ≡ self.old.lanes }
         ensures values { (lane m : ℕ) → lane < self.old.lanes → m < 128 → at self.new lane m ≡ pos 0 }
     {
@@ -175,8 +175,8 @@ impl Block {
         fill(&mut self.values[0..1], value);
     }
 
-    // Becomes one lane with the values of a level.
-    pub(crate) fn take_level(&mut self, level: &Level)
+    /// Becomes one lane with the values of a level.
+    pub fn take_level(&mut self, level: &Level)
         requires room { 128 ≤ room_of self.old }
         requires level { HasRoom level.now }
         ensures lanes { self.new.lanes ≡ 1 }
@@ -190,8 +190,8 @@ impl Block {
         }
     }
 
-    // Of one lane, adds at each frame the sum there, saturated before and after.
-    pub(crate) fn add(&mut self, sums: &Sums)
+    /// Of one lane, adds at each frame the sum there, saturated before and after.
+    pub fn add(&mut self, sums: &Sums)
         requires mono { self.old.lanes ≡ 1 }
         requires sum { sums.now.count ≡ 1 }
         ensures lanes { self.new.lanes ≡ 1 }
@@ -229,8 +229,8 @@ impl Block {
         sums.add_to(&mut self.values[0..QUANTUM], 0);
     }
 
-    // Of one lane, holds the value of the first frame.
-    pub(crate) fn hold_first(&mut self)
+    /// Of one lane, holds the value of the first frame.
+    pub fn hold_first(&mut self)
         requires mono { self.old.lanes ≡ 1 }
         ensures lanes { self.new.lanes ≡ 1 }
         ensures room { room_of self.new ≡ room_of self.old }
@@ -240,8 +240,8 @@ impl Block {
         self.hold(value);
     }
 
-    // Of one lane, clamps each value to those from 0 up to another.
-    pub(crate) fn up_to(&mut self, most: Fix)
+    /// Of one lane, clamps each value to those from 0 up to another.
+    pub fn up_to(&mut self, most: Fix)
         requires { self.old.lanes ≡ 1 }
         ensures lanes { self.new.lanes ≡ 1 }
         ensures room { room_of self.new ≡ room_of self.old }
@@ -276,8 +276,8 @@ impl Block {
         up_to_each(&mut self.values[0..QUANTUM], most);
     }
 
-    // Of one lane, silences the frames before `start` and from `end` on.
-    pub(crate) fn sound(&mut self, start: u64, end: u64, first: u64)
+    /// Of one lane, silences the frames before `start` and from `end` on.
+    pub fn sound(&mut self, start: u64, end: u64, first: u64)
         requires mono { self.old.lanes ≡ 1 }
         requires time { first ≤ 2 ^ 62 }
         ensures lanes { self.new.lanes ≡ 1 }
@@ -306,8 +306,8 @@ impl Block {
         sound(&mut self.values[0..QUANTUM], start, end, first);
     }
 
-    // Becomes what a source plays in the quantum that begins at `first`.
-    pub(crate) fn play(&mut self, source: &Source, first: u64)
+    /// Becomes what a source plays in the quantum that begins at `first`.
+    pub fn play(&mut self, source: &Source, first: u64)
         requires time { first ≤ 2 ^ 62 }
         ensures lanes { self.new.lanes ≡ self.old.lanes }
         ensures values { (lane m : ℕ) → lane < self.old.lanes → lane < channels_in source.now.store (Some source.now.buffer) → m < 128 →
@@ -317,8 +317,8 @@ impl Block {
         source.play(&mut self.values[0..self.lanes * QUANTUM], self.lanes, first);
     }
 
-    // Becomes what the sums are, saturated.
-    pub(crate) fn saturate(&mut self, sums: &Sums)
+    /// Becomes what the sums are, saturated.
+    pub fn saturate(&mut self, sums: &Sums)
         requires { sums.now.count * 128 ≤ room_of self.old }
         ensures lanes { self.new.lanes ≡ sums.now.count }
         ensures room { room_of self.new ≡ room_of self.old }
@@ -337,8 +337,8 @@ impl Block {
         }
     }
 
-    // Becomes what another block is.
-    pub(crate) fn copy(&mut self, other: &Block)
+    /// Becomes what another block is.
+    pub fn copy(&mut self, other: &Block)
         requires { other.now.lanes * 128 ≤ room_of self.old }
         ensures lanes { self.new.lanes ≡ other.now.lanes }
         ensures room { room_of self.new ≡ room_of self.old }
@@ -351,8 +351,8 @@ impl Block {
         }
     }
 
-    // Becomes what an output of another block is.
-    pub(crate) fn copy_output(&mut self, other: &Block, output: usize, channels: usize)
+    /// Becomes what an output of another block is.
+    pub fn copy_output(&mut self, other: &Block, output: usize, channels: usize)
         requires output { output * channels + channels ≤ other.now.lanes }
         requires few { channels ≤ 32 }
         requires room { channels * 128 ≤ room_of self.old }
@@ -394,8 +394,8 @@ impl Block {
         copy_values(&mut self.values[0..lanes * QUANTUM], values);
     }
 
-    // Has so many lanes. Their values may be any.
-    pub(crate) fn begin(&mut self, lanes: usize)
+    /// Has so many lanes. Their values may be any.
+    pub fn begin(&mut self, lanes: usize)
         requires few { lanes ≤ 32 }
         requires room { lanes * 128 ≤ room_of self.old }
         ensures lanes { self.new.lanes ≡ lanes }
@@ -405,8 +405,8 @@ impl Block {
         self.steady = true;
     }
 
-    // Of another block's one lane, makes one of its own.
-    pub(crate) fn set_lane(&mut self, lane: usize, other: &Block)
+    /// Of another block's one lane, makes one of its own.
+    pub fn set_lane(&mut self, lane: usize, other: &Block)
         requires lane { lane < self.old.lanes }
         requires mono { other.now.lanes ≡ 1 }
         ensures lanes { self.new.lanes ≡ self.old.lanes }
@@ -457,8 +457,8 @@ impl Block {
         );
     }
 
-    // Becomes what another block is, multiplied at each frame by the gain there.
-    pub(crate) fn scale(&mut self, other: &Block, gains: &Block)
+    /// Becomes what another block is, multiplied at each frame by the gain there.
+    pub fn scale(&mut self, other: &Block, gains: &Block)
         requires room { other.now.lanes * 128 ≤ room_of self.old }
         requires mono { gains.now.lanes ≡ 1 }
         ensures lanes { self.new.lanes ≡ other.now.lanes }
@@ -506,8 +506,8 @@ impl Block {
         }
     }
 
-    // Becomes what another block is, shaped by a curve.
-    pub(crate) fn shape(&mut self, other: &Block, curve: &Option<Samples>)
+    /// Becomes what another block is, shaped by a curve.
+    pub fn shape(&mut self, other: &Block, curve: &Option<Samples>)
         requires room { other.now.lanes * 128 ≤ room_of self.old }
         requires curve { IsCurve curve.now }
         ensures lanes { self.new.lanes ≡ other.now.lanes }
@@ -527,14 +527,8 @@ impl Block {
         }
     }
 
-    // Becomes what a node's filter puts out for its input, which has so many lanes.
-    pub(crate) fn filter(
-        &mut self,
-        heard: &[Fix],
-        lanes: usize,
-        filters: &mut Filters,
-        node: NodeId,
-    )
+    /// Becomes what a node's filter puts out for its input, which has so many lanes.
+    pub fn filter(&mut self, heard: &[Fix], lanes: usize, filters: &mut Filters, node: NodeId)
         requires length { length heard.now ≡ lanes * 128 }
         requires few { lanes ≤ 32 }
         requires room { lanes * 128 ≤ room_of self.old }
@@ -550,8 +544,8 @@ impl Block {
         filters.hear(node, heard, &mut self.values[0..lanes * QUANTUM]);
     }
 
-    // Becomes what the reader of a site's delay gives, with a delay for each frame.
-    pub(crate) fn read_delay(&mut self, delays: &Delays, site: &Site, spans: &[u64])
+    /// Becomes what the reader of a site's delay gives, with a delay for each frame.
+    pub fn read_delay(&mut self, delays: &Delays, site: &Site, spans: &[u64])
         requires lanes { self.old.lanes ≡ counts_in site.now.counts site.now.end }
         requires spans { length spans.now ≡ 128 }
         ensures lanes { self.new.lanes ≡ self.old.lanes }
@@ -560,33 +554,24 @@ impl Block {
             at self.new c m ≡ read_back born writer (node_at site.now.world site.now.end.node.0).attrs.interp self.old.lanes (site.now.first + m) (frames_back spans.now m) c }
     {
         let node = site.end.node;
-        let interp = site.world.nodes.attrs(node).interp;
-        self.read_frames(delays, node, site.first, spans, interp);
+        let asked = Reading {
+            first: site.first,
+            delays: spans,
+            channels: self.lanes() as u32,
+            interp: site.world.nodes.attrs(node).interp,
+        };
+        self.read_frames(delays, node, asked);
     }
 
-    fn read_frames(
-        &mut self,
-        delays: &Delays,
-        node: NodeId,
-        first: u64,
-        spans: &[u64],
-        interp: Interp,
-    )
-        requires spans { length spans.now ≡ 128 }
-        requires time { first ≤ 2 ^ 62 }
+    fn read_frames(&mut self, delays: &Delays, node: NodeId, asked: Reading<'_>)
+        requires lanes { asked.channels ≡ self.old.lanes }
+        requires delays { length asked.delays.now ≡ 128 }
+        requires time { asked.first ≤ 2 ^ 62 }
         ensures lanes { self.new.lanes ≡ self.old.lanes }
-        ensures values { (d : a_delay) (longest born now : ℕ) (writer : Writer) → delay_at delays.now node.0 ≡ Some d → HasKept d longest born now writer → IsAsked first now longest spans.now → AreFew born writer self.old.lanes first spans.now → 128 * (born / 128) ≡ born →
-            (c m : ℕ) → c < self.old.lanes → m < 128 → at self.new c m ≡ read_back born writer interp self.old.lanes (first + m) (frames_back spans.now m) c }
+        ensures values { (d : a_delay) (longest born now : ℕ) (writer : Writer) → delay_at delays.now node.0 ≡ Some d → HasKept d longest born now writer → IsAsked asked.entry.first now longest asked.entry.delays.now → AreFew born writer self.old.lanes asked.entry.first asked.entry.delays.now → 128 * (born / 128) ≡ born →
+            (c m : ℕ) → c < self.old.lanes → m < 128 → at self.new c m ≡ read_back born writer asked.entry.interp self.old.lanes (asked.entry.first + m) (frames_back asked.entry.delays.now m) c }
     {
         self.steady = false;
-        let lanes = self.lanes;
-        delays.read(
-            node,
-            &mut self.values[0..lanes * QUANTUM],
-            lanes as u32,
-            first,
-            spans,
-            interp,
-        );
+        delays.read(node, &mut self.values[0..self.lanes * QUANTUM], asked);
     }
 }

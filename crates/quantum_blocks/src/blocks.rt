@@ -1,8 +1,8 @@
 ghost use Rattle.std.specs.Prelude.{◌≡◌, ◌≤◌, ◌<◌, ◌*◌, ℕ, length, slice_index_or, OnOk};
 ghost use Rattle.wa_base.specs.declared.graph_names.End.{End as an_end};
 ghost use Rattle.meaning.specs.Validity.{IsValid};
-ghost use Rattle.quantum_render.specs.Blocks.{slot as slot_of, lanes_of, no_block, IsSilent, Writes};
-ghost use Rattle.quantum_render.specs.Fits.{AreInRange, AreFit};
+ghost use Rattle.quantum_blocks.specs.Blocks.{slot as slot_of, lanes_of, no_block, IsSilent, Writes};
+ghost use Rattle.quantum_blocks.specs.Fits.{AreInRange, AreFit};
 
 use crate::block::Block;
 use crate::site::slot;
@@ -10,8 +10,8 @@ use meaning::World;
 use std::alloc::Global;
 use wa_base::{End, NoMemory, NodeId};
 
-// Makes two blocks for each node, with the lanes of its ends. Their values may be any.
-pub(crate) fn fit_blocks(
+/// Makes two blocks for each node, with the lanes of its ends. Their values may be any.
+pub fn fit_blocks(
     alloc: Global,
     blocks: &mut Vec<Block>,
     world: &World,
@@ -41,8 +41,8 @@ fn fit_each(blocks: &mut [Block], world: &World, counts: &[u32]) -> Result<(), N
     Ok(())
 }
 
-// Silences the lanes of each end.
-pub(crate) fn hush(blocks: &mut [Block], muted: &[End])
+/// Silences the lanes of each end.
+pub fn hush(blocks: &mut [Block], muted: &[End])
     requires { (i : ℕ) (d : an_end) → i < length muted.now → slot_of (slice_index_or muted.now i d) < length blocks.old }
     ensures lanes { lanes_of blocks.new ≡ lanes_of blocks.old }
     ensures silent { (i : ℕ) (d : an_end) → i < length muted.now → IsSilent blocks.new (slice_index_or muted.now i d) }

@@ -6,14 +6,14 @@ use meaning::{Play, World};
 use std::alloc::Global;
 use wa_base::{NoMemory, NodeId};
 
-// Where the schedule of a node is likely to stand in its list: where it stood when the plan was made.
-// A new node has no place of its own.
-pub(crate) fn near_of(near: &[usize], node: NodeId) -> usize {
+/// Where the schedule of a node is likely to stand in its list: where it stood when the plan was made.
+/// A new node has no place of its own.
+pub fn near_of(near: &[usize], node: NodeId) -> usize {
     near.get(node.0 as usize).copied().unwrap_or(0)
 }
 
-// The place for each node.
-pub(crate) fn places(alloc: Global, world: &World) -> Result<Vec<usize>, NoMemory> {
+/// The place for each node.
+pub fn places_of(alloc: Global, world: &World) -> Result<Vec<usize>, NoMemory> {
     let nodes = world.nodes.len() as usize;
     let mut near = vec![in alloc; 0; nodes]?;
     for (place, play) in world.scheds.as_slice().iter().enumerate() {
@@ -24,8 +24,8 @@ pub(crate) fn places(alloc: Global, world: &World) -> Result<Vec<usize>, NoMemor
     Ok(near)
 }
 
-// The place of a source's schedule: the one that is near, or else it is searched for.
-pub(crate) fn play_place(world: &World, node: NodeId, near: usize) -> Option<usize>
+/// The place of a source's schedule: the one that is near, or else it is searched for.
+pub fn play_place(world: &World, node: NodeId, near: usize) -> Option<usize>
     requires { IsValid world.now }
     ensures item { option_and_then (slice_get world.now.scheds.items) result ≡ find_play world.now.scheds.items node.0 }
     ensures within { IfSome result (λ place. place < length world.now.scheds.items) }

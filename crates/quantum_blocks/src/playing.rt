@@ -3,7 +3,7 @@ ghost use Rattle.sched_source.specs.Schedule.{played};
 ghost use Rattle.channel_mix.specs.Blocks.{sample};
 ghost use Rattle.meaning.specs.Validity.{IsValid};
 ghost use Rattle.meaning.specs.World.{channels_in, samples_in};
-ghost use Rattle.quantum_render.specs.Heard.{heard_source};
+ghost use Rattle.quantum_blocks.specs.Heard.{heard_source};
 
 use crate::block::QUANTUM;
 use crate::kernels::fill;
@@ -14,16 +14,16 @@ use sched_source::Sched;
 use std::marker::Model;
 use wa_base::{BufId, Fix, NodeId};
 
-// A buffer source that sounds in a quantum.
+/// A buffer source that sounds in a quantum.
 #[derive(Drop)]
-pub(crate) struct Source<'a> {
+pub struct Source<'a> {
     sched: Sched,
     store: &'a Store,
     buffer: BufId,
 }
 
 impl<'a> Model for Source<'a> {
-    ghost use Rattle.quantum_render.specs.Heard.{SourceView, IsHeard};
+    ghost use Rattle.quantum_blocks.specs.Heard.{SourceView, IsHeard};
 
     ghost Value = { SourceView };
 
@@ -32,8 +32,8 @@ impl<'a> Model for Source<'a> {
     ghost invariant = { λ s. IsHeard s.sched s.store.now s.buffer };
 }
 
-// A source with its buffer, where it sounds in the quantum that begins at `first`.
-pub(crate) fn sounding(world: &World, node: NodeId, near: usize, first: u64) -> Option<Source<'_>>
+/// A source with its buffer, where it sounds in the quantum that begins at `first`.
+pub fn sounding(world: &World, node: NodeId, near: usize, first: u64) -> Option<Source<'_>>
     requires valid { IsValid world.now }
     requires time { first ≤ 2 ^ 62 }
     ensures { result ≡ heard_source world.now node.0 first }
@@ -52,8 +52,8 @@ pub(crate) fn sounding(world: &World, node: NodeId, near: usize, first: u64) -> 
 }
 
 impl Source<'_> {
-    // The number of channels of its buffer.
-    pub(crate) fn channels(&self) -> u32
+    /// The number of channels of its buffer.
+    pub fn channels(&self) -> u32
         ensures value { result ≡ channels_in self.now.store (Some self.now.buffer) }
         ensures range { (1 ≤ result) × (result ≤ 32) }
     {

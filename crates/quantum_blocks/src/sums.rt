@@ -4,10 +4,10 @@ ghost use Rattle.wa_base.specs.Numbers.{sat as saturated};
 ghost use Rattle.channel_mix.specs.Mixing.{mix, total};
 ghost use Rattle.meaning.specs.declared.world.World.{World as world};
 ghost use Rattle.meaning.specs.Values.{part};
-ghost use Rattle.quantum_render.specs.Blocks.{frame_of};
-ghost use Rattle.quantum_render.specs.Connections.{leads_to};
-ghost use Rattle.quantum_render.specs.Fits.{IsSource, AreFit};
-ghost use Rattle.quantum_render.specs.Sums.{sum_at};
+ghost use Rattle.quantum_blocks.specs.Blocks.{frame_of};
+ghost use Rattle.quantum_blocks.specs.Connections.{leads_to};
+ghost use Rattle.quantum_blocks.specs.Fits.{IsSource, AreFit};
+ghost use Rattle.quantum_blocks.specs.Sums.{sum_at};
 
 use crate::block::{Block, QUANTUM};
 use crate::held::Held;
@@ -19,13 +19,13 @@ use std::alloc::Global;
 use std::marker::Model;
 use wa_base::{Fix, Interp, NoMemory, sat};
 
-// The greatest number of channels.
-pub(crate) const CHANNELS: usize = 32;
+/// The greatest number of channels.
+pub const CHANNELS: usize = 32;
 
-// What connections carry, mixed to 1 to 32 channels and added up exactly: a sum for each channel at
-// each frame. It has room for as many connections as a graph may have.
+/// What connections carry, mixed to 1 to 32 channels and added up exactly: a sum for each channel at
+/// each frame. It has room for as many connections as a graph may have.
 #[derive(Drop)]
-pub(crate) struct Sums {
+pub struct Sums {
     count: usize,
     added: usize,
     // What is the same at all frames, a sum for each channel.
@@ -37,7 +37,7 @@ pub(crate) struct Sums {
 
 impl Model for Sums {
     ghost use Rattle.std.specs.Prelude.{take};
-    ghost use Rattle.quantum_render.specs.Sums.{SumsView, AreSums, moving_sums};
+    ghost use Rattle.quantum_blocks.specs.Sums.{SumsView, AreSums, moving_sums};
 
     ghost Value = { SumsView };
 
@@ -46,16 +46,17 @@ impl Model for Sums {
     ghost invariant = { λ s. AreSums s.count s.added s.moves s.held.items s.moving.items };
 }
 
-// How an input or a parameter takes what connections carry.
+/// How an input or a parameter takes what connections carry.
 #[derive(Clone, Copy)]
-pub(crate) struct Inlet {
+pub struct Inlet {
     pub target: Target,
     pub count: usize,
     pub interp: Interp,
 }
 
 impl Sums {
-    pub(crate) fn new(alloc: Global) -> Result<Sums, NoMemory> {
+    /// One channel, to which nothing is added yet.
+    pub fn new(alloc: Global) -> Result<Sums, NoMemory> {
         Ok(Sums {
             count: 1,
             added: 0,
@@ -189,8 +190,8 @@ impl Sums {
         }
     }
 
-    // Adds up what the connections of a site to an inlet carry.
-    pub(crate) fn gather(&mut self, blocks: &[Block], site: &Site, inlet: Inlet)
+    /// Adds up what the connections of a site to an inlet carry.
+    pub fn gather(&mut self, blocks: &[Block], site: &Site, inlet: Inlet)
         requires low { 1 ≤ inlet.count }
         requires high { inlet.count ≤ 32 }
         requires fit { AreFit site.now.world site.now.counts blocks.now }

@@ -17,16 +17,16 @@ use Rattle.meaning.specs.Counts.{Counts, count_rule, count_by_kind, count, count
 use Rattle.meaning.proofs.Joined.{joined}
 use Rattle.meaning.proofs.OrderLaws.{IsKnown, known_before, known_source, all_known}
 use Rattle.meaning.proofs.QuantumLaws.{count_right, muted_one}
-use Rattle.quantum_render.specs.Blocks.{slot, counts_in}
-use Rattle.quantum_render.specs.Fits.{AreInRange}
+use Rattle.quantum_blocks.specs.Blocks.{slot, counts_in}
+use Rattle.quantum_blocks.specs.Fits.{AreInRange}
 use Rattle.delay_bank.specs.Banks.{BankView as DelayBank}
 use Rattle.quantum_render.specs.Listening.{HasKept}
 use Rattle.quantum_render.specs.Plans.{AreMost, AreCounted}
 use Rattle.quantum_render.proofs.ReaderCounts.{are_most}
-use Rattle.quantum_render.proofs.Orders.{no_end, next_in_order}
+use Rattle.quantum_blocks.proofs.Orders.{no_end, next_in_order}
 use Rattle.quantum_render.proofs.Ports.{outputs_few}
-use Rattle.quantum_render.proofs.Slots.{slot_low, slot_apart, slot-half, not_same}
-use Rattle.quantum_render.proofs.Sources.{end_low}
+use Rattle.quantum_blocks.proofs.Slots.{slot_low, slot_apart, slot-half, not_same}
+use Rattle.quantum_blocks.proofs.Sources.{end_low}
 
 -- where each end has one channel
 pub one_each : (w : World) → IsValid w → (counts : List ℕ) → length counts ≡ 2 * length w.nodes → ((k : ℕ) → k < length counts → slice_index_or counts k 1 ≡ 1) → AreInRange w counts

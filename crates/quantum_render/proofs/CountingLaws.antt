@@ -7,7 +7,7 @@ use Rattle.wa_base.specs.declared.graph_names.Mode.TheVariants.{Max, ClampedMax,
 use Rattle.channel_mix.specs.Counts.{greatest, input_count}
 use Rattle.conn_graph.specs.declared.edges.Edge.{Edge}
 use Rattle.conn_graph.specs.declared.edges.Target.{Target}
-use Rattle.quantum_render.specs.Connections.{leads_to}
+use Rattle.quantum_blocks.specs.Connections.{leads_to}
 
 pub greatest_low : (xs : List ℕ) → 1 ≤ greatest xs
 greatest_low [] = omega arith

@@ -14,7 +14,7 @@ use Rattle.conn_graph.specs.Ends.{numbers_from, is_delay, in_cycle}
 use Rattle.conn_graph.proofs.MutingLaws.{has_number}
 use Rattle.cycle_order.specs.Surveys.{node_id, delays_in_cycle}
 use Rattle.cycle_order.proofs.Renaming.{same_tests}
-use Rattle.quantum_render.proofs.Sources.{IsIn-get_or}
+use Rattle.quantum_blocks.proofs.Sources.{IsIn-get_or}
 
 -- whether a node has a number
 abbrev pub has_number_of : ℕ → NodeId → Bool

@@ -27,14 +27,14 @@ use Rattle.meaning.proofs.TapeLaws.{world_after}
 use Rattle.automation.specs.Levels.{LevelView}
 use Rattle.delay_bank.specs.Kept.{IsKept}
 use Rattle.delay_bank.specs.Banks.{BankView as DelayBank, delay_at}
-use Rattle.quantum_render.specs.Blocks.{BlockView, at, shown, block_of, counts_in, drafts_of}
+use Rattle.quantum_blocks.specs.Blocks.{BlockView, at, shown, block_of, counts_in, drafts_of}
 use Rattle.quantum_render.specs.Plans.{AreCounted}
-use Rattle.quantum_render.specs.Sites.{SiteView}
+use Rattle.quantum_blocks.specs.Sites.{SiteView}
 use Rattle.quantum_render.specs.Listening.{writer_in, HasKept, IsTimely}
 use Rattle.quantum_render.specs.Renders.{IsFed, IsWritten, Stores}
 use Rattle.quantum_render.proofs.Listening.{is_among, among_in, in_among, not_among, now_among, other_among}
 use Rattle.filter_bank.proofs.Growing.{this_or_other}
-use Rattle.quantum_render.proofs.Sources.{end_low}
+use Rattle.quantum_blocks.proofs.Sources.{end_low}
 
 -- up to which frame the writer of a delay has written, by the ends that are done
 abbrev pub written_until : List End → ℕ → ℕ → ℕ

@@ -15,9 +15,9 @@ use Rattle.meaning.specs.declared.world.World.{World}
 use Rattle.meaning.specs.World.{sounding, node_at}
 use Rattle.meaning.specs.Counts.{input_channels}
 use Rattle.meaning.specs.Values.{Frame, part, mixed_sum, input_value}
-use Rattle.quantum_render.specs.Blocks.{BlockView, block_of, carried, counts_in, frame_of}
-use Rattle.quantum_render.specs.Connections.{into, leads_to}
-use Rattle.quantum_render.proofs.Sources.{input_sources}
+use Rattle.quantum_blocks.specs.Blocks.{BlockView, block_of, carried, counts_in, frame_of}
+use Rattle.quantum_blocks.specs.Connections.{into, leads_to}
+use Rattle.quantum_blocks.proofs.Sources.{input_sources}
 
 -- saturating a Fix changes nothing
 pub sat_of_fix : (x : ℤ) → FitsSigned w32 x → sat x ≡ x

@@ -20,11 +20,11 @@ use Rattle.meaning.specs.declared.world.World.{World}
 use Rattle.meaning.specs.World.{kind_of, intrinsic_value, is_k_rate, up_to, nominal}
 use Rattle.meaning.specs.Values.{Frame, seen, part, mixed_sum, computed_value}
 use Rattle.meaning.specs.Blocks.{with_drafts, drafted}
-use Rattle.quantum_render.specs.Blocks.{BlockView, counts_in, drafts_of, frame_of}
-use Rattle.quantum_render.specs.Connections.{into, leads_to}
+use Rattle.quantum_blocks.specs.Blocks.{BlockView, counts_in, drafts_of, frame_of}
+use Rattle.quantum_blocks.specs.Connections.{into, leads_to}
 use Rattle.quantum_render.specs.Parameters.{unclamped_value}
-use Rattle.quantum_render.specs.Sites.{IsBegun}
-use Rattle.quantum_render.proofs.Sources.{param_sources}
+use Rattle.quantum_blocks.specs.Sites.{IsBegun}
+use Rattle.quantum_blocks.proofs.Sources.{param_sources}
 
 -- the frame of the quantum at which a parameter is taken: at k-rate the first one
 abbrev pub taken_at : World → ParamId → ℕ → ℕ

@@ -1,14 +1,7 @@
 mod Automated
-pub mod Slots
-pub mod Connections
-pub mod Made
-pub mod Sources
 pub mod InputLaws
-pub mod Lanes
 pub mod LevelLaws
-pub mod Orders
 pub mod Cycles
-pub mod PassLaws
 pub mod Ports
 pub mod CountingLaws
 pub mod ReaderCounts
@@ -17,8 +10,6 @@ pub mod Passing
 pub mod Parts
 pub mod OutLaws
 pub mod Rendering
-pub mod Holding
-pub mod Heard
 pub mod Listening
 pub mod Fed
 pub mod Feeding

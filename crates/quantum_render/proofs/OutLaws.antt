@@ -11,10 +11,10 @@ use Rattle.meaning.specs.declared.world.World.{World}
 use Rattle.meaning.specs.Rendered.{sample}
 use Rattle.meaning.specs.Validity.{IsValid}
 use Rattle.meaning.specs.Values.{value}
-use Rattle.quantum_render.specs.Blocks.{BlockView, at, shown, block_of, counts_in, drafts_of}
-use Rattle.quantum_render.specs.Fits.{AreFit}
+use Rattle.quantum_blocks.specs.Blocks.{BlockView, at, shown, block_of, counts_in, drafts_of}
+use Rattle.quantum_blocks.specs.Fits.{AreFit}
 use Rattle.quantum_render.specs.Plans.{AreCounted}
-use Rattle.quantum_render.proofs.Sources.{same_nodes}
+use Rattle.quantum_blocks.proofs.Sources.{same_nodes}
 
 destination_is : (w : World) → IsValid w → IsIn (reader_of 0) (ends w.graph.value)
 destination_is w valid = has_end w.graph.value 0 (let a = same_nodes w valid in let b = valid.nodes.some in omega arith)

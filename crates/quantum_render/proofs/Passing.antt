@@ -23,11 +23,11 @@ use Rattle.meaning.proofs.Joined.{joined}
 use Rattle.meaning.proofs.Seeing.{plain_end}
 use Rattle.meaning.proofs.OrderLaws.{all_known}
 use Rattle.meaning.proofs.QuantumLaws.{AreRight, count_right, muted_right}
-use Rattle.quantum_render.specs.Blocks.{BlockView, at, slot, block_of, lanes_of, counts_in, drafts_of, frame_of, IsSilent, Writes}
-use Rattle.quantum_render.specs.Fits.{AreFit}
+use Rattle.quantum_blocks.specs.Blocks.{BlockView, at, slot, block_of, lanes_of, counts_in, drafts_of, frame_of, IsSilent, Writes}
+use Rattle.quantum_blocks.specs.Fits.{AreFit}
 use Rattle.quantum_render.specs.Plans.{IsPlan, AreCounted}
 use Rattle.automation.specs.Levels.{LevelView}
-use Rattle.quantum_render.specs.Sites.{SiteView}
+use Rattle.quantum_blocks.specs.Sites.{SiteView}
 use Rattle.filter_bank.specs.Heard.{IsHeard}
 use Rattle.filter_bank.specs.Banks.{filter_at, IsRestedIfThere}
 use Rattle.delay_bank.specs.Kept.{DelayView, IsKept}
@@ -37,11 +37,11 @@ use Rattle.quantum_render.specs.Listening.{writer_in, IsTimely, IsMemory, HasRoo
 use Rattle.quantum_render.proofs.Fed.{AreKeptBy, is_fed, kept_more, all_kept}
 use Rattle.quantum_render.proofs.Listening.{heard_like, AreHeardBy, heard_until, takes_in, not_done, now_done, other_done, rested_heard}
 use Rattle.filter_bank.proofs.Growing.{this_or_other}
-use Rattle.quantum_render.proofs.Slots.{slot_low}
-use Rattle.quantum_render.proofs.Sources.{IsIn-get_or, end_low, same_nodes}
-use Rattle.quantum_render.proofs.Connections.{lanes_kept}
-use Rattle.quantum_render.proofs.PassLaws.{one_more_right}
-use Rattle.quantum_render.proofs.Orders.{no_end, next_in_order}
+use Rattle.quantum_blocks.proofs.Slots.{slot_low}
+use Rattle.quantum_blocks.proofs.Sources.{IsIn-get_or, end_low, same_nodes}
+use Rattle.quantum_blocks.proofs.Connections.{lanes_kept}
+use Rattle.quantum_blocks.proofs.PassLaws.{one_more_right}
+use Rattle.quantum_blocks.proofs.Orders.{no_end, next_in_order}
 
 -- where lanes stay, blocks still fit
 pub still_fit : (w : World) (counts : List ℕ) (old new : List BlockView) → lanes_of new ≡ lanes_of old → AreFit w counts old → AreFit w counts new

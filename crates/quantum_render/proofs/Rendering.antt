@@ -13,13 +13,13 @@ use Rattle.quantum_render.specs.Renders.{Stores}
 use Rattle.conn_graph.specs.declared.edges.Edge.{Edge}
 use Rattle.meaning.specs.declared.world.World.{World}
 use Rattle.meaning.specs.World.{kind_of}
-use Rattle.quantum_render.specs.Blocks.{BlockView, no_block, at, room_of, slot, block_of, counts_in, Writes}
-use Rattle.quantum_render.specs.Fits.{AreFit}
+use Rattle.quantum_blocks.specs.Blocks.{BlockView, no_block, at, room_of, slot, block_of, counts_in, Writes}
+use Rattle.quantum_blocks.specs.Fits.{AreFit}
 use Rattle.automation.specs.Levels.{LevelView}
-use Rattle.quantum_render.specs.Sites.{SiteView, IsSite}
-use Rattle.quantum_render.proofs.Slots.{slot_low, slot-half, lane-only}
-use Rattle.quantum_render.proofs.Sources.{end_low, site_slot}
-use Rattle.quantum_render.proofs.Connections.{writes_one, written}
+use Rattle.quantum_blocks.specs.Sites.{SiteView, IsSite}
+use Rattle.quantum_blocks.proofs.Slots.{slot_low, slot-half, lane-only}
+use Rattle.quantum_blocks.proofs.Sources.{end_low, site_slot}
+use Rattle.quantum_blocks.proofs.Connections.{writes_one, written}
 
 -- a site whose fields are known but for its connections
 pub site_here : (s : SiteView) (w : World) (e : End) (counts : List ℕ) (levels : List LevelView) (first : ℕ) → s.world ≡ w → s.end ≡ e → s.counts ≡ counts → s.levels ≡ levels → s.first ≡ first

@@ -1,6 +1,6 @@
 -- What is at hand while a node is rendered.
 use Rattle.std.specs.Prelude.{ℕ, ◌≡◌, List, length}
-use Rattle.quantum_render.specs.Blocks.{BlockView, room_of}
+use Rattle.quantum_blocks.specs.Blocks.{BlockView, room_of}
 
 -- what contracts see of a bench: what an input carries, the levels of a parameter, and what several inputs carry, one lane each
 pub record BenchView : Type 0 where

@@ -1,10 +1,3 @@
-pub mod Connections
-pub mod Blocks
-pub mod Held
-pub mod Heard
-pub mod Fits
-pub mod Sums
-pub mod Sites
 pub mod Parameters
 pub mod Benches
 pub mod Renders

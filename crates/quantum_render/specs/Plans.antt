@@ -15,8 +15,8 @@ use Rattle.meaning.specs.World.{node_at, kind_of}
 use Rattle.meaning.specs.Counts.{Counts, count}
 use Rattle.delay_bank.specs.Kept.{DelayView}
 use Rattle.delay_bank.specs.Banks.{BankView as DelayBank, delay_at}
-use Rattle.quantum_render.specs.Blocks.{counts_in}
-use Rattle.quantum_render.specs.Connections.{into as leads_into}
+use Rattle.quantum_blocks.specs.Blocks.{counts_in}
+use Rattle.quantum_blocks.specs.Connections.{into as leads_into}
 
 -- an order of the unmuted ends, the muted ends, and for each node the connections that lead to it
 pub record IsPlanOf (g : Connections) (order : List End) (mute : List End) (sources : List (List Edge)) : Type 0 where

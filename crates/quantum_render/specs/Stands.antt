@@ -15,8 +15,8 @@ use Rattle.filter_bank.specs.Banks.{AreHeard, AreNew, HaveRoom}
 use Rattle.delay_bank.specs.Banks.{AreKept, AreNew as AreNewDelays, HaveRoom as HaveDelayRoom}
 use Rattle.quantum_render.specs.declared.memory.Memory.{Memory}
 use Rattle.automation.specs.Ready.{AutomationView, IsReady}
-use Rattle.quantum_render.specs.Blocks.{BlockView}
-use Rattle.quantum_render.specs.Fits.{AreInRange, AreFit}
+use Rattle.quantum_blocks.specs.Blocks.{BlockView}
+use Rattle.quantum_blocks.specs.Fits.{AreInRange, AreFit}
 use Rattle.quantum_render.specs.Plans.{IsPlan, AreCycles, AreCounted}
 
 -- What contracts see of a renderer. Callers read the context and the number of quanta.

@@ -6,27 +6,25 @@ ghost use Rattle.node_table.specs.Delays.{frames_of as whole_frames};
 ghost use Rattle.meaning.specs.Counts.{input_channels};
 ghost use Rattle.meaning.specs.Values.{Frame as a_frame, input_value, computed_value};
 ghost use Rattle.std.specs.List.{list_any};
-ghost use Rattle.quantum_render.specs.Blocks.{at, counts_in};
-ghost use Rattle.quantum_render.specs.Connections.{leads_to};
-ghost use Rattle.quantum_render.specs.Fits.{AreFit};
-ghost use Rattle.quantum_render.specs.Held.{IsWidened};
+ghost use Rattle.quantum_blocks.specs.Blocks.{at, counts_in};
+ghost use Rattle.quantum_blocks.specs.Connections.{leads_to};
+ghost use Rattle.quantum_blocks.specs.Fits.{AreFit};
+ghost use Rattle.quantum_blocks.specs.Held.{IsWidened};
 ghost use Rattle.filter_bank.specs.Heard.{FilterView as a_filter, room_of as filter_room};
 ghost use Rattle.filter_bank.specs.Banks.{filter_at, Hears};
 ghost use Rattle.delay_bank.specs.Kept.{DelayView as a_delay, room_of as delay_room};
 ghost use Rattle.delay_bank.specs.Banks.{delay_at, Writes as DelayWrites};
 ghost use Rattle.quantum_render.specs.Parameters.{unclamped_value};
-ghost use Rattle.quantum_render.specs.Sites.{IsLone};
+ghost use Rattle.quantum_blocks.specs.Sites.{IsLone};
 ghost use Rattle.quantum_render.specs.Renders.{past_of, here_of};
 
-use crate::block::{Block, QUANTUM};
-use crate::held::Held;
-use crate::site::{Site, reader, slot};
-use crate::spans::{span_all, span_each};
-use crate::sums::{CHANNELS, Inlet, Sums};
 use conn_graph::{Edge, Target};
 use delay_bank::Delays;
 use filter_bank::Filters;
 use node_table::Kind;
+use quantum_blocks::{
+    Block, CHANNELS, Held, Inlet, QUANTUM, Site, Sums, reader, slot, span_all, span_each,
+};
 use std::alloc::Global;
 use std::marker::Model;
 use wa_base::{Fix, Interp, NoMemory, NodeId, ParamId, ParamName, Rate};

@@ -10,20 +10,18 @@ ghost use Rattle.meaning.specs.declared.world.World.{World as a_world};
 ghost use Rattle.meaning.specs.World.{sounding, kind_of, played_channels};
 ghost use Rattle.meaning.specs.Validity.{IsValid};
 ghost use Rattle.meaning.specs.Counts.{Counts as some_counts, input_channels, count_by_kind};
-ghost use Rattle.quantum_render.specs.Blocks.{slot as slot_of, counts_in};
-ghost use Rattle.quantum_render.specs.Connections.{into as leads_into, leads_to};
-ghost use Rattle.quantum_render.specs.Fits.{AreInRange};
+ghost use Rattle.quantum_blocks.specs.Blocks.{slot as slot_of, counts_in};
+ghost use Rattle.quantum_blocks.specs.Connections.{into as leads_into, leads_to};
+ghost use Rattle.quantum_blocks.specs.Fits.{AreInRange};
 ghost use Rattle.quantum_render.specs.Listening.{HasKept};
 ghost use Rattle.quantum_render.specs.Plans.{AreCycles, AreMost, IsPlan, AreCounted};
 
-use crate::places::near_of;
-use crate::playing::sounding;
-use crate::site::{reader, slot, writer};
 use channel_mix::count;
 use conn_graph::{Edge, Target};
 use delay_bank::Delays;
 use meaning::World;
 use node_table::Kind;
+use quantum_blocks::{near_of, reader, slot, sounding, writer};
 use wa_base::{End, Items, NodeId};
 
 // What the channels of ends are counted by, in the quantum that begins at a frame: the connections to each

@@ -4,8 +4,8 @@ ghost use Rattle.sched_source.specs.Schedule.{is_between};
 ghost use Rattle.node_table.specs.declared.kinds.Kind.TheVariants.{Destination, Constant, Buffer, Gain, Delay, Splitter, Merger, Shaper, Iir};
 ghost use Rattle.meaning.specs.Validity.{IsValid};
 ghost use Rattle.meaning.specs.World.{kind_of, sounds_at};
-ghost use Rattle.quantum_render.specs.Blocks.{Writes};
-ghost use Rattle.quantum_render.specs.Fits.{AreFit};
+ghost use Rattle.quantum_blocks.specs.Blocks.{Writes};
+ghost use Rattle.quantum_blocks.specs.Fits.{AreFit};
 ghost use Rattle.filter_bank.specs.Banks.{HaveRoom};
 ghost use Rattle.delay_bank.specs.Banks.{HaveRoom as HaveDelayRoom};
 ghost use Rattle.quantum_render.specs.declared.memory.Memory.{Memory as a_memory};
@@ -13,13 +13,10 @@ ghost use Rattle.quantum_render.specs.Listening.{HasRooms};
 ghost use Rattle.quantum_render.specs.Renders.{Renders, RendersWith, Listens, Stores};
 
 use crate::bench::Bench;
-use crate::block::Block;
 use crate::memory::Memory;
-use crate::places::play_place;
-use crate::playing::sounding;
-use crate::site::{Site, slot};
 use delay_bank::Delays;
 use node_table::Kind;
+use quantum_blocks::{Block, Site, play_place, slot, sounding};
 use wa_base::{ParamName, Samples};
 
 // What each kind of node does in a quantum: a line of the table, and a function that takes an input

@@ -6,18 +6,16 @@ ghost use Rattle.meaning.specs.declared.world.World.{World as a_world};
 ghost use Rattle.meaning.specs.Validity.{IsValid};
 ghost use Rattle.automation.specs.Levels.{AreLevels};
 ghost use Rattle.meaning.specs.Values.{value};
-ghost use Rattle.quantum_render.specs.Blocks.{drafts_of};
-ghost use Rattle.quantum_render.specs.Fits.{AreInRange, AreFit};
-ghost use Rattle.quantum_render.specs.Sites.{IsBegun};
+ghost use Rattle.quantum_blocks.specs.Blocks.{drafts_of};
+ghost use Rattle.quantum_blocks.specs.Fits.{AreInRange, AreFit};
+ghost use Rattle.quantum_blocks.specs.Sites.{IsBegun};
 ghost use Rattle.quantum_render.specs.Plans.{IsPlan, AreCycles, AreCounted};
 ghost use Rattle.quantum_render.specs.Listening.{IsTimely, IsMemory, HasRooms};
 
 use crate::bench::Bench;
-use crate::block::Block;
-use crate::blocks::hush;
 use crate::memory::Memory;
 use crate::plan::Plan;
-use crate::site::Quantum;
+use quantum_blocks::{Block, Quantum, hush};
 
 // Renders all ends: the muted ones are silent, and the others are rendered along the order, each
 // from the blocks of those before it. A filter that no end of the order has hears silence.

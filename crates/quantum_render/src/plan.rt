@@ -7,18 +7,17 @@ ghost use Rattle.conn_graph.specs.Edges.{target_node};
 ghost use Rattle.conn_graph.specs.Cells.{leaves, enters};
 ghost use Rattle.cycle_order.specs.Choices.{chosen_order};
 ghost use Rattle.conn_graph.specs.Ends.{ends};
-ghost use Rattle.quantum_render.specs.Connections.{into as leads_into};
-ghost use Rattle.quantum_render.specs.Fits.{AreInRange};
+ghost use Rattle.quantum_blocks.specs.Connections.{into as leads_into};
+ghost use Rattle.quantum_blocks.specs.Fits.{AreInRange};
 ghost use Rattle.automation.specs.Levels.{AreLevels};
-ghost use Rattle.quantum_render.specs.Sites.{IsBegun};
+ghost use Rattle.quantum_blocks.specs.Sites.{IsBegun};
 ghost use Rattle.meaning.specs.Validity.{IsValid};
 ghost use Rattle.quantum_render.specs.Plans.{IsPlan, IsPlanOf, AreCycles};
 
-use crate::places::{near_of, places};
-use crate::site::{Quantum, Site};
 use conn_graph::{Edge, Graph};
 use cycle_order::{Ends, order, survey};
 use meaning::World;
+use quantum_blocks::{Quantum, Site, near_of, places_of};
 use std::alloc::Global;
 use std::marker::Model;
 use std::sync::ledger::Ledger;
@@ -86,7 +85,7 @@ impl Plan {
         ensures tie { IfOk result (λ plan. plan.tie ≡ tie) }
     {
         let graph = &world.graph;
-        let near = places(alloc, world)?;
+        let near = places_of(alloc, world)?;
         let marks = survey(alloc, graph, steps)?;
         let ordered = order(alloc, graph, &marks, tie, steps)?;
         let all = connections(alloc, graph, steps)?;

@@ -1,5 +1,5 @@
 use Rattle.std.proofs.Common.{◌≡◌, length}
-use Rattle.quantum_render.proofs.blocks.fit_blocks.Given as goal
+use Rattle.quantum_blocks.proofs.blocks.fit_blocks.Given as goal
 
 -- so many blocks are there
 abbrev pub invariant-loop : goal.invariant-loop

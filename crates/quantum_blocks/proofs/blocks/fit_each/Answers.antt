@@ -1,10 +1,10 @@
 use Rattle.std.proofs.Common.{◌*◌, length, ◌∙◌, ap, arith}
 use Rattle.node_table.specs.Kinds.{outputs}
 use Rattle.meaning.specs.World.{kind_of}
-use Rattle.quantum_render.specs.Blocks.{slot, counts_in}
-use Rattle.quantum_render.proofs.Slots.{slot_low, slot-half}
-use Rattle.quantum_render.proofs.Sources.{end_low}
-use Rattle.quantum_render.proofs.blocks.fit_each.Goals as goal
+use Rattle.quantum_blocks.specs.Blocks.{slot, counts_in}
+use Rattle.quantum_blocks.proofs.Slots.{slot_low, slot-half}
+use Rattle.quantum_blocks.proofs.Sources.{end_low}
+use Rattle.quantum_blocks.proofs.blocks.fit_each.Goals as goal
 
 pub returns : goal.returns
 returns c =

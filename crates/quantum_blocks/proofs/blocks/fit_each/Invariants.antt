@@ -1,8 +1,8 @@
 use Rattle.std.proofs.Common.{ℕ, ◌≡◌, ◌<◌, ◌*◌, ◌/◌, length, slice_index_or}
 use Rattle.node_table.specs.Kinds.{outputs}
 use Rattle.meaning.specs.World.{kind_of}
-use Rattle.quantum_render.specs.Blocks.{no_block}
-use Rattle.quantum_render.proofs.blocks.fit_each.Given as goal
+use Rattle.quantum_blocks.specs.Blocks.{no_block}
+use Rattle.quantum_blocks.proofs.blocks.fit_each.Given as goal
 
 -- the blocks so far have their lanes
 abbrev pub invariant-loop-i : goal.invariant-loop-i

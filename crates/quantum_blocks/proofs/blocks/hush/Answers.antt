@@ -1,7 +1,7 @@
 use Rattle.std.proofs.Common.{rules, ◌∙◌}
-use Rattle.quantum_render.proofs.Orders.{no_end}
-use Rattle.quantum_render.proofs.PassLaws.{silent_more}
-use Rattle.quantum_render.proofs.blocks.hush.Goals as goal
+use Rattle.quantum_blocks.proofs.Orders.{no_end}
+use Rattle.quantum_blocks.proofs.PassLaws.{silent_more}
+use Rattle.quantum_blocks.proofs.blocks.hush.Goals as goal
 
 pub loop-end-preserved : goal.loop-end-preserved
 loop-end-preserved c = record {

@@ -1,7 +1,7 @@
 use Rattle.std.proofs.Common.{ℕ, ◌≡◌, ◌<◌, length, slice_index_or}
 use Rattle.wa_base.specs.declared.graph_names.End.{End}
-use Rattle.quantum_render.specs.Blocks.{lanes_of, IsSilent}
-use Rattle.quantum_render.proofs.blocks.hush.Given as goal
+use Rattle.quantum_blocks.specs.Blocks.{lanes_of, IsSilent}
+use Rattle.quantum_blocks.proofs.blocks.hush.Given as goal
 
 -- the ends so far are silent
 abbrev pub invariant-loop-end : goal.invariant-loop-end

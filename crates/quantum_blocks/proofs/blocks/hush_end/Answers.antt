@@ -1,8 +1,8 @@
 use Rattle.std.proofs.Common.{◌<◌, slice_index_or, ◌∙◌, ap, subst}
 use Rattle.std.proofs.lemmas.List.{get_or_default}
-use Rattle.quantum_render.specs.Blocks.{BlockView, no_block, at}
-use Rattle.quantum_render.proofs.Connections.{writes_one, written}
-use Rattle.quantum_render.proofs.blocks.hush_end.Goals as goal
+use Rattle.quantum_blocks.specs.Blocks.{BlockView, no_block, at}
+use Rattle.quantum_blocks.proofs.Connections.{writes_one, written}
+use Rattle.quantum_blocks.proofs.blocks.hush_end.Goals as goal
 
 pub returns-clause-writes : goal.returns-clause-writes
 returns-clause-writes c =

@@ -3,8 +3,8 @@ use borrow.Rule.Slice.PartMut.{put_mid}
 use Rattle.std.specs.Int.{w32}
 use Rattle.std.proofs.lemmas.Int.{to_z-of_z}
 use Rattle.std.proofs.lemmas.List.{places}
-use Rattle.quantum_render.proofs.Lanes.{unfolded_more}
-use Rattle.quantum_render.proofs.kernels.unfold.Goals as goal
+use Rattle.quantum_blocks.proofs.Lanes.{unfolded_more}
+use Rattle.quantum_blocks.proofs.kernels.unfold.Goals as goal
 
 pub loop-lane-preserved : goal.loop-lane-preserved
 loop-lane-preserved c =

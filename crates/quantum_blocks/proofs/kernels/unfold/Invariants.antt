@@ -1,5 +1,5 @@
-use Rattle.quantum_render.proofs.Lanes.{IsUnfolded}
-use Rattle.quantum_render.proofs.kernels.unfold.Given as goal
+use Rattle.quantum_blocks.proofs.Lanes.{IsUnfolded}
+use Rattle.quantum_blocks.proofs.kernels.unfold.Given as goal
 
 abbrev pub invariant-loop-lane : goal.invariant-loop-lane
 invariant-loop-lane l = IsUnfolded l.lanes l.lane l.initial.values l.values

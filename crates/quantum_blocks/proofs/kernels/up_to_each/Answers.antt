@@ -3,8 +3,8 @@ use Rattle.std.specs.Int.{w32}
 use Rattle.std.proofs.lemmas.Int.{to_z-of_z}
 use Rattle.std.proofs.lemmas.List.{get_or-set_other}
 use Rattle.meaning.specs.World.{up_to}
-use Rattle.quantum_render.proofs.Made.{made_more}
-use Rattle.quantum_render.proofs.kernels.up_to_each.Goals as goal
+use Rattle.quantum_blocks.proofs.Made.{made_more}
+use Rattle.quantum_blocks.proofs.kernels.up_to_each.Goals as goal
 
 pub loop-value-preserved : goal.loop-value-preserved
 loop-value-preserved c =

@@ -1,7 +1,7 @@
 use Rattle.std.proofs.Common.{ℕ, pos, ◌≡◌, ◌≤◌, slice_index_or}
 use Rattle.meaning.specs.World.{up_to}
-use Rattle.quantum_render.proofs.Made.{IsMade}
-use Rattle.quantum_render.proofs.kernels.up_to_each.Given as goal
+use Rattle.quantum_blocks.proofs.Made.{IsMade}
+use Rattle.quantum_blocks.proofs.kernels.up_to_each.Given as goal
 
 abbrev pub invariant-loop-value : goal.invariant-loop-value
 invariant-loop-value l = record {

@@ -2,7 +2,7 @@ use Rattle.std.proofs.Common.{ℕ, ◌<◌, length, slice_index_or, sym, ◌∙�
 use Rattle.std.specs.Prelude.{◌==◌, slice_get, option_and_then}
 use Rattle.meaning.specs.declared.scheds.Play.{Play}
 use Rattle.meaning.proofs.FirstItems.{play_position}
-use Rattle.quantum_render.proofs.places.play_place.Goals as goal
+use Rattle.quantum_blocks.proofs.places.play_place.Goals as goal
 
 pub returns-then-is_play-clause-item : goal.returns-then-is_play-clause-item
 returns-then-is_play-clause-item c =

@@ -2,8 +2,8 @@ use Rattle.std.proofs.Common.{sym, ◌∙◌, ap}
 use Rattle.std.specs.ControlFlow.{continue_value}
 use Rattle.meaning.specs.World.{kind_of}
 use Rattle.meaning.proofs.FirstItems.{found_is_in}
-use Rattle.quantum_render.proofs.Heard.{heard_is, heard_started}
-use Rattle.quantum_render.proofs.playing.sounding.Goals as goal
+use Rattle.quantum_blocks.proofs.Heard.{heard_is, heard_started}
+use Rattle.quantum_blocks.proofs.playing.sounding.Goals as goal
 
 pub invariant_of-result : goal.invariant_of-result
 invariant_of-result c =

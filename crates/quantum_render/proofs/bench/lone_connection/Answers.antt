@@ -3,11 +3,11 @@ use Rattle.std.proofs.lemmas.List.{get_or_default}
 use Rattle.std.proofs.lemmas.Bool.Decides.{nat_tests}
 use Rattle.conn_graph.specs.declared.edges.Edge.{Edge}
 use Rattle.conn_graph.specs.Ends.{reader_of}
-use Rattle.quantum_render.specs.Blocks.{slot, counts_in}
-use Rattle.quantum_render.specs.Connections.{into, no_edge}
-use Rattle.quantum_render.specs.Sites.{SiteView}
-use Rattle.quantum_render.proofs.Sources.{source_slot}
-use Rattle.quantum_render.proofs.Connections.{one_item}
+use Rattle.quantum_blocks.specs.Blocks.{slot, counts_in}
+use Rattle.quantum_blocks.specs.Connections.{into, no_edge}
+use Rattle.quantum_blocks.specs.Sites.{SiteView}
+use Rattle.quantum_blocks.proofs.Sources.{source_slot}
+use Rattle.quantum_blocks.proofs.Connections.{one_item}
 use Rattle.quantum_render.proofs.bench.lone_connection.Goals as goal
 
 pub bounds-site-inside-slot : goal.bounds-site-inside-slot

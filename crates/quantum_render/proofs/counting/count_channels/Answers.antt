@@ -1,8 +1,8 @@
 use Rattle.std.proofs.Common.{rules, [], ◌+◌, ◌<◌, length, slice_index_or, slice_set, sym, ◌∙◌, subst}
 use Rattle.std.proofs.lemmas.List.{get_or_default}
 use Rattle.wa_base.specs.declared.graph_names.End.{End}
-use Rattle.quantum_render.proofs.Sources.{same_nodes, end_low}
-use Rattle.quantum_render.proofs.Orders.{no_end}
+use Rattle.quantum_blocks.proofs.Sources.{same_nodes, end_low}
+use Rattle.quantum_blocks.proofs.Orders.{no_end}
 use Rattle.quantum_render.proofs.CountPass.{Counting, counting_begins, next, next_slot, counting_goes_on, counting_ends}
 use Rattle.quantum_render.proofs.counting.count_channels.Goals as goal
 

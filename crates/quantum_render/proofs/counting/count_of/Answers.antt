@@ -3,11 +3,11 @@ use Rattle.node_table.specs.Kinds.{outputs, is_mono, IsInLimits}
 use Rattle.node_table.specs.declared.kinds.Kind.{Kind}
 use Rattle.meaning.specs.World.{sounding, kind_of, played_channels}
 use Rattle.meaning.specs.Counts.{count_by_kind}
-use Rattle.quantum_render.specs.Blocks.{counts_in}
+use Rattle.quantum_blocks.specs.Blocks.{counts_in}
 use Rattle.meaning.proofs.NodeKinds.{kind_is}
 use Rattle.meaning.proofs.NodeKinds.{limits_there}
 use Rattle.quantum_render.proofs.Ports.{outputs_few}
-use Rattle.quantum_render.proofs.Sources.{end_low}
+use Rattle.quantum_blocks.proofs.Sources.{end_low}
 use Rattle.quantum_render.proofs.counting.count_of.Goals as goal
 
 pub kind-requires : goal.kind-requires

@@ -9,11 +9,11 @@ use Rattle.meaning.specs.World.{sounding, kind_of}
 use Rattle.meaning.specs.Validity.{IsValid}
 use Rattle.meaning.specs.Counts.{Counts, input_channels, reader_channels}
 use Rattle.meaning.proofs.Joined.{joined}
-use Rattle.quantum_render.specs.Blocks.{slot, counts_in}
+use Rattle.quantum_blocks.specs.Blocks.{slot, counts_in}
 use Rattle.quantum_render.specs.Plans.{AreCycles}
 use Rattle.quantum_render.proofs.ReaderCounts.{most_before, reader_split}
-use Rattle.quantum_render.proofs.Slots.{slot_low}
-use Rattle.quantum_render.proofs.Sources.{end_low, same_nodes}
+use Rattle.quantum_blocks.proofs.Slots.{slot_low}
+use Rattle.quantum_blocks.proofs.Sources.{end_low, same_nodes}
 use Rattle.quantum_render.proofs.counting.delay_count.Goals as goal
 
 -- a node's mark says whether its delay is in a cycle

@@ -1,8 +1,8 @@
 use Rattle.std.proofs.Common.{ℕ, map, filter, arith}
 use Rattle.conn_graph.specs.declared.edges.Edge.{Edge}
 use Rattle.conn_graph.specs.Ends.{reader_of}
-use Rattle.quantum_render.specs.Blocks.{counts_in}
-use Rattle.quantum_render.specs.Connections.{leads_to, no_edge}
+use Rattle.quantum_blocks.specs.Blocks.{counts_in}
+use Rattle.quantum_blocks.specs.Connections.{leads_to, no_edge}
 use Rattle.quantum_render.proofs.CountingLaws.{greatest_low, greatest_step}
 use Rattle.quantum_render.proofs.counting.greatest_count.Goals as goal
 

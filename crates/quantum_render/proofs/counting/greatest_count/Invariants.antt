@@ -1,8 +1,8 @@
 use Rattle.std.proofs.Common.{◌≡◌, ◌≤◌, map, drop, filter, max}
 use Rattle.channel_mix.specs.Counts.{greatest}
 use Rattle.conn_graph.specs.Ends.{reader_of}
-use Rattle.quantum_render.specs.Blocks.{counts_in}
-use Rattle.quantum_render.specs.Connections.{leads_to}
+use Rattle.quantum_blocks.specs.Blocks.{counts_in}
+use Rattle.quantum_blocks.specs.Connections.{leads_to}
 use Rattle.quantum_render.proofs.counting.greatest_count.Given as goal
 
 -- the greatest so far and the greatest of what is left are the greatest of all

@@ -4,11 +4,11 @@ use Rattle.node_table.specs.declared.nodes.Attrs.{Attrs}
 use Rattle.conn_graph.specs.declared.edges.Edge.{Edge}
 use Rattle.conn_graph.specs.declared.edges.Target.TheVariants.{Input}
 use Rattle.conn_graph.specs.Ends.{reader_of}
-use Rattle.quantum_render.specs.Blocks.{counts_in}
-use Rattle.quantum_render.specs.Connections.{leads_to}
+use Rattle.quantum_blocks.specs.Blocks.{counts_in}
+use Rattle.quantum_blocks.specs.Connections.{leads_to}
 use Rattle.quantum_render.proofs.CountingLaws.{count_of_greatest}
 use Rattle.meaning.proofs.NodeKinds.{attrs_are}
-use Rattle.quantum_render.proofs.Sources.{input_sources, into_slots}
+use Rattle.quantum_blocks.proofs.Sources.{input_sources, into_slots}
 use Rattle.quantum_render.proofs.counting.input_count.Goals as goal
 
 pub returns-clause-value : goal.returns-clause-value

@@ -3,10 +3,10 @@ use Rattle.std.specs.Option.{option_map_or}
 use Rattle.node_table.specs.Kinds.{outputs}
 use Rattle.sched_source.specs.Schedule.{played}
 use Rattle.meaning.specs.World.{channels_in, samples_in, played_channels}
-use Rattle.quantum_render.specs.Blocks.{slot, counts_in}
-use Rattle.quantum_render.specs.Heard.{SourceView, heard_source}
-use Rattle.quantum_render.specs.Sites.{SiteView}
-use Rattle.quantum_render.proofs.Heard.{heard, unheard, heard_channels}
+use Rattle.quantum_blocks.specs.Blocks.{slot, counts_in}
+use Rattle.quantum_blocks.specs.Heard.{SourceView, heard_source}
+use Rattle.quantum_blocks.specs.Sites.{SiteView}
+use Rattle.quantum_blocks.proofs.Heard.{heard, unheard, heard_channels}
 use Rattle.quantum_render.proofs.Rendering.{site_is, own_within, lanes_own, writes_own, renders_own}
 use Rattle.quantum_render.proofs.kinds.render_buffer.Goals as goal
 

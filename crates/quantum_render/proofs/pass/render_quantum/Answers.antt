@@ -4,12 +4,12 @@ use Rattle.law_base.specs.Members.{IsIn}
 use Rattle.conn_graph.specs.Ends.{ends}
 use Rattle.meaning.specs.World.{kind_of}
 use Rattle.meaning.proofs.Joined.{joined}
-use Rattle.quantum_render.specs.Blocks.{slot, IsSilent, Writes}
-use Rattle.quantum_render.specs.Fits.{AreFit}
-use Rattle.quantum_render.specs.Sites.{SiteView}
+use Rattle.quantum_blocks.specs.Blocks.{slot, IsSilent, Writes}
+use Rattle.quantum_blocks.specs.Fits.{AreFit}
+use Rattle.quantum_blocks.specs.Sites.{SiteView}
 use Rattle.quantum_render.specs.Listening.{HasRooms}
 use Rattle.quantum_render.specs.Renders.{RendersWith, Listens, Stores}
-use Rattle.quantum_render.proofs.Orders.{no_end}
+use Rattle.quantum_blocks.proofs.Orders.{no_end}
 use Rattle.quantum_render.proofs.Passing.{still_fit, passing_begins, next, passing_goes_on, passing_ends, all_remembered, mute_there}
 use Rattle.quantum_render.proofs.Rendering.{site_here}
 use Rattle.quantum_render.proofs.pass.render_quantum.Goals as goal

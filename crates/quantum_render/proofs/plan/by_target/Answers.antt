@@ -2,8 +2,8 @@ use Rattle.std.proofs.Common.{ℕ, [], ◌∷◌, ◌++◌, ◌<◌, refl, lengt
 use Rattle.std.proofs.lemmas.List.{get_or_default, length-set}
 use Rattle.conn_graph.specs.Edges.{target_node}
 use Rattle.conn_graph.specs.declared.edges.Edge.{Edge}
-use Rattle.quantum_render.specs.Connections.{no_edge}
-use Rattle.quantum_render.proofs.Sources.{IsIn-get_or, filed}
+use Rattle.quantum_blocks.specs.Connections.{no_edge}
+use Rattle.quantum_blocks.proofs.Sources.{IsIn-get_or, filed}
 use Rattle.quantum_render.proofs.plan.by_target.Goals as goal
 
 pub index_mut-requires : goal.index_mut-requires

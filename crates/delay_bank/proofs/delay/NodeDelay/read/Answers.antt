@@ -33,11 +33,11 @@ unborn d longest born now writer kept first delays asked early interp channels k
 pub returns-then-not-has : goal.returns-then-not-has
 returns-then-not-has c = record {
   values = λ longest born now writer kept asked few whole channel k low here.
-      let there : channel * 128 + k < length c.args.out.now = let long = c.requires.out in let wide = mul-le-mul_right 128 (let next : channel + 1 ≤ c.args.channels = omega arith in next) in omega (arith, long, wide, here) in
+      let there : channel * 128 + k < length c.args.out.now = let long = c.requires.out in let wide = mul-le-mul_right 128 (let next : channel + 1 ≤ c.args.asked.channels = omega arith in next) in omega (arith, long, wide, here) in
       let silent : sample 128 c.silence.new.out channel k ≡ pos 0 = c.silence.ensures (channel * 128 + k) there in
-      elim (cases_lt c.args.first c.args.self.now.birth) [
-        | inl early ↦ silent ∙ unborn c.args.self.now longest born now writer kept c.args.first c.args.delays.now asked early c.args.interp c.args.channels k channel here
-        | inr lived ↦ absurd (let yes = c.has.ensures.asked (by_delay c.args.self.now longest born now writer kept c.args.first c.args.delays.now asked) lived in let no = c.if-not-has.true in cc)
+      elim (cases_lt c.args.asked.first c.args.self.now.birth) [
+        | inl early ↦ silent ∙ unborn c.args.self.now longest born now writer kept c.args.asked.first c.args.asked.delays.now asked early c.args.asked.interp c.args.asked.channels k channel here
+        | inr lived ↦ absurd (let yes = c.has.ensures.asked (by_delay c.args.self.now longest born now writer kept c.args.asked.first c.args.asked.delays.now asked) lived in let no = c.if-not-has.true in cc)
       ];
 }
 
@@ -47,13 +47,13 @@ returns c = record {
       let has = subst (λ (d : DelayView). HasKept d longest born now writer) (sym c.self.view_is) kept in
       let line = c.self.inside.line in
       let frames = c.self.invariant.block in
-      let d = delay_at c.args.delays.now k in
-      let lived : born ≤ c.args.first = subst (λ b. b ≤ c.args.first) kept.birth (c.has.ensures.born c.if-not-has.false) in
-      let since : c.args.first - c.self.inside.birth ≡ c.args.first - born = ap (λ b. c.args.first - b) has.birth in
-      let reached : IsReached line (c.args.first - born + k) d = subst (λ b. IsReached line (c.args.first - b + k) d) has.birth (subst (λ (v : DelayView). IsReached v.line (c.args.first - v.birth + k) d) (sym c.self.view_is) (c.has.ensures.reached c.if-not-has.false k here)) in
-      let heard = heard_few line frames born c.args.first lived whole writer has.keeps k d c.args.channels reached (few k here) in
-      subst (λ b. sample b c.read.new.out channel k ≡ delayed b (since_birth born writer) c.args.interp c.args.channels (c.args.first - c.self.inside.birth + k) d channel) frames
-      (c.read.ensures (since_birth born writer) channel k has.keeps low (subst (λ b. k < b) (sym frames) here) (subst (λ n. heard_count line (n + k) d ≤ c.args.channels) (sym since) heard))
-      ∙ ap (λ n. delayed 128 (since_birth born writer) c.args.interp c.args.channels (n + k) d channel) since
-      ∙ by_context born c.args.first lived whole writer c.args.interp c.args.channels k d channel;
+      let d = delay_at c.args.asked.delays.now k in
+      let lived : born ≤ c.args.asked.first = subst (λ b. b ≤ c.args.asked.first) kept.birth (c.has.ensures.born c.if-not-has.false) in
+      let since : c.args.asked.first - c.self.inside.birth ≡ c.args.asked.first - born = ap (λ b. c.args.asked.first - b) has.birth in
+      let reached : IsReached line (c.args.asked.first - born + k) d = subst (λ b. IsReached line (c.args.asked.first - b + k) d) has.birth (subst (λ (v : DelayView). IsReached v.line (c.args.asked.first - v.birth + k) d) (sym c.self.view_is) (c.has.ensures.reached c.if-not-has.false k here)) in
+      let heard = heard_few line frames born c.args.asked.first lived whole writer has.keeps k d c.args.asked.channels reached (few k here) in
+      subst (λ b. sample b c.read.new.out channel k ≡ delayed b (since_birth born writer) c.args.asked.interp c.args.asked.channels (c.args.asked.first - c.self.inside.birth + k) d channel) frames
+      (c.read.ensures (since_birth born writer) channel k has.keeps low (subst (λ b. k < b) (sym frames) here) (subst (λ n. heard_count line (n + k) d ≤ c.args.asked.channels) (sym since) heard))
+      ∙ ap (λ n. delayed 128 (since_birth born writer) c.args.asked.interp c.args.asked.channels (n + k) d channel) since
+      ∙ by_context born c.args.asked.first lived whole writer c.args.asked.interp c.args.asked.channels k d channel;
 }

@@ -1,11 +1,11 @@
 use Rattle.std.proofs.Common.{ℤ, List, pos, ◌≡◌, ◌*◌, ◌+ℤ◌, length, take, slice_index_or, ◌∙◌, ap, arith}
 use Rattle.std.proofs.lemmas.List.{length-take-le}
 use Rattle.wa_base.specs.Numbers.{sat}
-use Rattle.quantum_render.specs.Blocks.{BlockView, at}
-use Rattle.quantum_render.specs.Sums.{sum_at}
-use Rattle.quantum_render.proofs.Made.{front_first, front_at}
-use Rattle.quantum_render.proofs.Holding.{moved}
-use Rattle.quantum_render.proofs.block.Block.add_moving.Goals as goal
+use Rattle.quantum_blocks.specs.Blocks.{BlockView, at}
+use Rattle.quantum_blocks.specs.Sums.{sum_at}
+use Rattle.quantum_blocks.proofs.Made.{front_first, front_at}
+use Rattle.quantum_blocks.proofs.Holding.{moved}
+use Rattle.quantum_blocks.proofs.block.Block.add_moving.Goals as goal
 
 pub returns-clause-values : goal.returns-clause-values
 returns-clause-values c m now =

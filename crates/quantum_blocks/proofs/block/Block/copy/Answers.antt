@@ -1,5 +1,5 @@
 use Rattle.std.proofs.Common.{◌<◌, sym, ◌∙◌, arith, subst}
-use Rattle.quantum_render.proofs.block.Block.copy.Goals as goal
+use Rattle.quantum_blocks.proofs.block.Block.copy.Goals as goal
 
 pub copy_steady-requires-clause-few : goal.copy_steady-requires-clause-few
 copy_steady-requires-clause-few c = let held = c.in-Steady.ensures.0 in let lanes = c.lanes-lanes.ensures.lanes in let high = c.lanes-lanes.ensures.high in omega arith

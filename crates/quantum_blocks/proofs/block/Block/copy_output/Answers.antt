@@ -1,6 +1,6 @@
 use Rattle.std.proofs.Common.{ℕ, ℤ, ◌<◌, ◌≤◌, sym, ◌∙◌, ap, subst, FitsSigned}
 use Rattle.std.specs.Int.{w32}
-use Rattle.quantum_render.proofs.block.Block.copy_output.Goals as goal
+use Rattle.quantum_blocks.proofs.block.Block.copy_output.Goals as goal
 
 pub copy_steady-requires-clause-few : goal.copy_steady-requires-clause-few
 copy_steady-requires-clause-few c = subst (λ n. n ≤ 32) (sym c.in-Steady.ensures.0) c.requires.few

@@ -1,6 +1,6 @@
 use Rattle.std.proofs.Common.{length, ◌∙◌, arith}
-use Rattle.quantum_render.proofs.Holding.{steady_is}
-use Rattle.quantum_render.proofs.block.Block.copy_steady.Goals as goal
+use Rattle.quantum_blocks.proofs.Holding.{steady_is}
+use Rattle.quantum_blocks.proofs.block.Block.copy_steady.Goals as goal
 
 pub returns-clause-values : goal.returns-clause-values
 returns-clause-values c lane m low now =

@@ -1,9 +1,9 @@
 use Rattle.std.proofs.Common.{ℕ, ℤ, List, pos, ◌≡◌, ◌-◌, ◌<◌, length, take, slice_index_or, sym, ◌∙◌, ap, arith, subst}
 use Rattle.std.proofs.lemmas.List.{get_or-take, length-take-le}
 use Rattle.channel_mix.specs.Blocks.{sample}
-use Rattle.quantum_render.specs.Blocks.{BlockView, at, all_values}
-use Rattle.quantum_render.proofs.Holding.{steady_at}
-use Rattle.quantum_render.proofs.block.Block.held.Goals as goal
+use Rattle.quantum_blocks.specs.Blocks.{BlockView, at, all_values}
+use Rattle.quantum_blocks.proofs.Holding.{steady_at}
+use Rattle.quantum_blocks.proofs.block.Block.held.Goals as goal
 
 pub returns-then-self : goal.returns-then-self
 returns-then-self c =

@@ -1,9 +1,9 @@
 use Rattle.std.proofs.Common.{ℕ, ℤ, List, rules, pos, ◌+◌, ◌*◌, ◌≤◌, length, slice_index_or, sym, ◌∙◌, ap, arith}
 use Rattle.std.proofs.lemmas.List.{get_or-take}
 use Rattle.channel_mix.specs.Blocks.{sample}
-use Rattle.quantum_render.specs.Blocks.{BlockView, at, all_values}
-use Rattle.quantum_render.proofs.Holding.{steady_at, steady_carried, moving_carried, part_length, part_steady, wide_length, part_moving}
-use Rattle.quantum_render.proofs.block.Block.output.Goals as goal
+use Rattle.quantum_blocks.specs.Blocks.{BlockView, at, all_values}
+use Rattle.quantum_blocks.proofs.Holding.{steady_at, steady_carried, moving_carried, part_length, part_steady, wide_length, part_moving}
+use Rattle.quantum_blocks.proofs.block.Block.output.Goals as goal
 
 pub overflow_mul-first : goal.overflow_mul-first
 overflow_mul-first c =

@@ -1,7 +1,7 @@
 use Rattle.std.proofs.Common.{◌∙◌, sym, ap, arith}
 use Rattle.wa_base.specs.Numbers.{sat}
-use Rattle.quantum_render.proofs.Holding.{steady_is}
-use Rattle.quantum_render.proofs.block.Block.saturate.Goals as goal
+use Rattle.quantum_blocks.proofs.Holding.{steady_is}
+use Rattle.quantum_blocks.proofs.block.Block.saturate.Goals as goal
 
 pub returns-in-Some-clause-values : goal.returns-in-Some-clause-values
 returns-in-Some-clause-values c channel m low now =

@@ -2,9 +2,9 @@ use Rattle.std.proofs.Common.{rules, ◌*◌, ◌+◌, sym, ◌∙◌, ap₂, ar
 use Rattle.std.specs.Int.{w32}
 use Rattle.std.proofs.lemmas.Int.{to_z-of_z}
 use Rattle.wa_base.specs.Numbers.{scale}
-use Rattle.quantum_render.proofs.Made.{front_at}
-use Rattle.quantum_render.proofs.Holding.{steady_is}
-use Rattle.quantum_render.proofs.block.Block.scale_by.Goals as goal
+use Rattle.quantum_blocks.proofs.Made.{front_at}
+use Rattle.quantum_blocks.proofs.Holding.{steady_is}
+use Rattle.quantum_blocks.proofs.block.Block.scale_by.Goals as goal
 
 pub returns-in-Steady-clause-values : goal.returns-in-Steady-clause-values
 returns-in-Steady-clause-values c channel m low now =

@@ -1,7 +1,7 @@
 use Rattle.std.proofs.Common.{rules, pos, ◌≡◌, ◌+◌, ◌*◌, slice_index_or, sym, ◌∙◌, ap, arith, FitsSigned}
 use Rattle.std.specs.Int.{w32}
 use Rattle.std.proofs.lemmas.Int.{to_z-of_z}
-use Rattle.quantum_render.proofs.block.Block.set_lane.Goals as goal
+use Rattle.quantum_blocks.proofs.block.Block.set_lane.Goals as goal
 
 pub returns-in-Steady-clause-own : goal.returns-in-Steady-clause-own
 returns-in-Steady-clause-own c m now =

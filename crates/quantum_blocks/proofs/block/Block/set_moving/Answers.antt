@@ -2,9 +2,9 @@ use Rattle.std.proofs.Common.{ℕ, ℤ, List, rules, ◌≡◌, ◌+◌, ◌-◌
 use Rattle.std.specs.Vec.{vec_len}
 use Rattle.std.proofs.lemmas.List.{places, length-take-le}
 use Rattle.channel_mix.specs.Blocks.{sample}
-use Rattle.quantum_render.specs.Blocks.{BlockView, at}
-use Rattle.quantum_render.proofs.Lanes.{moving_others, unfolded_or_not, front_of}
-use Rattle.quantum_render.proofs.block.Block.set_moving.Goals as goal
+use Rattle.quantum_blocks.specs.Blocks.{BlockView, at}
+use Rattle.quantum_blocks.proofs.Lanes.{moving_others, unfolded_or_not, front_of}
+use Rattle.quantum_blocks.proofs.block.Block.set_moving.Goals as goal
 
 pub returns-clause-others : goal.returns-clause-others
 returns-clause-others c l m there other now =

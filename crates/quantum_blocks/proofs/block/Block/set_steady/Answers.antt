@@ -5,9 +5,9 @@ use Rattle.std.specs.Int.{w32}
 use Rattle.std.proofs.lemmas.Int.{to_z-of_z}
 use Rattle.std.proofs.lemmas.List.{places, get_or-take}
 use Rattle.channel_mix.specs.Blocks.{sample}
-use Rattle.quantum_render.specs.Blocks.{BlockView, at, all_values}
-use Rattle.quantum_render.proofs.Lanes.{steady_own, steady_others, moving_own, moving_others}
-use Rattle.quantum_render.proofs.block.Block.set_steady.Goals as goal
+use Rattle.quantum_blocks.specs.Blocks.{BlockView, at, all_values}
+use Rattle.quantum_blocks.proofs.Lanes.{steady_own, steady_others, moving_own, moving_others}
+use Rattle.quantum_blocks.proofs.block.Block.set_steady.Goals as goal
 
 pub returns-then-self-clause-own : goal.returns-then-self-clause-own
 returns-then-self-clause-own c m now =

@@ -1,8 +1,8 @@
 use Rattle.std.proofs.Common.{◌*◌, ◌+◌, ◌∷◌, [], sym, ◌∙◌, ap, arith}
 use Rattle.causal_core.specs.Curves.{shaper_value}
-use Rattle.quantum_render.proofs.Made.{front_at}
-use Rattle.quantum_render.proofs.Holding.{steady_is}
-use Rattle.quantum_render.proofs.block.Block.shape.Goals as goal
+use Rattle.quantum_blocks.proofs.Made.{front_at}
+use Rattle.quantum_blocks.proofs.Holding.{steady_is}
+use Rattle.quantum_blocks.proofs.block.Block.shape.Goals as goal
 
 pub returns-in-Steady-clause-values : goal.returns-in-Steady-clause-values
 returns-in-Steady-clause-values c channel m low now =

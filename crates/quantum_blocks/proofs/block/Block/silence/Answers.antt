@@ -1,7 +1,7 @@
 use Rattle.std.proofs.Common.{◌<◌, sym, ◌∙◌, arith, subst}
-use Rattle.quantum_render.specs.Blocks.{BlockView}
-use Rattle.quantum_render.proofs.Holding.{steady_is}
-use Rattle.quantum_render.proofs.block.Block.silence.Goals as goal
+use Rattle.quantum_blocks.specs.Blocks.{BlockView}
+use Rattle.quantum_blocks.proofs.Holding.{steady_is}
+use Rattle.quantum_blocks.proofs.block.Block.silence.Goals as goal
 
 pub returns-clause-values : goal.returns-clause-values
 returns-clause-values c channel m low now =

@@ -2,10 +2,10 @@ use Rattle.std.proofs.Common.{ℤ, List, pos, ◌≡◌, ◌+◌, ◌*◌, lengt
 use Rattle.std.specs.Prelude.{if◌then◌else◌}
 use Rattle.std.proofs.lemmas.List.{length-take-le}
 use Rattle.sched_source.specs.Schedule.{is_between}
-use Rattle.quantum_render.specs.Blocks.{BlockView, at}
-use Rattle.quantum_render.proofs.Made.{front_first, front_at}
-use Rattle.quantum_render.proofs.Holding.{moved}
-use Rattle.quantum_render.proofs.block.Block.sound_in_part.Goals as goal
+use Rattle.quantum_blocks.specs.Blocks.{BlockView, at}
+use Rattle.quantum_blocks.proofs.Made.{front_first, front_at}
+use Rattle.quantum_blocks.proofs.Holding.{moved}
+use Rattle.quantum_blocks.proofs.block.Block.sound_in_part.Goals as goal
 
 pub returns-clause-values : goal.returns-clause-values
 returns-clause-values c m now =

@@ -4,9 +4,9 @@ use Rattle.std.proofs.lemmas.Int.{to_z-of_z}
 use Rattle.std.proofs.lemmas.List.{get_or_default}
 use Rattle.channel_mix.specs.Blocks.{sample}
 use Rattle.wa_base.specs.Numbers.{sat}
-use Rattle.quantum_render.specs.Blocks.{BlockView, at, all_values}
-use Rattle.quantum_render.proofs.Holding.{steady_at}
-use Rattle.quantum_render.proofs.block.Block.steady_level.Goals as goal
+use Rattle.quantum_blocks.specs.Blocks.{BlockView, at, all_values}
+use Rattle.quantum_blocks.proofs.Holding.{steady_at}
+use Rattle.quantum_blocks.proofs.block.Block.steady_level.Goals as goal
 
 pub returns : goal.returns
 returns c m now =

@@ -3,9 +3,9 @@ use Rattle.std.specs.Int.{w32}
 use Rattle.std.proofs.lemmas.Int.{to_z-of_z}
 use Rattle.std.proofs.lemmas.List.{get_or_default}
 use Rattle.channel_mix.specs.Blocks.{sample}
-use Rattle.quantum_render.specs.Blocks.{BlockView, at, all_values}
-use Rattle.quantum_render.proofs.Holding.{steady_at}
-use Rattle.quantum_render.proofs.block.Block.steady_value.Goals as goal
+use Rattle.quantum_blocks.specs.Blocks.{BlockView, at, all_values}
+use Rattle.quantum_blocks.proofs.Holding.{steady_at}
+use Rattle.quantum_blocks.proofs.block.Block.steady_value.Goals as goal
 
 pub returns-then-self : goal.returns-then-self
 returns-then-self c m now =

@@ -2,7 +2,7 @@ use Rattle.std.proofs.Common.{rules, refl, ◌∙◌, ap₂, FitsSigned}
 use Rattle.std.specs.Int.{w32}
 use Rattle.std.proofs.lemmas.Int.{to_z-of_z}
 use Rattle.meaning.specs.World.{up_to}
-use Rattle.quantum_render.proofs.block.Block.up_to.Goals as goal
+use Rattle.quantum_blocks.proofs.block.Block.up_to.Goals as goal
 
 pub returns-in-Some-clause-values : goal.returns-in-Some-clause-values
 returns-in-Some-clause-values c m now =

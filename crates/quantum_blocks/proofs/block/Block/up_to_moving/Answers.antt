@@ -3,10 +3,10 @@ use Rattle.std.specs.Int.{w32}
 use Rattle.std.proofs.lemmas.Int.{to_z-of_z}
 use Rattle.std.proofs.lemmas.List.{length-take-le}
 use Rattle.meaning.specs.World.{up_to}
-use Rattle.quantum_render.specs.Blocks.{BlockView, at}
-use Rattle.quantum_render.proofs.Made.{front_first, front_at}
-use Rattle.quantum_render.proofs.Holding.{moved}
-use Rattle.quantum_render.proofs.block.Block.up_to_moving.Goals as goal
+use Rattle.quantum_blocks.specs.Blocks.{BlockView, at}
+use Rattle.quantum_blocks.proofs.Made.{front_first, front_at}
+use Rattle.quantum_blocks.proofs.Holding.{moved}
+use Rattle.quantum_blocks.proofs.block.Block.up_to_moving.Goals as goal
 
 pub returns-clause-values : goal.returns-clause-values
 returns-clause-values c m now =

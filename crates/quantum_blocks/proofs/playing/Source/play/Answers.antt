@@ -5,8 +5,8 @@ use Rattle.channel_mix.specs.Blocks.{sample}
 use Rattle.channel_mix.proofs.Sums.{written_before, written_here}
 use Rattle.sched_source.specs.Schedule.{played}
 use Rattle.meaning.specs.World.{channels_in, samples_in}
-use Rattle.quantum_render.proofs.Lanes.{written_length, lane_length}
-use Rattle.quantum_render.proofs.playing.Source.play.Goals as goal
+use Rattle.quantum_blocks.proofs.Lanes.{written_length, lane_length}
+use Rattle.quantum_blocks.proofs.playing.Source.play.Goals as goal
 
 pub loop-lane-preserved : goal.loop-lane-preserved
 loop-lane-preserved c =

@@ -2,7 +2,7 @@ use Rattle.std.proofs.Common.{ℕ, ◌≡◌, ◌+◌, ◌<◌, ◌*◌, length,
 use Rattle.channel_mix.specs.Blocks.{sample}
 use Rattle.sched_source.specs.Schedule.{played}
 use Rattle.meaning.specs.World.{channels_in, samples_in}
-use Rattle.quantum_render.proofs.playing.Source.play.Given as goal
+use Rattle.quantum_blocks.proofs.playing.Source.play.Given as goal
 
 -- the lanes so far
 abbrev pub invariant-loop-lane : goal.invariant-loop-lane

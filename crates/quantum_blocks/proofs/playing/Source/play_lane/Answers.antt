@@ -1,8 +1,8 @@
 use Rattle.std.proofs.Common.{◌<◌, Some, ap, subst, sym, ◌∙◌}
 use Rattle.meaning.specs.World.{channels_in}
-use Rattle.quantum_render.specs.Heard.{SourceView}
-use Rattle.quantum_render.proofs.Heard.{plays_all}
-use Rattle.quantum_render.proofs.playing.Source.play_lane.Goals as goal
+use Rattle.quantum_blocks.specs.Heard.{SourceView}
+use Rattle.quantum_blocks.proofs.Heard.{plays_all}
+use Rattle.quantum_blocks.proofs.playing.Source.play_lane.Goals as goal
 
 pub play-requires-clause-channel : goal.play-requires-clause-channel
 play-requires-clause-channel c =

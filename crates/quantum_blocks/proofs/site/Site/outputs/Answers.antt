@@ -1,11 +1,11 @@
 use Rattle.std.proofs.Common.{sym, ◌∙◌, ap, subst}
 use Rattle.node_table.specs.Kinds.{outputs, IsInLimits}
 use Rattle.meaning.specs.World.{kind_of}
-use Rattle.quantum_render.specs.Sites.{SiteView}
+use Rattle.quantum_blocks.specs.Sites.{SiteView}
 use Rattle.meaning.proofs.NodeKinds.{kind_is}
 use Rattle.meaning.proofs.NodeKinds.{limits_there}
-use Rattle.quantum_render.proofs.Sources.{end_low}
-use Rattle.quantum_render.proofs.site.Site.outputs.Goals as goal
+use Rattle.quantum_blocks.proofs.Sources.{end_low}
+use Rattle.quantum_blocks.proofs.site.Site.outputs.Goals as goal
 
 pub kind-requires : goal.kind-requires
 kind-requires c = end_low c.self.inside.world.now c.self.invariant.0.valid c.self.inside.end c.self.invariant.0.there

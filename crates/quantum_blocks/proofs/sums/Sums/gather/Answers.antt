@@ -6,14 +6,14 @@ use Rattle.channel_mix.specs.Mixing.{total}
 use Rattle.std.proofs.lemmas.Int.{ints}
 use Rattle.conn_graph.specs.declared.edges.Edge.{Edge}
 use Rattle.meaning.specs.Values.{part}
-use Rattle.quantum_render.specs.Blocks.{frame_of}
-use Rattle.quantum_render.specs.Connections.{leads_to, no_edge}
-use Rattle.quantum_render.specs.Fits.{AreFit}
-use Rattle.quantum_render.specs.Sums.{sum_at}
-use Rattle.quantum_render.specs.Sites.{SiteView}
-use Rattle.quantum_render.proofs.Sources.{source_is, site_few}
-use Rattle.quantum_render.proofs.Connections.{total_step}
-use Rattle.quantum_render.proofs.sums.Sums.gather.Goals as goal
+use Rattle.quantum_blocks.specs.Blocks.{frame_of}
+use Rattle.quantum_blocks.specs.Connections.{leads_to, no_edge}
+use Rattle.quantum_blocks.specs.Fits.{AreFit}
+use Rattle.quantum_blocks.specs.Sums.{sum_at}
+use Rattle.quantum_blocks.specs.Sites.{SiteView}
+use Rattle.quantum_blocks.proofs.Sources.{source_is, site_few}
+use Rattle.quantum_blocks.proofs.Connections.{total_step}
+use Rattle.quantum_blocks.proofs.sums.Sums.gather.Goals as goal
 
 pub hear-requires-clause-source : goal.hear-requires-clause-source
 hear-requires-clause-source c =

@@ -2,10 +2,10 @@ use Rattle.std.proofs.Common.{ℕ, ◌≡◌, ◌<◌, ◌≤◌, ◌+ℤ◌, ma
 use Rattle.channel_mix.specs.Mixing.{total}
 use Rattle.meaning.specs.declared.world.World.{World}
 use Rattle.meaning.specs.Values.{part}
-use Rattle.quantum_render.specs.Blocks.{frame_of}
-use Rattle.quantum_render.specs.Connections.{leads_to}
-use Rattle.quantum_render.specs.Sums.{sum_at}
-use Rattle.quantum_render.proofs.sums.Sums.gather.Given as goal
+use Rattle.quantum_blocks.specs.Blocks.{frame_of}
+use Rattle.quantum_blocks.specs.Connections.{leads_to}
+use Rattle.quantum_blocks.specs.Sums.{sum_at}
+use Rattle.quantum_blocks.proofs.sums.Sums.gather.Given as goal
 
 -- what the sums have, and what is left to be added, are the whole
 abbrev pub invariant-loop-edge : goal.invariant-loop-edge

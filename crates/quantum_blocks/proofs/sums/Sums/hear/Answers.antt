@@ -5,10 +5,10 @@ use Rattle.wa_base.specs.declared.graph_names.End.{End}
 use Rattle.channel_mix.specs.Mixing.{mix}
 use Rattle.conn_graph.specs.Ends.{reader_of}
 use Rattle.meaning.specs.Values.{part}
-use Rattle.quantum_render.specs.Blocks.{BlockView, no_block, slot, block_of, carried, counts_in, frame_of}
-use Rattle.quantum_render.specs.Connections.{leads_to}
-use Rattle.quantum_render.specs.Sums.{sum_at}
-use Rattle.quantum_render.proofs.sums.Sums.hear.Goals as goal
+use Rattle.quantum_blocks.specs.Blocks.{BlockView, no_block, slot, block_of, carried, counts_in, frame_of}
+use Rattle.quantum_blocks.specs.Connections.{leads_to}
+use Rattle.quantum_blocks.specs.Sums.{sum_at}
+use Rattle.quantum_blocks.proofs.sums.Sums.hear.Goals as goal
 
 pub returns-in-Steady-clause-sums : goal.returns-in-Steady-clause-sums
 returns-in-Steady-clause-sums c w channel m in_range now =

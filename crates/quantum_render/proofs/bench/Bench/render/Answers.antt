@@ -4,11 +4,11 @@ use Rattle.node_table.specs.Nodes.{kind_at}
 use Rattle.meaning.specs.World.{kind_of}
 use Rattle.filter_bank.specs.Banks.{BankView, filter_at, HaveRoom}
 use Rattle.delay_bank.specs.Banks.{BankView as DelayBank, HaveRoom as HaveDelayRoom}
-use Rattle.quantum_render.specs.Sites.{SiteView}
+use Rattle.quantum_blocks.specs.Sites.{SiteView}
 use Rattle.quantum_render.specs.Renders.{Renders, RendersWith, Stores}
 use Rattle.quantum_render.proofs.Listening.{with_memory}
 use Rattle.meaning.proofs.NodeKinds.{limits_there}
-use Rattle.quantum_render.proofs.Sources.{end_low}
+use Rattle.quantum_blocks.proofs.Sources.{end_low}
 use Rattle.quantum_render.proofs.Rendering.{site_is, site_kind, unstored}
 use Rattle.quantum_render.proofs.bench.Bench.render.Goals as goal
 

@@ -2,9 +2,9 @@ use Rattle.std.proofs.Common.{pos, ◌≡◌, ◌+◌, ◌<◌, ◌≤◌, ◌*�
 use Rattle.std.specs.Prelude.{if◌then◌else◌}
 use Rattle.node_table.specs.Kinds.{outputs, is_mono}
 use Rattle.meaning.specs.World.{sounds_at}
-use Rattle.quantum_render.specs.Blocks.{BlockView, at, slot, room_of}
+use Rattle.quantum_blocks.specs.Blocks.{BlockView, at, slot, room_of}
 use Rattle.quantum_render.specs.Benches.{BenchView}
-use Rattle.quantum_render.specs.Sites.{SiteView}
+use Rattle.quantum_blocks.specs.Sites.{SiteView}
 use Rattle.std.specs.Prelude.{is_some}
 use Rattle.wa_base.specs.declared.graph_names.ParamName.TheVariants.{Offset}
 use Rattle.node_table.specs.Kinds.{param_base}

@@ -1,8 +1,8 @@
 use Rattle.std.proofs.Common.{◌≡◌, ◌<◌, ◌≤◌, ◌*◌, slice_index_or, sym, ◌∙◌, ap, subst}
 use Rattle.node_table.specs.Kinds.{outputs}
-use Rattle.quantum_render.specs.Blocks.{BlockView, at, slot, counts_in, room_of}
+use Rattle.quantum_blocks.specs.Blocks.{BlockView, at, slot, counts_in, room_of}
 use Rattle.quantum_render.specs.Benches.{BenchView}
-use Rattle.quantum_render.specs.Sites.{SiteView}
+use Rattle.quantum_blocks.specs.Sites.{SiteView}
 use Rattle.quantum_render.proofs.Rendering.{site_is, own_within, own_room, writes_own, renders_own}
 use Rattle.quantum_render.proofs.bench.Bench.render_destination.Goals as goal
 

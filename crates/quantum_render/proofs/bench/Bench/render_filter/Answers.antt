@@ -8,9 +8,9 @@ use Rattle.meaning.specs.Counts.{input_channels}
 use Rattle.meaning.specs.Values.{Frame}
 use Rattle.filter_bank.specs.Heard.{Brings, room_of as filter_room}
 use Rattle.filter_bank.specs.Banks.{BankView, filter_at, Hears}
-use Rattle.quantum_render.specs.Blocks.{BlockView, at, shown, carried, slot, counts_in}
+use Rattle.quantum_blocks.specs.Blocks.{BlockView, at, shown, carried, slot, counts_in}
 use Rattle.quantum_render.specs.Benches.{BenchView}
-use Rattle.quantum_render.specs.Sites.{SiteView}
+use Rattle.quantum_blocks.specs.Sites.{SiteView}
 use Rattle.quantum_render.specs.Renders.{IsReadyFor}
 use Rattle.quantum_render.proofs.Filtering.{lanes_are, takes, has_heard, brings, puts_out, hears_on}
 use Rattle.filter_bank.proofs.Growing.{this_or_other}

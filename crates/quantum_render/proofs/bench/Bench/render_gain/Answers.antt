@@ -1,9 +1,9 @@
 use Rattle.std.proofs.Common.{◌≡◌, ◌<◌, ◌≤◌, ◌*◌, slice_index_or, sym, ◌∙◌, ap, ap₂, subst}
 use Rattle.wa_base.specs.Numbers.{scale}
 use Rattle.node_table.specs.Kinds.{outputs}
-use Rattle.quantum_render.specs.Blocks.{BlockView, at, slot, counts_in, room_of}
+use Rattle.quantum_blocks.specs.Blocks.{BlockView, at, slot, counts_in, room_of}
 use Rattle.quantum_render.specs.Benches.{BenchView}
-use Rattle.quantum_render.specs.Sites.{SiteView}
+use Rattle.quantum_blocks.specs.Sites.{SiteView}
 use Rattle.std.specs.Prelude.{is_some}
 use Rattle.wa_base.specs.declared.graph_names.ParamName.TheVariants.{Gain}
 use Rattle.node_table.specs.Kinds.{param_base}

@@ -11,10 +11,10 @@ use Rattle.quantum_render.specs.Renders.{past_of, here_of}
 use Rattle.meaning.proofs.Joined.{joined}
 use Rattle.delay_bank.specs.Kept.{DelayView}
 use Rattle.delay_bank.specs.Banks.{BankView as DelayBank, delay_at}
-use Rattle.quantum_render.specs.Blocks.{BlockView, slot, counts_in}
+use Rattle.quantum_blocks.specs.Blocks.{BlockView, slot, counts_in}
 use Rattle.quantum_render.specs.Benches.{BenchView}
-use Rattle.quantum_render.specs.Fits.{AreFit}
-use Rattle.quantum_render.specs.Sites.{SiteView, IsSite}
+use Rattle.quantum_blocks.specs.Fits.{AreFit}
+use Rattle.quantum_blocks.specs.Sites.{SiteView, IsSite}
 use Rattle.quantum_render.specs.Listening.{writer_in}
 use Rattle.quantum_render.proofs.Feeding.{is_asked, are_few, gives}
 use Rattle.quantum_render.proofs.Rendering.{site_is, own_within, lanes_own, writes_own, renders_own}

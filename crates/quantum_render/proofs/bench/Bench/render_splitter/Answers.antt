@@ -1,11 +1,11 @@
 use Rattle.std.proofs.Common.{◌≡◌, ◌+◌, ◌<◌, ◌≤◌, ◌*◌, slice_index_or, slice_set, sym, ◌∙◌, ap, ap₂, arith, subst}
 use Rattle.node_table.specs.Kinds.{outputs, is_mono, IsInLimits}
 use Rattle.meaning.specs.World.{kind_of}
-use Rattle.quantum_render.specs.Blocks.{BlockView, at, slot, block_of, counts_in, room_of}
+use Rattle.quantum_blocks.specs.Blocks.{BlockView, at, slot, block_of, counts_in, room_of}
 use Rattle.quantum_render.specs.Benches.{BenchView}
-use Rattle.quantum_render.specs.Sites.{SiteView}
+use Rattle.quantum_blocks.specs.Sites.{SiteView}
 use Rattle.quantum_render.proofs.Ports.{splitter_channels}
-use Rattle.quantum_render.proofs.Sources.{end_low}
+use Rattle.quantum_blocks.proofs.Sources.{end_low}
 use Rattle.quantum_render.proofs.Rendering.{site_is, own_within, mono_own, all_room, writes_all, lane_own}
 use Rattle.quantum_render.proofs.bench.Bench.render_splitter.Goals as goal
 

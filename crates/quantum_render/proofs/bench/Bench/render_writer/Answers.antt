@@ -7,12 +7,12 @@ use Rattle.meaning.specs.World.{sounding}
 use Rattle.meaning.specs.Counts.{input_channels, reader_channels}
 use Rattle.meaning.specs.Values.{input_value, delayed}
 use Rattle.delay_bank.specs.Banks.{delay_at, Writes}
-use Rattle.quantum_render.specs.Blocks.{BlockView, at, shown, slot, counts_in, room_of}
+use Rattle.quantum_blocks.specs.Blocks.{BlockView, at, shown, slot, counts_in, room_of}
 use Rattle.quantum_render.specs.Benches.{BenchView}
-use Rattle.quantum_render.specs.Sites.{SiteView}
+use Rattle.quantum_blocks.specs.Sites.{SiteView}
 use Rattle.quantum_render.specs.Renders.{past_of, here_of}
 use Rattle.filter_bank.proofs.Growing.{this_or_other}
-use Rattle.quantum_render.proofs.Sources.{end_low, site_slot}
+use Rattle.quantum_blocks.proofs.Sources.{end_low, site_slot}
 use Rattle.quantum_render.proofs.Rendering.{site_is, own_within, own_room, writes_own, renders_own, lane_own}
 use Rattle.quantum_render.proofs.bench.Bench.render_writer.Goals as goal
 

@@ -8,12 +8,12 @@ use Rattle.conn_graph.specs.declared.edges.Target.TheVariants.{Input}
 use Rattle.conn_graph.specs.Ends.{reader_of}
 use Rattle.meaning.specs.Values.{part}
 use Rattle.meaning.specs.World.{sounding}
-use Rattle.quantum_render.specs.Blocks.{BlockView, no_block, slot, block_of, carried, frame_of}
-use Rattle.quantum_render.specs.Connections.{into, leads_to, no_edge}
-use Rattle.quantum_render.specs.Fits.{AreFit, IsSource}
-use Rattle.quantum_render.specs.Sums.{sum_at}
-use Rattle.quantum_render.specs.Sites.{SiteView, IsSite, IsLone}
-use Rattle.quantum_render.proofs.Sources.{end_low, source_is}
+use Rattle.quantum_blocks.specs.Blocks.{BlockView, no_block, slot, block_of, carried, frame_of}
+use Rattle.quantum_blocks.specs.Connections.{into, leads_to, no_edge}
+use Rattle.quantum_blocks.specs.Fits.{AreFit, IsSource}
+use Rattle.quantum_blocks.specs.Sums.{sum_at}
+use Rattle.quantum_blocks.specs.Sites.{SiteView, IsSite, IsLone}
+use Rattle.quantum_blocks.proofs.Sources.{end_low, source_is}
 use Rattle.meaning.proofs.NodeKinds.{attrs_are}
 use Rattle.quantum_render.proofs.InputLaws.{input_is, lone_input}
 use Rattle.quantum_render.proofs.Rendering.{site_is}

@@ -1,7 +1,7 @@
 use Rattle.std.proofs.Common.{◌≡◌, ◌<◌, inl, inr, sym, ◌∙◌, ap, arith, subst}
 use Rattle.std.proofs.lemmas.Bool.{cases_lt}
 use Rattle.meaning.specs.Values.{input_value}
-use Rattle.quantum_render.specs.Blocks.{BlockView, at}
+use Rattle.quantum_blocks.specs.Blocks.{BlockView, at}
 use Rattle.quantum_render.specs.Benches.{BenchView}
 use Rattle.quantum_render.specs.Renders.{here_of}
 use Rattle.quantum_render.proofs.bench.Bench.take_inputs.Goals as goal

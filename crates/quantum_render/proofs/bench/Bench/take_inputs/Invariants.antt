@@ -2,7 +2,7 @@ use Rattle.std.proofs.Common.{ℕ, ◌≡◌, ◌<◌}
 use Rattle.meaning.specs.World.{sounding}
 use Rattle.meaning.specs.Counts.{input_channels}
 use Rattle.meaning.specs.Values.{input_value}
-use Rattle.quantum_render.specs.Blocks.{at, counts_in}
+use Rattle.quantum_blocks.specs.Blocks.{at, counts_in}
 use Rattle.quantum_render.specs.Renders.{here_of}
 use Rattle.quantum_render.proofs.bench.Bench.take_inputs.Given as goal
 

@@ -7,12 +7,12 @@ use Rattle.node_table.specs.Nodes.{kind_at}
 use Rattle.meaning.specs.World.{param_id, up_to}
 use Rattle.meaning.proofs.NodeKinds.{entry_there}
 use Rattle.quantum_render.specs.Benches.{BenchView}
-use Rattle.quantum_render.specs.Blocks.{BlockView, at}
+use Rattle.quantum_blocks.specs.Blocks.{BlockView, at}
 use Rattle.quantum_render.specs.Renders.{past_of, here_of}
-use Rattle.quantum_render.specs.Sites.{SiteView}
+use Rattle.quantum_blocks.specs.Sites.{SiteView}
 use Rattle.quantum_render.proofs.LevelLaws.{computed_is, delay_is}
 use Rattle.quantum_render.proofs.Rendering.{site_is, site_kind}
-use Rattle.quantum_render.proofs.Sources.{end_low}
+use Rattle.quantum_blocks.proofs.Sources.{end_low}
 use Rattle.quantum_render.proofs.bench.Bench.take_levels.Goals as goal
 
 fix_fits : (x : ℤ) → IsFix x → FitsSigned w32 x

@@ -4,7 +4,7 @@ use Rattle.std.specs.Int.{w32}
 use Rattle.std.proofs.lemmas.Int.{to_z-of_z}
 use Rattle.std.proofs.lemmas.List.{get_or-take, get_or_append_left}
 use Rattle.node_table.specs.Delays.{frames_of}
-use Rattle.quantum_render.specs.Blocks.{at}
+use Rattle.quantum_blocks.specs.Blocks.{at}
 use Rattle.quantum_render.specs.Benches.{BenchView}
 use Rattle.quantum_render.proofs.bench.Bench.take_spans.Goals as goal
 

@@ -15,12 +15,12 @@ use Rattle.meaning.specs.Validity.{param_ids}
 use Rattle.meaning.specs.Values.{part}
 use Rattle.meaning.specs.World.{sounding, kind_of, is_k, is_k_rate, intrinsic_value, param_id}
 use Rattle.automation.specs.Levels.{LevelView, HasRoom, level_at, level_of, no_level}
-use Rattle.quantum_render.specs.Blocks.{frame_of}
-use Rattle.quantum_render.specs.Connections.{leads_to}
-use Rattle.quantum_render.specs.Sums.{sum_at}
-use Rattle.quantum_render.specs.Sites.{SiteView, IsSite}
+use Rattle.quantum_blocks.specs.Blocks.{frame_of}
+use Rattle.quantum_blocks.specs.Connections.{leads_to}
+use Rattle.quantum_blocks.specs.Sums.{sum_at}
+use Rattle.quantum_blocks.specs.Sites.{SiteView, IsSite}
 use Rattle.node_table.specs.Kinds.{param_base}
-use Rattle.quantum_render.proofs.Sources.{end_low}
+use Rattle.quantum_blocks.proofs.Sources.{end_low}
 use Rattle.quantum_render.proofs.Automated.{has_param, has_room, level_within, rate_is, intrinsic_is}
 use Rattle.quantum_render.proofs.InputLaws.{sat_of_fix}
 use Rattle.quantum_render.proofs.LevelLaws.{taken_at, level_is, level_unreached, unclamped_is}

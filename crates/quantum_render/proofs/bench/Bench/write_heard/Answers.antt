@@ -1,9 +1,9 @@
 use Rattle.std.proofs.Common.{List, ℤ, ◌≡◌, ◌*◌, ◌≤◌, length, take, ◌∙◌, ap, arith, subst}
 use Rattle.channel_mix.specs.Blocks.{sample}
 use Rattle.delay_bank.specs.Banks.{Writes}
-use Rattle.quantum_render.specs.Blocks.{BlockView}
+use Rattle.quantum_blocks.specs.Blocks.{BlockView}
 use Rattle.quantum_render.specs.Benches.{BenchView}
-use Rattle.quantum_render.specs.Held.{IsWidened}
+use Rattle.quantum_blocks.specs.Held.{IsWidened}
 use Rattle.quantum_render.proofs.Filtering.{widened_front}
 use Rattle.filter_bank.proofs.Growing.{rewritten}
 use Rattle.quantum_render.proofs.bench.Bench.write_heard.Goals as goal

@@ -1,7 +1,7 @@
 use Rattle.std.proofs.Common.{rules, ◌<◌, ◌∙◌, [], false, sym, subst}
 use Rattle.std.proofs.lemmas.List.{get_or_default}
 use Rattle.quantum_render.specs.Plans.{PlanView, IsPlan, AreCycles}
-use Rattle.quantum_render.proofs.Sources.{same_nodes, end_low}
+use Rattle.quantum_blocks.proofs.Sources.{same_nodes, end_low}
 use Rattle.quantum_render.proofs.plan.Plan.site.Goals as goal
 
 pub index-requires : goal.index-requires

@@ -7,8 +7,8 @@ use Rattle.quantum_render.specs.declared.memory.Memory.{Memory}
 use Rattle.filter_bank.proofs.Growing.{on_ok}
 use Rattle.filter_bank.proofs.Same.{still_heard, was_heard, still_new}
 use Rattle.delay_bank.proofs.Same.{same_refl}
-use Rattle.quantum_render.specs.Blocks.{BlockView}
-use Rattle.quantum_render.specs.Fits.{AreFit}
+use Rattle.quantum_blocks.specs.Blocks.{BlockView}
+use Rattle.quantum_blocks.specs.Fits.{AreFit}
 use Rattle.quantum_render.specs.Stands.{RendererView, StandsFor, IsCounted, IsGrown}
 use Rattle.quantum_render.proofs.renderer.Renderer.grow.Goals as goal
 

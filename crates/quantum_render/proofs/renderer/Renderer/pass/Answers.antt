@@ -5,7 +5,7 @@ use Rattle.channel_mix.specs.Blocks.{sample as channel_sample}
 use Rattle.conn_graph.specs.Ends.{reader_of}
 use Rattle.meaning.specs.declared.world.World.{World}
 use Rattle.meaning.specs.Rendered.{sample}
-use Rattle.quantum_render.specs.Blocks.{BlockView, no_block, shown, slot, block_of}
+use Rattle.quantum_blocks.specs.Blocks.{BlockView, no_block, shown, slot, block_of}
 use Rattle.quantum_render.specs.Plans.{AreCounted}
 use Rattle.quantum_render.specs.Stands.{RendererView, past_writer, StandsFor, HasMemory}
 use Rattle.meaning.specs.declared.params.Param.{Param}

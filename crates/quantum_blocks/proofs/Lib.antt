@@ -1,0 +1,9 @@
+pub mod Slots
+pub mod Connections
+pub mod Made
+pub mod Sources
+pub mod Lanes
+pub mod Orders
+pub mod PassLaws
+pub mod Holding
+pub mod Heard

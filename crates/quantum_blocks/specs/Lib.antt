@@ -1,0 +1,7 @@
+pub mod Connections
+pub mod Blocks
+pub mod Held
+pub mod Heard
+pub mod Fits
+pub mod Sums
+pub mod Sites

@@ -1,0 +1,21 @@
+//! The blocks of a render quantum: the values that the ends of a graph carry over 128 frames.
+#![tactic(auto)]
+
+mod block;
+mod blocks;
+mod held;
+mod kernels;
+mod places;
+mod playing;
+mod site;
+mod spans;
+mod sums;
+
+pub use block::{Block, QUANTUM};
+pub use blocks::{fit_blocks, hush};
+pub use held::Held;
+pub use places::{near_of, places_of, play_place};
+pub use playing::{Source, sounding};
+pub use site::{Quantum, Site, reader, slot, writer};
+pub use spans::{span_all, span_each};
+pub use sums::{CHANNELS, Inlet, Sums};
