@@ -1,8 +1,8 @@
-ghost use Rattle.std.specs.Prelude.{◌≡◌, ◌≤◌, ◌+◌, ◌*◌, [], ◌∷◌, length, IfOk, OnOk};
+ghost use Rattle.std.specs.Prelude.{◌≡◌, ◌≤◌, ◌+◌, [], ◌∷◌, length, IfOk, OnOk};
 ghost use Rattle.script_ast.specs.WellFormed.{IsWellFormed};
 ghost use Rattle.load_gen.specs.Generator.{Adds, muting_ops};
 ghost use Rattle.load_gen.specs.Generator as generated;
-ghost use Rattle.load_gen.specs.Voices.{gain as gain_of, voice_ops, ops_of_voices, state_after};
+ghost use Rattle.load_gen.specs.Voices.{voice_ops, ops_of_voices};
 
 use crate::names::{GAIN, gain, text};
 use crate::random::Random;
