@@ -50,25 +50,9 @@ fn towards(held: i128, from: u64, next: Option<&Event>, frame: u64) -> i128 {
     }
 }
 
-// The intrinsic value at a frame as the rules say it: by the last event that is not after the frame and
-// the first one after it, found among all events, and by numbers that no step before left.
-pub fn value_by_search<L: Ledger>(line: &Timeline, frame: u64, steps: &mut Steps<L>) -> i128 {
-    let count = line.len();
-    let mut place = 0;
-    for i in 0..count {
-        if line.look(i, steps).time() <= frame {
-            place = i + 1;
-        }
-    }
-    if place == 0 || place > count {
-        return line.base() as i128;
-    }
-    let next = if place < count {
-        Some(line.look(place, steps))
-    } else {
-        None
-    };
-    match line.look(place - 1, steps) {
+// The value at a frame that the event in force there leads to, where this one is next.
+fn value_after(event: &Event, next: Option<&Event>, frame: u64) -> i128 {
+    match event {
         Event::Set { time, value } => towards(*value as i128, *time, next, frame),
         Event::Ramp { time, value } => towards(*value as i128, *time, next, frame),
         Event::Curve {
@@ -93,4 +77,25 @@ pub fn value_by_search<L: Ledger>(line: &Timeline, frame: u64, steps: &mut Steps
             towards(held, *end, next, frame)
         }
     }
+}
+
+// The intrinsic value at a frame as the rules say it: by the last event that is not after the frame and
+// the first one after it, found among all events, and by numbers that no step before left.
+pub fn value_by_search<L: Ledger>(line: &Timeline, frame: u64, steps: &mut Steps<L>) -> i128 {
+    let count = line.len();
+    let mut place = 0;
+    for i in 0..count {
+        if line.look(i, steps).time() <= frame {
+            place = i + 1;
+        }
+    }
+    if place == 0 || place > count {
+        return line.base() as i128;
+    }
+    let next = if place < count {
+        Some(line.look(place, steps))
+    } else {
+        None
+    };
+    value_after(line.look(place - 1, steps), next, frame)
 }
