@@ -11,19 +11,20 @@ use Rattle.script_ast.specs.declared.call_list.Script.{Script}
 use Rattle.script_json.specs.declared.faults.ScriptErr.{ScriptErr}
 use Rattle.transcript.specs.declared.lines.EndWord.{EndWord}
 use Rattle.transcript.specs.declared.lines.EndWord.TheVariants.{Completed, Stalled, Idle, Refused}
-use Rattle.session.specs.Assets.{Folder}
+use Rattle.session.specs.Folders.{Folder}
 use Rattle.ctx_state.specs.Context.{ContextView, first_context, turn_of, after_turn as turned}
 use Rattle.ctx_state.specs.declared.context.Turn.{Turn}
 use Rattle.ctx_state.specs.declared.context.Turn.TheVariants.{Went, Due, Done}
 use Rattle.session.specs.Session.{Told, Played, session_of, replayed, first_told, main_list, held_by, after_turn, after_list, quanta_from, quanta_left, by_turn, ByTurn, finished, turns, has_closed, is_running}
-use Rattle.session.specs.Step.{is_start}
+use Rattle.control_side.specs.Step.{is_start}
 use Rattle.meaning.specs.declared.world.World.{World}
 use Rattle.command_line.specs.Words.{Reading, reading_by_word}
 use Rattle.replay_top.specs.Answer.{Answer, max_script, status_of, without_file, answer_to_script, answer_to_bytes, answer_to_reading, answer}
 use Rattle.replay_top.specs.Laws.{has_resume, EachResumes, started, Renders, IsRendered}
 use Rattle.replay_top.specs.Words.{reads_source, script_asked}
 use Rattle.replay_top.specs.declared.status.Status.TheVariants.{Rendered, ScriptTooLong}
-use Rattle.session.proofs.Starting.{calls_start, calls_time, calls_open, calls_context, calls_spec}
+use Rattle.control_side.proofs.Starting.{calls_start, calls_time}
+use Rattle.session.proofs.Lasting.{calls_open, calls_context, calls_spec}
 use Rattle.replay_top.proofs.Turns.{closed_completes, completed_closed, listed, still, listed_still, runs_on, waits, stays_closed, listed_context}
 
 abbrev starts : List Call → Bool

@@ -13,7 +13,7 @@ use Rattle.transcript.specs.declared.lines.EndWord.{EndWord}
 use Rattle.transcript.specs.declared.lines.EndWord.TheVariants.{Completed, Stalled, Idle, Refused}
 use Rattle.command_line.specs.Words.{Reading, reading_by_word}
 use Rattle.load_gen.specs.Generator as generator
-use Rattle.session.specs.Assets.{Folder}
+use Rattle.session.specs.Folders.{Folder}
 use Rattle.session.specs.Session.{session_of}
 use Rattle.replay_top.specs.Answer.{Answer, File, Decodes, AskedDecodes, status_of, without_file, answer, answer_to_reading, answer_to_bytes, answer_to_script}
 use Rattle.replay_top.specs.Run.{Outside, outside, SameFiles, HasFile, HasFrontOfFile, IsWhole, IsCutShort, Answers, Replays, Counts, Ran, IsReadToEnd, TextEnds}

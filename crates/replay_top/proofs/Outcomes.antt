@@ -17,7 +17,7 @@ use Rattle.transcript.specs.declared.lines.EndWord.TheVariants.{Completed, Stall
 use Rattle.session.specs.declared.rendered.Rendered.{Rendered}
 use Rattle.session.specs.Rendering.{completes, rendering_of}
 use Rattle.session.specs.Rows.{sample_in, samples_of}
-use Rattle.session.specs.Assets.{Folder}
+use Rattle.session.specs.Folders.{Folder}
 use Rattle.session.specs.Session.{Played, session_of}
 use Rattle.meaning.specs.declared.world.World.{World}
 use Rattle.command_line.specs.Words.{Reading, renders}

@@ -7,13 +7,14 @@ use Rattle.ctx_state.specs.Context.{ContextView, turn_of, after_turn as turned}
 use Rattle.ctx_state.specs.declared.context.Turn.TheVariants.{Due, Done}
 use Rattle.script_ast.specs.declared.call_list.Call.{Call}
 use Rattle.transcript.specs.declared.lines.EndWord.TheVariants.{Completed, Stalled, Idle}
-use Rattle.session.specs.Assets.{Folder}
-use Rattle.session.specs.Contexts.{context_after_calls}
+use Rattle.session.specs.Folders.{Folder}
+use Rattle.control_side.specs.Contexts.{context_after_calls}
 use Rattle.session.specs.Session.{Told, held_by, after_turn, after_list, has_closed, is_running, end_of}
-use Rattle.session.specs.Step.{is_start}
+use Rattle.control_side.specs.Step.{is_start}
 use Rattle.replay_top.specs.Laws.{has_resume}
-use Rattle.session.proofs.Starting.{calls_start, calls_state, calls_context, state_after}
-use Rattle.session.proofs.Stepping.{turned_started, due_suspends, done_closes}
+use Rattle.control_side.proofs.Starting.{calls_start, calls_state, state_after}
+use Rattle.session.proofs.Lasting.{calls_context}
+use Rattle.control_side.proofs.Stepping.{turned_started, due_suspends, done_closes}
 
 -- a session ends Completed where its context is closed
 pub closed_completes : (c : ContextView) → has_closed c.state ≡ true → end_of c ≡ Completed

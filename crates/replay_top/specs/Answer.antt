@@ -14,7 +14,7 @@ use Rattle.wav_io.specs.WavText.{wav_bytes}
 use Rattle.command_line.specs.Words.{Reading, reading_by_word, renders, usage}
 use Rattle.session.specs.Rendering.{completes}
 use Rattle.session.specs.Rows.{samples_of}
-use Rattle.session.specs.Assets.{Folder}
+use Rattle.session.specs.Folders.{Folder}
 use Rattle.session.specs.Session as session
 use Rattle.session.specs.Session.{Played, session_of}
 use Rattle.meaning.specs.declared.world.World.{World}

@@ -6,10 +6,10 @@ use Rattle.script_ast.specs.declared.call_list.Call.{Call}
 use Rattle.script_ast.specs.declared.call_list.Script.{Script}
 use Rattle.command_line.specs.Words.{Reading, reading_by_word}
 use Rattle.ctx_state.specs.Context.{ContextView, first_context, turn_of, after_turn}
-use Rattle.session.specs.Assets.{Folder}
-use Rattle.session.specs.Contexts.{context_after_calls}
+use Rattle.session.specs.Folders.{Folder}
+use Rattle.control_side.specs.Contexts.{context_after_calls}
 use Rattle.session.specs.Session.{held_by, quanta_from, has_closed, ByTurn}
-use Rattle.session.specs.Step.{is_start, is_resume}
+use Rattle.control_side.specs.Step.{is_start, is_resume}
 use Rattle.replay_top.specs.Answer.{answer, max_script}
 use Rattle.replay_top.specs.Words.{reads_source, script_asked}
 use Rattle.replay_top.specs.declared.status.Status.TheVariants.{Rendered}

@@ -3,7 +3,7 @@ ghost use Rattle.command_line.specs.Words.{reading_by_word};
 ghost use Rattle.io_edge.specs.Told.{IsToldAs};
 ghost use Rattle.script_ast.specs.WellFormed.{IsWellFormed};
 ghost use Rattle.script_json.specs.Script.{script_of};
-ghost use Rattle.session.specs.Assets.{Folder, IsFolderOf};
+ghost use Rattle.session.specs.Folders.{Folder, IsFolderOf};
 ghost use Rattle.session.specs.Session.{session_of};
 ghost use Rattle.replay_top.specs.Answer as answers;
 ghost use Rattle.replay_top.specs.FaultLine as faults;

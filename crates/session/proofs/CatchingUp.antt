@@ -15,9 +15,10 @@ use Rattle.script_ast.specs.declared.call_list.Call.{Call}
 use Rattle.transcript.specs.declared.lines.Answer.{Answer}
 use Rattle.transcript.specs.declared.lines.Line.{Line}
 use Rattle.transcript.specs.declared.lines.Line.TheVariants as line
-use Rattle.session.specs.Machine.{Machine, params_caught_up, world_caught_up, caught_up}
-use Rattle.session.specs.Session.{Told, lines_after, machine_after, gone_on, after_call, after_turn}
-use Rattle.session.specs.Step.{step, Steps}
+use Rattle.control_side.specs.Machine.{Machine, params_caught_up, world_caught_up, caught_up}
+use Rattle.control_side.specs.Turns.{gone_on}
+use Rattle.session.specs.Session.{Told, lines_after, machine_after, after_call, after_turn}
+use Rattle.control_side.specs.Step.{step, Steps}
 
 -- slots that are set once more are as if they were set but then
 set_again : (first last : ℕ) (params : List Param) → map (slot_set last) (map (slot_set first) params) ≡ map (slot_set last) params

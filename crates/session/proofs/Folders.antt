@@ -5,9 +5,10 @@ use Rattle.std.proofs.lemmas.List.{length-append}
 use Rattle.std.specs.Prelude.{◌==◌, nat_lt, if◌then◌else◌, slice_index_or}
 use Rattle.io_edge.specs.Paths.{Paths}
 use Rattle.script_ast.specs.declared.call_list.Call.{Call}
-use Rattle.session.specs.Assets.{Folder, IsHeld, IsFolderOf, AgreeBetween}
+use Rattle.control_side.specs.Assets.{IsHeld}
+use Rattle.session.specs.Folders.{Folder, IsFolderOf, AgreeBetween}
 use Rattle.session.specs.Session.{Told, after_call, after_calls, held_by, HasDecode}
-use Rattle.session.specs.Step.{is_decode}
+use Rattle.control_side.specs.Step.{is_decode}
 
 -- one folder up to a moment, and another from then on
 abbrev pub spliced : ℕ → Folder → Folder → Folder

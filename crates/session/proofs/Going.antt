@@ -9,12 +9,13 @@ use Rattle.script_ast.specs.declared.call_list.Call.{Call}
 use Rattle.ctx_state.specs.Context.{turn_of}
 use Rattle.ctx_state.specs.declared.context.Turn.TheVariants.{Went, Due, Done}
 use Rattle.meaning.specs.declared.world.World.{World}
-use Rattle.session.specs.Assets.{Folder, IsFolderOf, AgreeBetween}
+use Rattle.session.specs.Folders.{Folder, IsFolderOf, AgreeBetween}
 use Rattle.session.specs.Session.{after_turn, after_calls, after_list, held_by, is_running, quanta_left, finished, turns, HasDecode, TurnsDecode}
-use Rattle.session.specs.Step.{KeepsTime}
-use Rattle.session.specs.View.{SessionView, Stands, IsTurned, IsPlayed, ComesToDecode, turns_of}
+use Rattle.control_side.specs.Step.{KeepsTime}
+use Rattle.control_side.specs.Turns.{IsTurned}
+use Rattle.session.specs.View.{SessionView, Stands, IsPlayed, ComesToDecode, turns_of}
 use Rattle.session.proofs.Folders.{spliced, spliced_before, spliced_from, splice_of}
-use Rattle.session.proofs.Stepping.{turned_started}
+use Rattle.control_side.proofs.Stepping.{turned_started}
 use Rattle.session.proofs.Quanta.{one_left, more_left, as_many_left, turns_went, decode_went, turns_due, turns_stalled, decode_due, decode_later, turns_done, decode_done, longer_after}
 
 -- how far a session went on: what is left of it, over what a folder held so far, is what there was to come

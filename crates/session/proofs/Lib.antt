@@ -1,24 +1,15 @@
-mod Called
+mod CatchingUp
 mod Copying
-mod Deciding
-mod Finding
 mod Finishing
 mod Folders
 mod Going
 pub mod Interleaving
-mod Leaving
+pub mod Lasting
 mod Lists
-mod Marks
-mod Named
-mod NewNames
-mod Parameters
 mod Quanta
 mod Replaying
 mod Samples
-pub mod Sides
-pub mod CatchingUp
+mod Sides
 mod Standing
-pub mod Starting
-pub mod Stepping
 mod Tapes
 mod Turning

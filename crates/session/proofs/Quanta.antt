@@ -7,10 +7,10 @@ use Rattle.ctx_state.specs.Context.{turn_of}
 use Rattle.ctx_state.specs.declared.context.Turn.{Turn}
 use Rattle.ctx_state.specs.declared.context.Turn.TheVariants.{Went, Due, Done}
 use Rattle.meaning.specs.declared.world.World.{World}
-use Rattle.session.specs.Assets.{Folder}
-use Rattle.session.specs.Machine.{Machine}
+use Rattle.session.specs.Folders.{Folder}
+use Rattle.control_side.specs.Machine.{Machine}
 use Rattle.session.specs.Session.{Told, Played, lines_after, after_turn, after_list, held_by, is_running, quanta_left, finished, by_turn, turns, HasDecode, ByTurn, TurnsDecode}
-use Rattle.session.proofs.Stepping.{turned_time}
+use Rattle.control_side.proofs.Stepping.{turned_time}
 
 pub time_after : (old new : Told) → new ≡ after_turn old → new.machine.context.time ≡ old.machine.context.time + 128
 time_after old new is = ap (λ told. told.machine.context.time) is ∙ turned_time old.machine.context

@@ -10,9 +10,9 @@ use Rattle.meaning.specs.declared.world.World.{World}
 use Rattle.meaning.specs.Changes.{Accepts, changed}
 use Rattle.meaning.specs.Worlds.{IsRegular}
 use Rattle.quantum_render.specs.Stands.{RendererView}
-use Rattle.session.specs.Machine.{Machine, caught_up, world_caught_up}
+use Rattle.control_side.specs.Machine.{Machine, caught_up, world_caught_up}
 use Rattle.session.specs.Rows.{samples_of}
-use Rattle.session.specs.Step.{KeepsTime, Sends}
+use Rattle.control_side.specs.Step.{KeepsTime, Sends}
 use Rattle.session.specs.View.{SideView, sent, IsAt, KeepsUp, Follows, MakesRoom, Gets, CatchesUp, Hears, GoesOn, Waits, Renders}
 
 -- ---- steps, where there is a side

@@ -10,13 +10,13 @@ use Rattle.meaning.specs.Worlds.{IsRegular, first_world}
 use Rattle.quantum_render.specs.Stands.{RendererView, StandsFor}
 use Rattle.meaning.specs.Changes.{Grows}
 use Rattle.session.specs.Frames.{WritesBelow}
-use Rattle.session.specs.Machine.{Machine}
+use Rattle.control_side.specs.Machine.{Machine}
 use Rattle.session.specs.Rows.{samples_of}
 use Rattle.session.specs.Session.{first_told, machine_after}
-use Rattle.session.specs.Step.{KeepsTime}
+use Rattle.control_side.specs.Step.{KeepsTime}
 use Rattle.session.specs.View.{SessionView, SideView, Stands, IsFirst, Renders, KeepsUp, Follows, sent}
 use Rattle.session.proofs.Sides.{Turned, carried, same_audio, on_renderer, of_renderer}
-use Rattle.session.proofs.Stepping.{turned_time, turned_started}
+use Rattle.control_side.proofs.Stepping.{turned_time, turned_started}
 use Rattle.session.proofs.Samples.{samples_of-empty, samples_of-alike, quantum_written}
 use Rattle.session.proofs.Tapes.{regular_first, regular_grown, regular_after, regular_alike}
 

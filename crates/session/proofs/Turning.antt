@@ -5,13 +5,13 @@ use Rattle.control_msgs.specs.declared.message.Message.TheVariants.{Ended}
 use Rattle.meaning.specs.declared.world.World.{World}
 use Rattle.meaning.specs.Validity.{IsValid}
 use Rattle.transcript.specs.declared.lines.Line.{Line}
-use Rattle.session.specs.Machine.{Machine, caught_up, world_caught_up}
-use Rattle.session.specs.Session.{gone_on}
+use Rattle.control_side.specs.Machine.{Machine, caught_up, world_caught_up}
+use Rattle.control_side.specs.Turns.{gone_on}
 use Rattle.session.specs.View.{SessionView, SideView, Stands, KeepsUp, HasRoom, Follows, MakesRoom, Gets, GoesOn, sent}
 use Rattle.session.proofs.Sides.{Turned, turned_sides, turned_keeps, carried, same_audio, long_at, room_kept}
 use Rattle.session.proofs.Standing.{turn_stands}
 use Rattle.session.proofs.CatchingUp.{caught_up_sounds, caught_up_valid, caught_up_after}
-use Rattle.session.proofs.Stepping.{turned_time, turned_started}
+use Rattle.control_side.proofs.Stepping.{turned_time, turned_started}
 
 -- what a session looks like from outside
 abbrev pub seen : Machine → List Line → List ℤ → Option SideView → SessionView

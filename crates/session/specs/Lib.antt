@@ -1,14 +1,7 @@
-pub mod Assets
-pub mod Contexts
+pub mod Folders
 pub mod Frames
 pub mod Lists
-pub mod Machine
 pub mod Rendering
 pub mod Rows
 pub mod Session
-pub mod Steady
-pub mod Deciding
-pub mod Params
-pub mod Shapers
-pub mod Step
 pub mod View

@@ -1,5 +1,5 @@
 -- A whole session, without a sample in it.
-use Rattle.std.specs.Prelude.{ℕ, zero, suc, ◌≡◌, ◌⊎◌, ◌+◌, ◌-◌, ◌/◌, ◌==◌, List, [], ◌∷◌, ◌++◌, length, filter, if◌then◌else◌, unwrap_or, Bool, true, false, None, is_some, IsTrue, IsSome}
+use Rattle.std.specs.Prelude.{ℕ, zero, suc, ◌≡◌, ◌⊎◌, ◌+◌, ◌-◌, ◌/◌, ◌==◌, List, [], ◌∷◌, ◌++◌, length, filter, if◌then◌else◌, Bool, true, false, None, is_some, IsTrue, IsSome}
 use Rattle.std.specs.List.{list_any}
 use Rattle.wa_base.specs.declared.contexts.ContextSpec.{ContextSpec}
 use Rattle.wa_base.specs.Contexts.{quantum_of, is_supported}
@@ -7,23 +7,21 @@ use Rattle.wa_base.specs.declared.contexts.State.{State}
 use Rattle.wa_base.specs.declared.contexts.State.TheVariants as state
 use Rattle.wa_base.specs.declared.exceptions.Exc.TheVariants.{NotSupported}
 use Rattle.io_edge.specs.Paths.{Paths}
-use Rattle.ctx_state.specs.Context.{ContextView, first_context, next, turn_of, after_turn as context_after}
+use Rattle.ctx_state.specs.Context.{ContextView, next, turn_of, after_turn as context_after}
 use Rattle.ctx_state.specs.declared.context.Turn.{Turn}
 use Rattle.ctx_state.specs.declared.context.Turn.TheVariants.{Went, Due, Done}
-use Rattle.control_msgs.specs.Messages.{ends_by, ended_marked, after}
+use Rattle.control_msgs.specs.Messages.{after}
 use Rattle.script_ast.specs.declared.call_list.Call.{Call}
 use Rattle.script_ast.specs.declared.call_list.Script.{Script}
 use Rattle.transcript.specs.declared.lines.Line.{Line}
 use Rattle.transcript.specs.declared.lines.Line.TheVariants as line
 use Rattle.transcript.specs.declared.lines.EndWord.{EndWord}
 use Rattle.transcript.specs.declared.lines.EndWord.TheVariants.{Completed, Stalled, Idle, Refused}
-use Rattle.name_book.specs.Book.{first_name_of}
 use Rattle.meaning.specs.declared.world.World.{World}
-use Rattle.meaning.specs.declared.scheds.Play.{Play}
-use Rattle.meaning.specs.Worlds.{first_world}
-use Rattle.session.specs.Assets.{Folder}
-use Rattle.session.specs.Machine.{Machine}
-use Rattle.session.specs.Step.{step, is_decode}
+use Rattle.session.specs.Folders.{Folder}
+use Rattle.control_side.specs.Machine.{Machine, first_machine}
+use Rattle.control_side.specs.Step.{step, is_decode}
+use Rattle.control_side.specs.Turns.{ended_lines}
 
 -- a machine, and the lines so far
 pub record Told : Type 0 where
@@ -54,14 +52,6 @@ after_list folder calls told ordinal = after_calls folder told (held_by ordinal 
 
 -- ---- a turn
 
--- a line for each source that ends, in the order of the schedules, which is that of the node numbers, with the name under which the node was created
-abbrev pub ended_lines : List (ℕ × List ℕ) → ℕ → List Play → List Line
-ended_lines names now [] = []
-ended_lines names now (play ∷ plays) =
-    if ends_by now play.sched
-    then line.Ended play.id (unwrap_or (first_name_of names play.id.0) []) ∷ ended_lines names now plays
-    else ended_lines names now plays
-
 -- a promise resolves where a suspension is due, and at the length
 abbrev pub promise_lines : Turn → List Line
 promise_lines Went = []
@@ -77,13 +67,6 @@ abbrev pub machine_after : Machine → Machine
 machine_after machine = record machine {
   context = context_after machine.context;
   world = after machine.context.time (next machine.context) machine.world;
-}
-
--- the same but for the slots, which are left to be set
-abbrev pub gone_on : Machine → Machine
-gone_on machine = record machine {
-  context = context_after machine.context;
-  world = ended_marked (next machine.context) machine.world;
 }
 
 abbrev pub after_turn : Told → Told
@@ -154,15 +137,6 @@ abbrev pub rendered : Folder → List Call → Told → Played
 rendered folder calls told = if is_some told.machine.context.started then turns (quanta_left told.machine) folder calls told [] else finished told []
 
 -- ---- the session
-
--- the machine before the first call: the destination is there, and its name needs no binding
-abbrev pub first_machine : ContextSpec → Machine
-first_machine spec = record {
-  context = first_context spec;
-  world = first_world spec;
-  bindings = [];
-  first_names = [];
-}
 
 abbrev pub first_told : ContextSpec → Told
 first_told spec = record { machine = first_machine spec; lines = [] }

@@ -1,10 +1,7 @@
 -- What contracts see of a session.
-use Rattle.std.specs.Prelude.{ℕ, ◌≡◌, ◌<◌, ◌≤◌, ◌+◌, ◌*◌, ◌++◌, ◌∷◌, [], ℤ, List, length, map, Bool, Option, Some, None, true, IsTrue, IsSome, IfSome}
+use Rattle.std.specs.Prelude.{ℕ, ◌≡◌, ◌≤◌, ◌+◌, ◌*◌, ◌++◌, ◌∷◌, [], ℤ, List, length, map, Bool, Option, Some, None, true, IsTrue, IsSome, IfSome}
 use Rattle.wa_base.specs.Contexts.{quantum_of, IsSupported}
 use Rattle.wa_base.specs.declared.contexts.ContextSpec.{ContextSpec}
-use Rattle.wa_base.specs.declared.contexts.State.TheVariants.{Running}
-use Rattle.ctx_state.specs.declared.context.Turn.{Turn}
-use Rattle.ctx_state.specs.declared.context.Turn.TheVariants.{Went, Due, Done}
 use Rattle.meaning.specs.declared.change.Change.{Change}
 use Rattle.meaning.specs.declared.world.World.{World}
 use Rattle.meaning.specs.World.{sounding}
@@ -15,10 +12,10 @@ use Rattle.meaning.specs.Worlds.{IsRegular}
 use Rattle.quantum_render.specs.Stands.{RendererView, StandsFor}
 use Rattle.script_ast.specs.declared.call_list.Call.{Call}
 use Rattle.io_edge.specs.Paths.{Paths}
-use Rattle.session.specs.Assets.{Folder, IsFolderOf, AgreeBetween}
-use Rattle.session.specs.Machine.{Machine, world_caught_up}
+use Rattle.session.specs.Folders.{Folder, IsFolderOf, AgreeBetween}
+use Rattle.control_side.specs.Machine.{Machine, world_caught_up}
 use Rattle.session.specs.Rows.{samples_of}
-use Rattle.session.specs.Step.{Sends}
+use Rattle.control_side.specs.Step.{Sends}
 use Rattle.session.specs.Session.{Told, Played, first_told, quanta_left, finished, replayed, turns, has_closed, TurnsDecode}
 
 -- the machine and the lines, whether there is audio, the samples, and with audio the renderer
@@ -125,12 +122,6 @@ pub record Stands (view : SessionView) (tape : List World) : Type 0 where
   pub regular : IsRegular (quantum_of view.told.machine.world.spec) (tape ++ view.told.machine.world ∷ [])
   pub samples : IsTrue view.audio → IsSome view.told.machine.context.started → view.samples ≡ samples_of tape view.told.machine.world.spec
   pub renders : IfSome view.renderer (Renders tape)
-
--- After a turn that is not the last one there are frames left; where rendering goes on the context is running. The last one has the ordinal of the startRendering.
-abbrev pub IsTurned : Turn → Machine → Machine → Type 0
-IsTurned Went old new = (new.context.state ≡ Running) × (new.context.time < new.world.spec.length)
-IsTurned (Due ordinal) old new = new.context.time < new.world.spec.length
-IsTurned (Done ordinal) old new = (old.context.started ≡ Some ordinal) × (old.world.spec.length ≤ new.context.time)
 
 -- a session in which no call came yet
 pub record IsFirst (spec : ContextSpec) (audio : Bool) (view : SessionView) : Type 0 where

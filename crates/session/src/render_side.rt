@@ -1,4 +1,4 @@
-ghost use Rattle.std.specs.Prelude.{◌≡◌, ◌≤◌, ◌<◌, ◌+◌, ◌*◌, ◌++◌, ◌∷◌, [], List, length, IfOk, IfSome, OnOk, OnErr};
+ghost use Rattle.std.specs.Prelude.{◌≡◌, ◌≤◌, ◌<◌, ◌+◌, ◌*◌, ◌++◌, ◌∷◌, [], List, length, IfOk, OnOk, OnErr};
 ghost use Rattle.wa_base.specs.Contexts.{IsSupported, quantum_of};
 ghost use Rattle.control_msgs.specs.Messages.{IsAcceptedBy};
 ghost use Rattle.meaning.specs.declared.world.World.{World as a_world};

@@ -1,18 +1,18 @@
-ghost use Rattle.std.specs.Prelude.{◌≡◌, ◌≤◌, ◌++◌, ℕ, List, [], length, true, IsTrue, IsSome, IfOk, IsErrOf, OnOk, Some, None, slice_index_or};
+ghost use Rattle.std.specs.Prelude.{◌≡◌, ◌≤◌, List, [], length, true, IsTrue, IsSome, IfOk, IsErrOf, OnOk, Some, None, slice_index_or};
 ghost use Rattle.io_edge.specs.Faults.{Rose};
 ghost use Rattle.io_edge.specs.Paths.{SamePaths};
 ghost use Rattle.script_ast.specs.WellFormed.{AreCallsAfter};
-ghost use Rattle.wa_base.specs.Contexts.{IsSupported};
-ghost use Rattle.session.specs.Assets.{Folder, IsFolderOf, AgreeBetween};
+ghost use Rattle.session.specs.Folders.{Folder, IsFolderOf, AgreeBetween};
 ghost use Rattle.session.specs.Rendering.{IsOutcomeOf};
 ghost use Rattle.session.specs.Session.{after_calls, first_told, held_by, is_running as runs, session_of, HasDecode, Decodes};
-ghost use Rattle.session.specs.Step.{KeepsTime, RunsOnceStarted};
+ghost use Rattle.control_side.specs.Step.{KeepsTime, RunsOnceStarted};
 ghost use Rattle.session.specs.Lists.{AreLengths};
 ghost use Rattle.session.specs.View.{Stands, IsPlayed, IsReplayed, ComesToDecode};
 ghost use Rattle.meaning.specs.declared.world.World.{World};
 
 use crate::rendered::Rendered;
-use crate::session::{Options, Session, Stop};
+use crate::session::{Options, Session};
+use control_side::Stop;
 use ctx_state::Turn;
 use io_edge::Files;
 use script_ast::{Call, Script};

@@ -1,4 +1,4 @@
-ghost use Rattle.std.specs.Prelude.{◌≡◌, ◌↔◌, ◌≤◌, ◌<◌, ◌*◌, ◌/◌, ℕ, Some, None, ◌⊎◌, nat_le, ◌∷◌, ◌++◌, [], List, true, false, length, replicate, pos, IsTrue, IsSome, IsNone, IfOk, IfSome, IfErr, IsErrOf, OnOk, OnErr, Ok, ◌&&◌, if◌then◌else◌};
+ghost use Rattle.std.specs.Prelude.{◌≡◌, ◌↔◌, ◌≤◌, ◌<◌, ◌*◌, ◌/◌, Some, None, ◌⊎◌, ◌∷◌, ◌++◌, [], List, true, false, length, replicate, pos, IsTrue, IsSome, IsNone, IfOk, IfSome, IfErr, IsErrOf, OnOk, OnErr, Ok, ◌&&◌, if◌then◌else◌};
 ghost use Rattle.io_edge.specs.Faults.{Rose};
 ghost use Rattle.io_edge.specs.Paths.{Paths, SamePaths};
 ghost use Rattle.script_ast.specs.Ranges.{IsInRange};
@@ -8,24 +8,24 @@ ghost use Rattle.control_msgs.specs.Messages.{IsAcceptedBy};
 ghost use Rattle.meaning.specs.Changes.{Accepts};
 ghost use Rattle.session.specs.Session.{after_call, after_turn, has_closed, end_of, lines_at_end};
 ghost use Rattle.wa_base.specs.Contexts.{is_supported as supports};
-ghost use Rattle.session.specs.Assets.{IsHeld};
-ghost use Rattle.session.specs.Step.{is_start, is_decode, KeepsTime, RunsOnceStarted};
-ghost use Rattle.session.specs.Machine.{caught_up};
-ghost use Rattle.session.specs.View.{IsFirst, IsAsBefore, IsTurned, Stands, Follows, MakesRoom, Gets, CatchesUp, Hears, GoesOn, Waits, IsAt, sent};
+ghost use Rattle.control_side.specs.Assets.{IsHeld};
+ghost use Rattle.control_side.specs.Step.{is_start, is_decode, KeepsTime, RunsOnceStarted};
+ghost use Rattle.control_side.specs.Machine.{caught_up};
+ghost use Rattle.control_side.specs.Turns.{IsTurned};
+ghost use Rattle.session.specs.View.{IsFirst, IsAsBefore, Stands, Follows, MakesRoom, Gets, CatchesUp, Hears, GoesOn, Waits, IsAt, sent};
 ghost use Rattle.meaning.specs.declared.world.World.{World};
 
-use crate::control::{Control, Stepped};
 use crate::render_side::{QUANTUM, RenderSide};
 use crate::rendered::Rendered;
 use crate::replay::Outcome;
 use control_msgs::Message;
+use control_side::{Control, Stepped, Stop};
 use ctx_state::Turn;
 use io_edge::Files;
 use meaning::Change;
 use script_ast::{Call, Op};
 use std::alloc::Global;
 use std::marker::Model;
-use thiserror::Error;
 use transcript::{EndWord, Line, Lines};
 use wa_base::{ContextSpec, Exc, Fix, NoMemory, Refusal, Samples, State, Tie};
 
@@ -36,26 +36,6 @@ pub struct Options {
     pub tie: Tie,
     /// Whether samples are rendered.
     pub audio: bool,
-}
-
-/// Why a session stopped short.
-#[derive(Clone, Copy, Debug, Error, PartialEq, Eq)]
-pub enum Stop {
-    #[error("reading an asset failed")]
-    AssetFault,
-    #[error("memory ran out")]
-    NoMemory,
-}
-
-impl From<NoMemory> for Stop {
-    ghost use Rattle.std.specs.Prelude.{◌≡◌};
-    ghost use Rattle.session.specs.declared.session.Stop.TheVariants.{NoMemory as no_memory};
-
-    ghost from_gives = { λ _ stop. stop ≡ no_memory };
-
-    fn from(_: NoMemory) -> Stop {
-        Stop::NoMemory
-    }
 }
 
 /// A session while it runs. Contracts see it as its machine, its lines, its samples and, with audio,
@@ -75,7 +55,7 @@ pub struct Session {
 
 impl Model for Session {
     ghost use Rattle.std.specs.Prelude.{is_some, option_map};
-    ghost use Rattle.session.specs.Machine.{caught_up};
+    ghost use Rattle.control_side.specs.Machine.{caught_up};
     ghost use Rattle.session.specs.View.{SessionView, IsSound};
 
     ghost Value = { SessionView };

@@ -2,7 +2,7 @@ use Rattle.std.proofs.Common.{ℕ, ◌≡◌, List, [], Bool, true, false, Optio
 use Rattle.std.specs.Prelude.{map, string_bytes, unwrap_or}
 use Rattle.std.proofs.KnownBytes.{Appends-nil, Keeps-refl}
 use Rattle.command_line.specs.Words.{Reading, reading_by_word}
-use Rattle.session.specs.Assets.{Folder}
+use Rattle.session.specs.Folders.{Folder}
 use Rattle.replay_top.specs.declared.status.Status.TheVariants.{BadWords, NoMemory}
 use Rattle.replay_top.specs.Run.{IsRead, counts}
 use Rattle.replay_top.specs.Words.{asks_source}

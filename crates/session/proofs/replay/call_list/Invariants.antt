@@ -2,9 +2,9 @@ use Rattle.std.proofs.Common.{◌≡◌, ◌≤◌, ◌-◌, List, length, IsSom
 use Rattle.std.specs.Prelude.{IsTrue}
 use Rattle.io_edge.specs.Paths.{SamePaths}
 use Rattle.script_ast.specs.WellFormed.{AreCallsAfter}
-use Rattle.session.specs.Assets.{Folder, IsFolderOf, AgreeBetween}
+use Rattle.session.specs.Folders.{Folder, IsFolderOf, AgreeBetween}
 use Rattle.session.specs.Session.{after_calls, held_by}
-use Rattle.session.specs.Step.{KeepsTime, RunsOnceStarted}
+use Rattle.control_side.specs.Step.{KeepsTime, RunsOnceStarted}
 use Rattle.session.specs.View.{Stands}
 use Rattle.meaning.specs.declared.world.World.{World}
 use Rattle.session.proofs.replay.call_list.Given as goal

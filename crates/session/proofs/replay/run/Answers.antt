@@ -1,7 +1,7 @@
 use Rattle.std.proofs.Common.{◌≡◌, true, false, None, refl, rules, subst}
 use Rattle.wa_base.specs.Contexts.{is_supported}
 use Rattle.wa_base.specs.declared.exceptions.Exc.TheVariants.{NotSupported}
-use Rattle.session.specs.Assets.{Folder}
+use Rattle.session.specs.Folders.{Folder}
 use Rattle.session.proofs.Replaying.{refused_outcome, replayed_outcome, not_off}
 use Rattle.session.specs.View.{IsReplayed}
 use Rattle.session.proofs.replay.run.Goals as goal

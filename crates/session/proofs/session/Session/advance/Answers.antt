@@ -4,8 +4,9 @@ use Rattle.std.proofs.lemmas.List.{append-nil, with_items_is}
 use Rattle.ctx_state.specs.Context.{next, turn_of}
 use Rattle.transcript.specs.declared.lines.Line.{Line}
 use Rattle.transcript.specs.declared.lines.Line.TheVariants as line
-use Rattle.session.specs.Machine.{Machine, caught_up, world_caught_up}
-use Rattle.session.specs.Session.{ended_lines, promise_lines, lines_after, after_turn}
+use Rattle.control_side.specs.Machine.{Machine, caught_up, world_caught_up}
+use Rattle.control_side.specs.Turns.{ended_lines}
+use Rattle.session.specs.Session.{promise_lines, lines_after, after_turn}
 use Rattle.session.specs.View.{SessionView, Stands, HasRoom}
 use Rattle.session.proofs.CatchingUp.{told_after}
 use Rattle.session.proofs.Turning.{seen, keeps_up, has_room, stands_next, long_room}

@@ -4,9 +4,9 @@ use Rattle.std.proofs.lemmas.Bool.{cases_Bool}
 use Rattle.transcript.specs.declared.lines.Line.{Line}
 use Rattle.transcript.specs.declared.lines.Line.TheVariants as line
 use Rattle.meaning.specs.Changes.{Grows}
-use Rattle.session.specs.Machine.{Machine, caught_up}
+use Rattle.control_side.specs.Machine.{Machine, caught_up}
 use Rattle.session.specs.Session.{after_call}
-use Rattle.session.specs.Step.{is_start, KeepsTime}
+use Rattle.control_side.specs.Step.{is_start, KeepsTime}
 use Rattle.session.specs.View.{SessionView, SideView, KeepsUp, MakesRoom, CatchesUp}
 use Rattle.session.proofs.CatchingUp.{over_call, told_called}
 use Rattle.session.proofs.Sides.{heard_accepted, call_renderer, call_audio, same_audio, catches_up_keeps, catches_up_renderer}

@@ -1,0 +1,10 @@
+mod Called
+mod Deciding
+pub mod Finding
+mod Leaving
+mod Marks
+mod Named
+mod NewNames
+mod Parameters
+pub mod Starting
+pub mod Stepping

@@ -1,0 +1,9 @@
+pub mod Assets
+pub mod Contexts
+pub mod Deciding
+pub mod Machine
+pub mod Params
+pub mod Shapers
+pub mod Steady
+pub mod Step
+pub mod Turns

@@ -1,0 +1,132 @@
+-- The parameters that names stand for, and what the operations on them come to.
+use Rattle.std.specs.Prelude.{ℕ, List, [], ◌∷◌, ◌==◌, Bool, if◌then◌else◌, bytes_eq, find, is_some, Option, Some, None, option_map, Result, Ok, Err}
+use Rattle.wa_base.specs.GraphNames.{param_word}
+use Rattle.wa_base.specs.declared.exceptions.Exc.{Exc}
+use Rattle.wa_base.specs.declared.exceptions.Exc.TheVariants.{NotSupported, WrongType}
+use Rattle.wa_base.specs.declared.features.Feature.{Feature}
+use Rattle.wa_base.specs.declared.features.Feature.TheVariants as feature
+use Rattle.wa_base.specs.declared.graph_names.NodeId.{NodeId}
+use Rattle.wa_base.specs.declared.graph_names.ParamId.{ParamId}
+use Rattle.wa_base.specs.declared.graph_names.ParamName.{ParamName}
+use Rattle.wa_base.specs.declared.graph_names.ParamName.TheVariants.{Offset, Gain, DelayTime, PlaybackRate, Detune}
+use Rattle.node_table.specs.Kinds.{param_base}
+use Rattle.node_table.specs.declared.kinds.Kind.{Kind}
+use Rattle.node_table.specs.declared.kinds.Kind.TheVariants as kind
+use Rattle.conn_graph.specs.declared.edges.Edge.{Edge}
+use Rattle.conn_graph.specs.declared.edges.Form.{Form}
+use Rattle.conn_graph.specs.declared.edges.Form.TheVariants as form
+use Rattle.conn_graph.specs.declared.edges.Target.TheVariants.{Param}
+use Rattle.script_ast.specs.declared.operations.Op.{Op}
+use Rattle.script_ast.specs.declared.operations.Op.TheVariants as op
+use Rattle.transcript.specs.declared.lines.Answer.TheVariants as answer
+use Rattle.meaning.specs.World.{kind_of, param_id, slot_of}
+use Rattle.meaning.specs.declared.automation.ParamEdit.{ParamEdit}
+use Rattle.meaning.specs.declared.automation.ParamEdit.TheVariants as line
+use Rattle.meaning.specs.declared.change.Edit.TheVariants as edit
+use Rattle.control_side.specs.declared.decide.Decided.{Decided}
+use Rattle.control_side.specs.declared.decide.Decided.TheVariants as comes_to
+use Rattle.control_side.specs.Deciding.{refused, edits, node_named}
+use Rattle.control_side.specs.Machine.{Machine}
+
+-- ---- the parameters of a kind
+
+-- the feature for which a parameter is left out of the profile
+abbrev pub left_out : ParamName → Option Feature
+left_out PlaybackRate = Some feature.PlaybackRateAutomation
+left_out Detune = Some feature.Detune
+left_out other = None
+
+-- whether a kind has a parameter: those of a buffer source are left out
+abbrev pub has_param : Kind → ParamName → Bool
+has_param (kind.Buffer rate) name = is_some (left_out name)
+has_param other name = is_some (param_base other name)
+
+abbrev pub param_names : List ParamName
+param_names = Offset ∷ Gain ∷ DelayTime ∷ PlaybackRate ∷ Detune ∷ []
+
+-- the first of these parameters that a text names
+abbrev pub first_param : List ℕ → List ParamName → Option ParamName
+first_param word names = find (λ name. bytes_eq (param_word name) word) names
+
+-- the parameter that a text names
+unfoldable pub param_named : List ℕ → Option ParamName
+param_named word = first_param word param_names
+
+-- and where a kind has it
+abbrev pub param_of_kind : Kind → Option ParamName → Option ParamName
+param_of_kind of None = None
+param_of_kind of (Some name) = if has_param of name then Some name else None
+
+-- ---- what names stand for
+
+-- the parameter of a node that a text names
+abbrev pub param_at : Machine → Option NodeId → List ℕ → Option ParamId
+param_at machine None word = None
+param_at machine (Some node) word = option_map (param_id node.0) (param_of_kind (kind_of machine.world node.0) (param_named word))
+
+-- why no operation is done on a parameter with a name
+abbrev pub name_refusal : ParamName → Option Exc
+name_refusal name = option_map (λ f. NotSupported (Some f)) (left_out name)
+
+-- why nothing leads from a node to a parameter: from the destination nothing leads
+abbrev pub lead_refusal : NodeId → ParamId → Option Exc
+lead_refusal from to = if from.0 == 0 then Some (NotSupported (Some feature.DestinationOutput)) else name_refusal to.name
+
+-- ---- what an operation comes to
+
+abbrev pub unless_refused : Option Exc → Decided → Decided
+unless_refused None decided = decided
+unless_refused (Some exception) decided = refused exception
+
+-- what is done on a parameter, which is to be there
+abbrev pub on_param : Option ParamId → (ParamId → Decided) → Decided
+on_param None what = refused WrongType
+on_param (Some id) what = unless_refused (name_refusal id.name) (what id)
+
+-- the same where the parameter, or why it is not done, is at hand
+abbrev pub by_result : Result ParamId Exc → (ParamId → Decided) → Decided
+by_result (Ok id) what = what id
+by_result (Err exception) what = refused exception
+
+-- it edits a parameter
+abbrev pub edits_param : Machine → List ℕ → List ℕ → ParamEdit → Decided
+edits_param machine node word e = on_param (param_at machine (node_named machine node) word) (λ id. edits machine (edit.Param id e))
+
+-- something leads from a node to a parameter, which both are to be there
+abbrev pub leads : Option NodeId → Option ParamId → (NodeId → ParamId → Decided) → Decided
+leads None to what = refused WrongType
+leads (Some from) None what = refused WrongType
+leads (Some from) (Some to) what = unless_refused (lead_refusal from to) (what from to)
+
+abbrev pub edge_to_param : ℕ → NodeId → ParamId → Edge
+edge_to_param output from to = record { from = from; output = output; to = Param to }
+
+-- the form of a disconnect from a parameter
+abbrev pub form_of_param : Option ℕ → ParamId → Form
+form_of_param None to = form.Param to
+form_of_param (Some output) to = form.ParamOutput to output
+
+-- what an operation on a timeline comes to; one that is not built is in no script that was read
+unfoldable pub decided_on_line : Machine → Op → Decided
+decided_on_line machine (op.SetValue node param value) = edits_param machine node param (line.SetNow value)
+decided_on_line machine (op.SetValueAtTime node param value time) = edits_param machine node param (line.Set value time)
+decided_on_line machine (op.LinearRampToValueAtTime node param value time) = edits_param machine node param (line.Ramp value time)
+decided_on_line machine (op.SetValueCurveAtTime node param values time duration) = edits_param machine node param (line.Curve values time duration)
+decided_on_line machine (op.CancelScheduledValues node param time) = edits_param machine node param (line.Cancel time)
+decided_on_line machine (op.CancelAndHoldAtTime node param time) = edits_param machine node param (line.Hold time)
+decided_on_line machine other = refused (NotSupported None)
+
+-- what an operation on a parameter comes to
+unfoldable pub decided_on_param : Machine → Op → Decided
+decided_on_param machine (op.ConnectParam from output to param) =
+    leads (node_named machine from) (param_at machine (node_named machine to) param) (λ node id. edits machine (edit.Connect (edge_to_param output node id)))
+decided_on_param machine (op.DisconnectParam from to param output) =
+    leads (node_named machine from) (param_at machine (node_named machine to) param) (λ node id. edits machine (edit.Disconnect node (form_of_param output id)))
+decided_on_param machine (op.SetAutomationRate node param value) = edits_param machine node param (line.Rate value)
+decided_on_param machine (op.ExponentialRampToValueAtTime node param) =
+    on_param (param_at machine (node_named machine node) param) (λ id. refused (NotSupported (Some feature.ExponentialRamp)))
+decided_on_param machine (op.SetTargetAtTime node param) =
+    on_param (param_at machine (node_named machine node) param) (λ id. refused (NotSupported (Some feature.SetTarget)))
+decided_on_param machine (op.ReadValue node param) =
+    on_param (param_at machine (node_named machine node) param) (λ id. comes_to.Answer (answer.Value (slot_of machine.world id)))
+decided_on_param machine other = decided_on_line machine other

@@ -1,0 +1,207 @@
+-- One control call: first it is decided what it comes to, and then that is done.
+use Rattle.std.specs.Prelude.{ℕ, ◌≡◌, ◌/◌, ◌%◌, ◌==◌, ℤ, pos, negsuc, List, length, Bool, true, false, if◌then◌else◌, is_some, IsSome, Option, Some, None}
+use Rattle.wa_base.specs.Contexts.{quantum_of}
+use Rattle.wa_base.specs.declared.contexts.ContextSpec.{ContextSpec}
+use Rattle.wa_base.specs.declared.contexts.State.TheVariants.{Running}
+use Rattle.wa_base.specs.declared.exceptions.Exc.{Exc}
+use Rattle.wa_base.specs.declared.exceptions.Exc.TheVariants.{NotSupported}
+use Rattle.wa_base.specs.declared.graph_names.NodeId.{NodeId}
+use Rattle.io_edge.specs.Paths.{Paths}
+use Rattle.ctx_state.specs.Context.{ContextView, start_refusal, with_start, resume_refusal, resumed, suspend_refusal, suspend_frame, may_suspend, with_suspension}
+use Rattle.script_ast.specs.declared.call_list.Call.{Call}
+use Rattle.script_ast.specs.declared.operations.Op.{Op}
+use Rattle.script_ast.specs.declared.operations.Op.TheVariants as op
+use Rattle.transcript.specs.declared.lines.Answer.{Answer}
+use Rattle.transcript.specs.declared.lines.Answer.TheVariants as answer
+use Rattle.name_book.specs.declared.book.Object.{Object}
+use Rattle.name_book.specs.declared.book.Object.TheVariants as object
+use Rattle.name_book.specs.Book.{bound, first_named}
+use Rattle.node_table.specs.Delays.{delay_capacity}
+use Rattle.node_table.specs.declared.kinds.Kind.{Kind}
+use Rattle.node_table.specs.declared.kinds.Kind.TheVariants.{Constant, Gain, Delay, Splitter, Merger}
+use Rattle.conn_graph.specs.declared.edges.Edge.{Edge}
+use Rattle.conn_graph.specs.declared.edges.Form.{Form}
+use Rattle.conn_graph.specs.declared.edges.Form.TheVariants as form
+use Rattle.conn_graph.specs.declared.edges.Target.TheVariants.{Input}
+use Rattle.meaning.specs.declared.buffers.BufferEdit.TheVariants as buffer_edit
+use Rattle.meaning.specs.declared.change.AttributeEdit.TheVariants as attribute
+use Rattle.meaning.specs.declared.change.Edit.{Edit}
+use Rattle.meaning.specs.declared.change.Edit.TheVariants as edit
+use Rattle.meaning.specs.declared.scheds.LoopPart.TheVariants as part
+use Rattle.meaning.specs.declared.sources.SourceEdit.TheVariants as source
+use Rattle.meaning.specs.declared.world.World.{World}
+use Rattle.meaning.specs.declared.change.Change.{Change}
+use Rattle.meaning.specs.Changes.{Accepts, changed, edited, creates}
+use Rattle.control_side.specs.declared.decide.Decided.{Decided}
+use Rattle.control_side.specs.declared.decide.Decided.TheVariants as comes_to
+use Rattle.control_side.specs.Assets.{decodes}
+use Rattle.control_side.specs.Machine.{Machine, IsAccepted}
+use Rattle.control_side.specs.Shapers.{decided_on_shaper}
+pub use Rattle.control_side.specs.Deciding.{node_bound, node_named, buffer_bound, buffer_named, refused, unless, edits, edits_node, edits_nodes, edits_buffer, edits_with_buffer, sets_buffer}
+
+-- the name that an operation gives to what it creates
+abbrev pub new_name : Op → Option (List ℕ)
+new_name (op.CreateConstantSource name offset) = Some name
+new_name (op.CreateGain name gain) = Some name
+new_name (op.CreateDelay name max_delay_time delay_time) = Some name
+new_name (op.CreateChannelSplitter name number_of_outputs) = Some name
+new_name (op.CreateChannelMerger name number_of_inputs) = Some name
+new_name (op.CreateWaveShaper name curve oversample) = Some name
+new_name (op.CreateIIRFilter name feedforward feedback) = Some name
+new_name (op.CreateBufferSource name buffer looping loop_start loop_end playback_rate) = Some name
+new_name (op.CreateBuffer name channels frames rate) = Some name
+new_name (op.DecodeAudioData name path) = Some name
+new_name other = None
+
+-- ---- what an operation comes to
+
+-- the whole frames of a playbackRate, which has 24 bits behind the point: 0 stands for what is none
+abbrev pub rate_of : ℤ → ℕ
+rate_of (pos n) = if n % 16777216 == 0 then n / 16777216 else 0
+rate_of (negsuc n) = 0
+
+-- a delay of a context, which keeps the frames of its longest delay, and at least those of a quantum
+abbrev pub delay_of : ContextSpec → ℤ → ℤ → Kind
+delay_of spec longest time = Delay longest time (delay_capacity (quantum_of spec) longest spec.rate)
+
+abbrev pub edge_of : ℕ → ℕ → NodeId → NodeId → Edge
+edge_of output input from to = record { from = from; output = output; to = Input to input }
+
+-- the form of a disconnect from an output to a node, by the members that are there
+abbrev pub form_to : Option ℕ → Option ℕ → NodeId → Form
+form_to None input to = form.Node to
+form_to (Some output) None to = form.NodeOutput to output
+form_to (Some output) (Some input) to = form.NodeOutputInput to output input
+
+abbrev pub form_from : Option ℕ → Form
+form_from None = form.All
+form_from (Some output) = form.Output output
+
+abbrev pub disconnects : Machine → Option NodeId → Option ℕ → Option (List ℕ) → Option ℕ → Decided
+disconnects machine from output None input = edits_node machine from (λ node. edit.Disconnect node (form_from output))
+disconnects machine from output (Some to) input = edits_nodes machine from (node_named machine to) (λ node target. edit.Disconnect node (form_to output input target))
+
+-- a promise, which is rejected where there is a refusal
+abbrev pub promises : Option Exc → Decided → Decided
+promises None decided = decided
+promises (Some exception) decided = comes_to.Answer (answer.Rejected exception)
+
+-- what an operation comes to that looks at nothing outside
+unfoldable pub decided : Machine → Op → Decided
+decided machine (op.CreateConstantSource name offset) = edits machine (edit.Create (Constant offset))
+decided machine (op.CreateGain name gain) = edits machine (edit.Create (Gain gain))
+decided machine (op.CreateDelay name max_delay_time delay_time) = edits machine (edit.Create (delay_of machine.world.spec max_delay_time delay_time))
+decided machine (op.CreateChannelSplitter name number_of_outputs) = edits machine (edit.Create (Splitter number_of_outputs))
+decided machine (op.CreateChannelMerger name number_of_inputs) = edits machine (edit.Create (Merger number_of_inputs))
+decided machine (op.CreateBufferSource name buffer looping loop_start loop_end playback_rate) =
+    edits_with_buffer machine buffer (λ source. edit.CreateBufferSource (rate_of playback_rate) source (record { on = looping; first = loop_start; end = loop_end }))
+decided machine (op.CreateBuffer name channels frames rate) = edits machine (edit.Buffers (buffer_edit.Create channels frames rate))
+decided machine (op.LeftOut left_out) = refused (NotSupported (Some left_out))
+decided machine (op.Connect from output to input) = edits_nodes machine (node_named machine from) (node_named machine to) (λ node target. edit.Connect (edge_of output input node target))
+decided machine (op.Disconnect from output to input) = disconnects machine (node_named machine from) output to input
+decided machine (op.Start node when offset duration) = edits_node machine (node_named machine node) (λ n. edit.Source n (source.Start when offset duration))
+decided machine (op.Stop node when) = edits_node machine (node_named machine node) (λ n. edit.Source n (source.Stop when))
+decided machine (op.SetChannelCount node value) = edits_node machine (node_named machine node) (λ n. edit.Attribute n (attribute.Count value))
+decided machine (op.SetChannelCountMode node value) = edits_node machine (node_named machine node) (λ n. edit.Attribute n (attribute.Mode value))
+decided machine (op.SetChannelInterpretation node value) = edits_node machine (node_named machine node) (λ n. edit.Attribute n (attribute.Interp value))
+decided machine (op.SetBuffer node buffer) = sets_buffer machine (node_named machine node) buffer
+decided machine (op.SetLoop node value) = edits_node machine (node_named machine node) (λ n. edit.Source n (source.SetLoop (part.On value)))
+decided machine (op.SetLoopStart node value) = edits_node machine (node_named machine node) (λ n. edit.Source n (source.SetLoop (part.First value)))
+decided machine (op.SetLoopEnd node value) = edits_node machine (node_named machine node) (λ n. edit.Source n (source.SetLoop (part.End value)))
+decided machine (op.CopyToChannel buffer channel samples first) =
+    edits_buffer machine (buffer_named machine buffer) (λ written. edit.Buffers (buffer_edit.Write written channel samples first))
+decided machine op.StartRendering = promises (start_refusal machine.context) comes_to.Start
+decided machine (op.Suspend time) = promises (suspend_refusal machine.context time) (comes_to.Suspend (suspend_frame machine.context time))
+decided machine op.Resume = promises (resume_refusal machine.context) comes_to.Resume
+decided machine op.ReadState = comes_to.Answer (answer.State machine.context.state)
+decided machine op.ReadTime = comes_to.Answer (answer.Time machine.context.time)
+decided machine other = decided_on_shaper machine other
+
+-- and one that looks into the folder of assets, where the paths hold this
+abbrev pub decided_with : Machine → Paths → Op → Decided
+decided_with machine held (op.DecodeAudioData name path) = decodes machine (held path)
+decided_with machine held other = decided machine other
+
+-- ---- what is done
+
+-- the machine after a call, and the answer
+pub record Stepped : Type 0 where
+  pub machine : Machine
+  pub answer : Answer
+
+abbrev pub with_world : Machine → World → Machine
+with_world machine world = record machine { world = world }
+
+-- what an edit creates has the number after the last one of its kind
+abbrev pub created_by : Machine → Edit → Object
+created_by machine (edit.Buffers e) = object.Buffer (record { 0 = length machine.world.store })
+created_by machine other = object.Node (record { 0 = length machine.world.nodes })
+
+-- the world is edited, and where a name is given it is bound to what is new
+abbrev pub with_edit : Machine → Edit → Option (List ℕ) → Machine
+with_edit machine change None = with_world machine (edited machine.world machine.context.time change)
+with_edit machine change (Some name) = record machine {
+  world = edited machine.world machine.context.time change;
+  bindings = bound machine.bindings name (created_by machine change);
+  first_names = first_named machine.first_names (created_by machine change) name;
+}
+
+abbrev pub with_context : Machine → ContextView → Machine
+with_context machine context = record machine { context = context }
+
+-- the answer to an edit that was made; decodeAudioData gives a promise, which resolves within the call
+abbrev pub done : Op → Answer
+done (op.DecodeAudioData name path) = answer.Resolved
+done other = answer.Ok
+
+-- a call that is only answered leaves the machine as it is, refused or not
+abbrev pub settled : Machine → Call → Decided → Stepped
+settled machine call (comes_to.Answer said) = record { machine = machine; answer = said }
+settled machine call comes_to.Start = record { machine = with_context machine (with_start machine.context call.ordinal); answer = answer.Pending }
+settled machine call (comes_to.Suspend frame) = record { machine = with_context machine (with_suspension machine.context frame call.ordinal); answer = answer.Pending }
+settled machine call comes_to.Resume = record { machine = with_context machine (resumed machine.context); answer = answer.Resolved }
+settled machine call (comes_to.Change change) = record { machine = with_edit machine change (new_name call.op); answer = done call.op }
+
+-- a call, where the paths of the folder hold this
+abbrev pub step : Machine → Paths → Call → Stepped
+step machine held call = settled machine call (decided_with machine held call.op)
+
+-- ---- what is said of a call
+
+abbrev pub is_start : Op → Bool
+is_start op.StartRendering = true
+is_start other = false
+
+abbrev pub is_resume : Op → Bool
+is_resume op.Resume = true
+is_resume other = false
+
+abbrev pub is_decode : Op → Bool
+is_decode (op.DecodeAudioData name path) = true
+is_decode other = false
+
+-- What an operation may come to: only startRendering starts the rendering, and only once; what the context refuses is not done to it; an edit is one that the world accepts, and what it creates gets a name.
+abbrev pub IsFor : Machine → Op → Decided → Type 0
+IsFor machine call (comes_to.Answer said) = Unit {0}
+IsFor machine call comes_to.Start = (is_start call ≡ true) × (start_refusal machine.context ≡ None)
+IsFor machine call (comes_to.Suspend frame) = may_suspend machine.context frame ≡ true
+IsFor machine call comes_to.Resume = resume_refusal machine.context ≡ None
+IsFor machine call (comes_to.Change change) = IsAccepted machine change × (creates change ≡ is_some (new_name call))
+
+-- the machine and the answer are those of a step
+abbrev pub Steps : Machine → Stepped → Answer → Type 0
+Steps machine stepped said = (machine ≡ stepped.machine) × (said ≡ stepped.answer)
+
+-- a call moves neither the context's numbers nor its time
+pub record KeepsTime (old new : Machine) : Type 0 where
+  pub spec : new.world.spec ≡ old.world.spec
+  pub now : new.context.time ≡ old.context.time
+
+-- once rendering was started, it is running
+abbrev pub RunsOnceStarted : Machine → Type 0
+RunsOnceStarted machine = IsSome machine.context.started → machine.context.state ≡ Running
+
+-- What a call sends to the side that renders: the change of the world, which the world accepted, or nothing where the world stays.
+abbrev pub Sends : World → World → Option Change → Type 0
+Sends old new None = new ≡ old
+Sends old new (Some change) = Accepts old change × (new ≡ changed old change)

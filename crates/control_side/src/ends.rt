@@ -1,0 +1,31 @@
+ghost use Rattle.std.specs.Prelude.{◌≡◌, [], All, IsSome, unwrap_or, IfOk};
+ghost use Rattle.name_book.specs.Book.{first_name_of};
+ghost use Rattle.control_side.specs.Turns as turns;
+ghost use Rattle.meaning.specs.declared.scheds.Play.{Play as play};
+
+use control_msgs::ends_by;
+use meaning::Play;
+use name_book::Book;
+use std::alloc::Global;
+use transcript::Line;
+use wa_base::NoMemory;
+
+/// A line for each source that ends before the quantum that begins at `now`, in order of node number.
+pub(crate) fn ended_lines(
+    alloc: Global,
+    book: &Book,
+    plays: &[Play],
+    now: u64,
+) -> Result<Vec<Line>, NoMemory>
+    requires { All (λ (p : play). IsSome (first_name_of book.now.first_names p.id.0)) plays.now }
+    ensures { IfOk result (λ lines. lines.items ≡ turns.ended_lines book.now.first_names now plays.now) }
+{
+    let mut lines = Vec::new(alloc);
+    for play in plays {
+        if ends_by(&play.sched, now) {
+            let name = book.created(play.id).copy()?;
+            lines.push(Line::Ended(play.id, name))?;
+        }
+    }
+    Ok(lines)
+}
