@@ -6,5 +6,6 @@ mod Marks
 mod Named
 mod NewNames
 mod Parameters
+mod Remaining
 pub mod Starting
 pub mod Stepping

@@ -1,5 +1,5 @@
 -- What calls do to a context: which start the rendering, and which let it go on.
-use Rattle.std.proofs.Common.{ℕ, ◌≡◌, List, [], ◌∷◌, length, Bool, true, false, ◌||◌, Option, Some, None, refl, ◌∙◌, ap}
+use Rattle.std.proofs.Common.{ℕ, ◌≡◌, List, [], ◌∷◌, Bool, true, false, ◌||◌, Option, Some, None, refl, ◌∙◌, ap}
 use Rattle.std.specs.Prelude.{is_some, not, ◌&&◌, IsSome, if◌then◌else◌}
 use Rattle.std.specs.List.{list_any}
 use Rattle.io_edge.specs.Paths.{Paths}

@@ -1,5 +1,5 @@
 -- The objects that names stand for, and edits that a world may refuse.
-use Rattle.std.specs.Prelude.{ℕ, List, Option, Some, None}
+use Rattle.std.specs.Prelude.{ℕ, List, Option, Some, None, Result, Ok, Err}
 use Rattle.wa_base.specs.declared.exceptions.Exc.{Exc}
 use Rattle.wa_base.specs.declared.exceptions.Exc.TheVariants.{WrongType}
 use Rattle.wa_base.specs.declared.graph_names.BufId.{BufId}
@@ -69,6 +69,11 @@ edits_buffer machine (Some buffer) change = edits machine (change buffer)
 abbrev pub edits_with_buffer : Machine → Option (List ℕ) → (Option BufId → Edit) → Decided
 edits_with_buffer machine None change = edits machine (change None)
 edits_with_buffer machine (Some name) change = edits_buffer machine (buffer_named machine name) (λ buffer. change (Some buffer))
+
+-- the same where the buffer, or why there is none, is at hand
+abbrev pub by_buffer : Machine → Result (Option BufId) Exc → (Option BufId → Edit) → Decided
+by_buffer machine (Ok buffer) change = edits machine (change buffer)
+by_buffer machine (Err exception) change = refused exception
 
 -- the buffer of a source is set
 abbrev pub sets_buffer : Machine → Option NodeId → Option (List ℕ) → Decided

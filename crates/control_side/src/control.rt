@@ -1,15 +1,14 @@
-ghost use Rattle.std.specs.Prelude.{◌≡◌, ◌<◌, ◌≤◌, ◌+◌, nat_le, if◌then◌else◌, false, true, length, None, Some, option_map, IsTrue, IfOk, IfSome, IsErrOf, IsSome, is_some, OnOk, OnErr};
+ghost use Rattle.std.specs.Prelude.{◌≡◌, ◌<◌, ◌≤◌, ◌+◌, false, true, length, None, Some, option_map, IsTrue, IfOk, IfSome, IsErrOf, IsSome, is_some, OnOk, OnErr};
 ghost use Rattle.io_edge.specs.Faults.{Rose};
 ghost use Rattle.io_edge.specs.Paths.{Paths, SamePaths};
-ghost use Rattle.wa_base.specs.Contexts.{IsSupported, quantum_of};
+ghost use Rattle.wa_base.specs.Contexts.{IsSupported};
 ghost use Rattle.script_ast.specs.Ranges.{IsInRange, IsNewName};
 ghost use Rattle.meaning.specs.World.{plain};
 ghost use Rattle.meaning.specs.Validity.{IsValid};
-ghost use Rattle.meaning.specs.Changes.{IsNamed, Accepts, Grows, creates};
-ghost use Rattle.meaning.specs.Sources.{IsNamedBy};
+ghost use Rattle.meaning.specs.Changes.{Accepts, Grows, creates};
 ghost use Rattle.control_side.specs.Assets.{IsHeld};
 ghost use Rattle.control_side.specs.Machine.{Machine, IsAccepted, first_machine, caught_up};
-ghost use Rattle.ctx_state.specs.Context.{IsInState, next, turn_of, start_refusal, with_start, resume_refusal, resumed, suspend_refusal, suspend_frame, may_suspend, with_suspension};
+ghost use Rattle.ctx_state.specs.Context.{IsInState, next, turn_of, start_refusal, with_start, resume_refusal, resumed, may_suspend, with_suspension};
 ghost use Rattle.control_side.specs.Steady.{IsSteady};
 ghost use Rattle.control_side.specs.Turns as turns;
 ghost use Rattle.control_side.specs.Step as spec;
@@ -78,7 +77,9 @@ impl Control {
 }
 
 impl Control {
-    /// Does one call. A refused call changes nothing, and after a `Stop` all is as before.
+    /// Does one call at the time of the context. A refused call changes nothing but for its answer.
+    /// decodeAudioData settles within the call; its file is one of `files`. After a `Stop` all is as
+    /// before, and the call can be made again.
     pub fn step<F: Files>(&mut self, call: &Call, files: &mut F) -> Result<Stepped, Stop>
         requires { IsInRange call.now.op }
         ensures ok { IfOk result (λ stepped. (held : Paths) × IsHeld (F.tells files.old) (F.paths files.old) held × Steps self.new (spec.step self.old held call.now) stepped.answer) }

@@ -1,4 +1,4 @@
-ghost use Rattle.std.specs.Prelude.{◌≡◌, [], All, IsSome, unwrap_or, IfOk};
+ghost use Rattle.std.specs.Prelude.{◌≡◌, All, IsSome, IfOk};
 ghost use Rattle.name_book.specs.Book.{first_name_of};
 ghost use Rattle.control_side.specs.Turns as turns;
 ghost use Rattle.meaning.specs.declared.scheds.Play.{Play as play};

@@ -3,11 +3,15 @@
 #![tactic(auto)]
 
 mod assets;
+mod buffers;
+mod contexts;
 mod control;
 mod decide;
 mod ends;
+mod nodes;
 mod params;
 mod shapers;
+mod sources;
 mod stop;
 
 pub use control::{Control, Stepped};

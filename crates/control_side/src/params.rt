@@ -14,7 +14,7 @@ use meaning::{Edit, ParamEdit};
 use node_table::Kind;
 use script_ast::Op;
 use transcript::Answer;
-use wa_base::{Exc, Feature, Name, NoMemory, NodeId, ParamId, ParamName};
+use wa_base::{Exc, Feature, Name, NoMemory, NodeId, ParamId, ParamName, Samples};
 
 const PARAM_NAMES: [ParamName; 5] = [
     ParamName::Offset,
@@ -68,8 +68,7 @@ impl Control {
     {
         match op {
             Op::SetValue { node, param, value } => {
-                let edit = ParamEdit::SetNow { value: *value };
-                Ok(self.edit_param(node, param, edit))
+                Ok(self.edit_param(node, param, ParamEdit::SetNow { value: *value }))
             }
             Op::SetValueAtTime {
                 node,
@@ -95,14 +94,7 @@ impl Control {
                 values,
                 time,
                 duration,
-            } => {
-                let edit = ParamEdit::Curve {
-                    points: values.copy()?,
-                    time: *time,
-                    duration: *duration,
-                };
-                Ok(self.edit_param(node, param, edit))
-            }
+            } => self.edit_curve(node, param, values, *time, *duration),
             Op::CancelScheduledValues { node, param, time } => {
                 Ok(self.edit_param(node, param, ParamEdit::Cancel { time: *time }))
             }
@@ -148,6 +140,24 @@ impl Control {
             Ok(id) => self.edits(Edit::Param { id, edit }),
             Err(exc) => refused(exc),
         }
+    }
+
+    fn edit_curve(
+        &self,
+        node: &Name,
+        param: &Name,
+        values: &Samples,
+        time: i64,
+        duration: i64,
+    ) -> Result<Decided, NoMemory>
+        ensures { IfOk result (λ decided. decided ≡ spec.edits_param self.now node.now param.now (ParamEdit.Curve values.now time duration)) }
+    {
+        let edit = ParamEdit::Curve {
+            points: values.copy()?,
+            time,
+            duration,
+        };
+        Ok(self.edit_param(node, param, edit))
     }
 
     // An operation on a parameter that the profile leaves out.

@@ -39,14 +39,12 @@ returns-in-CancelAndHoldAtTime c =
     let time : SFits w64 c.in-CancelAndHoldAtTime.time = search rules in
     record { decided = rw c.in-CancelAndHoldAtTime.is (rw (to_z-of_z w64 c.in-CancelAndHoldAtTime.time time) at c.edit_param-in-CancelAndHoldAtTime.ensures) }
 
-pub returns-in_ok-copy-in-SetValueCurveAtTime : goal.returns-in_ok-copy-in-SetValueCurveAtTime
+pub returns-in-SetValueCurveAtTime : goal.returns-in-SetValueCurveAtTime
 unfolding decided_on_line
-returns-in_ok-copy-in-SetValueCurveAtTime c =
+returns-in-SetValueCurveAtTime c =
     let time : SFits w64 c.in-SetValueCurveAtTime.time = search rules in
     let duration : SFits w64 c.in-SetValueCurveAtTime.duration = search rules in
-    record {
-      decided = rw c.in-SetValueCurveAtTime.is (rw (c.in_ok-copy-in-SetValueCurveAtTime.ensures, to_z-of_z w64 c.in-SetValueCurveAtTime.time time, to_z-of_z w64 c.in-SetValueCurveAtTime.duration duration) at c.edit_param-in-SetValueCurveAtTime.ensures);
-    }
+    record { decided = rw c.in-SetValueCurveAtTime.is (rw (to_z-of_z w64 c.in-SetValueCurveAtTime.time time, to_z-of_z w64 c.in-SetValueCurveAtTime.duration duration) at c.edit_curve.ensures) }
 
 -- no other operation is built
 default : (c : goal.After-refused) (o : Op) → c.args.op.now ≡ o → refused (NotSupported None) ≡ decided_on_line c.args.self.now o

@@ -1,4 +1,5 @@
 use Rattle.std.proofs.Common.{refl, sym, subst, ◌∙◌}
+use Rattle.control_side.specs.Steady.{IsSteady}
 use Rattle.control_side.specs.Step.{IsFor}
 use Rattle.control_side.proofs.Deciding.{decided_for}
 use Rattle.control_side.proofs.Finding.{looks_away}
@@ -11,4 +12,4 @@ returns-in_ok-decide-in_default-clause-decided g c =
 
 pub returns-in_ok-decide-in_default-clause-fits : goal.returns-in_ok-decide-in_default-clause-fits
 returns-in_ok-decide-in_default-clause-fits g c =
-    subst (IsFor c.args.self.now c.args.op.now) (sym c.in_ok-decide-in_default.ensures.decided) (decided_for c.args.self.now c.decide.ensures.steady c.args.op.now c.requires)
+    subst (IsFor c.args.self.now c.args.op.now) (sym c.in_ok-decide-in_default.ensures.decided) (decided_for c.args.self.now (subst IsSteady c.self.view_is c.self.invariant) c.args.op.now c.requires)
