@@ -1,6 +1,6 @@
 // Every word of a transcript, as docs/FORMATS.md writes it.
 
-use crate::runs::{NONE, replay};
+use replay_harness::runs::{NONE, replay};
 use std::alloc::Global;
 use std::test::Fail;
 use transcript::{Answer, EndWord, Line, Lines, text};

@@ -1,47 +1,12 @@
-use crate::buffer_cases::BUFFERS;
 use crate::call_cases::CALLS;
-use crate::channel_cases::CHANNEL_COUNTS;
-use crate::connection_cases::{DISCONNECTS, GAINS};
-use crate::delay_cases::DELAYS;
-use crate::event_cases::EVENTS;
-use crate::filter_cases::FILTERS;
-use crate::param_cases::{PARAM_CONNECTIONS, VALUES};
-use crate::port_cases::PORTS;
 use crate::script_cases::SCRIPTS;
-use crate::shaper_cases::SHAPERS;
-use crate::texts::reading;
-use crate::word_cases::{INTERPS, MODES};
 use script_ast::{Call, Op, Script};
+use script_harness::cases::{AFTER, BEFORE, first_misread};
+use script_harness::texts::reading;
 use script_json::{ScriptErr, read};
 use std::alloc::{AllocError, Global};
 use std::test::Fail;
 use wa_base::Fix;
-
-const BEFORE: &str =
-    "{\"version\":1,\"context\":{\"channels\":1,\"length\":128,\"rate\":48000},\"calls\":[";
-
-const AFTER: &str = "]}";
-
-// The first case that does not hold. A case is a text, ` => ` and what reading that text gives, where
-// it is put between the two others.
-fn first_misread<'a>(
-    alloc: Global,
-    before: &str,
-    after: &str,
-    cases: &'a [&'a str],
-) -> Result<Option<&'a str>, AllocError> {
-    for case in cases {
-        let Some((text, want)) = case.split_once(" => ") else {
-            return Ok(Some(case));
-        };
-        let script = format!(in alloc; "{before}{text}{after}")?;
-        let got = reading(alloc, script.as_bytes())?;
-        if got.as_str() != want {
-            return Ok(Some(case));
-        }
-    }
-    Ok(None)
-}
 
 #[test]
 fn reads_whole_scripts(rt: HostRuntime) -> Result<(), Fail> {
@@ -53,97 +18,6 @@ fn reads_whole_scripts(rt: HostRuntime) -> Result<(), Fail> {
 #[test]
 fn reads_lists_of_calls(rt: HostRuntime) -> Result<(), Fail> {
     let misread = first_misread(rt.alloc(), BEFORE, AFTER, &CALLS)?;
-    assert_eq!(rt; misread, None);
-    Ok(())
-}
-
-#[test]
-fn reads_gains(rt: HostRuntime) -> Result<(), Fail> {
-    let misread = first_misread(rt.alloc(), BEFORE, AFTER, &GAINS)?;
-    assert_eq!(rt; misread, None);
-    Ok(())
-}
-
-#[test]
-fn reads_disconnects(rt: HostRuntime) -> Result<(), Fail> {
-    let misread = first_misread(rt.alloc(), BEFORE, AFTER, &DISCONNECTS)?;
-    assert_eq!(rt; misread, None);
-    Ok(())
-}
-
-#[test]
-fn reads_channel_counts(rt: HostRuntime) -> Result<(), Fail> {
-    let misread = first_misread(rt.alloc(), BEFORE, AFTER, &CHANNEL_COUNTS)?;
-    assert_eq!(rt; misread, None);
-    Ok(())
-}
-
-#[test]
-fn reads_ports(rt: HostRuntime) -> Result<(), Fail> {
-    let misread = first_misread(rt.alloc(), BEFORE, AFTER, &PORTS)?;
-    assert_eq!(rt; misread, None);
-    Ok(())
-}
-
-#[test]
-fn reads_buffers(rt: HostRuntime) -> Result<(), Fail> {
-    let misread = first_misread(rt.alloc(), BEFORE, AFTER, &BUFFERS)?;
-    assert_eq!(rt; misread, None);
-    Ok(())
-}
-
-#[test]
-fn reads_shapers(rt: HostRuntime) -> Result<(), Fail> {
-    let misread = first_misread(rt.alloc(), BEFORE, AFTER, &SHAPERS)?;
-    assert_eq!(rt; misread, None);
-    Ok(())
-}
-
-#[test]
-fn reads_filters(rt: HostRuntime) -> Result<(), Fail> {
-    let misread = first_misread(rt.alloc(), BEFORE, AFTER, &FILTERS)?;
-    assert_eq!(rt; misread, None);
-    Ok(())
-}
-
-#[test]
-fn reads_delays(rt: HostRuntime) -> Result<(), Fail> {
-    let misread = first_misread(rt.alloc(), BEFORE, AFTER, &DELAYS)?;
-    assert_eq!(rt; misread, None);
-    Ok(())
-}
-
-#[test]
-fn reads_modes(rt: HostRuntime) -> Result<(), Fail> {
-    let misread = first_misread(rt.alloc(), BEFORE, AFTER, &MODES)?;
-    assert_eq!(rt; misread, None);
-    Ok(())
-}
-
-#[test]
-fn reads_interpretations(rt: HostRuntime) -> Result<(), Fail> {
-    let misread = first_misread(rt.alloc(), BEFORE, AFTER, &INTERPS)?;
-    assert_eq!(rt; misread, None);
-    Ok(())
-}
-
-#[test]
-fn reads_connections_to_parameters(rt: HostRuntime) -> Result<(), Fail> {
-    let misread = first_misread(rt.alloc(), BEFORE, AFTER, &PARAM_CONNECTIONS)?;
-    assert_eq!(rt; misread, None);
-    Ok(())
-}
-
-#[test]
-fn reads_values_of_parameters(rt: HostRuntime) -> Result<(), Fail> {
-    let misread = first_misread(rt.alloc(), BEFORE, AFTER, &VALUES)?;
-    assert_eq!(rt; misread, None);
-    Ok(())
-}
-
-#[test]
-fn reads_events_of_parameters(rt: HostRuntime) -> Result<(), Fail> {
-    let misread = first_misread(rt.alloc(), BEFORE, AFTER, &EVENTS)?;
     assert_eq!(rt; misread, None);
     Ok(())
 }

@@ -1,6 +1,6 @@
 // Sessions with delays: five examples.
 
-use crate::graphs::{Example, is_met};
+use replay_harness::examples::{Example, is_met};
 use std::test::Fail;
 
 const ECHO: Example = Example {

@@ -1,6 +1,7 @@
 // Sessions that decode a file, over files in memory.
 
-use crate::runs::{Failing, Left, NONE, replay_with};
+use replay_harness::rows::{Row, is_left};
+use replay_harness::runs::{Failing, Left, NONE, replay_with};
 use replay_top::Status;
 use std::alloc::Global;
 use std::test::Fail;
@@ -14,8 +15,22 @@ const PLAYED: &str =
 const DECODED: &str =
     "{\"version\":1,\"context\":{\"channels\":1,\"length\":3,\"rate\":44100},\"calls\":[{\"op\":\"decodeAudioData\",\"as\":\"b\",\"path\":\"two.wav\"},{\"op\":\"decodeAudioData\",\"as\":\"b\",\"path\":\"none.wav\"}]}";
 
+// A file is decoded at a suspension, and played from there on.
+const DECODED_IN_A_LIST: Row = Row {
+    script: r#"{"version":1,"context":{"channels":1,"length":256,"rate":48000},"calls":[
+{"op":"suspend","time":1,"then":[
+{"op":"decodeAudioData","as":"b","path":"two.wav"},
+{"op":"createBufferSource","as":"s","buffer":"b"},
+{"op":"connect","from":"s","to":"destination"},
+{"op":"start","node":"s"},
+{"op":"resume"}]},
+{"op":"startRendering"}]}"#,
+    lines: "1 pending\n7 pending\n1 resolved\n2 resolved\n3 ok\n4 ok\n5 ok\n6 resolved\nended 1 s\n7 resolved\ncomplete 256\nend completed\n",
+    samples: &[(128, 0, 0), (2, 4_194_304, -8_388_608), (126, 0, 0)],
+};
+
 // A file of one channel, 48,000 frames a second and 16 bits: the two frames 0.5 and -0.5.
-pub(crate) const TWO_FRAMES: [u8; 48] = [
+const TWO_FRAMES: [u8; 48] = [
     0x52, 0x49, 0x46, 0x46, 0x28, 0x00, 0x00, 0x00, 0x57, 0x41, 0x56, 0x45, 0x66, 0x6d, 0x74, 0x20,
     0x10, 0x00, 0x00, 0x00, 0x01, 0x00, 0x01, 0x00, 0x80, 0xbb, 0x00, 0x00, 0x00, 0x77, 0x01, 0x00,
     0x02, 0x00, 0x10, 0x00, 0x64, 0x61, 0x74, 0x61, 0x04, 0x00, 0x00, 0x00, 0x00, 0x40, 0x00, 0xc0,
@@ -89,5 +104,17 @@ fn a_fault_of_reading_a_file_ends_the_run(rt: HostRuntime) -> Result<(), Fail> {
             ""
         )?
     );
+    Ok(())
+}
+
+#[test]
+fn a_file_is_decoded_at_a_suspension(rt: HostRuntime) -> Result<(), Fail> {
+    let script = DECODED_IN_A_LIST.script;
+    let left = left_by(rt.alloc(), script, &TWO_FRAMES, NONE)?;
+    assert!(rt; is_left(rt.alloc(), &left, &DECODED_IN_A_LIST)?);
+    let first_fetch = Failing { fetch: 1, ..NONE };
+    let left = left_by(rt.alloc(), script, &TWO_FRAMES, first_fetch)?;
+    assert!(rt; left.status == Status::AssetFault);
+    assert!(rt; left.text.is_empty() && left.file.is_none());
     Ok(())
 }

@@ -1,20 +1,9 @@
 // Sessions with suspensions whose lines and samples were worked out by hand.
 
-use crate::assets::TWO_FRAMES;
-use crate::runs::{Failing, Left, NONE, leaves_no_file, replay, replay_with};
+use replay_harness::rows::{Row, is_met};
+use replay_harness::runs::leaves_no_file;
 use replay_top::Status;
-use std::alloc::{AllocError, Global};
 use std::test::Fail;
-use wa_base::NoMemory;
-
-// A session that is rendered in one channel: its script, its lines, and the samples of its file, in runs:
-// how many there are, the first one, and what each has more than the one before it.
-#[derive(Clone, Copy)]
-pub(crate) struct Row {
-    pub(crate) script: &'static str,
-    pub(crate) lines: &'static str,
-    pub(crate) samples: &'static [(u32, i32, i32)],
-}
 
 // The curve would end at frame 256. What is read there, and is left, is its value at frame 128.
 const CURVE_IS_CANCELLED: Row = Row {
@@ -107,20 +96,6 @@ const ASKED_FOR_IN_A_LIST: Row = Row {
     samples: &[(384, 0, 0)],
 };
 
-// A file is decoded at a suspension, and played from there on.
-const DECODED_IN_A_LIST: Row = Row {
-    script: r#"{"version":1,"context":{"channels":1,"length":256,"rate":48000},"calls":[
-{"op":"suspend","time":1,"then":[
-{"op":"decodeAudioData","as":"b","path":"two.wav"},
-{"op":"createBufferSource","as":"s","buffer":"b"},
-{"op":"connect","from":"s","to":"destination"},
-{"op":"start","node":"s"},
-{"op":"resume"}]},
-{"op":"startRendering"}]}"#,
-    lines: "1 pending\n7 pending\n1 resolved\n2 resolved\n3 ok\n4 ok\n5 ok\n6 resolved\nended 1 s\n7 resolved\ncomplete 256\nend completed\n",
-    samples: &[(128, 0, 0), (2, 4_194_304, -8_388_608), (126, 0, 0)],
-};
-
 // A suspension at the start, one for a frame, a second one for it, and one at the length. The list of the
 // second call is empty.
 const REFUSED_AND_STALLED: &str =
@@ -133,35 +108,6 @@ const REFUSED_AND_STALLED: &str =
 
 const STALLED_LINES: &str =
     "1 rejected InvalidStateError\n2 pending\n3 rejected InvalidStateError\n4 rejected InvalidStateError\n5 pending\n2 resolved\nend stalled 128\n";
-
-// The samples of a file, of three bytes each, the lowest first.
-fn bytes_of(alloc: Global, runs: &[(u32, i32, i32)]) -> Result<Vec<u8>, AllocError> {
-    let mut bytes = Vec::new(alloc);
-    for (count, first, step) in runs {
-        let mut sample = *first;
-        for _ in 0..*count {
-            let [low, middle, high, _] = sample.to_le_bytes();
-            bytes.extend_from_slice(&[low, middle, high])?;
-            sample = sample.wrapping_add(*step);
-        }
-    }
-    Ok(bytes)
-}
-
-// Whether a run left the lines and the samples of a row, and no others.
-fn is_left(alloc: Global, left: &Left, row: &Row) -> Result<bool, NoMemory> {
-    let samples = bytes_of(alloc, row.samples)?;
-    let is_file = match &left.file {
-        Some(file) => file.get(44..) == Some(samples.as_slice()),
-        None => false,
-    };
-    Ok(is_file && left.status == Status::Rendered && left.text.as_slice() == row.lines.as_bytes())
-}
-
-pub(crate) fn is_met(alloc: Global, row: &Row) -> Result<bool, NoMemory> {
-    let left = replay(alloc, &["out.wav"], row.script.as_bytes(), NONE)?;
-    is_left(alloc, &left, row)
-}
 
 #[test]
 fn a_curve_is_cancelled_at_a_suspension(rt: HostRuntime) -> Result<(), Fail> {
@@ -189,22 +135,5 @@ fn lists_are_done_where_they_are_due(rt: HostRuntime) -> Result<(), Fail> {
     assert!(rt; is_met(rt.alloc(), &LISTS_IN_LISTS)?);
     assert!(rt; is_met(rt.alloc(), &RESUMED_FIRST)?);
     assert!(rt; is_met(rt.alloc(), &STARTED_IN_A_LIST)?);
-    Ok(())
-}
-
-// What a run of the row with the decoded file leaves.
-fn decoded_with(alloc: Global, failing: Failing) -> Result<Left, NoMemory> {
-    let script = DECODED_IN_A_LIST.script.as_bytes();
-    replay_with(alloc, script, "two.wav", &TWO_FRAMES, failing)
-}
-
-#[test]
-fn a_file_is_decoded_at_a_suspension(rt: HostRuntime) -> Result<(), Fail> {
-    let left = decoded_with(rt.alloc(), NONE)?;
-    assert!(rt; is_left(rt.alloc(), &left, &DECODED_IN_A_LIST)?);
-    let first_fetch = Failing { fetch: 1, ..NONE };
-    let left = decoded_with(rt.alloc(), first_fetch)?;
-    assert!(rt; left.status == Status::AssetFault);
-    assert!(rt; left.text.is_empty() && left.file.is_none());
     Ok(())
 }

@@ -1,21 +1,14 @@
 // Sessions with buffers whose samples were worked out by hand.
 
-use crate::runs::{Failing, Left, NONE, replay_with};
+use replay_harness::excerpts::{Excerpt, is_met};
+use replay_harness::runs::{Failing, NONE, replay_with};
 use replay_top::Status;
 use std::alloc::Global;
 use std::test::Fail;
 use wa_base::NoMemory;
 
-// A session: its script, what its lines end with, and the samples that its file begins with, of three
-// bytes each, the lowest first.
-pub(crate) struct Row {
-    pub script: &'static str,
-    pub lines: &'static str,
-    pub samples: &'static [u8],
-}
-
 // A loop whose points are past the buffer goes over the whole of it.
-const WHOLE_LOOP: Row = Row {
+const WHOLE_LOOP: Excerpt = Excerpt {
     script: r#"{"version":1,"context":{"channels":1,"length":128,"rate":48000},"calls":[
 {"op":"createBuffer","as":"b","channels":1,"length":3,"rate":48000},
 {"op":"copyToChannel","buffer":"b","channel":0,"samples":[2,4,6]},
@@ -28,7 +21,7 @@ const WHOLE_LOOP: Row = Row {
 };
 
 // A loop of one frame, which an offset past it begins with.
-const ONE_FRAME_LOOP: Row = Row {
+const ONE_FRAME_LOOP: Excerpt = Excerpt {
     script: r#"{"version":1,"context":{"channels":1,"length":128,"rate":48000},"calls":[
 {"op":"createBuffer","as":"b","channels":1,"length":3,"rate":48000},
 {"op":"copyToChannel","buffer":"b","channel":0,"samples":[2,4,6]},
@@ -39,7 +32,7 @@ const ONE_FRAME_LOOP: Row = Row {
 };
 
 // At twice the speed every second frame is played.
-const DOUBLE_SPEED: Row = Row {
+const DOUBLE_SPEED: Excerpt = Excerpt {
     script: r#"{"version":1,"context":{"channels":1,"length":128,"rate":48000},"calls":[
 {"op":"createBuffer","as":"b","channels":1,"length":5,"rate":48000},
 {"op":"copyToChannel","buffer":"b","channel":0,"samples":[2,4,6,8,10]},
@@ -50,7 +43,7 @@ const DOUBLE_SPEED: Row = Row {
 };
 
 // 256 frames at twice the speed end with the quantum, and their line comes before that of the rendering.
-const ENDS_WITH_THE_QUANTUM: Row = Row {
+const ENDS_WITH_THE_QUANTUM: Excerpt = Excerpt {
     script: r#"{"version":1,"context":{"channels":1,"length":128,"rate":48000},"calls":[
 {"op":"createBuffer","as":"b","channels":1,"length":256,"rate":48000},
 {"op":"createBufferSource","as":"s","buffer":"b","playbackRate":33554432},
@@ -60,7 +53,7 @@ const ENDS_WITH_THE_QUANTUM: Row = Row {
 };
 
 // Six channels are mixed down to two.
-const SIX_TO_TWO: Row = Row {
+const SIX_TO_TWO: Excerpt = Excerpt {
     script: r#"{"version":1,"context":{"channels":2,"length":128,"rate":48000},"calls":[
 {"op":"createBuffer","as":"b","channels":6,"length":1,"rate":48000},
 {"op":"copyToChannel","buffer":"b","channel":0,"samples":[1]},
@@ -76,7 +69,7 @@ const SIX_TO_TWO: Row = Row {
 };
 
 // Of three channels the first two are taken.
-const THREE_TO_TWO: Row = Row {
+const THREE_TO_TWO: Excerpt = Excerpt {
     script: r#"{"version":1,"context":{"channels":2,"length":128,"rate":48000},"calls":[
 {"op":"createBuffer","as":"b","channels":3,"length":1,"rate":48000},
 {"op":"copyToChannel","buffer":"b","channel":0,"samples":[3]},
@@ -89,7 +82,7 @@ const THREE_TO_TWO: Row = Row {
 };
 
 // A splitter's outputs are turned by a merger, and a splitter's numbers are looked at.
-const TURNED: Row = Row {
+const TURNED: Excerpt = Excerpt {
     script: r#"{"version":1,"context":{"channels":2,"length":128,"rate":48000},"calls":[
 {"op":"createBuffer","as":"b","channels":2,"length":1,"rate":48000},
 {"op":"copyToChannel","buffer":"b","channel":0,"samples":[2]},
@@ -105,7 +98,7 @@ const TURNED: Row = Row {
 };
 
 // The file of the next row is decoded and played.
-const DECODED: Row = Row {
+const DECODED: Excerpt = Excerpt {
     script: r#"{"version":1,"context":{"channels":1,"length":128,"rate":48000},"calls":[
 {"op":"decodeAudioData","as":"b","path":"a.wav"},{"op":"createBufferSource","as":"s","buffer":"b"},
 {"op":"connect","from":"s","to":"destination"},{"op":"start","node":"s"},{"op":"startRendering"}]}"#,
@@ -124,34 +117,6 @@ const EXTENSIBLE: [u8; 85] = [
     0x00, 0x40, 0x00, 0xc0, 0x01,
 ];
 
-// Whether a text ends so.
-fn ends_with(text: &[u8], end: &[u8]) -> bool {
-    text.len() >= end.len() && &text[text.len() - end.len()..] == end
-}
-
-// Whether the samples of a file begin so.
-fn begins_with(file: &[u8], samples: &[u8]) -> bool {
-    file.len() >= 44 && file[44..].starts_with(samples)
-}
-
-fn left_by(alloc: Global, row: &Row, file: &[u8], failing: Failing) -> Result<Left, NoMemory> {
-    replay_with(alloc, row.script.as_bytes(), "a.wav", file, failing)
-}
-
-// Whether a session comes out as its row says, where the file a.wav has these bytes.
-pub(crate) fn is_met(alloc: Global, row: &Row, file: &[u8]) -> Result<bool, NoMemory> {
-    let left = left_by(alloc, row, file, NONE)?;
-    let begins = match &left.file {
-        Some(bytes) => begins_with(bytes.as_slice(), row.samples),
-        None => false,
-    };
-    Ok(
-        begins
-            && left.status == Status::Rendered
-            && ends_with(left.text.as_slice(), row.lines.as_bytes()),
-    )
-}
-
 // Whether it leaves this status and a text that begins so, and no file.
 fn leaves(
     alloc: Global,
@@ -160,7 +125,7 @@ fn leaves(
     status: Status,
     text: &str,
 ) -> Result<bool, NoMemory> {
-    let left = left_by(alloc, &DECODED, file, failing)?;
+    let left = replay_with(alloc, DECODED.script.as_bytes(), "a.wav", file, failing)?;
     let is_text = left.text.as_slice().starts_with(text.as_bytes());
     Ok(is_text && left.status == status && left.file.is_none() == (status != Status::Rendered))
 }

@@ -1,10 +1,10 @@
 // Sessions with automation whose samples were worked out by hand.
 
-use crate::buffer_rows::{Row, is_met};
+use replay_harness::excerpts::{Excerpt, is_met};
 use std::test::Fail;
 
 // Values of thirds are rounded: 5592405.33 and 11184810.67.
-const RAMP: Row = Row {
+const RAMP: Excerpt = Excerpt {
     script: r#"{"version":1,"context":{"channels":1,"length":128,"rate":48000},"calls":[
 {"op":"createConstantSource","as":"c","offset":0},
 {"op":"setValueAtTime","node":"c","param":"offset","value":0,"time":0},
@@ -19,7 +19,7 @@ const RAMP: Row = Row {
 };
 
 // The curve has 2/5 and 4/5 of the way to its second point, and then 1/5 and 3/5 of that to its third.
-const CURVE_AND_RAMP: Row = Row {
+const CURVE_AND_RAMP: Excerpt = Excerpt {
     script: r#"{"version":1,"context":{"channels":1,"length":128,"rate":48000},"calls":[
 {"op":"createConstantSource","as":"c"},
 {"op":"setValueCurveAtTime","node":"c","param":"offset","values":[0,16777216,8388608],"time":0,"duration":5},
@@ -35,7 +35,7 @@ const CURVE_AND_RAMP: Row = Row {
 };
 
 // The frames 10 to 29 are in the curve, which stays, and 30 is not.
-const IN_A_CURVE: Row = Row {
+const IN_A_CURVE: Excerpt = Excerpt {
     script: r#"{"version":1,"context":{"channels":1,"length":128,"rate":48000},"calls":[
 {"op":"createConstantSource","as":"c"},
 {"op":"setValueCurveAtTime","node":"c","param":"offset","values":[0,40],"time":10,"duration":20},
@@ -59,7 +59,7 @@ const IN_A_CURVE: Row = Row {
 };
 
 // An event at the first frame of a curve is not in its way.
-const OVER_AN_EVENT: Row = Row {
+const OVER_AN_EVENT: Excerpt = Excerpt {
     script: r#"{"version":1,"context":{"channels":1,"length":128,"rate":48000},"calls":[
 {"op":"createConstantSource","as":"c"},
 {"op":"setValueAtTime","node":"c","param":"offset","value":40,"time":12},
@@ -77,7 +77,7 @@ const OVER_AN_EVENT: Row = Row {
 };
 
 // What a ramp has reached is held.
-const RAMP_CUT: Row = Row {
+const RAMP_CUT: Excerpt = Excerpt {
     script: r#"{"version":1,"context":{"channels":1,"length":128,"rate":48000},"calls":[
 {"op":"createConstantSource","as":"c"},
 {"op":"setValueAtTime","node":"c","param":"offset","value":0,"time":0},
@@ -91,7 +91,7 @@ const RAMP_CUT: Row = Row {
 };
 
 // A curve that is cut keeps its pace, and a ramp begins where it ends.
-const CURVE_CUT: Row = Row {
+const CURVE_CUT: Excerpt = Excerpt {
     script: r#"{"version":1,"context":{"channels":1,"length":128,"rate":48000},"calls":[
 {"op":"createConstantSource","as":"c"},
 {"op":"setValueCurveAtTime","node":"c","param":"offset","values":[0,16777216,0],"time":0,"duration":8},
@@ -107,7 +107,7 @@ const CURVE_CUT: Row = Row {
 };
 
 // At k-rate the gain hears its buffer at the frames 0 and 128.
-const K_RATE: Row = Row {
+const K_RATE: Excerpt = Excerpt {
     script: r#"{"version":1,"context":{"channels":1,"length":256,"rate":48000},"calls":[
 {"op":"createConstantSource","as":"c"},
 {"op":"createGain","as":"g","gain":0},
@@ -143,7 +143,7 @@ const K_RATE: Row = Row {
 };
 
 // A value that is set is read at once.
-const SET_AND_READ: Row = Row {
+const SET_AND_READ: Excerpt = Excerpt {
     script: r#"{"version":1,"context":{"channels":1,"length":128,"rate":48000},"calls":[
 {"op":"createConstantSource","as":"c"},
 {"op":"setValue","node":"c","param":"offset","value":8388608},

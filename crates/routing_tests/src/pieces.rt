@@ -1,4 +1,4 @@
-use crate::graphs::{Example, is_met};
+use replay_harness::examples::{Example, is_met};
 use std::test::Fail;
 
 const STEREO_SWAP: Example = Example {

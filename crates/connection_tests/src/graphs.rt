@@ -1,18 +1,9 @@
-use crate::runs::{Left, NONE, accepted, leaves_no_file, replay};
+use replay_harness::examples::{Example, is_left, is_met};
+use replay_harness::runs::{NONE, accepted, leaves_no_file, replay};
 use replay_top::Status;
 use std::alloc::{AllocError, Global};
 use std::test::Fail;
 use wa_base::NoMemory;
-
-// A script, its transcript, the bytes of its WAV file in number, and for each channel the sum of its
-// samples there. The texts are those of examples/, and the sums are worked out by tools/expected.py.
-#[derive(Clone, Copy)]
-pub(crate) struct Example {
-    pub(crate) script: &'static str,
-    pub(crate) lines: &'static str,
-    pub(crate) size: usize,
-    pub(crate) sums: &'static [i64],
-}
 
 const GAINS_IN_A_CHAIN: Example = Example {
     script: r#"{
@@ -616,55 +607,6 @@ end completed
     size: 428,
     sums: &[268_435_456],
 };
-
-// The sum of a channel's samples in a WAV file of so many channels.
-fn sum_of(file: &[u8], channels: usize, channel: usize) -> i64 {
-    let mut sum = 0_i64;
-    let mut at = 0_usize;
-    for sample in file.get(44..).unwrap_or(&[]).chunks_exact(3) {
-        if let [low, middle, high] = sample
-            && at == channel
-        {
-            let value = i32::from_le_bytes([0, *low, *middle, *high]) >> 8;
-            sum = sum.wrapping_add(i64::from(value));
-        }
-        at = at.wrapping_add(1);
-        if at == channels {
-            at = 0;
-        }
-    }
-    sum
-}
-
-// Whether a run left these lines and a WAV file of this size whose channels have these sums.
-fn is_left(left: &Left, lines: &[u8], size: usize, sums: &[i64]) -> bool {
-    let Some(file) = &left.file else {
-        return false;
-    };
-    let mut are_equal = left.status == Status::Rendered
-        && left.text.as_slice() == lines
-        && file.len() == size;
-    for (channel, sum) in sums.iter().enumerate() {
-        if sum_of(file.as_slice(), sums.len(), channel) != *sum {
-            are_equal = false;
-        }
-    }
-    are_equal
-}
-
-pub(crate) fn is_met(alloc: Global, example: Example) -> Result<bool, NoMemory> {
-    is_met_with(alloc, &["out.wav"], example)
-}
-
-// The same of a run with these words.
-pub(crate) fn is_met_with(
-    alloc: Global,
-    words: &[&str],
-    example: Example,
-) -> Result<bool, NoMemory> {
-    let left = replay(alloc, words, example.script.as_bytes(), NONE)?;
-    Ok(is_left(&left, example.lines.as_bytes(), example.size, example.sums))
-}
 
 // The transcript of a script with so many accepted calls and then `startRendering`.
 fn lines_of(alloc: Global, count: u32) -> Result<Vec<u8>, AllocError> {

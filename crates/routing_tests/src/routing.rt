@@ -1,5 +1,5 @@
-use crate::graphs::{Example, is_met};
-use crate::runs::{NONE, accepted, replay};
+use replay_harness::examples::{Example, is_met};
+use replay_harness::runs::{NONE, accepted, replay};
 use replay_top::Status;
 use std::alloc::{AllocError, Global};
 use std::test::Fail;

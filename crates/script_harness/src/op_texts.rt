@@ -78,12 +78,8 @@ fn connection_text(alloc: Global, op: &Op) -> Result<String, AllocError> {
             to,
             param,
         } => {
-            format!(in alloc;
-                "connectParam {} {output} {} {}",
-                text(from),
-                text(to),
-                text(param)
-            )
+            let param = text(param);
+            format!(in alloc; "connectParam {} {output} {} {param}", text(from), text(to))
         }
         Op::Disconnect {
             from,

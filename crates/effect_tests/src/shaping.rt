@@ -1,7 +1,7 @@
 // Sessions with wave shapers: two examples, and rows whose lines and samples were worked out by hand.
 
-use crate::graphs::{Example, is_met};
-use crate::suspended_rows::{Row, is_met as is_row_met};
+use replay_harness::examples::{Example, is_met};
+use replay_harness::rows::{Row, is_met as is_row_met};
 use std::test::Fail;
 
 const SOFT_CLIPPING: Example = Example {

@@ -2,7 +2,7 @@
 //
 // Most have 16,384 frames a second, so that 1,024 is the time of one frame and 131,072 that of a quantum.
 
-use crate::suspended_rows::{Row, is_met};
+use replay_harness::rows::{Row, is_met};
 use std::test::Fail;
 
 // An impulse through delays of 0.499, 0.5, 1.499 and 1.5 frames: halves go up.

@@ -1,5 +1,5 @@
-use crate::graphs::{Example, is_met};
-use crate::runs::leaves_no_file;
+use replay_harness::examples::{Example, is_met};
+use replay_harness::runs::leaves_no_file;
 use replay_top::Status;
 use std::test::Fail;
 
