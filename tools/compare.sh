@@ -1,23 +1,49 @@
 #!/bin/sh
 # Compares what waplay gives for scripts with what tools/expected.py works out, and with the
-# transcript in the file beside the script. Status 0 where all agree. Run it from anywhere:
+# transcript in the file beside the script. Status 0 where all agree, 2 where nothing was compared. Run
+# it from anywhere:
 #
-#     tools/compare.sh             each examples/NAME.json; the tests must have the same texts, but for
+#     tools/compare.sh --build     each examples/NAME.json; the tests must have the same texts, but for
 #                                  scripts that decode assets; the second calculation must give what
 #                                  was worked out by hand; and the assets must be those that
 #                                  tools/assets.py makes
-#     tools/compare.sh FILE..      these scripts; the transcript of NAME.json is NAME.txt, if any
+#     tools/compare.sh --build SCRIPT..
+#                                  these scripts; the transcript of NAME.json is NAME.txt, if any
+#     tools/compare.sh --program FILE [SCRIPT..]
+#                                  the same with this program; also with the one that the variable
+#                                  WAPLAY names, without an option
 #
-# Each script is run in the folder that it stands in, so its assets are the files beside it. It runs
-# ./waplay, or the program that the variable WAPLAY names.
+# With --build it runs ./waplay, which proves and builds the program first where that is needed. Each
+# script is run in the folder that it stands in, so its assets are the files beside it.
 set -u
 
+# Says why nothing is compared, and how to ask for it.
+refuse() {
+    echo "compare.sh: $1" >&2
+    echo 'usage: tools/compare.sh --build | --program FILE [SCRIPT..]' >&2
+    exit 2
+}
+
 top=$(CDPATH='' cd "$(dirname "$0")/.." && pwd -P) || exit 2
-waplay=${WAPLAY:-$top/waplay}
+waplay=${WAPLAY-}
+case ${1-} in
+    --build)
+        waplay=$top/waplay
+        shift
+        ;;
+    --program)
+        [ $# -ge 2 ] || refuse 'no program is named'
+        waplay=$2
+        shift 2
+        ;;
+    -*) refuse "$1 is no option" ;;
+esac
 case $waplay in
+    '') refuse 'no program is named; --build takes 15 to 20 minutes where it has to be proved and built first' ;;
     /*) ;;
     *) waplay=$PWD/$waplay ;;
 esac
+[ -x "$waplay" ] || refuse "$waplay is no program"
 work=$(mktemp -d) || exit 2
 trap 'rm -rf "$work"' EXIT
 

@@ -31,7 +31,7 @@ the folder that it runs in, as they are for the program.
                                                    tools/worked_delays.py)
     python3 tools/expected.py --write FOLDER       writes the scripts of these sessions with their
                                                    transcripts and assets into a new folder, so that
-                                                   tools/compare.sh FOLDER/*.json runs them
+                                                   tools/compare.sh --build FOLDER/*.json runs them
 
 The sums are of samples as the WAV file has them: whole numbers of 24 bits, in units of 2^-23, or of
 16 bits, in units of 2^-15. They are not sums of rendered values, which are in units of 2^-24 and are
