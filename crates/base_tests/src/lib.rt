@@ -1,5 +1,5 @@
-//! Tests of the lower crates: numbers, timelines, schedules, nodes, transcripts, names and WAV
-//! files. A crate with tests is proved twice, so they stand apart.
+//! Tests of the lower crates: numbers, schedules, nodes, transcripts, names and WAV files. A crate
+//! with tests is proved twice, so they stand apart.
 #![tactic(auto)]
 
 #[cfg(test)]
@@ -14,8 +14,6 @@ mod numbers;
 mod schedules;
 #[cfg(test)]
 mod shapers;
-#[cfg(test)]
-mod timelines;
 #[cfg(test)]
 mod transcripts;
 #[cfg(test)]

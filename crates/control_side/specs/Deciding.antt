@@ -42,6 +42,11 @@ buffer_named machine name = buffer_bound (object_of machine.bindings name)
 abbrev pub refused : Exc → Decided
 refused exception = comes_to.Answer (answer.Throw exception)
 
+-- it goes by what is found, or is refused for the reason why nothing is
+abbrev pub by_found : {A : Type 0} → Result A Exc → (A → Decided) → Decided
+by_found (Ok found) what = what found
+by_found (Err exception) what = refused exception
+
 abbrev pub unless : Option Exc → Edit → Decided
 unless None change = comes_to.Change change
 unless (Some exception) change = refused exception
@@ -69,11 +74,6 @@ edits_buffer machine (Some buffer) change = edits machine (change buffer)
 abbrev pub edits_with_buffer : Machine → Option (List ℕ) → (Option BufId → Edit) → Decided
 edits_with_buffer machine None change = edits machine (change None)
 edits_with_buffer machine (Some name) change = edits_buffer machine (buffer_named machine name) (λ buffer. change (Some buffer))
-
--- the same where the buffer, or why there is none, is at hand
-abbrev pub by_buffer : Machine → Result (Option BufId) Exc → (Option BufId → Edit) → Decided
-by_buffer machine (Ok buffer) change = edits machine (change buffer)
-by_buffer machine (Err exception) change = refused exception
 
 -- the buffer of a source is set
 abbrev pub sets_buffer : Machine → Option NodeId → Option (List ℕ) → Decided

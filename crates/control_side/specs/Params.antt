@@ -1,5 +1,5 @@
 -- The parameters that names stand for, and what the operations on them come to.
-use Rattle.std.specs.Prelude.{ℕ, List, [], ◌∷◌, ◌==◌, Bool, if◌then◌else◌, bytes_eq, find, is_some, Option, Some, None, option_map, Result, Ok, Err}
+use Rattle.std.specs.Prelude.{ℕ, List, [], ◌∷◌, ◌==◌, Bool, if◌then◌else◌, bytes_eq, find, is_some, Option, Some, None, option_map}
 use Rattle.wa_base.specs.GraphNames.{param_word}
 use Rattle.wa_base.specs.declared.exceptions.Exc.{Exc}
 use Rattle.wa_base.specs.declared.exceptions.Exc.TheVariants.{NotSupported, WrongType}
@@ -82,11 +82,6 @@ unless_refused (Some exception) decided = refused exception
 abbrev pub on_param : Option ParamId → (ParamId → Decided) → Decided
 on_param None what = refused WrongType
 on_param (Some id) what = unless_refused (name_refusal id.name) (what id)
-
--- the same where the parameter, or why it is not done, is at hand
-abbrev pub by_result : Result ParamId Exc → (ParamId → Decided) → Decided
-by_result (Ok id) what = what id
-by_result (Err exception) what = refused exception
 
 -- it edits a parameter
 abbrev pub edits_param : Machine → List ℕ → List ℕ → ParamEdit → Decided

@@ -1,6 +1,6 @@
 ghost use Rattle.std.specs.Prelude.{◌≡◌, Option, is_some, IfOk, IfSome};
 ghost use Rattle.meaning.specs.Sources.{IsBufferOf};
-ghost use Rattle.control_side.specs.Deciding.{by_buffer};
+ghost use Rattle.control_side.specs.Deciding.{by_found};
 ghost use Rattle.control_side.specs.Interfaces as interface;
 ghost use Rattle.control_side.specs.Step as spec;
 
@@ -66,7 +66,7 @@ impl Control {
 
     // The buffer for which a name is given, if one is, or why there is none.
     pub(crate) fn given_buffer(&self, name: &Option<Name>) -> Result<Option<BufId>, Exc>
-        ensures decided { (change : Option BufId → Edit) → spec.edits_with_buffer self.now name.now change ≡ by_buffer self.now result change }
+        ensures decided { (change : Option BufId → Edit) → spec.edits_with_buffer self.now name.now change ≡ by_found result (λ buffer. spec.edits self.now (change buffer)) }
         ensures there { IfOk result (IsBufferOf self.now.world.store) }
     {
         let Some(name) = name else {

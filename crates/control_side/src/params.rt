@@ -2,6 +2,7 @@ ghost use Rattle.std.specs.Prelude.{◌≡◌, ◌<◌, length, option_map, is_s
 ghost use Rattle.law_base.specs.Members.{IsIn};
 ghost use Rattle.script_ast.specs.Ranges.{IsInRange};
 ghost use Rattle.meaning.specs.Validity.{param_ids};
+ghost use Rattle.control_side.specs.Deciding.{by_found};
 ghost use Rattle.control_side.specs.Params as spec;
 ghost use Rattle.control_side.specs.Step as step;
 ghost use Rattle.control_side.specs.Step.{node_named, edits};
@@ -181,7 +182,7 @@ impl Control {
 
     // The parameter on which an operation is done, or why it is not.
     fn kept_param(&self, node: &Name, param: &Name) -> Result<ParamId, Exc>
-        ensures decided { (what : ParamId → Decided) → spec.on_param (spec.param_at self.now (node_named self.now node.now) param.now) what ≡ spec.by_result result what }
+        ensures decided { (what : ParamId → Decided) → spec.on_param (spec.param_at self.now (node_named self.now node.now) param.now) what ≡ by_found result what }
         ensures there { IfOk result (λ id. IsIn id (param_ids self.now.world)) }
     {
         let Some(id) = self.param_at(node, param) else {

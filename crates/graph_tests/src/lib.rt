@@ -1,11 +1,9 @@
-//! Tests of the crates of the graph: its connections, its cycles and orders, worlds, filters, and a
-//! renderer. A crate with tests is proved twice, so they stand apart.
+//! Tests of the crates of the graph: its cycles and orders, worlds, filters, and a renderer. A crate
+//! with tests is proved twice, so they stand apart.
 #![tactic(auto)]
 
 #[cfg(test)]
 mod building;
-#[cfg(test)]
-mod connections;
 #[cfg(test)]
 mod filters;
 #[cfg(test)]

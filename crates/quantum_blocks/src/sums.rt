@@ -56,7 +56,9 @@ pub struct Inlet {
 
 impl Sums {
     /// One channel, to which nothing is added yet.
-    pub fn new(alloc: Global) -> Result<Sums, NoMemory> {
+    pub fn new(alloc: Global) -> Result<Sums, NoMemory>
+        ensures { IfOk result (λ sums. (sums.count ≡ 1) × (sums.added ≡ 0) × ((m : ℕ) → m < 128 → sum_at sums 0 m ≡ pos 0)) }
+    {
         Ok(Sums {
             count: 1,
             added: 0,

@@ -8,14 +8,14 @@ use Rattle.wa_base.specs.declared.contexts.ContextSpec.{ContextSpec}
 use Rattle.wa_base.specs.declared.exceptions.Exc.TheVariants.{NotSupported}
 use Rattle.script_ast.specs.declared.call_list.Call.{Call}
 use Rattle.script_ast.specs.declared.call_list.Script.{Script}
-use Rattle.script_json.specs.declared.faults.ScriptErr.{ScriptErr}
+use Rattle.script_fields.specs.declared.faults.ScriptErr.{ScriptErr}
 use Rattle.transcript.specs.declared.lines.EndWord.{EndWord}
 use Rattle.transcript.specs.declared.lines.EndWord.TheVariants.{Completed, Stalled, Idle, Refused}
 use Rattle.session.specs.Folders.{Folder}
-use Rattle.ctx_state.specs.Context.{ContextView, first_context, turn_of, after_turn as turned}
+use Rattle.ctx_state.specs.Context.{ContextView, first_context, turn_of, after_turn as turned, is_closed}
 use Rattle.ctx_state.specs.declared.context.Turn.{Turn}
 use Rattle.ctx_state.specs.declared.context.Turn.TheVariants.{Went, Due, Done}
-use Rattle.session.specs.Session.{Told, Played, session_of, replayed, first_told, main_list, held_by, after_turn, after_list, quanta_from, quanta_left, by_turn, ByTurn, finished, turns, has_closed, is_running}
+use Rattle.session.specs.Session.{Told, Played, session_of, replayed, first_told, main_list, held_by, after_turn, after_list, quanta_from, quanta_left, by_turn, ByTurn, finished, turns, is_running}
 use Rattle.control_side.specs.Step.{is_start}
 use Rattle.meaning.specs.declared.world.World.{World}
 use Rattle.command_line.specs.Words.{Reading, reading_by_word}
@@ -63,7 +63,7 @@ turns_complete folder (suc left) calls told tape begun resumes = by_turns (turn_
         ap (λ b. (if b then turns left folder calls next longer else finished next longer).end) (ap (λ (c : ContextView). is_running c.state) same ∙ runs_on calls told.machine.context begun ordinal is ∙ more.0)
         ∙ later next longer (subst (λ (c : ContextView). IsSome c.started) (sym same) (listed_still calls told.machine.context begun ordinal)) (subst (EachResumes left calls) (sym same) more.1)
     by_turns (Done ordinal) is more later =
-        closed_completes (later_told folder calls told ordinal).machine.context (ap (λ (c : ContextView). has_closed c.state) (listed_context folder calls told ordinal) ∙ stays_closed calls told.machine.context begun ordinal is)
+        closed_completes (later_told folder calls told ordinal).machine.context (ap (λ (c : ContextView). is_closed c.state) (listed_context folder calls told ordinal) ∙ stays_closed calls told.machine.context begun ordinal is)
 
 -- and only those
 complete_resumes : (folder : Folder) (left : ℕ) (calls : List Call) (told : Told) (tape : List World) → IsSome told.machine.context.started → (turns left folder calls told tape).end ≡ Completed → EachResumes left calls told.machine.context
@@ -89,7 +89,7 @@ complete_resumes folder (suc left) calls told tape begun end = by_turns (turn_of
           subst (EachResumes left calls) same
               (later next (tape ++ told.machine.world ∷ []) (subst (λ (c : ContextView). IsSome c.started) (sym same) (listed_still calls told.machine.context begun ordinal)) end),
         )
-        by_resume false runs end = absurd (apart (ap (λ (c : ContextView). has_closed c.state) same ∙ waits calls told.machine.context begun ordinal is) (completed_closed next.machine.context end))
+        by_resume false runs end = absurd (apart (ap (λ (c : ContextView). is_closed c.state) same ∙ waits calls told.machine.context begun ordinal is) (completed_closed next.machine.context end))
           where
             apart : {b : Bool} → b ≡ false → b ≡ true → ⊥
             apart off on = let both = sym off ∙ on in cc
@@ -120,8 +120,8 @@ module _ (folder : Folder) (script : Script) where
       or_false false = refl
 
   -- what was not started is suspended at its start
-  first_waits : has_closed begun_told.machine.context.state ≡ false
-  first_waits = ap (λ (c : ContextView). has_closed c.state) begun_context ∙ calls_open (held_by 0 script.calls) (first_context script.context) refl
+  first_waits : is_closed begun_told.machine.context.state ≡ false
+  first_waits = ap (λ (c : ContextView). is_closed c.state) begun_context ∙ calls_open (held_by 0 script.calls) (first_context script.context) refl
 
   abbrev by_start : Bool → Played
   by_start b = if b then turns (quanta_left begun_told.machine) folder script.calls begun_told [] else finished begun_told []

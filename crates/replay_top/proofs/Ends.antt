@@ -8,7 +8,7 @@ use Rattle.io_edge.specs.Paths.{Paths, SamePaths, Sets}
 use Rattle.io_edge.specs.Told.{IsToldAs}
 use Rattle.script_ast.specs.declared.call_list.Script.{Script}
 use Rattle.script_json.specs.Script.{script_of}
-use Rattle.script_json.specs.declared.faults.ScriptErr.{ScriptErr}
+use Rattle.script_fields.specs.declared.faults.ScriptErr.{ScriptErr}
 use Rattle.transcript.specs.declared.lines.EndWord.{EndWord}
 use Rattle.transcript.specs.declared.lines.EndWord.TheVariants.{Completed, Stalled, Idle, Refused}
 use Rattle.command_line.specs.Words.{Reading, reading_by_word}

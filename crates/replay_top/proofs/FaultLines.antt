@@ -3,7 +3,7 @@ use Rattle.std.proofs.Common.{◌≡◌, ℕ, ◌++◌, codes, append_assoc}
 use Rattle.std.specs.Fmt.{decimal}
 use Rattle.script_ast.specs.declared.fields.Field.{Field}
 use Rattle.script_ast.specs.Fields.{field_word}
-use Rattle.script_json.specs.declared.faults.ScriptErr.TheVariants.{MissingField, WrongKind, UnknownOp, OutOfRange}
+use Rattle.script_fields.specs.declared.faults.ScriptErr.TheVariants.{MissingField, WrongKind, UnknownOp, OutOfRange}
 use Rattle.replay_top.specs.FaultLine.{fault_line}
 
 pub line_of_missing_field : (ordinal : ℕ) (field : Field)

@@ -3,13 +3,13 @@ use Rattle.std.proofs.Common.{ℕ, ◌≡◌, List, Bool, true, false, ◌||◌,
 use Rattle.std.specs.Prelude.{is_some, IsSome, if◌then◌else◌}
 use Rattle.std.specs.List.{list_any}
 use Rattle.wa_base.specs.declared.contexts.State.TheVariants.{Suspended}
-use Rattle.ctx_state.specs.Context.{ContextView, turn_of, after_turn as turned}
+use Rattle.ctx_state.specs.Context.{ContextView, turn_of, after_turn as turned, is_closed}
 use Rattle.ctx_state.specs.declared.context.Turn.TheVariants.{Due, Done}
 use Rattle.script_ast.specs.declared.call_list.Call.{Call}
 use Rattle.transcript.specs.declared.lines.EndWord.TheVariants.{Completed, Stalled, Idle}
 use Rattle.session.specs.Folders.{Folder}
 use Rattle.control_side.specs.Contexts.{context_after_calls}
-use Rattle.session.specs.Session.{Told, held_by, after_turn, after_list, has_closed, is_running, end_of}
+use Rattle.session.specs.Session.{Told, held_by, after_turn, after_list, is_running, end_of}
 use Rattle.control_side.specs.Step.{is_start}
 use Rattle.replay_top.specs.Laws.{has_resume}
 use Rattle.control_side.proofs.Starting.{calls_start, calls_state, state_after}
@@ -17,11 +17,11 @@ use Rattle.session.proofs.Lasting.{calls_context}
 use Rattle.control_side.proofs.Stepping.{turned_started, due_suspends, done_closes}
 
 -- a session ends Completed where its context is closed
-pub closed_completes : (c : ContextView) → has_closed c.state ≡ true → end_of c ≡ Completed
+pub closed_completes : (c : ContextView) → is_closed c.state ≡ true → end_of c ≡ Completed
 closed_completes c closed = ap (λ b. if b then Completed else if is_some c.started then Stalled c.time else Idle) closed
 
-pub completed_closed : (c : ContextView) → end_of c ≡ Completed → has_closed c.state ≡ true
-completed_closed c is = by_test (has_closed c.state) (is_some c.started) is
+pub completed_closed : (c : ContextView) → end_of c ≡ Completed → is_closed c.state ≡ true
+completed_closed c is = by_test (is_closed c.state) (is_some c.started) is
   where
     by_test : (closed started : Bool) → (if closed then Completed else if started then Stalled c.time else Idle) ≡ Completed → closed ≡ true
     by_test true started is = refl
@@ -56,16 +56,16 @@ module _ (calls : List Call) (context : ContextView) (begun : IsSome context.sta
       resumed_runs true = refl
       resumed_runs false = refl
 
-  pub waits : (ordinal : ℕ) → turn_of context ≡ Due ordinal → has_closed (listed calls context ordinal).state ≡ false
-  waits ordinal due = ap has_closed (due_state ordinal due) ∙ resumed_waits (has_resume (held_by ordinal calls))
+  pub waits : (ordinal : ℕ) → turn_of context ≡ Due ordinal → is_closed (listed calls context ordinal).state ≡ false
+  waits ordinal due = ap is_closed (due_state ordinal due) ∙ resumed_waits (has_resume (held_by ordinal calls))
     where
-      resumed_waits : (b : Bool) → has_closed (state_after b Suspended) ≡ false
+      resumed_waits : (b : Bool) → is_closed (state_after b Suspended) ≡ false
       resumed_waits true = refl
       resumed_waits false = refl
 
   -- a closed one stays so
-  pub stays_closed : (ordinal : ℕ) → turn_of context ≡ Done ordinal → has_closed (listed calls context ordinal).state ≡ true
-  stays_closed ordinal done = ap has_closed (calls_state (held_by ordinal calls) (turned context) still ∙ ap (state_after (has_resume (held_by ordinal calls))) (done_closes context ordinal done))
+  pub stays_closed : (ordinal : ℕ) → turn_of context ≡ Done ordinal → is_closed (listed calls context ordinal).state ≡ true
+  stays_closed ordinal done = ap is_closed (calls_state (held_by ordinal calls) (turned context) still ∙ ap (state_after (has_resume (held_by ordinal calls))) (done_closes context ordinal done))
 
 -- the context of a session there
 pub listed_context : (folder : Folder) (calls : List Call) (told : Told) (ordinal : ℕ) → (after_list folder calls (after_turn told) ordinal).machine.context ≡ listed calls told.machine.context ordinal

@@ -3,7 +3,7 @@ use Rattle.std.specs.Prelude.{ℕ, List, [], length, nat_lt, Bool, ◌&&◌, if�
 use Rattle.wa_base.specs.Contexts.{quantum_of}
 use Rattle.wa_base.specs.declared.contexts.ContextSpec.{ContextSpec}
 use Rattle.script_ast.specs.declared.call_list.Script.{Script}
-use Rattle.script_json.specs.declared.faults.ScriptErr.{ScriptErr}
+use Rattle.script_fields.specs.declared.faults.ScriptErr.{ScriptErr}
 use Rattle.transcript.specs.Text.{text_of}
 use Rattle.transcript.specs.Summary.{summary_of}
 use Rattle.transcript.specs.Loudness.{loudness_of}

@@ -1,8 +1,8 @@
 -- The line that tells a script's fault.
 use Rattle.std.specs.Prelude.{ℕ, List, [], ◌++◌, codes, decimal}
 use Rattle.script_ast.specs.Fields.{field_word}
-use Rattle.script_json.specs.declared.faults.ScriptErr.{ScriptErr}
-use Rattle.script_json.specs.declared.faults.ScriptErr.TheVariants.{BadJson, MissingField, WrongKind, UnknownOp, OutOfRange, NoMemory}
+use Rattle.script_fields.specs.declared.faults.ScriptErr.{ScriptErr}
+use Rattle.script_fields.specs.declared.faults.ScriptErr.TheVariants.{BadJson, MissingField, WrongKind, UnknownOp, OutOfRange, NoMemory}
 
 -- the ordinal of the call, the member that has the fault, and its cause
 abbrev pub member_line : ℕ → List ℕ → List ℕ → List ℕ

@@ -5,10 +5,10 @@ use Rattle.wa_base.specs.Contexts.{is_supported}
 use Rattle.script_ast.specs.declared.call_list.Call.{Call}
 use Rattle.script_ast.specs.declared.call_list.Script.{Script}
 use Rattle.command_line.specs.Words.{Reading, reading_by_word}
-use Rattle.ctx_state.specs.Context.{ContextView, first_context, turn_of, after_turn}
+use Rattle.ctx_state.specs.Context.{ContextView, first_context, turn_of, after_turn, is_closed}
 use Rattle.session.specs.Folders.{Folder}
 use Rattle.control_side.specs.Contexts.{context_after_calls}
-use Rattle.session.specs.Session.{held_by, quanta_from, has_closed, ByTurn}
+use Rattle.session.specs.Session.{held_by, quanta_from, ByTurn}
 use Rattle.control_side.specs.Step.{is_start, is_resume}
 use Rattle.replay_top.specs.Answer.{answer, max_script}
 use Rattle.replay_top.specs.Words.{reads_source, script_asked}
@@ -20,7 +20,7 @@ has_resume calls = list_any (λ (call : Call). is_resume call.op) calls
 
 -- Turn by turn, the list of each suspension that becomes due has a resume, until the length is reached; with no quantum left, the context is closed.
 abbrev pub EachResumes : ℕ → List Call → ContextView → Type 0
-EachResumes zero calls context = has_closed context.state ≡ true
+EachResumes zero calls context = is_closed context.state ≡ true
 EachResumes (suc left) calls context =
     ByTurn (turn_of context)
     (EachResumes left calls (after_turn context))

@@ -2,7 +2,7 @@
 use Rattle.std.specs.Prelude.{ℕ, List, Bool, false, Option, Some, None, is_none, Result, Ok}
 use Rattle.script_ast.specs.declared.call_list.Script.{Script}
 use Rattle.script_json.specs.Script.{script_of}
-use Rattle.script_json.specs.declared.faults.ScriptErr.{ScriptErr}
+use Rattle.script_fields.specs.declared.faults.ScriptErr.{ScriptErr}
 use Rattle.load_gen.specs.Generator as generator
 use Rattle.command_line.specs.Words.{Reading}
 

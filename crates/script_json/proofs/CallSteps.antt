@@ -12,7 +12,7 @@ use Rattle.serde_json.specs.View.{view, items_view}
 use Rattle.serde_json.specs.declared.value.Value.{Value}
 use Rattle.script_ast.specs.declared.call_list.Call.{Call}
 use Rattle.script_ast.specs.declared.clocks.Clock.{Clock}
-use Rattle.script_json.proofs.Outcomes.{outcome_none, outcome_some}
+use Rattle.script_fields.proofs.Outcomes.{outcome_none, outcome_some}
 use Rattle.std.proofs.lemmas.Grind.{flat_map-append}
 use Rattle.std.proofs.lemmas.List.Elements.{filter_map-append}
 use Rattle.serde_json.specs.Find.{as_object, as_array, get_member}
@@ -21,11 +21,11 @@ use Rattle.script_ast.specs.OpNames.{fields_of, has_calls}
 use Rattle.script_ast.specs.declared.fields.Field.TheVariants as field
 use Rattle.script_ast.specs.declared.op_names.OpName.{OpName}
 use Rattle.script_json.specs.Calls.{Placed, placed, held_by, then_calls, list_calls, has_then, call_faults, call_of, name_in, name_faults, joint_faults, op_faults, op_in}
-use Rattle.script_json.specs.Fields.{fields_faults, list_in}
-use Rattle.script_json.specs.Outcome.{outcome}
+use Rattle.script_fields.specs.Fields.{fields_faults, list_in}
+use Rattle.script_fields.specs.Outcome.{outcome}
 use Rattle.script_json.specs.Reading.{placed_at, call_read, calls_read, held_list}
-use Rattle.script_json.specs.declared.faults.ScriptErr.{ScriptErr}
-use Rattle.script_json.specs.declared.faults.ScriptErr.TheVariants.{WrongKind, UnknownOp}
+use Rattle.script_fields.specs.declared.faults.ScriptErr.{ScriptErr}
+use Rattle.script_fields.specs.declared.faults.ScriptErr.TheVariants.{WrongKind, UnknownOp}
 
 -- the next call of a list, those that it holds, and then the rest
 pub placed-drop : (n holder : ℕ) (list : List Value) (i : ℕ) (d : Value) → i < length list

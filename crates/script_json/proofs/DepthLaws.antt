@@ -12,7 +12,7 @@ use Rattle.script_ast.specs.Fields.{field_word}
 use Rattle.script_ast.specs.declared.fields.Field.TheVariants as field
 use Rattle.script_json.specs.Calls.{has_then, name_in}
 use Rattle.script_json.specs.Reading.{held_list}
-use Rattle.script_json.specs.Fields.{list_in}
+use Rattle.script_fields.specs.Fields.{list_in}
 use Rattle.script_json.specs.Script.{main_list}
 
 list_depth : (d : Data) → items_depth (unwrap_or (as_array d) no_items) ≤ depth d

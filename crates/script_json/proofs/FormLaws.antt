@@ -12,10 +12,10 @@ use Rattle.script_ast.specs.declared.fields.Field.{Field}
 use Rattle.script_ast.specs.declared.fields.Field.TheVariants as field
 use Rattle.script_json.proofs.CallSteps.{both_none}
 use Rattle.script_json.specs.Calls.{form_faults}
-use Rattle.script_json.specs.Fields.{member_at, is_given, is_there, lack_faults, cause_faults, member_faults, field_faults, fields_faults, number_within, count_or_null_in, text_or_null_in}
-use Rattle.script_json.specs.Values.{whole, is_within, number_cause, kind_cause}
-use Rattle.script_json.specs.declared.faults.ScriptErr.{ScriptErr}
-use Rattle.script_json.specs.declared.values.Cause.TheVariants.{OutOfRange}
+use Rattle.script_fields.specs.Fields.{member_at, is_given, is_there, lack_faults, cause_faults, member_faults, field_faults, fields_faults, number_within, count_or_null_in, text_or_null_in}
+use Rattle.script_fields.specs.Values.{whole, is_within, number_cause, kind_cause}
+use Rattle.script_fields.specs.declared.faults.ScriptErr.{ScriptErr}
+use Rattle.script_fields.specs.declared.values.Cause.TheVariants.{OutOfRange}
 
 -- the values of a count that may be null, and of a name that may be null, as `count_or_null_in` and `text_or_null_in` take them from a member
 abbrev count_value : Option Data → Option ℕ

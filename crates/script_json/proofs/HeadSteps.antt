@@ -8,15 +8,15 @@ use Rattle.script_ast.specs.declared.call_list.Call.{Call}
 use Rattle.script_ast.specs.declared.clocks.Clock.TheVariants.{Frames}
 use Rattle.script_ast.specs.Entries.{script_head, context_fields, script_tail}
 use Rattle.script_ast.specs.declared.fields.Field.TheVariants as field
-use Rattle.script_json.proofs.Outcomes.{outcome_none, outcome_some}
+use Rattle.script_fields.proofs.Outcomes.{outcome_none, outcome_some}
 use Rattle.script_json.proofs.CallSteps.{outcome_ok, outcome_err, outcome_of_none}
 use Rattle.script_json.specs.Calls.{placed}
-use Rattle.script_json.specs.Fields.{fields_faults, member_at}
-use Rattle.script_json.specs.Outcome.{outcome}
+use Rattle.script_fields.specs.Fields.{fields_faults, member_at}
+use Rattle.script_fields.specs.Outcome.{outcome}
 use Rattle.script_json.specs.Reading.{calls_read}
 use Rattle.script_json.specs.Script.{context_in, context_of, main_list, calls_of, head_faults, script_faults, script_in}
-use Rattle.script_json.specs.declared.faults.ScriptErr.{ScriptErr}
-use Rattle.script_json.specs.declared.faults.ScriptErr.TheVariants.{WrongKind}
+use Rattle.script_fields.specs.declared.faults.ScriptErr.{ScriptErr}
+use Rattle.script_fields.specs.declared.faults.ScriptErr.TheVariants.{WrongKind}
 
 pub head_no_object : (d : Data) (value : ContextSpec) → is_some (as_object d) ≡ false → outcome (head_faults d) value ≡ Err (WrongKind 0 field.Script)
 unfolding head_faults

@@ -2,9 +2,7 @@ mod CallSteps
 mod DepthLaws
 mod FormLaws
 mod HeadSteps
-mod ListLaws
 mod NestedLaws
-mod Outcomes
 mod PlacedLaws
 mod Rows
 mod Trees

@@ -19,7 +19,7 @@ use Rattle.script_ast.proofs.Nesting.{IsBlock, none_block, next_block, block_nes
 use Rattle.script_json.proofs.CallSteps.{both_none, outcome_ok, is_call}
 use Rattle.script_json.proofs.PlacedLaws.{placed_all}
 use Rattle.script_json.specs.Calls.{Placed, placed, has_then, call_faults, call_of, name_in, op_in, param_op_in}
-use Rattle.script_json.specs.Outcome.{outcome}
+use Rattle.script_fields.specs.Outcome.{outcome}
 use Rattle.script_json.specs.Reading.{placed_at}
 use Rattle.script_json.specs.Script.{main_list, calls_of, head_faults, script_faults, script_in}
 

@@ -12,9 +12,9 @@ use Rattle.script_ast.specs.declared.operations.Oversample.TheVariants.{Off, Two
 use Rattle.script_ast.specs.declared.fields.Field.TheVariants as field
 use Rattle.script_ast.specs.declared.operations.Op.TheVariants as op
 use Rattle.script_json.specs.Calls.{placed, call_faults, call_of}
-use Rattle.script_json.specs.Fields.{number_in, flag_in, fixes_of, fixes_or_null_in, text_in, time_or_null_in, count_or_null_in, text_or_null_in, mode_in, interp_in, rate_in, oversample_in}
+use Rattle.script_fields.specs.Fields.{number_in, flag_in, fixes_of, fixes_or_null_in, text_in, time_or_null_in, count_or_null_in, text_or_null_in, mode_in, interp_in, rate_in, oversample_in}
 use Rattle.script_json.specs.Script.{context_in, main_list, calls_of, head_faults, script_faults, script_in, script_or_fault}
-use Rattle.script_json.specs.declared.faults.ScriptErr.TheVariants.{BadJson, MissingField, WrongKind, UnknownOp, OutOfRange}
+use Rattle.script_fields.specs.declared.faults.ScriptErr.TheVariants.{BadJson, MissingField, WrongKind, UnknownOp, OutOfRange}
 
 no_bytes : script_or_fault (read []) ≡ Err BadJson
 unfolding serde_json_on_literals

@@ -31,13 +31,13 @@ use Rattle.script_json.proofs.CallSteps.{both_none, length-calls, outcome_ok}
 use Rattle.script_json.proofs.FormLaws.{disconnect_form}
 use Rattle.script_json.proofs.PlacedLaws.{placed_all}
 use Rattle.script_json.specs.Calls.{Placed, placed, has_then, call_faults, call_of, name_in, name_faults, op_faults, op_in, param_op_in}
-use Rattle.script_json.specs.Fields.{field_faults, cause_faults, member_faults, member_at, number_in, number_within, given_number, time_or_null_in, count_in, count_or_null_in, fix_of, fixes_of, fixes_in, fixes_or_null_in, list_in, text_in}
-use Rattle.script_json.specs.Outcome.{outcome}
+use Rattle.script_fields.specs.Fields.{field_faults, cause_faults, member_faults, member_at, number_in, number_within, given_number, time_or_null_in, count_in, count_or_null_in, fix_of, fixes_of, fixes_in, fixes_or_null_in, list_in, text_in}
+use Rattle.script_fields.specs.Outcome.{outcome}
 use Rattle.script_json.specs.Reading.{placed_at, calls_read}
 use Rattle.script_json.specs.Script.{context_in, context_of, head_faults}
-use Rattle.script_json.specs.Values.{whole, wholes, frames, is_within, text_cause}
-use Rattle.script_json.specs.declared.values.Cause.TheVariants.{OutOfRange}
-use Rattle.script_json.specs.declared.faults.ScriptErr.TheVariants.{WrongKind}
+use Rattle.script_fields.specs.Values.{whole, wholes, frames, is_within, text_cause}
+use Rattle.script_fields.specs.declared.values.Cause.TheVariants.{OutOfRange}
+use Rattle.script_fields.specs.declared.faults.ScriptErr.TheVariants.{WrongKind}
 
 -- ---- the fields of a call
 

@@ -14,9 +14,9 @@ use Rattle.script_ast.specs.declared.operations.Op.{Op}
 use Rattle.script_ast.specs.declared.operations.Op.TheVariants as op
 use Rattle.script_ast.specs.declared.param_ops.ParamOpName.{ParamOpName}
 use Rattle.script_ast.specs.declared.param_ops.ParamOpName.TheVariants as param
-use Rattle.script_json.specs.Fields.{is_there, fields_faults, lack_faults, text_in, text_or_null_in, fix_in, time_in, time_or_null_in, count_in, count_or_null_in, flag_in, fixes_in, fixes_or_null_in, mode_in, interp_in, rate_in, oversample_in}
-use Rattle.script_json.specs.declared.faults.ScriptErr.{ScriptErr}
-use Rattle.script_json.specs.declared.faults.ScriptErr.TheVariants.{WrongKind, UnknownOp}
+use Rattle.script_fields.specs.Fields.{is_there, fields_faults, lack_faults, text_in, text_or_null_in, fix_in, time_in, time_or_null_in, count_in, count_or_null_in, flag_in, fixes_in, fixes_or_null_in, mode_in, interp_in, rate_in, oversample_in}
+use Rattle.script_fields.specs.declared.faults.ScriptErr.{ScriptErr}
+use Rattle.script_fields.specs.declared.faults.ScriptErr.TheVariants.{WrongKind, UnknownOp}
 
 -- a call of the document: its ordinal, the ordinal of the call whose `then` list it stands in (0 in the main list), and its JSON value
 pub record Placed : Type 0 where

@@ -5,9 +5,9 @@ use Rattle.script_ast.specs.declared.call_list.Call.{Call}
 use Rattle.script_ast.specs.declared.clocks.Clock.{Clock}
 use Rattle.script_ast.specs.declared.fields.Field.TheVariants as field
 use Rattle.script_json.specs.Calls.{Placed, call_faults, call_of, has_then, name_in}
-use Rattle.script_json.specs.Fields.{list_in}
-use Rattle.script_json.specs.Outcome.{outcome}
-use Rattle.script_json.specs.declared.faults.ScriptErr.{ScriptErr}
+use Rattle.script_fields.specs.Fields.{list_in}
+use Rattle.script_fields.specs.Outcome.{outcome}
+use Rattle.script_fields.specs.declared.faults.ScriptErr.{ScriptErr}
 
 -- the list of the calls that a call holds
 unfoldable pub held_list : Data → Items

@@ -8,11 +8,11 @@ use Rattle.script_ast.specs.declared.call_list.Script.{Script}
 use Rattle.script_ast.specs.declared.clocks.Clock.TheVariants.{Frames}
 use Rattle.script_ast.specs.declared.fields.Field.TheVariants as field
 use Rattle.script_json.specs.Calls.{Placed, placed, call_faults, call_of}
-use Rattle.script_json.specs.Fields.{member_at, fields_faults, count_in, list_in}
-use Rattle.script_json.specs.Outcome.{outcome}
+use Rattle.script_fields.specs.Fields.{member_at, fields_faults, count_in, list_in}
+use Rattle.script_fields.specs.Outcome.{outcome}
 use Rattle.script_json.specs.Tree.{json_of}
-use Rattle.script_json.specs.declared.faults.ScriptErr.{ScriptErr}
-use Rattle.script_json.specs.declared.faults.ScriptErr.TheVariants.{BadJson, WrongKind}
+use Rattle.script_fields.specs.declared.faults.ScriptErr.{ScriptErr}
+use Rattle.script_fields.specs.declared.faults.ScriptErr.TheVariants.{BadJson, WrongKind}
 
 -- the member `context` of a script
 unfoldable pub context_in : Data → Data

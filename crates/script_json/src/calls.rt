@@ -2,13 +2,12 @@ ghost use Rattle.std.specs.Prelude.{◌≡◌, ◌≢◌, ◌+◌, ◌<◌, Ok, 
 ghost use Rattle.serde_json.specs.View.{view, items_view};
 ghost use Rattle.serde_json.specs.Data.{items_depth};
 ghost use Rattle.script_json.specs.Calls.{name_in, placed, form_faults, op_faults};
-ghost use Rattle.script_json.specs.Outcome.{outcome};
+ghost use Rattle.script_fields.specs.Outcome.{outcome};
 ghost use Rattle.script_json.specs.Reading.{held_list, placed_at, call_read, calls_read};
 
-use crate::faults::ScriptErr;
-use crate::members::{check_fields, check_there, is_there, list};
 use crate::ops::build;
 use script_ast::{Call, Calls, Clock, Field, OpName};
+use script_fields::{ScriptErr, check_fields, check_there, is_there, list};
 use serde_json::Value;
 use std::alloc::Global;
 use wa_base::NoMemory;

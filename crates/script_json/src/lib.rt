@@ -2,15 +2,11 @@
 #![tactic(auto)]
 
 mod calls;
-mod faults;
-mod members;
 mod ops;
 mod param_ops;
 mod scripts;
 mod shaper_ops;
-mod texts;
 mod tree;
-mod values;
 
-pub use faults::ScriptErr;
+pub use script_fields::ScriptErr;
 pub use scripts::read;

@@ -2,11 +2,13 @@ ghost use Rattle.std.specs.Prelude.{◌≡◌, IfOk};
 ghost use Rattle.serde_json.specs.View.{view};
 ghost use Rattle.script_json.specs.Calls.{op_in};
 
-use crate::members::{count, count_or_null, fix, fixes, flag, time, time_or_null};
 use crate::param_ops::build_param_op;
 use crate::shaper_ops::{create_wave_shaper, set_curve, set_oversample};
-use crate::texts::{interp, mode, path, text, text_or_null};
 use script_ast::{Clock, Field, Op, OpName, entries};
+use script_fields::{
+    count, count_or_null, fix, fixes, flag, interp, mode, path, text, text_or_null, time,
+    time_or_null,
+};
 use serde_json::Value;
 use std::alloc::Global;
 use wa_base::NoMemory;

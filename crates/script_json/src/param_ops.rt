@@ -2,9 +2,8 @@ ghost use Rattle.std.specs.Prelude.{◌≡◌, IfOk};
 ghost use Rattle.serde_json.specs.View.{view};
 ghost use Rattle.script_json.specs.Calls.{param_op_in};
 
-use crate::members::{fix, fixes, time};
-use crate::texts::{rate, text};
 use script_ast::{Clock, Field, Op, ParamOpName, entries};
+use script_fields::{fix, fixes, rate, text, time};
 use serde_json::Value;
 use std::alloc::Global;
 use wa_base::NoMemory;

@@ -3,15 +3,14 @@ ghost use Rattle.serde_json.specs.Data.{depth};
 ghost use Rattle.serde_json.specs.View.{view, items_view};
 ghost use Rattle.script_ast.specs.Holders.{AreNested};
 ghost use Rattle.script_ast.specs.WellFormed.{IsWellFormed};
-ghost use Rattle.script_json.specs.Outcome.{outcome};
+ghost use Rattle.script_fields.specs.Outcome.{outcome};
 ghost use Rattle.script_json.specs.Script.{context_in, context_of, main_list, head_faults, script_faults, script_in, script_of};
 
 use crate::calls::add_calls;
-use crate::faults::ScriptErr;
-use crate::members::{check_fields, count, list, member};
 use crate::tree::parse;
 use script_ast::entries::{CONTEXT_FIELDS, SCRIPT_HEAD, SCRIPT_TAIL};
 use script_ast::{Calls, Clock, Field, Script};
+use script_fields::{ScriptErr, check_fields, count, list, member};
 use serde_json::Value;
 use std::alloc::Global;
 use wa_base::ContextSpec;

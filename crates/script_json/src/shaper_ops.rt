@@ -2,9 +2,8 @@ ghost use Rattle.std.specs.Prelude.{◌≡◌, IfOk};
 ghost use Rattle.serde_json.specs.View.{view};
 ghost use Rattle.script_json.specs.Calls.{op_in};
 
-use crate::members::fixes_or_null;
-use crate::texts::{oversample, text};
 use script_ast::{Clock, Field, Op, OpName, entries};
+use script_fields::{fixes_or_null, oversample, text};
 use serde_json::Value;
 use std::alloc::Global;
 use wa_base::NoMemory;

@@ -3,7 +3,7 @@ ghost use Rattle.serde_json.specs.Data.{depth};
 ghost use Rattle.serde_json.specs.View.{view};
 ghost use Rattle.script_json.specs.Tree.{json_of};
 
-use crate::faults::ScriptErr;
+use script_fields::ScriptErr;
 use serde_json::Value;
 use std::alloc::Global;
 

@@ -9,7 +9,8 @@ use Rattle.session.specs.declared.rendered.Rendered.{Rendered}
 use Rattle.session.specs.declared.replay.Outcome.{Outcome}
 use Rattle.session.specs.Rendering.{IsOutcomeOf, completes, rendering_of}
 use Rattle.session.specs.Rows.{samples_of}
-use Rattle.session.specs.Session.{has_closed, end_of, lines_at_end, finished}
+use Rattle.ctx_state.specs.Context.{is_closed}
+use Rattle.session.specs.Session.{end_of, lines_at_end, finished}
 use Rattle.session.specs.View.{SessionView, Stands}
 
 -- samples of a context, if there are any
@@ -22,8 +23,8 @@ not_complete true frame = refl
 not_complete false frame = refl
 
 -- what is left of a session that stands for a tape are the samples of the tape, if its context is closed
-module _ (view : SessionView) (tape : List World) (stands : Stands view tape) (begun : has_closed view.told.machine.context.state ≡ true → IsSome view.told.machine.context.started) where
-  left_is : (audio closed : Bool) → view.audio ≡ audio → has_closed view.told.machine.context.state ≡ closed
+module _ (view : SessionView) (tape : List World) (stands : Stands view tape) (begun : is_closed view.told.machine.context.state ≡ true → IsSome view.told.machine.context.started) where
+  left_is : (audio closed : Bool) → view.audio ≡ audio → is_closed view.told.machine.context.state ≡ closed
       → left_if (audio && closed) view.told.machine.world.spec view.samples
       ≡ left_if (audio && completes (if closed then Completed else if is_some view.told.machine.context.started then Stalled view.told.machine.context.time else Idle)) view.told.machine.world.spec (samples_of tape view.told.machine.world.spec)
   left_is true true on is = ap (left_if true view.told.machine.world.spec) (stands.samples on (begun is))
@@ -31,9 +32,9 @@ module _ (view : SessionView) (tape : List World) (stands : Stands view tape) (b
   left_is false true on is = refl
   left_is false false on is = refl
 
-  pub rendered_is : (r : Option Rendered) → r ≡ left_if (view.audio && has_closed view.told.machine.context.state) view.told.machine.world.spec view.samples → r ≡ rendering_of view.audio view.told.machine.world.spec (finished view.told tape)
+  pub rendered_is : (r : Option Rendered) → r ≡ left_if (view.audio && is_closed view.told.machine.context.state) view.told.machine.world.spec view.samples → r ≡ rendering_of view.audio view.told.machine.world.spec (finished view.told tape)
   unfolding rendering_of
-  rendered_is r is = is ∙ left_is view.audio (has_closed view.told.machine.context.state) refl refl
+  rendered_is r is = is ∙ left_is view.audio (is_closed view.told.machine.context.state) refl refl
 
 -- those of a supported context
 left_supported : (some : Bool) (spec : ContextSpec) (samples : List ℤ) → IsSupported spec → IfSome (left_if some spec samples) (λ rendered. IsSupported rendered.spec)
@@ -44,15 +45,15 @@ left_supported false spec samples supported = tt
 quanta_of_tape : (n time : ℕ) → time ≡ 128 * n → time / 128 ≡ n
 quanta_of_tape n time is = omega (arith, is)
 
-pub outcome_is : (view : SessionView) (tape : List World) (outcome : Outcome) → IsSupported view.told.machine.world.spec → Stands view tape → (has_closed view.told.machine.context.state ≡ true → IsSome view.told.machine.context.started)
+pub outcome_is : (view : SessionView) (tape : List World) (outcome : Outcome) → IsSupported view.told.machine.world.spec → Stands view tape → (is_closed view.told.machine.context.state ≡ true → IsSome view.told.machine.context.started)
     → outcome.lines.items ≡ lines_at_end view.told → outcome.end ≡ end_of view.told.machine.context
     → outcome.quanta ≡ view.told.machine.context.time / quantum_of view.told.machine.world.spec
-    → outcome.rendered ≡ left_if (view.audio && has_closed view.told.machine.context.state) view.told.machine.world.spec view.samples
+    → outcome.rendered ≡ left_if (view.audio && is_closed view.told.machine.context.state) view.told.machine.world.spec view.samples
     → IsOutcomeOf view.audio view.told.machine.world.spec (finished view.told tape) outcome
 outcome_is view tape outcome supported stands begun lines end quanta rendered = record {
   lines = lines;
   end = end;
   quanta = quanta ∙ quanta_of_tape (length tape) view.told.machine.context.time stands.time;
   rendered = rendered_is view tape stands begun outcome.rendered rendered;
-  supported = rw rendered (left_supported (view.audio && has_closed view.told.machine.context.state) view.told.machine.world.spec view.samples supported);
+  supported = rw rendered (left_supported (view.audio && is_closed view.told.machine.context.state) view.told.machine.world.spec view.samples supported);
 }

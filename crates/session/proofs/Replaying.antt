@@ -5,7 +5,7 @@ use Rattle.io_edge.specs.Paths.{Paths, SamePaths}
 use Rattle.wa_base.specs.Contexts.{is_supported, IsSupported, quantum_of}
 use Rattle.wa_base.specs.declared.contexts.State.{State}
 use Rattle.wa_base.specs.declared.contexts.State.TheVariants as state
-use Rattle.ctx_state.specs.Context.{IsInState}
+use Rattle.ctx_state.specs.Context.{IsInState, is_closed}
 use Rattle.wa_base.specs.declared.contexts.ContextSpec.{ContextSpec}
 use Rattle.wa_base.specs.declared.exceptions.Exc.TheVariants.{NotSupported}
 use Rattle.script_ast.specs.declared.call_list.Call.{Call}
@@ -15,7 +15,7 @@ use Rattle.session.specs.declared.replay.Outcome.{Outcome}
 use Rattle.control_side.specs.declared.stop.Stop.{Stop}
 use Rattle.session.specs.Folders.{Folder, IsFolderOf, AgreeBetween}
 use Rattle.session.specs.Rendering.{IsOutcomeOf, rendering_of}
-use Rattle.session.specs.Session.{Told, Played, first_told, main_list, rendered, replayed, quanta_left, session_of, finished, turns, has_closed, end_of, lines_at_end, TurnsDecode, Decodes}
+use Rattle.session.specs.Session.{Told, Played, first_told, main_list, rendered, replayed, quanta_left, session_of, finished, turns, end_of, lines_at_end, TurnsDecode, Decodes}
 use Rattle.session.specs.View.{SessionView, IsFirst, IsPlayed, IsReplayed, ComesToDecode}
 use Rattle.session.proofs.Finishing.{outcome_is}
 use Rattle.session.proofs.Folders.{spliced, spliced_before, spliced_from, splice_of}
@@ -29,7 +29,7 @@ is_by_start : (folder : Folder) (calls : List Call) (first now : Told) (started 
 is_by_start folder calls first now started is test = ap (rendered folder calls) (sym is) ∙ ap (by_start folder calls now) test
 
 -- a closed context was started
-pub closed_begun : (s : State) (started : Option ℕ) (time frames : ℕ) → IsInState s started time frames → has_closed s ≡ true → IsSome started
+pub closed_begun : (s : State) (started : Option ℕ) (time frames : ℕ) → IsInState s started time frames → is_closed s ≡ true → IsSome started
 closed_begun state.Suspended started time frames is closed = absurd cc
 closed_begun state.Running started time frames is closed = absurd cc
 closed_begun state.Closed started time frames is closed = is.0
@@ -99,7 +99,7 @@ both_ok P Q R (Err e) f p q = tt
 pub replayed_outcome : (tells : Bool) (paths : Paths) (script : Script) (audio : Bool) (first last : SessionView) (outcome : Outcome) (is : IsReplayed tells paths script.calls first last) → is_supported script.context ≡ true
     → IsFirst script.context audio first → last.audio ≡ first.audio → outcome.lines.items ≡ lines_at_end last.told → outcome.end ≡ end_of last.told.machine.context
     → outcome.quanta ≡ last.told.machine.context.time / quantum_of last.told.machine.world.spec
-    → outcome.rendered ≡ (if last.audio && has_closed last.told.machine.context.state then Some (record { spec = last.told.machine.world.spec; samples = last.samples }) else None)
+    → outcome.rendered ≡ (if last.audio && is_closed last.told.machine.context.state then Some (record { spec = last.told.machine.world.spec; samples = last.samples }) else None)
     → IsOutcomeOf audio script.context (session_of is.folder script) outcome
 unfolding session_of
 replayed_outcome tells paths script audio first last outcome is supported fresh heard lines end quanta rendered =

@@ -7,7 +7,7 @@ use Rattle.wa_base.specs.declared.contexts.State.{State}
 use Rattle.wa_base.specs.declared.contexts.State.TheVariants as state
 use Rattle.wa_base.specs.declared.exceptions.Exc.TheVariants.{NotSupported}
 use Rattle.io_edge.specs.Paths.{Paths}
-use Rattle.ctx_state.specs.Context.{ContextView, next, turn_of, after_turn as context_after}
+use Rattle.ctx_state.specs.Context.{ContextView, is_closed, next, turn_of, after_turn as context_after}
 use Rattle.ctx_state.specs.declared.context.Turn.{Turn}
 use Rattle.ctx_state.specs.declared.context.Turn.TheVariants.{Went, Due, Done}
 use Rattle.control_msgs.specs.Messages.{after}
@@ -80,19 +80,13 @@ pub record Played : Type 0 where
   pub end : EndWord
   pub tape : List World
 
--- whether the context is closed
-abbrev pub has_closed : State → Bool
-has_closed state.Suspended = false
-has_closed state.Running = false
-has_closed state.Closed = true
-
 -- how a session ends: it completed; it stalled, where a suspension was not resumed; or rendering was never started
 abbrev pub end_of : ContextView → EndWord
-end_of c = if has_closed c.state then Completed else if is_some c.started then Stalled c.time else Idle
+end_of c = if is_closed c.state then Completed else if is_some c.started then Stalled c.time else Idle
 
 -- the complete event comes last
 abbrev pub lines_at_end : Told → List Line
-lines_at_end told = if has_closed told.machine.context.state then told.lines ++ line.Complete told.machine.world.spec.length ∷ [] else told.lines
+lines_at_end told = if is_closed told.machine.context.state then told.lines ++ line.Complete told.machine.world.spec.length ∷ [] else told.lines
 
 abbrev pub finished : Told → List World → Played
 finished told tape = record { lines = lines_at_end told; end = end_of told.machine.context; tape = tape }

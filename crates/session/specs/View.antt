@@ -6,6 +6,7 @@ use Rattle.meaning.specs.declared.change.Change.{Change}
 use Rattle.meaning.specs.declared.world.World.{World}
 use Rattle.meaning.specs.World.{sounding}
 use Rattle.meaning.specs.Validity.{IsValid}
+use Rattle.ctx_state.specs.Context.{is_closed}
 use Rattle.control_msgs.specs.declared.message.Message.{Message}
 use Rattle.control_msgs.specs.Messages.{after_message, after_messages, AreAcceptedBy}
 use Rattle.meaning.specs.Worlds.{IsRegular}
@@ -16,7 +17,7 @@ use Rattle.session.specs.Folders.{Folder, IsFolderOf, AgreeBetween}
 use Rattle.control_side.specs.Machine.{Machine, world_caught_up}
 use Rattle.session.specs.Rows.{samples_of}
 use Rattle.control_side.specs.Step.{Sends}
-use Rattle.session.specs.Session.{Told, Played, first_told, quanta_left, finished, replayed, turns, has_closed, TurnsDecode}
+use Rattle.session.specs.Session.{Told, Played, first_told, quanta_left, finished, replayed, turns, TurnsDecode}
 
 -- the machine and the lines, whether there is audio, the samples, and with audio the renderer
 pub record SessionView : Type 0 where
@@ -162,6 +163,6 @@ pub record IsReplayed (tells : Bool) (paths : Paths) (calls : List Call) (old ne
   pub tape : List World
   pub stands : Stands new tape
   pub played : replayed folder calls old.told ≡ finished new.told tape
-  pub begun : has_closed new.told.machine.context.state ≡ true → IsSome new.told.machine.context.started
+  pub begun : is_closed new.told.machine.context.state ≡ true → IsSome new.told.machine.context.started
   pub spec : new.told.machine.world.spec ≡ old.told.machine.world.spec
   pub supported : IsSupported new.told.machine.world.spec

@@ -2,11 +2,11 @@ ghost use Rattle.std.specs.Prelude.{◌≡◌, ◌↔◌, ◌≤◌, ◌<◌, �
 ghost use Rattle.io_edge.specs.Faults.{Rose};
 ghost use Rattle.io_edge.specs.Paths.{Paths, SamePaths};
 ghost use Rattle.script_ast.specs.Ranges.{IsInRange};
-ghost use Rattle.ctx_state.specs.Context.{IsInState, turn_of};
+ghost use Rattle.ctx_state.specs.Context.{IsInState, turn_of, is_closed};
 ghost use Rattle.wa_base.specs.Contexts.{IsSupported, quantum_of};
 ghost use Rattle.control_msgs.specs.Messages.{IsAcceptedBy};
 ghost use Rattle.meaning.specs.Changes.{Accepts};
-ghost use Rattle.session.specs.Session.{after_call, after_turn, has_closed, end_of, lines_at_end};
+ghost use Rattle.session.specs.Session.{after_call, after_turn, end_of, lines_at_end};
 ghost use Rattle.wa_base.specs.Contexts.{is_supported as supports};
 ghost use Rattle.control_side.specs.Assets.{IsHeld};
 ghost use Rattle.control_side.specs.Step.{is_start, is_decode, KeepsTime, RunsOnceStarted};
@@ -188,7 +188,7 @@ impl Session {
         ensures lines { result.lines.items ≡ lines_at_end self.told }
         ensures end { result.end ≡ end_of self.told.machine.context }
         ensures quanta { result.quanta ≡ self.told.machine.context.time / quantum_of self.told.machine.world.spec }
-        ensures rendered { result.rendered ≡ (if self.audio && has_closed self.told.machine.context.state then Some (record { spec = self.told.machine.world.spec; samples = self.samples }) else None) }
+        ensures rendered { result.rendered ≡ (if self.audio && is_closed self.told.machine.context.state then Some (record { spec = self.told.machine.world.spec; samples = self.samples }) else None) }
     {
         let context = self.control.context();
         match (context.state(), context.started()) {

@@ -13,3 +13,5 @@ mod long;
 mod random;
 #[cfg(test)]
 mod search;
+#[cfg(test)]
+mod timelines;

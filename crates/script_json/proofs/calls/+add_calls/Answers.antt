@@ -1,5 +1,5 @@
 use Rattle.std.proofs.Common.{◌≢◌, ◌∙◌, rules, length}
-use Rattle.script_json.specs.declared.faults.ScriptErr.TheVariants.{NoMemory}
+use Rattle.script_fields.specs.declared.faults.ScriptErr.TheVariants.{NoMemory}
 use Rattle.script_json.proofs.DepthLaws.{held_less}
 use Rattle.script_json.proofs.CallSteps.{call_read-object, list_done, item_fault, item_held_fault, item_done}
 use Rattle.script_json.proofs.calls.+add_calls.Goals as goal

@@ -1,6 +1,6 @@
 use Rattle.std.proofs.Common.{◌≢◌, sym, ◌∙◌, rules}
 use Rattle.serde_json.specs.View.{view}
-use Rattle.script_json.specs.declared.faults.ScriptErr.TheVariants.{NoMemory}
+use Rattle.script_fields.specs.declared.faults.ScriptErr.TheVariants.{NoMemory}
 use Rattle.script_json.proofs.DepthLaws.{main_less}
 use Rattle.script_json.proofs.HeadSteps.{object_of_head, script_head_fault, script_calls_fault, script_read}
 use Rattle.script_json.proofs.NestedLaws.{read_nested}
