@@ -11,7 +11,7 @@ use std::sync::ledger::Ledger;
 use wa_base::{Fix, NoMemory, Rate, Steps};
 
 // The frames of a render quantum.
-const QUANTUM: usize = 128;
+const QUANTUM: usize = wa_base::QUANTUM as usize;
 
 /// The intrinsic values of a parameter in a render quantum of 128 frames (paramIntrinsicValue), in
 /// units of 2^-24. At k-rate all have the value of the first frame.

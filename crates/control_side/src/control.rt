@@ -26,10 +26,7 @@ use script_ast::{Call, Op};
 use std::alloc::Global;
 use std::marker::Model;
 use transcript::{Answer, Line};
-use wa_base::{BufId, ContextSpec, Name, NoMemory, NodeId, State};
-
-/// The size of a render quantum, in frames.
-pub(crate) const QUANTUM: u64 = 128;
+use wa_base::{BufId, ContextSpec, Name, NoMemory, NodeId, QUANTUM, State};
 
 /// What a call did: its answer, and the change of the world of which the side that renders has to hear.
 #[derive(Debug, Drop)]

@@ -3,13 +3,13 @@ ghost use Rattle.meaning.specs.Changes.{IsNamed};
 ghost use Rattle.control_side.specs.Interfaces as interface;
 ghost use Rattle.control_side.specs.Step as spec;
 
-use crate::control::{Control, QUANTUM};
+use crate::control::Control;
 use crate::decide::{Decided, refused};
 use conn_graph::{Edge, Form, Target};
 use meaning::{AttributeEdit, Edit};
 use node_table::{Kind, delay_capacity};
 use script_ast::Op;
-use wa_base::{Exc, Fix, Name, NodeId};
+use wa_base::{Exc, Fix, Name, NodeId, QUANTUM};
 
 // What the operations on nodes come to, whatever their kind (the BaseAudioContext and AudioNode
 // interfaces).

@@ -6,10 +6,7 @@ ghost use Rattle.ctx_state.specs.Context as of_context;
 use std::alloc::Global;
 use std::collections::BTreeMap;
 use std::marker::Model;
-use wa_base::{ContextSpec, Exc, NoMemory, Refusal, State};
-
-/// The size of a render quantum, in frames.
-const QUANTUM: u64 = 128;
+use wa_base::{ContextSpec, Exc, NoMemory, QUANTUM, Refusal, State};
 
 /// What a quantum led to.
 #[derive(Clone, Copy, Debug, PartialEq, Eq)]

@@ -8,10 +8,7 @@ ghost use Rattle.delay_bank.specs.Kept.{room_of, HasKept, Brings, IsAsked, IsNea
 use delay_line::DelayLine;
 use std::alloc::Global;
 use std::marker::Model;
-use wa_base::{Fix, Interp, NoMemory};
-
-// The frames of a render quantum.
-pub(crate) const QUANTUM: u64 = 128;
+use wa_base::{Fix, Interp, NoMemory, QUANTUM};
 
 /// A quantum that is asked of a delay's reader: its first frame, the delay of each of its 128 frames, in
 /// frames, and to how many channels what was written is mixed, and how.

@@ -11,7 +11,7 @@ use std::marker::Model;
 use wa_base::{Fix, NoMemory};
 
 // The frames of a render quantum.
-pub(crate) const QUANTUM: usize = 128;
+pub(crate) const QUANTUM: usize = wa_base::QUANTUM as usize;
 
 // The filter of a node: its state, and before which frame it has heard the node's input.
 #[derive(Drop)]

@@ -35,7 +35,7 @@ use std::marker::Model;
 use wa_base::{Fix, NoMemory, NodeId, Samples};
 
 /// The frames of a render quantum.
-pub const QUANTUM: usize = 128;
+pub const QUANTUM: usize = wa_base::QUANTUM as usize;
 
 /// The values of a quantum of 128 frames, on each of up to 32 lanes: one for each channel of each
 /// output of an end. Contracts read a lane at frame m as `at`.

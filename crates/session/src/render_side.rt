@@ -15,10 +15,7 @@ use quantum_render::Renderer;
 use std::alloc::Global;
 use std::marker::{Brand, Model};
 use std::sync::ledger::{Blank, Ledger};
-use wa_base::{ContextSpec, Fix, NoMemory, Steps, Tie};
-
-/// The size of a render quantum, in frames.
-pub(crate) const QUANTUM: u64 = 128;
+use wa_base::{ContextSpec, Fix, NoMemory, QUANTUM, Steps, Tie};
 
 /// The side of a session that renders: a world of its own, which hears of each change by a message,
 /// and the renderer.

@@ -15,7 +15,7 @@ ghost use Rattle.control_side.specs.Turns.{IsTurned};
 ghost use Rattle.session.specs.View.{IsFirst, IsAsBefore, Stands, Follows, MakesRoom, Gets, CatchesUp, Hears, GoesOn, Waits, IsAt, sent};
 ghost use Rattle.meaning.specs.declared.world.World.{World};
 
-use crate::render_side::{QUANTUM, RenderSide};
+use crate::render_side::RenderSide;
 use crate::rendered::Rendered;
 use crate::replay::Outcome;
 use control_msgs::Message;
@@ -27,7 +27,7 @@ use script_ast::{Call, Op};
 use std::alloc::Global;
 use std::marker::Model;
 use transcript::{EndWord, Line, Lines};
-use wa_base::{ContextSpec, Exc, Fix, NoMemory, Refusal, Samples, State, Tie};
+use wa_base::{ContextSpec, Exc, Fix, NoMemory, QUANTUM, Refusal, Samples, State, Tie};
 
 /// How a session is run.
 #[derive(Clone, Copy, Debug, PartialEq, Eq)]

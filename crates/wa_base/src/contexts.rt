@@ -2,6 +2,9 @@ ghost use Rattle.std.specs.Prelude.{◌≡◌, ◌≤◌, ◌*◌, nat_le, true}
 ghost use Rattle.wa_base.specs.Contexts.{state_word, IsSupported};
 ghost use Rattle.wa_base.specs.Contexts as contexts;
 
+/// The size of a render quantum, in frames.
+pub const QUANTUM: u64 = 128;
+
 const MAX_LENGTH: u64 = 33_554_432;
 
 const MAX_SAMPLES: u128 = 67_108_864;
