@@ -7,7 +7,7 @@ use Rattle.param_events.specs.declared.events.Event.TheVariants.{Set, Ramp, Curv
 use Rattle.param_events.specs.Edits.{stays, moment, base_after, cancelled}
 use Rattle.param_events.specs.Events.{time_of, end_of, until}
 use Rattle.param_events.specs.Timeline.{Timeline, IsSound, IsBegun, IsOrderedFrom, IsTimeline}
-use Rattle.param_events.proofs.Order.{time-end}
+use Rattle.param_events.proofs.Order.{time-end, from_low}
 
 pub take_ordered : (low i : ℕ) (events : List Event) → IsOrderedFrom low events → IsOrderedFrom low (take i events)
 take_ordered low zero events h = tt
@@ -28,6 +28,27 @@ stays_end : (time : ℕ) (e : Event) → IsSound e → stays time e ≡ false �
 stays_end time (Set t value) s h = grind (arith, nat_tests)
 stays_end time (Ramp t value) s h = grind (arith, nat_tests)
 stays_end time (Curve t duration end points) s h = let k = s.begins in grind (arith, nat_tests)
+
+stays_before : (time : ℕ) (e : Event) → stays time e ≡ true → time_of e < time
+stays_before time (Set t value) h = grind (arith, nat_tests)
+stays_before time (Ramp t value) h = grind (arith, nat_tests)
+stays_before time (Curve t duration end points) h = grind (arith, nat_tests)
+
+stays_over : (time : ℕ) (e : Event) → IsSound e → end_of e < time → stays time e ≡ true
+stays_over time (Set t value) s l = grind (arith, nat_tests)
+stays_over time (Ramp t value) s l = grind (arith, nat_tests)
+stays_over time (Curve t duration end points) s l = let k = s.begins in grind (arith, nat_tests)
+
+-- where one event stays, all earlier ones stay
+pub stays_down : (time low i j : ℕ) (es : List Event) (d : Event) → IsOrderedFrom low es → i ≤ j → j < length es → stays time (get_or es j d) ≡ true → stays time (get_or es i d) ≡ true
+stays_down time low i j [] d h l m is = absurd (omega arith)
+stays_down time low zero zero (e ∷ es) d h l m is = is
+stays_down time low zero (suc j) (e ∷ es) d h l m is =
+    let begins = stays_before time (get_or es j d) is in
+    let rest = from_low (end_of e) j es d h.2 (omega arith) in
+    stays_over time e h.1 (omega (arith, begins, rest))
+stays_down time low (suc i) zero (e ∷ es) d h l m is = absurd (omega arith)
+stays_down time low (suc i) (suc j) (e ∷ es) d h l m is = stays_down time (end_of e) i j es d h.2 (omega arith) (omega arith) is
 
 -- where one event goes, all later ones go
 gone : (time low : ℕ) (events : List Event) → time ≤ low → IsOrderedFrom low events → filter (stays time) events ≡ []

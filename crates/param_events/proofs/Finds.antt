@@ -32,7 +32,7 @@ taken_at (suc i) k [] d l m = absurd (omega arith)
 taken_at (suc i) zero (e ∷ es) d l m = refl
 taken_at (suc i) (suc k) (e ∷ es) d l m = taken_at i k es d (omega arith) (omega arith)
 
-take_long : (i : ℕ) (es : List Event) → i ≤ length es → length (take i es) ≡ i
+pub take_long : (i : ℕ) (es : List Event) → i ≤ length es → length (take i es) ≡ i
 take_long zero es l = refl
 take_long (suc i) [] l = absurd (omega arith)
 take_long (suc i) (e ∷ es) l = let h = take_long i es (omega arith) in omega (arith, h)

@@ -28,7 +28,7 @@ pub after_yes : (time : ℕ) (e : Event) (es : List Event) → time < time_of e 
 after_yes time e es l = let t : nat_lt time (time_of e) ≡ true = grind (arith, nat_tests) in ap (λ b. cond b (e ∷ after time es) (after time es)) t
 
 -- later events of an ordered list are not earlier
-from_low : (low k : ℕ) (es : List Event) (d : Event) → IsOrderedFrom low es → k < length es → low ≤ time_of (get_or es k d)
+pub from_low : (low k : ℕ) (es : List Event) (d : Event) → IsOrderedFrom low es → k < length es → low ≤ time_of (get_or es k d)
 from_low low k [] d h l = absurd (omega arith)
 from_low low zero (e ∷ es) d h l = h.0
 from_low low (suc k) (e ∷ es) d h l =

@@ -128,12 +128,7 @@ fn staying(events: &[Event], time: u64) -> usize
     ensures within { result ≤ length events.now }
     ensures rest { filter (edits.stays time) events.now ≡ take result events.now }
 {
-    for (i, event) in events.iter().enumerate() {
-        if !event.stays(time) {
-            return i;
-        }
-    }
-    events.len()
+    events.partition_point(|event| event.stays(time))
 }
 
 // Takes away what begins at a time or later, and a curve that has not ended before.
@@ -155,7 +150,7 @@ pub(crate) fn base_after(events: &[Event], now: u64, base: Fix, slot: Fix) -> Fi
 }
 
 // Whether the event before a place is a curve that ends after a time.
-fn goes_past(events: &[Event], i: usize, time: u64) -> bool
+pub(crate) fn goes_past(events: &[Event], i: usize, time: u64) -> bool
     requires { i ≤ length events.now }
     ensures { result ≡ edits.goes_past time (last (take i events.now)) }
 {

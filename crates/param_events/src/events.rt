@@ -38,23 +38,6 @@ impl Event {
         }
     }
 
-    // Whether it is a curve that is under way at a time.
-    pub(crate) fn runs_at(&self, at: u64) -> bool
-        ensures { result ≡ edits.runs_at at self.now }
-    {
-        match self {
-            Event::Curve { time, end, .. } => *time <= at && at < *end,
-            _ => false,
-        }
-    }
-
-    // Whether it lies strictly between two times.
-    pub(crate) fn lies_between(&self, start: u64, finish: u64) -> bool
-        ensures { result ≡ edits.lies_between start finish self.now }
-    {
-        start < self.time() && self.time() < finish
-    }
-
     // Whether it stays where all is cancelled from a time on.
     pub(crate) fn stays(&self, at: u64) -> bool
         ensures { result ≡ edits.stays at self.now }

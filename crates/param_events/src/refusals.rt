@@ -2,7 +2,9 @@ ghost use Rattle.std.specs.Prelude.{◌≡◌, ◌+◌, ◌<◌, ◌≤◌, ◌�
 ghost use Rattle.std.specs.List.{position};
 ghost use Rattle.std.specs.Result.{result_err};
 ghost use Rattle.param_events.specs.Edits as edits;
+ghost use Rattle.param_events.specs.Timeline.{IsOrderedFrom};
 
+use crate::edits::{goes_past, place};
 use crate::events::Event;
 use std::alloc::{AllocError, AllocFailed};
 use wa_base::NoMemory;
@@ -68,25 +70,36 @@ pub(crate) fn moment(now: u64, time: i64) -> Result<u64, ParamErr>
     Ok((time as u64).max(now))
 }
 
-// The place of the first curve that is under way at a time.
+// The place of the first curve that is under way at a time. Only the last event that has begun can be.
 fn first_running(events: &[Event], at: u64) -> Option<usize>
+    requires { IsOrderedFrom 0 events.now }
     ensures { result ≡ position (edits.runs_at at) events.now }
 {
-    events.iter().position(|event| event.runs_at(at))
+    let i = place(events, at);
+    if goes_past(events, i, at) {
+        Some(i - 1)
+    } else {
+        None
+    }
 }
 
-// The place of the first event that lies strictly between two times.
+// The place of the first event that lies strictly between two times. Only the first one after `start` can.
 fn first_between(events: &[Event], start: u64, finish: u64) -> Option<usize>
+    requires { IsOrderedFrom 0 events.now }
     ensures { result ≡ position (edits.lies_between start finish) events.now }
 {
-    events
-        .iter()
-        .position(|event| event.lies_between(start, finish))
+    let i = place(events, start);
+    if i < events.len() && events[i].time() < finish {
+        Some(i)
+    } else {
+        None
+    }
 }
 
 // That no curve is under way at a time.
 #[tactic(auto, unfolding(crate::specs::Edits::in_curve))]
 pub(crate) fn outside_curves(events: &[Event], at: u64) -> Result<(), ParamErr>
+    requires { IsOrderedFrom 0 events.now }
     ensures ok { OnOk result (edits.in_curve at events.now ≡ None) }
     ensures err { IfErr result (λ e. edits.in_curve at events.now ≡ Some e) }
 {
@@ -99,6 +112,7 @@ pub(crate) fn outside_curves(events: &[Event], at: u64) -> Result<(), ParamErr>
 // The moment of an event that may be put there.
 #[tactic(auto, unfolding(crate::specs::Edits::event_refusal))]
 pub(crate) fn free_moment(events: &[Event], now: u64, time: i64) -> Result<u64, ParamErr>
+    requires { IsOrderedFrom 0 events.now }
     ensures value { IfOk result (λ at. at ≡ edits.moment now time) }
     ensures outside { IfOk result (λ at. edits.in_curve at events.now ≡ None) }
     ensures ok { OnOk result (edits.event_refusal now time events.now ≡ None) }
@@ -114,6 +128,7 @@ pub(crate) fn free_moment(events: &[Event], now: u64, time: i64) -> Result<u64, 
 // That no event lies strictly between two times.
 #[tactic(auto, unfolding(crate::specs::Edits::curve_over))]
 pub(crate) fn empty_between(events: &[Event], start: u64, finish: u64) -> Result<(), ParamErr>
+    requires { IsOrderedFrom 0 events.now }
     ensures ok { OnOk result (edits.curve_over start finish events.now ≡ None) }
     ensures err { IfErr result (λ e. edits.curve_over start finish events.now ≡ Some e) }
 {
@@ -132,7 +147,8 @@ pub(crate) fn free_span(
     time: i64,
     duration: i64,
 ) -> Result<u64, ParamErr>
-    requires { now ≤ 2 ^ 62 }
+    requires now { now ≤ 2 ^ 62 }
+    requires kept { IsOrderedFrom 0 events.now }
     ensures value { IfOk result (λ at. at ≡ edits.moment now time) }
     ensures outside { IfOk result (λ at. edits.in_curve at events.now ≡ None) }
     ensures empty { IfOk result (λ at. edits.curve_over at (at + unsigned_abs duration) events.now ≡ None) }
