@@ -3,7 +3,7 @@ use Rattle.std.specs.Prelude.{Bool, true, false}
 use Rattle.script_ast.specs.declared.operations.Op.{Op}
 use Rattle.script_ast.specs.declared.operations.Op.TheVariants as op
 
--- a node is created that has neither a buffer nor a curve (BaseAudioContext)
+-- a node is created that has no buffer, no curve and no coefficients (BaseAudioContext)
 abbrev pub is_creation : Op → Bool
 is_creation (op.CreateConstantSource name offset) = true
 is_creation (op.CreateGain name gain) = true

@@ -1,4 +1,4 @@
-ghost use Rattle.std.specs.Prelude.{◌≡◌, ◌<◌, ◌↔◌, ℕ, List, [], None, Some, IsTrue, IsOk, IsSome, OnOk, OnErr, option_map};
+ghost use Rattle.std.specs.Prelude.{◌≡◌, ◌<◌, ◌↔◌, ℕ, List, [], None, Some, IsTrue, IsOk, IsSome, OnOk, OnErr};
 ghost use Rattle.std.specs.Str.{bytes_eq};
 ghost use Rattle.indexmap.specs.IndexMap.{spare};
 ghost use Rattle.name_book.specs.Book as spec;
@@ -97,13 +97,6 @@ impl Book {
             return Some(Object::Node(NodeId(0)));
         }
         self.objects.get(name.as_slice()).copied()
-    }
-
-    /// The name under which a node was first bound, or `None` where it was not.
-    pub fn first_name(&self, node: NodeId) -> Option<&Name>
-        ensures { option_map (λ name. name.now) result ≡ spec.first_name_of self.now.first_names node.0 }
-    {
-        self.first_names.get(&node.0)
     }
 
     /// The name under which a node was first bound.

@@ -28,11 +28,11 @@ destination_lanes w valid blocks counts fit =
 
 pub out_is : (w : World) → IsValid w → (tape : List World) (blocks : List BlockView) (counts : List ℕ) (out : List ℤ) (c m : ℕ) → AreCounted 128 w counts tape
     → ((m : ℕ) (d : End) → m < 128 → IsIn d (ends w.graph.value) → drafts_of blocks counts m d ≡ value 128 (tape ++ w ∷ []) (128 * length tape + m) d)
-    → ((c m : ℕ) → c < 32 → m < 128 → channel_sample 128 out c m ≡ shown (block_of blocks (reader_of 0)) m c)
+    → ((c m : ℕ) → c < w.spec.channels → m < 128 → channel_sample 128 out c m ≡ shown (block_of blocks (reader_of 0)) m c)
     → (block_of blocks (reader_of 0)).lanes ≡ counts_in counts (reader_of 0)
     → c < w.spec.channels → m < 128 → channel_sample 128 out c m ≡ sample 128 (tape ++ w ∷ []) (128 * length tape + m) c
 out_is w valid tape blocks counts out c m counted values copied lanes few now =
-    copied c m (let high = valid.spec.channels_high in omega arith) now
+    copied c m few now
     ∙ by_tests (nat_lt c (counts_in counts (reader_of 0))) refl
     ∙ ap (λ (v : ℕ → ℕ → ℤ). v 0 c) (values m (reader_of 0) now (destination_is w valid))
   where

@@ -73,6 +73,9 @@ impl Renderer {
         ensures spec { IfOk result (λ r. r.spec ≡ spec) }
         ensures tie { IfOk result (λ r. r.tie ≡ tie) }
     {
+        let out = vec![in alloc; 0; CHANNELS * QUANTUM]?;
+        let filters = Filters::new(alloc)?;
+        let bench = Bench::new(alloc)?;
         Ok(Renderer {
             alloc,
             spec,
@@ -80,13 +83,13 @@ impl Renderer {
             plan: Plan::new(alloc, tie),
             automation: Automation::new(alloc),
             memory: Memory {
-                filters: Filters::new(alloc)?,
+                filters,
                 delays: Delays::new(alloc),
             },
             counts: Vec::new(alloc),
             blocks: Vec::new(alloc),
-            bench: Bench::new(alloc)?,
-            out: vec![in alloc; 0; CHANNELS * QUANTUM]?,
+            bench,
+            out,
         })
     }
 
@@ -191,7 +194,9 @@ impl Renderer {
             quantum,
         );
         let blocks: &[Block] = &*blocks;
-        blocks[slot(reader(NodeId(0)))].copy_out(self.out.as_mut_slice(), CHANNELS);
+        let destination = &blocks[slot(reader(NodeId(0)))];
+        let channels = destination.lanes().max(self.spec.channels as usize);
+        destination.copy_out(self.out.as_mut_slice(), channels);
         self.quanta += 1;
     }
 

@@ -66,7 +66,7 @@ pub fn run<S: Source, F: Files, T: Sink>(
         return replay_generated(alloc, &reading, number, files, transcript);
     }
     match read_all(alloc, script, MAX_SCRIPT) {
-        Ok(bytes) => replay_bytes(alloc, &reading, bytes.as_slice(), files, transcript),
+        Ok(bytes) => replay_bytes(alloc, &reading, bytes, files, transcript),
         Err(ReadErr::TooLong) => Status::ScriptTooLong,
         Err(ReadErr::Failed) => Status::ScriptFault,
         Err(ReadErr::NoMemory) => Status::NoMemory,
@@ -96,24 +96,26 @@ fn replay_generated<F: Files, T: Sink>(
     }
 }
 
-// Replays the script that the bytes are.
+// Replays the script that the bytes are. Once it is read, their memory is given back.
 fn replay_bytes<F: Files, T: Sink>(
     alloc: Global,
     reading: &Reading<'_>,
-    bytes: &[u8],
+    bytes: Bytes,
     files: &mut F,
     transcript: &mut T,
 ) -> Status
     ensures ends { let before = outside (T.written transcript.old) (T.faults transcript.old) (F.tells files.old) (F.paths files.old) (F.write_faults files.old) in
         let after = outside (T.written transcript.new) (T.faults transcript.new) (F.tells files.new) (F.paths files.new) (F.write_faults files.new) in
         (folder : Folder) × IsFolderOf (F.tells files.old) (F.paths files.old) folder
-        × Replays result (answers.answer_to_script reading.now folder (script_of bytes.now)) (answers.Decodes folder (script_of bytes.now)) (F.read_faults files.old) (F.read_faults files.new) before after }
+        × Replays result (answers.answer_to_script reading.now folder (script_of bytes)) (answers.Decodes folder (script_of bytes)) (F.read_faults files.old) (F.read_faults files.new) before after }
     ensures tells { F.tells files.new ≡ F.tells files.old }
     ensures sink_later { T.faults transcript.old ≤ T.faults transcript.new }
     ensures read_later { F.read_faults files.old ≤ F.read_faults files.new }
     ensures store_later { F.write_faults files.old ≤ F.write_faults files.new }
 {
-    match read(alloc, bytes) {
+    let script = read(alloc, bytes.as_slice());
+    drop(bytes);
+    match script {
         Ok(script) => replay_script(alloc, reading, &script, files, transcript),
         Err(ScriptErr::NoMemory) => Status::NoMemory,
         Err(fault) => answer_fault(alloc, fault, transcript),

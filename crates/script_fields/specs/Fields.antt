@@ -82,7 +82,7 @@ fields_faults clock n d rows = flat_map (field_faults clock n d) rows
 abbrev pub lack_faults : ℕ → Data → Field → List ScriptErr
 lack_faults n d field = if is_there field d then [] else fault.MissingField n field ∷ []
 
--- ---- values: of a field without a fault. Where it has one they are 0, false, empty, none or the first word of a list, and nothing stands on them
+-- ---- values: of a field without a fault. Where it has one a value stands too, as 0 or an empty list, and nothing rests on it
 
 -- the default that is a number
 abbrev pub default_number : Fallback → Option ℤ

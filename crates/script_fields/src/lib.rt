@@ -2,9 +2,11 @@
 //! the value of each that has none.
 //!
 //! `check_fields` finds the faults; the calls that read a value have no error of their own. A number
-//! that is absent is the default of its row, or 0. One that has a fault is 0. A flag or an oversampling
-//! is in both cases the default of its row, a text or a list is empty, another word is the first of its
-//! list ("max", "speakers", "a-rate"), and what may be null is none.
+//! that is absent is the default of its row, or 0; one that has a fault is 0. A flag or an oversampling
+//! is in both cases the default of its row. A text or a list that is absent or of another kind is empty,
+//! an item of a list that is no fix is 0, and a text out of range stays as it is. Of another word the
+//! first of its list stands ("max", "speakers", "a-rate"). Where null may stand, what is absent, of
+//! another kind or a number out of range is none.
 #![tactic(auto)]
 
 mod faults;

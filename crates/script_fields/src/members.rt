@@ -112,8 +112,8 @@ fn default_flag(fallback: Fallback) -> bool
     }
 }
 
-/// The default that is an oversampling.
-pub fn default_oversample(fallback: Fallback) -> Oversample
+// The default that is an oversampling.
+pub(crate) fn default_oversample(fallback: Fallback) -> Oversample
     ensures { result ≡ default_oversample fallback }
 {
     match fallback {

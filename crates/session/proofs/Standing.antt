@@ -22,8 +22,12 @@ use Rattle.session.proofs.Tapes.{regular_first, regular_grown, regular_after, re
 
 -- ---- before the first call
 
-pub renders_none : (r : RendererView) → StandsFor r [] → Renders [] r
+renders_none : (r : RendererView) → StandsFor r [] → Renders [] r
 renders_none r stands = record { worlds = []; alike = refl; stands = stands }
+
+pub renders_nothing : (side : Option SideView) → IfSome side (λ s. StandsFor s.renderer []) → IfSome (option_map (λ (s : SideView). s.renderer) side) (Renders [])
+renders_nothing None stands = tt
+renders_nothing (Some s) stands = renders_none s.renderer stands
 
 pub first_session : (spec : ContextSpec) (audio : Bool) (view : SessionView) → view.told ≡ first_told spec → view.audio ≡ audio → view.samples ≡ [] → IsValid (first_world spec) → IfSome view.renderer (Renders [])
     → IsFirst spec audio view

@@ -14,7 +14,3 @@ IsFolderOf tells paths folder = (moment : ℕ) → IsHeld tells paths (folder mo
 -- two folders hold the same from a moment on up to another
 abbrev pub AgreeBetween : ℕ → ℕ → Folder → Folder → Type 0
 AgreeBetween first next folder other = (moment : ℕ) → first ≤ moment → moment < next → other moment ≡ folder moment
-
--- two folders hold the same from a moment on
-abbrev pub AgreeFrom : ℕ → Folder → Folder → Type 0
-AgreeFrom first folder other = (moment : ℕ) → first ≤ moment → other moment ≡ folder moment

@@ -46,10 +46,12 @@ impl RenderSide {
         ensures spec { IfOk result (λ side. side.renderer.spec ≡ spec) }
         ensures tie { IfOk result (λ side. side.renderer.tie ≡ tie) }
     {
+        let world = World::new(alloc, spec)?;
+        let renderer = Renderer::new(alloc, spec, tie)?;
         Ok(RenderSide {
-            world: World::new(alloc, spec)?,
+            world,
             queue: Queue::new(alloc),
-            renderer: Renderer::new(alloc, spec, tie)?,
+            renderer,
         })
     }
 

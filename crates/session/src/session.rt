@@ -1,4 +1,4 @@
-ghost use Rattle.std.specs.Prelude.{◌≡◌, ◌↔◌, ◌≤◌, ◌<◌, ◌*◌, ◌/◌, Some, None, ◌⊎◌, ◌∷◌, ◌++◌, [], List, true, false, length, replicate, pos, IsTrue, IsSome, IsNone, IfOk, IfSome, IfErr, IsErrOf, OnOk, OnErr, Ok, ◌&&◌, if◌then◌else◌};
+ghost use Rattle.std.specs.Prelude.{◌≡◌, ◌↔◌, ◌≤◌, ◌<◌, ◌*◌, ◌/◌, Some, None, is_some, ◌⊎◌, ◌∷◌, ◌++◌, [], List, true, false, length, replicate, pos, IsTrue, IsSome, IsNone, IfOk, IfSome, IfErr, IsErrOf, OnOk, OnErr, Ok, ◌&&◌, if◌then◌else◌};
 ghost use Rattle.io_edge.specs.Faults.{Rose};
 ghost use Rattle.io_edge.specs.Paths.{Paths, SamePaths};
 ghost use Rattle.script_ast.specs.Ranges.{IsInRange};
@@ -14,6 +14,8 @@ ghost use Rattle.control_side.specs.Machine.{caught_up};
 ghost use Rattle.control_side.specs.Turns.{IsTurned};
 ghost use Rattle.session.specs.View.{IsFirst, IsAsBefore, Stands, Follows, MakesRoom, Gets, CatchesUp, Hears, GoesOn, Waits, IsAt, sent};
 ghost use Rattle.meaning.specs.declared.world.World.{World};
+ghost use Rattle.meaning.specs.Worlds.{first_world};
+ghost use Rattle.quantum_render.specs.Stands.{StandsFor};
 
 use crate::render_side::RenderSide;
 use crate::rendered::Rendered;
@@ -78,14 +80,17 @@ impl Session {
         }
         let mut lines = Lines::new(alloc);
         lines.reserve(1)?;
-        let side = if options.audio {
-            Some(RenderSide::new(alloc, spec, options.tie)?)
-        } else {
-            None
+        let control = Control::new(alloc, spec)?;
+        let side = match side_of(alloc, spec, options) {
+            Ok(side) => side,
+            Err(NoMemory) => {
+                drop(control);
+                return Err(Refusal::NoMemory);
+            }
         };
         Ok(Session {
             alloc,
-            control: Control::new(alloc, spec)?,
+            control,
             behind: None,
             lines,
             side,
@@ -190,38 +195,9 @@ impl Session {
         ensures quanta { result.quanta ≡ self.told.machine.context.time / quantum_of self.told.machine.world.spec }
         ensures rendered { result.rendered ≡ (if self.audio && is_closed self.told.machine.context.state then Some (record { spec = self.told.machine.world.spec; samples = self.samples }) else None) }
     {
-        let context = self.control.context();
-        match (context.state(), context.started()) {
-            (State::Closed, _) => self.completed(),
-            (_, Some(_)) => {
-                let end = EndWord::Stalled(context.now());
-                self.unrendered(end)
-            }
-            (_, None) => self.unrendered(EndWord::Idle),
-        }
-    }
-
-    // The outcome of a session that did not complete.
-    fn unrendered(self, end: EndWord) -> Outcome
-        ensures { result ≡ record { lines = record { items = self.told.lines; room = result.lines.room }; end = end; quanta = self.told.machine.context.time / quantum_of self.told.machine.world.spec; rendered = None } }
-    {
-        let quanta = self.quanta();
-        Outcome {
-            lines: self.lines,
-            end,
-            quanta,
-            rendered: None,
-        }
-    }
-
-    // The outcome of a session whose context closed.
-    fn completed(self) -> Outcome
-        ensures lines { result.lines.items ≡ self.told.lines ++ Line.Complete self.told.machine.world.spec.length ∷ [] }
-        ensures end { result.end ≡ EndWord.Completed }
-        ensures quanta { result.quanta ≡ self.told.machine.context.time / quantum_of self.told.machine.world.spec }
-        ensures rendered { result.rendered ≡ (if self.audio then Some (record { spec = self.told.machine.world.spec; samples = self.samples }) else None) }
-    {
-        let quanta = self.quanta();
+        let end = self.end();
+        let completed = self.is_closed();
+        let quanta = self.control.now() / QUANTUM;
         let Session {
             control,
             mut lines,
@@ -230,21 +206,37 @@ impl Session {
             ..
         } = self;
         let spec = control.spec();
-        lines.push_reserved(Line::Complete(spec.length));
-        let rendered = rendered_if(side.is_some(), spec, samples);
+        let audio = side.is_some();
+        drop(control);
+        drop(side);
+        if completed {
+            lines.push_reserved(Line::Complete(spec.length));
+        }
         Outcome {
             lines,
-            end: EndWord::Completed,
+            end,
             quanta,
-            rendered,
+            rendered: rendered_if(audio && completed, spec, samples),
         }
     }
 
-    // How many quanta were rendered, or gone over where there is no audio.
-    fn quanta(&self) -> u64
-        ensures { result ≡ self.now.told.machine.context.time / quantum_of self.now.told.machine.world.spec }
+    // Whether the length was reached.
+    fn is_closed(&self) -> bool
+        ensures { result ≡ is_closed self.now.told.machine.context.state }
     {
-        self.control.now() / QUANTUM
+        matches!(self.control.context().state(), State::Closed)
+    }
+
+    // How the session ended.
+    fn end(&self) -> EndWord
+        ensures { result ≡ end_of self.now.told.machine.context }
+    {
+        let context = self.control.context();
+        match (context.state(), context.started()) {
+            (State::Closed, _) => EndWord::Completed,
+            (_, Some(_)) => EndWord::Stalled(context.now()),
+            (_, None) => EndWord::Idle,
+        }
     }
 
     /// The state of the context.
@@ -255,11 +247,31 @@ impl Session {
     }
 }
 
-// What a session with audio rendered.
-fn rendered_if(audio: bool, spec: ContextSpec, samples: Vec<Fix>) -> Option<Rendered>
-    ensures { result ≡ (if audio then Some (record { spec = spec; samples = samples.items }) else None) }
+// The side that renders, where samples are rendered.
+fn side_of(
+    alloc: Global,
+    spec: ContextSpec,
+    options: Options,
+) -> Result<Option<RenderSide>, NoMemory>
+    requires { IsSupported spec }
+    ensures some { IfOk result (λ side. is_some side ≡ options.audio) }
+    ensures world { IfOk result (λ side. IfSome side (λ s. sent s ≡ first_world spec)) }
+    ensures stands { IfOk result (λ side. IfSome side (λ s. StandsFor s.renderer [])) }
+    ensures spec { IfOk result (λ side. IfSome side (λ s. s.renderer.spec ≡ spec)) }
+    ensures tie { IfOk result (λ side. IfSome side (λ s. s.renderer.tie ≡ options.tie)) }
 {
-    if audio {
+    if options.audio {
+        Ok(Some(RenderSide::new(alloc, spec, options.tie)?))
+    } else {
+        Ok(None)
+    }
+}
+
+// The samples of a session that completed with audio.
+fn rendered_if(has_samples: bool, spec: ContextSpec, samples: Vec<Fix>) -> Option<Rendered>
+    ensures { result ≡ (if has_samples then Some (record { spec = spec; samples = samples.items }) else None) }
+{
+    if has_samples {
         Some(Rendered {
             spec,
             samples: Samples::from(samples),

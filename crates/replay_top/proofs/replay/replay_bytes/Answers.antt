@@ -11,7 +11,7 @@ returns-in-Err-NoMemory-clause-ends g c =
 
 pub returns-in-Err-clause-ends : goal.returns-in-Err-clause-ends
 returns-in-Err-clause-ends g c =
-    let fault : script_of c.args.bytes.now ≡ Err c.in-Err.fault = search rules in (
+    let fault : script_of c.args.bytes ≡ Err c.in-Err.fault = search rules in (
       (λ n. g.F.Files.paths c.args.files.now),
       (λ n told q. refl),
       rw fault (replays _ _ _ _ _ _ _ (text_answered _ BadScript _ _ _ _ _ _ _ _ (λ whole. whole) c.answer_fault.ensures.ends)),

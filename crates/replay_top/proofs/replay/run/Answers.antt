@@ -20,7 +20,7 @@ returns-in-Ok-None-clause-ran g c =
 pub returns-in-Ok-clause-ran : goal.returns-in-Ok-clause-ran
 returns-in-Ok-clause-ran g c =
     let none : c.in-Ok-Some.reading.generated ≡ None = cc (c.in_default.is, ap (λ (r : Reading). r.generated) c.reading.view_is) in
-    let ends = rw c.as_slice.ensures at c.replay_bytes.ensures.ends in
+    let ends = c.replay_bytes.ensures.ends in
     let is = sym c.in-Ok-Some.ensures.by_word ∙ c.in-Ok-Some.field-0-is in
     let count = counts (g.S.Source.faults c.args.script.now) (g.S.Source.faults c.read_all.new.source) (g.F.Files.read_faults c.args.files.now) (g.F.Files.read_faults c.replay_bytes.new.files) in
     (c.in-Ok.bytes, c.in-Ok.ensures.all.0, (ends.0, ends.1, ran_read c.replay_bytes.result (map string_bytes c.args.words.now) c.in-Ok-Some.reading ends.0 c.in-Ok.bytes count _ _ is none c.in-Ok.ensures.all.1 ends.2))

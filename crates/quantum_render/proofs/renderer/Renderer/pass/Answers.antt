@@ -43,9 +43,10 @@ returns-clause-shows g c tape stands regular channel m few now =
     let block : c.index-blocks-slot.result ≡ block_of c.render_quantum.new.blocks (reader_of 0) =
     c.index-blocks-slot.is ∙ get_or_default c.render_quantum.new.blocks c.slot.result c.index-blocks-slot.result no_block there ∙ ap (λ k. slice_index_or c.render_quantum.new.blocks k no_block) place in
     let longer : length (tape ++ w ∷ []) ≡ length tape + 1 = length-append tape (w ∷ []) in
+    let within : (k : ℕ) → k < c.self.inside.spec.channels → k < c.max-channels.result = λ k low. let most = c.max-channels.ensures in grind arith in
     ap (λ xs. channel_sample 128 xs channel m) (rewritten _ c.copy_out.new.out _ (c.copy_out.ensures.length ∙ c.as_mut_slice.ensures.len))
     ∙ out_is w c.requires.valid tape c.render_quantum.new.blocks counts c.copy_out.new.out channel m counted (c.render_quantum.ensures.values tape begins counted (timely w tape regular) (subst (λ (r : RendererView). IsMemory r.memory w tape c.args.first) (sym c.self.view_is) (ready c.args.self.now w tape stands regular c.args.first c.requires.first begins c.requires.grown.counted.memory)))
-    (λ k l low short. c.copy_out.ensures.values k l low short ∙ ap (λ (b : BlockView). shown b l k) block)
+    (λ k l low short. c.copy_out.ensures.values k l (within k (subst (λ (s : ContextSpec). k < s.channels) (c.requires.spec ∙ sym (ap (λ (r : RendererView). r.spec) c.self.view_is)) low)) short ∙ ap (λ (b : BlockView). shown b l k) block)
     (destination_lanes w c.requires.valid c.render_quantum.new.blocks counts fit)
     (subst (λ (s : ContextSpec). channel < s.channels) (ap (λ (r : RendererView). r.spec) c.self.view_is ∙ sym c.requires.spec) few) now
     ∙ ap (λ k. sample 128 (tape ++ w ∷ []) (128 * k + m) channel) (let e : length tape ≡ length (tape ++ w ∷ []) - 1 = omega arith in e)
@@ -94,18 +95,3 @@ returns-clause-stands g c tape stands regular =
   where
     most : (a b : ℕ) → a ≤ b → max a b ≡ b
     most a b l = grind arith
-
-pub copy_out-requires-clause-within : goal.copy_out-requires-clause-within
-copy_out-requires-clause-within g c =
-    let w : World = c.args.world.now in
-    let counts : List ℕ = c.as_slice-2.result.now in
-    let kept : counts ≡ c.args.self.now.counts = c.as_slice-2.ensures.value ∙ ap (λ (r : RendererView). r.counts) c.self.view_is in
-    let fit = c.render_quantum.ensures.fit in
-    let some = c.requires.valid.nodes.some in
-    let place : c.slot.result ≡ slot (reader_of 0) = c.slot.ensures ∙ ap slot c.reader.ensures in
-    let there : c.slot.result < length c.render_quantum.new.blocks = let long = fit.places in omega (arith, place) in
-    let block : c.index-blocks-slot.result ≡ block_of c.render_quantum.new.blocks (reader_of 0) =
-    c.index-blocks-slot.is ∙ get_or_default c.render_quantum.new.blocks c.slot.result c.index-blocks-slot.result no_block there ∙ ap (λ k. slice_index_or c.render_quantum.new.blocks k no_block) place in
-    let lanes = ap (λ (b : BlockView). b.lanes) block ∙ destination_lanes w c.requires.valid c.render_quantum.new.blocks counts fit ∙ ap (λ (ns : List ℕ). slice_index_or ns 1 1) kept in
-    let high = c.requires.grown.counted.range.high 1 (let e = c.requires.grown.counted.range.places in omega arith) in
-    subst (λ n. n ≤ 32) (sym lanes) high
