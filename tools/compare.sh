@@ -39,7 +39,7 @@ case ${1-} in
     -*) refuse "$1 is no option" ;;
 esac
 case $waplay in
-    '') refuse 'no program is named; --build takes 40 to 45 minutes where it has to be proved and built first' ;;
+    '') refuse 'no program is named; --build takes about 40 minutes where it has to be proved and built first' ;;
     /*) ;;
     *) waplay=$PWD/$waplay ;;
 esac
