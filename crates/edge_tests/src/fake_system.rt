@@ -1,15 +1,32 @@
+use io_edge::DirFiles;
 use std::alloc::Allocator;
-use std::fs::{Metadata, OpenFile, OpenOptions};
-use std::io::{ErrorKind, Read, Seek, SeekFrom, Write};
+use std::fs::{Metadata, OpenFile, OpenOptions, Permissions};
+use std::io::{ErrorKind, PipeReader, PipeWriter, Read, Seek, SeekFrom, Write};
+use std::os::fd::BorrowedFd;
+use std::os::unix::net::SocketAddr;
+use std::path::PathBuf;
 use std::{io, rt};
 
 // The files of another runtime, where a read or a write moves at most so many bytes. Where that is none, a
 // write takes nothing and a read fails. An open file may be given another length than it has.
 #[derive(Drop)]
 pub(crate) struct Fake<R> {
-    pub(crate) system: R,
-    pub(crate) most: usize,
-    pub(crate) length: Option<u64>,
+    system: R,
+    most: usize,
+    length: Option<u64>,
+}
+
+// The files of the folder that the tests run in, as such a system has them.
+pub(crate) fn fake_files(
+    rt: &HostRuntime,
+    most: usize,
+    length: Option<u64>,
+) -> DirFiles<Fake<&HostRuntime>> {
+    DirFiles::new(Fake {
+        system: rt,
+        most,
+        length,
+    })
 }
 
 #[derive(Drop)]
@@ -113,5 +130,45 @@ impl<R: rt::Files> rt::Files for Fake<R> {
 
     fn remove_dir_all<B: Allocator>(&self, alloc: B, path: &str) -> io::Result<()> {
         self.system.remove_dir_all(alloc, path)
+    }
+
+    fn canonicalize<B: Allocator>(&self, alloc: B, path: &str) -> io::Result<PathBuf<B>> {
+        self.system.canonicalize(alloc, path)
+    }
+
+    fn read_link<B: Allocator>(&self, alloc: B, path: &str) -> io::Result<PathBuf<B>> {
+        self.system.read_link(alloc, path)
+    }
+
+    fn hard_link(&self, original: &str, link: &str) -> io::Result<()> {
+        self.system.hard_link(original, link)
+    }
+
+    fn set_permissions(&self, path: &str, perm: Permissions) -> io::Result<()> {
+        self.system.set_permissions(path, perm)
+    }
+
+    fn symlink(&self, original: &str, link: &str) -> io::Result<()> {
+        self.system.symlink(original, link)
+    }
+
+    fn pipe(&self) -> io::Result<(PipeReader, PipeWriter)> {
+        self.system.pipe()
+    }
+
+    fn chown(&self, path: &str, uid: Option<u32>, gid: Option<u32>) -> io::Result<()> {
+        self.system.chown(path, uid, gid)
+    }
+
+    fn lchown(&self, path: &str, uid: Option<u32>, gid: Option<u32>) -> io::Result<()> {
+        self.system.lchown(path, uid, gid)
+    }
+
+    fn create_dir_with_mode(&self, path: &str, mode: u32) -> io::Result<()> {
+        self.system.create_dir_with_mode(path, mode)
+    }
+
+    fn bind_unix(&self, socket: BorrowedFd<'_>, addr: &SocketAddr) -> io::Result<()> {
+        self.system.bind_unix(socket, addr)
     }
 }

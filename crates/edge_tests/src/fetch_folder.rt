@@ -1,6 +1,7 @@
-use crate::fake_system::Fake;
+use crate::fake_system::fake_files;
 use crate::fetched::{failed, gives, is_missing, is_too_long};
-use io_edge::{DirFiles, Files};
+use crate::on_disk::{empty_folder, files_here, holds, take_away};
+use io_edge::{DirFiles, EdgeErr, Fetched, Files};
 use std::test::Fail;
 use std::{fs, io};
 
@@ -12,8 +13,7 @@ const OTHER: &[u8] = b"another file, which stays as it is";
 
 // A folder with two files and an empty folder.
 fn begin(rt: &HostRuntime, folder: &str, path: &str, other: &str, inner: &str) -> io::Result<()> {
-    let _ = fs::remove_dir_all(rt, folder);
-    fs::create_dir(rt, folder)?;
+    empty_folder(rt, folder)?;
     fs::write(rt, path, HELD)?;
     fs::write(rt, other, OTHER)?;
     fs::create_dir(rt, inner)
@@ -21,21 +21,30 @@ fn begin(rt: &HostRuntime, folder: &str, path: &str, other: &str, inner: &str) -
 
 // Takes all of it away, which fails where anything was added, and says whether the files are as they were.
 fn end(rt: &HostRuntime, folder: &str, path: &str, other: &str, inner: &str) -> io::Result<bool> {
-    let same = fs::read(rt, path)?.as_slice() == HELD && fs::read(rt, other)?.as_slice() == OTHER;
-    fs::remove_file(rt, path)?;
-    fs::remove_file(rt, other)?;
+    let same = holds(rt, path, HELD)? && holds(rt, other, OTHER)?;
     fs::remove_dir(rt, inner)?;
-    fs::remove_dir(rt, folder)?;
+    take_away(rt, [path, other], folder)?;
     Ok(same)
 }
 
+// Fetches from the folder that the tests run in. What the runtime has is tied to `DirFiles` here once, and
+// not in each test.
+fn fetch(
+    rt: &HostRuntime,
+    files: &mut DirFiles<&HostRuntime>,
+    path: &str,
+    limit: u64,
+) -> Result<Fetched, EdgeErr> {
+    files.fetch(rt.alloc(), path, limit)
+}
+
 fn reads_within_the_limit(rt: &HostRuntime, path: &str) -> bool {
-    let mut files = DirFiles::new(rt);
-    gives(files.fetch(rt.alloc(), path, LENGTH + 1), HELD)
-        && gives(files.fetch(rt.alloc(), path, LENGTH), HELD)
-        && is_too_long(files.fetch(rt.alloc(), path, LENGTH - 1), LENGTH)
-        && is_too_long(files.fetch(rt.alloc(), path, 0), LENGTH)
-        && gives(files.fetch(rt.alloc(), path, u64::MAX), HELD)
+    let mut files = files_here(rt);
+    gives(fetch(rt, &mut files, path, LENGTH + 1), HELD)
+        && gives(fetch(rt, &mut files, path, LENGTH), HELD)
+        && is_too_long(fetch(rt, &mut files, path, LENGTH - 1), LENGTH)
+        && is_too_long(fetch(rt, &mut files, path, 0), LENGTH)
+        && gives(fetch(rt, &mut files, path, u64::MAX), HELD)
 }
 
 #[test]
@@ -49,7 +58,7 @@ fn a_file_is_fetched_up_to_the_limit(rt: HostRuntime) -> Result<(), Fail> {
 }
 
 fn misses(rt: &HostRuntime, path: &str) -> bool {
-    is_missing(DirFiles::new(rt).fetch(rt.alloc(), path, LENGTH))
+    is_missing(fetch(rt, &mut files_here(rt), path, LENGTH))
 }
 
 // The first six lead out of the folder, and at the last four there is no file.
@@ -66,14 +75,15 @@ fn keeps_to_its_folder(rt: &HostRuntime) -> bool {
         && misses(rt, "")
 }
 
-fn fetches_what_begins_with_dots(rt: &HostRuntime) -> bool {
-    let mut files = DirFiles::new(rt);
+fn fetches_what_begins_with_dots(rt: &HostRuntime, other: &str) -> bool {
+    let mut files = files_here(rt);
     gives(
-        files.fetch(rt.alloc(), "./fetched_inside//a.wav", LENGTH),
+        fetch(rt, &mut files, "./fetched_inside//a.wav", LENGTH),
         HELD,
-    ) && failed(files.fetch(rt.alloc(), "fetched_inside/inner", LENGTH))
-        && failed(files.fetch(rt.alloc(), "fetched_inside/inner", u64::MAX))
-        && failed(files.fetch(rt.alloc(), ".", 0))
+    ) && failed(fetch(rt, &mut files, "fetched_inside/inner", LENGTH))
+        && failed(fetch(rt, &mut files, "fetched_inside/inner", u64::MAX))
+        && failed(fetch(rt, &mut files, ".", 0))
+        && gives(fetch(rt, &mut files, other, 100), OTHER)
 }
 
 #[test]
@@ -82,29 +92,31 @@ fn a_fetch_keeps_to_its_folder(rt: HostRuntime) -> Result<(), Fail> {
     let (other, inner) = ("fetched_inside/..b.wav", "fetched_inside/inner");
     begin(&rt, folder, path, other, inner)?;
     assert!(rt; keeps_to_its_folder(&rt));
-    assert!(rt; fetches_what_begins_with_dots(&rt));
-    assert!(rt; gives(DirFiles::new(&rt).fetch(rt.alloc(), other, 100), OTHER));
+    assert!(rt; fetches_what_begins_with_dots(&rt, other));
     assert!(rt; end(&rt, folder, path, other, inner)?);
     Ok(())
 }
 
-fn fake(rt: &HostRuntime, most: usize, length: Option<u64>) -> DirFiles<Fake<&HostRuntime>> {
-    DirFiles::new(Fake {
-        system: rt,
-        most,
-        length,
-    })
+// Fetches a file of the folder through a `Fake`.
+fn fetch_fake(
+    rt: &HostRuntime,
+    most: usize,
+    length: Option<u64>,
+    path: &str,
+    limit: u64,
+) -> Result<Fetched, EdgeErr> {
+    fake_files(rt, most, length).fetch(rt.alloc(), path, limit)
 }
 
 // Reads in small pieces, a read that fails, and a length that is not the file's.
 fn stands_by_what_is_read(rt: &HostRuntime, path: &str) -> bool {
-    gives(fake(rt, 3, None).fetch(rt.alloc(), path, LENGTH), HELD)
-        && failed(fake(rt, 0, None).fetch(rt.alloc(), path, LENGTH))
-        && is_too_long(fake(rt, 0, Some(100)).fetch(rt.alloc(), path, 99), 100)
-        && failed(fake(rt, 0, Some(100)).fetch(rt.alloc(), path, 100))
-        && gives(fake(rt, 5, Some(100)).fetch(rt.alloc(), path, 100), HELD)
-        && gives(fake(rt, 5, Some(0)).fetch(rt.alloc(), path, LENGTH), HELD)
-        && is_too_long(fake(rt, 5, Some(0)).fetch(rt.alloc(), path, 12), 13)
+    gives(fetch_fake(rt, 3, None, path, LENGTH), HELD)
+        && failed(fetch_fake(rt, 0, None, path, LENGTH))
+        && is_too_long(fetch_fake(rt, 0, Some(100), path, 99), 100)
+        && failed(fetch_fake(rt, 0, Some(100), path, 100))
+        && gives(fetch_fake(rt, 5, Some(100), path, 100), HELD)
+        && gives(fetch_fake(rt, 5, Some(0), path, LENGTH), HELD)
+        && is_too_long(fetch_fake(rt, 5, Some(0), path, 12), 13)
 }
 
 #[test]

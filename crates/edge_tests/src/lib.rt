@@ -15,4 +15,6 @@ mod fetched;
 #[cfg(test)]
 mod memory;
 #[cfg(test)]
+mod on_disk;
+#[cfg(test)]
 mod short_writes;

@@ -1,12 +1,16 @@
+use crate::on_disk::files_here;
 use io_edge::{
-    DirFiles, EdgeErr, Failed, Files, MemFiles, MemSink, MemSource, ReadSource, Sink, Source,
-    SureFiles, SureSink, SureSource, WriteSink, append_all,
+    EdgeErr, Failed, Files, MemFiles, MemSink, MemSource, ReadSource, Sink, Source, SureFiles,
+    SureSink, SureSource, WriteSink, append_all,
 };
 use std::alloc::Global;
 use std::test::Fail;
 use wa_base::{Bytes, NoMemory};
 
-fn bytes_of(alloc: Global, text: &[u8]) -> Result<Bytes, NoMemory> {
+// A function pays for each of its ends at which what it owns is let go. So a test makes a store, lends it,
+// and gives it to `drop` before any error goes up.
+
+pub(crate) fn bytes_of(alloc: Global, text: &[u8]) -> Result<Bytes, NoMemory> {
     Ok(Bytes::from(text.to_vec(alloc)?))
 }
 
@@ -16,8 +20,7 @@ fn pass<S: Source, T: Sink>(source: &mut S, sink: &mut T) -> Result<usize, EdgeE
     sink.write(&buf[..count])
 }
 
-fn fails_at_its_second_read(alloc: Global) -> Result<bool, NoMemory> {
-    let mut source = MemSource::new(alloc, bytes_of(alloc, b"script")?, 4);
+fn fails_at_its_second_read(source: &mut MemSource) -> Result<bool, NoMemory> {
     source.fail(2)?;
     let mut buf = [0u8; 16];
     Ok(
@@ -31,12 +34,14 @@ fn fails_at_its_second_read(alloc: Global) -> Result<bool, NoMemory> {
 
 #[test]
 fn a_source_fails_at_its_second_read_only(rt: HostRuntime) -> Result<(), Fail> {
-    assert!(rt; fails_at_its_second_read(rt.alloc())?);
+    let mut source = MemSource::new(rt.alloc(), bytes_of(rt.alloc(), b"script")?, 4);
+    let fails = fails_at_its_second_read(&mut source);
+    drop(source);
+    assert!(rt; fails?);
     Ok(())
 }
 
-fn keeps_what_came_before(alloc: Global) -> Result<bool, NoMemory> {
-    let mut sink = MemSink::new(alloc, 4);
+fn keeps_what_came_before(sink: &mut MemSink) -> Result<bool, NoMemory> {
     sink.fail(3)?;
     let text = b"RIFFWAVEdata".as_slice();
     Ok(
@@ -49,7 +54,10 @@ fn keeps_what_came_before(alloc: Global) -> Result<bool, NoMemory> {
 
 #[test]
 fn a_sink_keeps_what_came_before_the_fault(rt: HostRuntime) -> Result<(), Fail> {
-    assert!(rt; keeps_what_came_before(rt.alloc())?);
+    let mut sink = MemSink::new(rt.alloc(), 4);
+    let kept = keeps_what_came_before(&mut sink);
+    drop(sink);
+    assert!(rt; kept?);
     Ok(())
 }
 
@@ -61,43 +69,57 @@ fn holds(files: &MemFiles, path: &str, want: &[u8]) -> bool {
     }
 }
 
-fn keep_what_came_before(alloc: Global) -> Result<bool, NoMemory> {
-    let mut files = MemFiles::new(alloc);
+// Whether an append to the file at this path ends so.
+pub(crate) fn appends(
+    files: &mut MemFiles,
+    path: &str,
+    piece: &[u8],
+    want: Result<usize, EdgeErr>,
+) -> bool {
+    files.append(path, piece) == want
+}
+
+fn keep_what_came_before(files: &mut MemFiles) -> Result<bool, NoMemory> {
     files.fail_append(2)?;
     Ok(
         files.create("out.wav") == Ok(())
-            && files.append("out.wav", b"RIFF") == Ok(4)
-            && files.append("out.wav", b"more") == Err(EdgeErr::Failed)
-            && holds(&files, "out.wav", b"RIFF")
+            && appends(files, "out.wav", b"RIFF", Ok(4))
+            && appends(files, "out.wav", b"more", Err(EdgeErr::Failed))
+            && holds(files, "out.wav", b"RIFF")
             && files.get("other.wav").is_none(),
     )
 }
 
 #[test]
 fn files_keep_what_came_before_the_fault(rt: HostRuntime) -> Result<(), Fail> {
-    assert!(rt; keep_what_came_before(rt.alloc())?);
+    let mut files = MemFiles::new(rt.alloc());
+    let kept = keep_what_came_before(&mut files);
+    drop(files);
+    assert!(rt; kept?);
     Ok(())
 }
 
-fn leave_a_part(alloc: Global) -> Result<bool, NoMemory> {
-    let mut files = MemFiles::new(alloc);
+fn leave_a_part(files: &mut MemFiles) -> Result<bool, NoMemory> {
     files.set_append(4, 3);
     files.fail_append(2)?;
     files.fail_append(4)?;
     Ok(
-        files.append("a", b"RIFFWAVE") == Ok(4)
-            && files.append("a", b"WAVE") == Err(EdgeErr::Failed)
-            && files.append("a", b"E") == Ok(1)
-            && files.append("b", b"d") == Err(EdgeErr::Failed)
-            && append_all(&mut files, "b", b"ata data") == Ok(())
-            && holds(&files, "a", b"RIFFWAVE")
-            && holds(&files, "b", b"data data"),
+        appends(files, "a", b"RIFFWAVE", Ok(4))
+            && appends(files, "a", b"WAVE", Err(EdgeErr::Failed))
+            && appends(files, "a", b"E", Ok(1))
+            && appends(files, "b", b"d", Err(EdgeErr::Failed))
+            && append_all(files, "b", b"ata data") == Ok(())
+            && holds(files, "a", b"RIFFWAVE")
+            && holds(files, "b", b"data data"),
     )
 }
 
 #[test]
 fn appends_are_bounded_and_leave_a_part(rt: HostRuntime) -> Result<(), Fail> {
-    assert!(rt; leave_a_part(rt.alloc())?);
+    let mut files = MemFiles::new(rt.alloc());
+    let left = leave_a_part(&mut files);
+    drop(files);
+    assert!(rt; left?);
     Ok(())
 }
 
@@ -109,20 +131,19 @@ fn store<F: Files>(files: &mut F, path: &str, piece: &[u8]) -> Result<usize, Edg
 fn passes_through_memory(alloc: Global) -> Result<bool, NoMemory> {
     let mut source = SureSource::new(bytes_of(alloc, b"script")?);
     let mut sink = SureSink::new(alloc);
-    let mut text = Vec::new(alloc);
-    let mut reader = ReadSource::new(b"script".as_slice());
-    Ok(
-        pass(&mut source, &mut sink) == Ok(6)
-            && sink.written() == b"script".as_slice()
-            && pass(&mut reader, &mut WriteSink::new(&mut text)) == Ok(6)
-            && text.as_slice() == b"script".as_slice(),
-    )
+    Ok(pass(&mut source, &mut sink) == Ok(6) && sink.written() == b"script".as_slice())
 }
 
-fn stores_anew(alloc: Global) -> Result<bool, NoMemory> {
-    let mut files = SureFiles::new(alloc);
+fn passes_through_adapters(alloc: Global) -> bool {
+    let mut text = Vec::new(alloc);
+    let mut reader = ReadSource::new(b"script".as_slice());
+    pass(&mut reader, &mut WriteSink::new(&mut text)) == Ok(6)
+        && text.as_slice() == b"script".as_slice()
+}
+
+fn stores_anew(alloc: Global, files: &mut SureFiles) -> Result<bool, NoMemory> {
     files.put("a", bytes_of(alloc, b"old")?)?;
-    let count = store(&mut files, "a", b"new");
+    let count = store(files, "a", b"new");
     Ok(
         count == Ok(3)
             && match files.get("a") {
@@ -134,8 +155,12 @@ fn stores_anew(alloc: Global) -> Result<bool, NoMemory> {
 
 #[test]
 fn each_kind_passes_bytes_on(rt: HostRuntime) -> Result<(), Fail> {
+    let mut files = SureFiles::new(rt.alloc());
+    let stored = stores_anew(rt.alloc(), &mut files);
+    drop(files);
+    assert!(rt; stored?);
     assert!(rt; passes_through_memory(rt.alloc())?);
-    assert!(rt; stores_anew(rt.alloc())?);
-    assert!(rt; store(&mut DirFiles::new(&rt), "/", b"new") == Err(EdgeErr::Failed));
+    assert!(rt; passes_through_adapters(rt.alloc()));
+    assert!(rt; store(&mut files_here(&rt), "/", b"new") == Err(EdgeErr::Failed));
     Ok(())
 }
