@@ -1,0 +1,1 @@
+"""Tools for waplay: what runs beside the program, in Python."""

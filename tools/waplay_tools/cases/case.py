@@ -1,0 +1,88 @@
+"""A case: a run of the program, and what it must give."""
+
+import base64
+import dataclasses
+import json
+from pathlib import Path
+from typing import Any
+
+from waplay_tools.cases.expansion import calls_in, lines_in
+
+# How the input of a case may be told. A case has exactly one of them.
+INPUTS = ("script", "input", "input_base64", "input_zeros")
+
+
+class CaseFault(Exception):
+    """A case that is not one: what is wrong with it."""
+
+
+@dataclasses.dataclass
+class Case:
+    """A run, and what it must give. The members are those of the file, by the same names."""
+
+    shows: str
+    source: str  # `from` in the file
+    words: list[str] = dataclasses.field(default_factory=lambda: ["out.wav"])
+    script: dict[str, Any] | None = None
+    input: str | None = None
+    input_base64: str | None = None
+    input_zeros: int | None = None
+    files: dict[str, Any] = dataclasses.field(default_factory=dict)
+    status: int = 0
+    transcript: list[str] = dataclasses.field(default_factory=list)
+    samples: list[list[list[int]]] | None = None
+    samples_at: dict[str, list[int]] | None = None
+    frames: int | None = None
+    wav_sha256: str | None = None
+    left: dict[str, Any] = dataclasses.field(default_factory=dict)
+    only_program: str | None = None
+    told: frozenset[str] = frozenset()  # the members that the file has
+    path: Path = Path()
+
+    def input_bytes(self) -> bytes | None:
+        """What the run reads; None where its standard input is closed."""
+        if self.script is not None:
+            script = dict(self.script)
+            if isinstance(script.get("calls"), list):
+                script["calls"] = calls_in(script["calls"])
+            return json.dumps(script).encode()
+        if self.input is not None:
+            return self.input.encode("utf-8", "surrogatepass")
+        if self.input_base64 is not None:
+            return base64.b64decode(self.input_base64)
+        return None if self.input_zeros is None else bytes(self.input_zeros)
+
+    def text(self) -> str:
+        """What the run must write to standard output."""
+        return "".join(f"{line}\n" for line in lines_in(self.transcript))
+
+    def is_rendered(self) -> bool:
+        """Whether the run must leave a WAV file."""
+        return any(it is not None for it in (self.samples, self.samples_at, self.wav_sha256))
+
+
+def case_of(members: dict[str, Any], path: Path) -> Case:
+    """The case with these members; raises CaseFault where it is none."""
+    named = {("source" if name == "from" else name): value for name, value in members.items()}
+    known = {field.name for field in dataclasses.fields(Case)} - {"told", "path"}
+    if "source" in members or not set(named) <= known:
+        raise CaseFault(f"no member of a case: {', '.join(sorted(set(named) - known)) or 'source'}")
+    missing = {"shows", "source", "transcript"} - set(named)
+    if missing:
+        raise CaseFault(f"missing: {', '.join(sorted(missing)).replace('source', 'from')}")
+    if sum(name in members for name in INPUTS) != 1:
+        raise CaseFault(f"not exactly one of {', '.join(INPUTS)}")
+    if "samples_at" in members and "frames" not in members:
+        raise CaseFault("samples_at without frames")
+    return Case(**named, told=frozenset(members), path=path)
+
+
+def read_case(path: Path) -> Case:
+    """The case that a file has; raises CaseFault where it has none."""
+    try:
+        members = json.loads(path.read_text(encoding="utf-8"))
+    except ValueError as error:
+        raise CaseFault(f"no JSON: {error}") from error
+    if not isinstance(members, dict):
+        raise CaseFault("no object")
+    return case_of(members, path)

@@ -1,0 +1,97 @@
+"""What a case writes short: runs of numbers, calls that are made again and again, ranges of lines."""
+
+import re
+from typing import Any
+
+_PLACE = re.compile(r"\{(\w+)((?:[*+-]\d+)*)\}")
+_STEP = re.compile(r"([*+-])(\d+)")
+_RANGE = re.compile(r"(\d+)\.\.(\d+) (.*)")
+
+
+def runs_in(runs: list[list[int]]) -> list[int]:
+    """The numbers of runs: how many, the first one, and what each has more than the one before."""
+    return [first + step * at for count, first, step in runs for at in range(count)]
+
+
+def runs_of(numbers: list[int]) -> list[list[int]]:
+    """Runs that have these numbers, as few as going along them finds."""
+    runs: list[list[int]] = []
+    for number in numbers:
+        if runs:
+            count, first, step = runs[-1]
+            if count == 1 or number == first + step * count:
+                runs[-1] = [count + 1, first, number - first if count == 1 else step]
+                continue
+        runs.append([1, number, 0])
+    return _split_pairs(runs)
+
+
+def _split_pairs(runs: list[list[int]]) -> list[list[int]]:
+    """The runs, where two numbers that differ stand alone rather than as a step."""
+    split = []
+    for count, first, step in runs:
+        if count == 2 and step:
+            split += [[1, first, 0], [1, first + step, 0]]
+        else:
+            split.append([count, first, step])
+    return split
+
+
+def lines_in(lines: list[str]) -> list[str]:
+    """The lines, where `2..5 ok` stands for four of them."""
+    all_lines = []
+    for line in lines:
+        several = _RANGE.fullmatch(line)
+        if several:
+            first, last = int(several[1]), int(several[2])
+            all_lines += [f"{number} {several[3]}" for number in range(first, last + 1)]
+        else:
+            all_lines.append(line)
+    return all_lines
+
+
+def calls_in(calls: list[Any]) -> list[Any]:
+    """The calls, where {"for": "n", "first": 0, "last": 5, "calls": [..]} stands for six times those.
+
+    In them "{n}" is the number, and "{n*128+1}" what it comes to, from left to right.
+    """
+    return _calls(calls, {})
+
+
+def _calls(calls: list[Any], numbers: dict[str, int]) -> list[Any]:
+    made = []
+    for call in calls:
+        if isinstance(call, dict) and "for" in call:
+            for number in range(call["first"], call["last"] + 1):
+                made += _calls(call["calls"], {**numbers, call["for"]: number})
+        else:
+            made.append(_value(call, numbers))
+    return made
+
+
+def _value(value: Any, numbers: dict[str, int]) -> Any:
+    """A value of a call, with its places filled and its runs written out."""
+    if isinstance(value, dict):
+        if set(value) == {"runs"}:
+            return runs_in(value["runs"])
+        return {
+            name: _calls(it, numbers) if name == "then" and isinstance(it, list) else _value(it, numbers)
+            for name, it in value.items()
+        }
+    if isinstance(value, list):
+        return [_value(it, numbers) for it in value]
+    return _filled(value, numbers) if isinstance(value, str) and numbers else value
+
+
+def _filled(text: str, numbers: dict[str, int]) -> Any:
+    whole = _PLACE.fullmatch(text)
+    if whole and whole[1] in numbers:
+        return _number(whole, numbers)
+    return _PLACE.sub(lambda it: str(_number(it, numbers)) if it[1] in numbers else it[0], text)
+
+
+def _number(place: re.Match[str], numbers: dict[str, int]) -> int:
+    number = numbers[place[1]]
+    for sign, other in _STEP.findall(place[2]):
+        number = {"*": number * int(other), "+": number + int(other), "-": number - int(other)}[sign]
+    return number
