@@ -36,7 +36,7 @@ class Case:
     wav_sha256: str | None = None
     left: dict[str, Any] = dataclasses.field(default_factory=dict)
     only_program: str | None = None
-    told: frozenset[str] = frozenset()  # the members that the file has
+    is_example: bool = False  # the file is that of the second calculation
     path: Path = Path()
 
     def input_bytes(self) -> bytes | None:
@@ -58,13 +58,14 @@ class Case:
 
     def is_rendered(self) -> bool:
         """Whether the run must leave a WAV file."""
-        return any(it is not None for it in (self.samples, self.samples_at, self.wav_sha256))
+        told = (self.samples, self.samples_at, self.wav_sha256)
+        return self.is_example or any(it is not None for it in told)
 
 
 def case_of(members: dict[str, Any], path: Path) -> Case:
     """The case with these members; raises CaseFault where it is none."""
     named = {("source" if name == "from" else name): value for name, value in members.items()}
-    known = {field.name for field in dataclasses.fields(Case)} - {"told", "path"}
+    known = {field.name for field in dataclasses.fields(Case)} - {"is_example", "path"}
     if "source" in members or not set(named) <= known:
         raise CaseFault(f"no member of a case: {', '.join(sorted(set(named) - known)) or 'source'}")
     missing = {"shows", "source", "transcript"} - set(named)
@@ -74,7 +75,7 @@ def case_of(members: dict[str, Any], path: Path) -> Case:
         raise CaseFault(f"not exactly one of {', '.join(INPUTS)}")
     if "samples_at" in members and "frames" not in members:
         raise CaseFault("samples_at without frames")
-    return Case(**named, told=frozenset(members), path=path)
+    return Case(**named, path=path)
 
 
 def read_case(path: Path) -> Case:

@@ -1,0 +1,120 @@
+"""Runs cases on built programs and on the second calculation, side by side."""
+
+import argparse
+import concurrent.futures
+import os
+import sys
+import tempfile
+import time
+from pathlib import Path
+
+from waplay_tools.cases.case import Case, CaseFault, read_case
+from waplay_tools.cases.changing import changed
+from waplay_tools.cases.differences import differences
+from waplay_tools.cases.examples import example_of
+from waplay_tools.cases.folder import TOP
+from waplay_tools.cases.performers import Outcome, calculate, perform
+
+CASES, EXAMPLES = TOP / "tests" / "cases", TOP / "examples"
+SHIPPED = TOP / "bin" / "waplay-x86_64-linux"
+SECOND = "the second calculation"
+
+
+def words() -> argparse.Namespace:
+    parser = argparse.ArgumentParser(prog="tools/cases", description=__doc__)
+    parser.add_argument(
+        "paths", nargs="*", type=Path, metavar="CASE",
+        help="a case, an example, or a folder of them; all of them where none is named",
+    )
+    parser.add_argument(
+        "--program", action="append", type=Path, metavar="FILE",
+        help="run this program; may stand several times; the shipped one where it is absent",
+    )
+    parser.add_argument(
+        "--second-alone", action="store_true", help="run the second calculation and no program"
+    )
+    parser.add_argument(
+        "--changes", action="store_true",
+        help="change wanted values of each case, one at a time, and say which changes are not told",
+    )
+    parser.add_argument("--jobs", type=int, default=os.cpu_count(), help="how many run at a time")
+    return parser.parse_args()
+
+
+def files_in(paths: list[Path]) -> list[Path]:
+    """The files of the cases and examples at these paths, in order."""
+    found: list[Path] = []
+    for path in paths or [CASES, EXAMPLES]:
+        found += sorted(path.rglob("*.json")) if path.is_dir() else [path]
+    return [path.resolve() for path in found]
+
+
+def case_at(path: Path) -> Case:
+    return example_of(path) if path.parent == EXAMPLES else read_case(path)
+
+
+def outcomes_of(case: Case, programs: list[Path]) -> dict[str, Outcome]:
+    """What each performer gives for a case; the second calculation, where it runs it, comes first."""
+    found = {}
+    with tempfile.TemporaryDirectory(prefix="waplay-case-") as room:
+        if case.only_program is None:
+            folder = Path(room, "second")
+            folder.mkdir()
+            found[SECOND] = calculate(case, folder)
+        for number, program in enumerate(programs):
+            folder = Path(room, str(number))
+            folder.mkdir()
+            found[str(program)] = perform(program, case, folder)
+    return found
+
+
+def looked_at(path: Path, programs: list[Path]) -> dict[str, list[str]]:
+    """What is otherwise than the case wants, by performer."""
+    try:
+        case = case_at(path)
+        found = outcomes_of(case, programs)
+    except (CaseFault, OSError, ValueError, KeyError, TypeError) as fault:
+        return {"the case itself": [f"{type(fault).__name__}: {fault}"]}
+    second = found.get(SECOND)
+    return {name: differences(case, outcome, second) for name, outcome in found.items()}
+
+
+def changes_untold(path: Path, programs: list[Path]) -> dict[str, list[str]]:
+    """Changes of the case that no performer's outcome tells."""
+    case = case_at(path)
+    found = outcomes_of(case, programs)
+    untold = {}
+    for what, other in changed(case):
+        silent = [name for name, outcome in found.items() if not differences(other, outcome, None)]
+        untold[f"with {what} changed"] = [f"not told of {name}" for name in silent]
+    return untold
+
+
+def main() -> int:
+    asked = words()
+    programs = [] if asked.second_alone else [it.resolve() for it in asked.program or [SHIPPED]]
+    for program in programs:
+        if not os.access(program, os.X_OK):
+            print(f"tools/cases: there is no program {program}", file=sys.stderr)
+            return 2
+    begun, paths = time.monotonic(), files_in(asked.paths)
+    look = changes_untold if asked.changes else looked_at
+    passed: dict[str, int] = {}
+    failed = 0
+    with concurrent.futures.ProcessPoolExecutor(asked.jobs) as pool:
+        for path, told in zip(paths, pool.map(look, paths, [programs] * len(paths), chunksize=4)):
+            for name, lines in told.items():
+                passed[name] = passed.get(name, 0) + (not lines)
+                failed += bool(lines)
+                if lines:
+                    print(f"{os.path.relpath(path, TOP)}, {os.path.relpath(name, TOP) if name[0] == '/' else name}:")
+                    print("".join(f"    {line}\n" for line in lines), end="")
+    for name, number in passed.items():
+        print(f"{os.path.relpath(name, TOP) if name[0] == '/' else name}: {number} as wanted")
+    print(f"{len(paths)} cases in {time.monotonic() - begun:.0f} s")
+    print(f"{sum(passed.values())} passed, {failed} failed")
+    return 1 if failed else 0
+
+
+if __name__ == "__main__":
+    sys.exit(main())

@@ -1,0 +1,59 @@
+"""Who runs a case: a built program, and the second calculation."""
+
+import dataclasses
+import os
+import subprocess
+from pathlib import Path
+
+from expecting.sessions import replayed
+from expecting.sessions import wav_bytes as expected_wav
+from waplay_tools.cases.case import Case
+from waplay_tools.cases.folder import changes_in, write_files
+from waplay_tools.cases.words import words_of
+
+SECONDS = 120  # for one run of a program
+
+
+@dataclasses.dataclass
+class Outcome:
+    """What a run gave: its status, its text, the WAV file where it left one, and what else is wrong."""
+
+    status: int
+    text: bytes
+    wav: bytes | None
+    faults: list[str] = dataclasses.field(default_factory=list)
+
+
+def perform(program: Path, case: Case, folder: Path) -> Outcome:
+    """Runs a program on a case, in this empty folder."""
+    write_files(folder, case.files)
+    given = case.input_bytes()
+    words = [os.fsencode(word) for word in case.words]
+    command = [os.fsencode(program), *words]
+    if given is None:
+        command = [b"/bin/sh", b"-c", b'exec "$@" <&-', b"sh", *command]
+    try:
+        done = subprocess.run(
+            command, input=given, capture_output=True, cwd=folder, timeout=SECONDS, check=False
+        )
+    except subprocess.TimeoutExpired:
+        return Outcome(-1, b"", None, [f"it did not end within {SECONDS} seconds"])
+    asked = words_of(case.words)
+    out = asked.out if asked and case.is_rendered() else None
+    faults = changes_in(folder, case.files, case.left, out)
+    if done.stderr:
+        faults.append(f"standard error: {done.stderr[:200].decode(errors='replace')!r}")
+    has_file = out is not None and (folder / out).is_file()
+    return Outcome(done.returncode, done.stdout, (folder / out).read_bytes() if has_file else None, faults)
+
+
+def calculate(case: Case, folder: Path) -> Outcome:
+    """What the second calculation gives for a case, whose files it reads in this empty folder."""
+    write_files(folder, case.files)
+    asked = words_of(case.words)
+    if asked is None or asked.is_generated:
+        raise ValueError(f"{case.path}: the second calculation has no such words")
+    is_checked = asked.mode == "check"
+    status, text, session = replayed(case.input_bytes() or b"", str(folder), is_checked)
+    is_rendered = status == 0 and not is_checked
+    return Outcome(status, text.encode(), expected_wav(session, asked.bits) if is_rendered else None)

@@ -1,0 +1,113 @@
+"""Runs what tells whether waplay works: the cases on built programs and on the second calculation, and
+the tests of the tools and of the recorder that need no browser. It needs Python 3 and nothing else; what is
+skipped because something is not installed is said."""
+
+import argparse
+import concurrent.futures
+import os
+import re
+import shutil
+import subprocess
+import sys
+import time
+from pathlib import Path
+
+TOP = Path(__file__).resolve().parents[2]
+FOLDERS = (TOP / "tools" / "tests", TOP / "recorder" / "tests")
+BROWSER = "browser"  # a module of tests whose name has this word wants a browser
+
+_RAN = re.compile(r"^Ran (\d+) tests?", re.M)
+_NOT_PASSED = re.compile(r"^FAILED \((.*)\)$", re.M)
+_SKIPPED = re.compile(r"skipped=(\d+)")
+
+
+def modules(with_browser: bool) -> list[Path]:
+    """The modules of tests, those that want a browser only where they are asked for."""
+    found = [path for folder in FOLDERS for path in sorted(folder.glob("test_*.py"))]
+    return [path for path in found if with_browser or BROWSER not in path.stem]
+
+
+def environment(program: Path | None) -> dict[str, str]:
+    """The environment of tests: where the tools are, and the program that they run."""
+    paths = [TOP / "tools", *FOLDERS, TOP / "recorder"]
+    told = {"PYTHONPATH": os.pathsep.join(map(str, paths)), "PYTHONDONTWRITEBYTECODE": "1"}
+    return {**os.environ, **told, **({"WAPLAY": str(program)} if program else {})}
+
+
+def run_module(path: Path, program: Path | None) -> tuple[str, int, int, int, str]:
+    """Runs a module of tests: its name, how many passed, failed and were skipped, and what it printed."""
+    command = [sys.executable, "-m", "unittest", "-v", path.stem]
+    done = subprocess.run(
+        command, cwd=path.parent, env=environment(program), text=True, errors="replace", check=False,
+        stdin=subprocess.DEVNULL, stdout=subprocess.PIPE, stderr=subprocess.STDOUT,
+    )
+    ran = _RAN.search(done.stdout)
+    if not ran:
+        return path.stem, 0, 1, 0, done.stdout
+    skipped = sum(map(int, _SKIPPED.findall(done.stdout.splitlines()[-1])))
+    told = _NOT_PASSED.search(done.stdout)
+    failed = sum(int(it) for it in re.findall(r"(?:failures|errors)=(\d+)", told[1])) if told else 0
+    failed = max(failed, int(done.returncode not in (0, 5)))
+    return path.stem, int(ran[1]) - failed - skipped, failed, skipped, done.stdout
+
+
+def run_modules(paths: list[Path], program: Path | None) -> tuple[int, int]:
+    """Runs modules of tests side by side, and says what failed or was skipped."""
+    passed_by_all = failed_by_all = 0
+    with concurrent.futures.ThreadPoolExecutor(os.cpu_count()) as pool:
+        for name, passed, failed, skipped, text in pool.map(run_module, paths, [program] * len(paths)):
+            print(f"{name}: {passed} passed" + f", {failed} failed" * (failed > 0))
+            if failed:
+                print(text)
+            for line in re.findall(r"^.* \.\.\. skipped .*$", text, re.M) if skipped else []:
+                print(f"    {line}")
+            passed_by_all, failed_by_all = passed_by_all + passed, failed_by_all + failed
+    return passed_by_all, failed_by_all
+
+
+def run_cases(programs: list[Path]) -> tuple[int, int]:
+    """Runs the cases on these programs, and on the shipped one where there are none."""
+    words = [word for program in programs for word in ("--program", str(program))]
+    command = [sys.executable, "-m", "waplay_tools.cases", *words]
+    done = subprocess.run(command, env=environment(None), stdout=subprocess.PIPE, text=True, check=False)
+    *lines, last = done.stdout.splitlines() or [""]
+    print("\n".join(lines), flush=True)
+    told = re.fullmatch(r"(\d+) passed, (\d+) failed", last)
+    return (int(told[1]), int(told[2])) if told else (0, 1)
+
+
+def run_ruff() -> tuple[int, int]:
+    """Runs ruff over the tools' own Python, where it is installed."""
+    if not shutil.which("ruff"):
+        print("ruff: skipped, as it is not installed")
+        return 0, 0
+    done = subprocess.run(["ruff", "check", "--quiet", "tools", "recorder"], cwd=TOP, check=False)
+    print(f"ruff: {'no fault' if done.returncode == 0 else 'faults'}")
+    return int(done.returncode == 0), int(done.returncode != 0)
+
+
+def main() -> int:
+    parser = argparse.ArgumentParser(prog="./test", description=__doc__)
+    parser.add_argument(
+        "--program", action="append", type=Path, default=[], metavar="FILE",
+        help="test this program; may stand several times; the shipped one where it is absent",
+    )
+    parser.add_argument("--browser", action="store_true", help="also run the tests that want a browser")
+    parser.add_argument(
+        "--before", default="0 passed, 0 failed", metavar="LINE",
+        help="a last line, 'N passed, M failed', whose numbers are added to those of this run",
+    )
+    asked = parser.parse_args()
+    begun = time.monotonic()
+    programs = [program.resolve() for program in asked.program]
+    counts = [tuple(map(int, re.findall(r"(\d+) (?:passed|failed)", asked.before)))]
+    counts.append(run_cases(programs))
+    counts.append(run_modules(modules(asked.browser), programs[0] if programs else None))
+    counts.append(run_ruff())
+    print(f"./test took {time.monotonic() - begun:.0f} s")
+    print(f"{sum(it[0] for it in counts)} passed, {sum(it[1] for it in counts)} failed")
+    return 1 if any(it[1] for it in counts) else 0
+
+
+if __name__ == "__main__":
+    sys.exit(main())
