@@ -39,6 +39,10 @@ class ShortForms(unittest.TestCase):
             self.assertEqual(runs_in(runs_of(numbers)), numbers)
         self.assertEqual(runs_of([1, 2, 3, 9, 9]), [[3, 1, 1], [2, 9, 0]])
 
+    def test_runs_that_come_again_and_again(self):
+        self.assertEqual(runs_in([[2, [[1, 5, 0], [2, 7, 1]]], [1, 0, 0]]), [5, 7, 8, 5, 7, 8, 0])
+        self.assertEqual(runs_in([[2, [[2, [[1, 3, 0], [1, 4, 0]]]]]]), [3, 4] * 4)
+
     def test_a_range_of_lines_is_a_line_each(self):
         self.assertEqual(lines_in(["1 throw TypeError", "2..4 ok"]), ["1 throw TypeError", "2 ok", "3 ok", "4 ok"])
 

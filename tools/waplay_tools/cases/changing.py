@@ -4,6 +4,7 @@ import dataclasses
 from collections.abc import Iterator
 
 from waplay_tools.cases.case import Case
+from waplay_tools.cases.expansion import runs_in, runs_of
 
 
 def changed(case: Case) -> Iterator[tuple[str, Case]]:
@@ -30,7 +31,5 @@ def changed(case: Case) -> Iterator[tuple[str, Case]]:
 def _with_other_sample(samples: list[list[list[int]]]) -> list[list[list[int]]]:
     """The samples, where the last one of the last channel is another."""
     *channels, runs = samples
-    *before, (count, first, step) = runs
-    last = first + step * (count - 1)
-    rest = [[count - 1, first, step]] if count > 1 else []
-    return [*channels, [*before, *rest, [1, last ^ 1, 0]]]
+    *before, last = runs_in(runs[-1:])
+    return [*channels, [*runs[:-1], *runs_of(before), [1, last ^ 1, 0]]]

@@ -8,9 +8,13 @@ _STEP = re.compile(r"([*+-])(\d+)")
 _RANGE = re.compile(r"(\d+)\.\.(\d+) (.*)")
 
 
-def runs_in(runs: list[list[int]]) -> list[int]:
-    """The numbers of runs: how many, the first one, and what each has more than the one before."""
-    return [first + step * at for count, first, step in runs for at in range(count)]
+def runs_in(runs: list[list[Any]]) -> list[int]:
+    """The numbers of runs: how many, the first one, and what each has more than the one before; or how
+    many times, and the runs that come so often."""
+    numbers: list[int] = []
+    for count, first, *step in runs:
+        numbers += [first + step[0] * at for at in range(count)] if step else runs_in(first) * count
+    return numbers
 
 
 def runs_of(numbers: list[int]) -> list[list[int]]:
