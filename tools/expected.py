@@ -20,18 +20,6 @@ the folder that it runs in, as they are for the program.
                                                    byte, else a line on what differs and status 1
     python3 tools/expected.py SCRIPT --bits 16     samples of 16 bits in place of 24, in sums, file and
                                                    --check
-    python3 tools/expected.py --rows               compares mixing with rows that were worked out by
-                                                   hand, and with all pairs of 1 to 32 channels that
-                                                   have no equation; and compares whole sessions of
-                                                   splitters and mergers, of buffers, of parameters, of
-                                                   suspensions, of wave shapers, of filters and of
-                                                   delays, that were worked out by hand
-                                                   (tools/worked_rows.py, tools/worked_suspensions.py,
-                                                   tools/worked_shapers.py, tools/worked_filters.py,
-                                                   tools/worked_delays.py)
-    python3 tools/expected.py --write FOLDER       writes the scripts of these sessions with their
-                                                   transcripts and assets into a new folder, so that
-                                                   tools/compare.sh --build FOLDER/*.json runs them
 
 The sums are of samples as the WAV file has them: whole numbers of 24 bits, in units of 2^-23, or of
 16 bits, in units of 2^-15. They are not sums of rendered values, which are in units of 2^-24 and are
@@ -50,33 +38,22 @@ import os
 import sys
 
 sys.dont_write_bytecode = True
-from expecting.by_hand import rows_are_met, write_sessions
 from expecting.sessions import replayed, samples_of, summary_of, wav_bytes
 
 
 def main():
     words = argparse.ArgumentParser(usage=__doc__)
-    words.add_argument("script", nargs="?")
+    words.add_argument("script")
     words.add_argument("--lines", action="store_true")
     words.add_argument("--summary", action="store_true")
     words.add_argument("--mode", choices=["render", "check"], default="render")
     words.add_argument("--bits", type=int, choices=[16, 24], default=24)
     words.add_argument("--check", metavar="WAV")
-    words.add_argument("--rows", action="store_true")
-    words.add_argument("--write", metavar="FOLDER")
     words = words.parse_args()
     is_checked = words.mode == "check"
-    if words.script is None and not words.rows and not words.write:
-        print("a SCRIPT, --rows or --write is wanted")
-        return 2
     if is_checked and words.check:
         print("a session that is only checked has no file")
         return 2
-    if words.write:
-        write_sessions(words.write)
-        return 0
-    if words.rows:
-        return 0 if rows_are_met() else 1
     with open(words.script, "rb") as file:
         status, text, session = replayed(file.read(), is_checked=is_checked)
     if words.summary and session:

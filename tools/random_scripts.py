@@ -54,9 +54,7 @@ import tempfile
 
 sys.dont_write_bytecode = True
 import wav_check
-import worked_rows
 from expecting.automation import EDITS, LEFT_OUT_EDITS
-from expecting.by_hand import write_asset
 from expecting.reading import AHEAD, LEFT_OUT, OPERATIONS as FIELDS, numbered
 from expecting.sessions import ATTRIBUTES, LOOPS, PROMISES, replayed, wav_bytes
 
@@ -1388,7 +1386,7 @@ KINDS = {
 # What is kept of a buffer: what a node has, so that a call can take it for one, and its size.
 Sound = collections.namedtuple("Sound", "inputs outputs plays channels length parameter", defaults=[None])
 
-# An asset that is a link to this path. Else an asset is what write_asset takes.
+# An asset that is a link to this path. Else an asset is its bytes, a number of zero bytes, or None for a folder.
 Link = collections.namedtuple("Link", "target")
 
 # What a member is spoiled with: much of it is of a wrong kind or out of range for most fields.
@@ -1505,8 +1503,11 @@ def write_assets(folder, assets):
         os.makedirs(os.path.dirname(path), exist_ok=True)
         if isinstance(it, Link):
             os.symlink(it.target.encode(), path)
+        elif it is None:
+            os.mkdir(path)
         else:
-            write_asset(path, it)
+            with open(path, "wb") as file:
+                file.truncate(it) if isinstance(it, int) else file.write(it)
 
 
 def operations():
@@ -1790,8 +1791,7 @@ def measure(program, folder):
 
 def enter(work):
     """Goes to a folder of its own, beside which is a file that no path may lead to."""
-    with open(os.path.join(work, "beside.wav"), "wb") as file:
-        file.write(worked_rows.TWO_FRAMES)
+    shutil.copyfile(os.path.join(TOP, "examples", "bell.wav"), os.path.join(work, "beside.wav"))
     os.mkdir(os.path.join(work, str(os.getpid())))
     os.chdir(os.path.join(work, str(os.getpid())))
 

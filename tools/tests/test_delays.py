@@ -17,30 +17,78 @@ import fixtures
 import load_script
 import meaning
 import random_scripts
-import worked_delays
-from expecting import automation, by_hand, delay, graph, numbers, reading, refusals, sessions
+from expecting import automation, delay, graph, numbers, reading, refusals, sessions
 from expecting.graph import End
-from worked_suspensions import mono, quanta
 
 RATE = 16384  # 1,024 is the time of one frame, and 131,072 that of a quantum
 COUNT = 150  # random sessions
-NUMBERS = worked_delays.NUMBERS  # a constant c whose sample at each frame is the frame's number
-LONG = "an echo that is faded in and out"  # of 30 seconds, which --rows alone replays
 
 
-def session_of(text, channels=1, length=384):
-    """The session of calls that are written OP FIELD=VALUE, and of startRendering behind them."""
-    script = by_hand.script_with(by_hand.calls_of(text) + [{"op": "startRendering"}], (channels, length, RATE))
+def call(op, **fields):
+    return {"op": op, **fields}
+
+
+def connect(source, target, **fields):
+    return call("connect", **{"from": source}, to=target, **fields)
+
+
+def disconnect(source, **fields):
+    return call("disconnect", **{"from": source}, **fields)
+
+
+def connect_param(source, target, param, op="connectParam"):
+    return call(op, **{"from": source}, to=target, param=param)
+
+
+def edit(node, op, param="delayTime", **fields):
+    """A call that edits or reads a parameter."""
+    return call(op, node=node, param=param, **fields)
+
+
+def suspend(time, *calls):
+    return call("suspend", time=time, then=[*calls, call("resume")])
+
+
+def ramp(node, param, value, time):
+    """Calls that let a parameter grow from 0 to a value at a time."""
+    return [edit(node, "setValueAtTime", param, value=0, time=0),
+            edit(node, "linearRampToValueAtTime", param, value=value, time=time)]
+
+
+def delayed(**fields):
+    """Calls that make a delay d, which hears c and is heard."""
+    return [call("createDelay", **{"as": "d"}, **fields), connect("c", "d"), connect("d", "destination")]
+
+
+def constant(name, **fields):
+    return [call("createConstantSource", **{"as": name}, **fields), call("start", node=name)]
+
+
+def gain(name, **fields):
+    return call("createGain", **{"as": name}, **fields)
+
+
+# A constant c whose sample at each frame is the frame's number.
+NUMBERS = [call("createConstantSource", **{"as": "c"}), *ramp("c", "offset", 1024, 512), call("start", node="c")]
+
+
+def mono(*samples):
+    return [[sample] for sample in samples]
+
+
+def session_of(calls, channels=1, length=384):
+    """The session of calls, and of startRendering behind them."""
+    script = fixtures.script([*calls, call("startRendering")], channels, length, RATE)
     return sessions.replayed(script)[2]
 
 
-def samples_of(text, **context):
-    return session_of(text, **context).samples
+def samples_of(calls, **context):
+    return session_of(calls, **context).samples
 
 
-def answer_of(text):
-    """The answer to the last of the calls that are written."""
-    session = session_of(text, length=1)
+def answer_of(calls):
+    """The answer to the last of the calls."""
+    session = session_of(calls, length=1)
     return next(line.split(" ", 1)[1] for line in session.lines if line.startswith("%d " % (session.calls_run - 1)))
 
 
@@ -51,18 +99,19 @@ def delays_and_others(*kinds):
 
 class Creations(unittest.TestCase):
     def test_refusals_come_in_their_order(self):
-        fill = "createDelay as=d maxDelayTime=268435456; " * 16
-        nodes = "createGain as=g; " * 1007
-        for before, call, wanted in [
-                ("", "maxDelayTime=0", "throw NotSupportedError"), ("", "maxDelayTime=-2147483648", "throw NotSupportedError"),
-                ("", "maxDelayTime=268435457", "throw NotSupportedError profile:long-delay"),
-                ("", "maxDelayTime=268435456", "ok"), ("", "maxDelayTime=1", "ok"), ("", "delayTime=-1", "ok"),
-                ("", "delayTime=2147483647", "ok"), (fill, "maxDelayTime=1", "throw NotSupportedError profile:delay-limit"),
-                (fill, "maxDelayTime=0", "throw NotSupportedError"),
-                (fill, "maxDelayTime=268435457", "throw NotSupportedError profile:long-delay"),
-                (fill + nodes, "maxDelayTime=1", "throw NotSupportedError profile:node-limit"),
-                (fill + nodes, "maxDelayTime=0", "throw NotSupportedError")]:
-            self.assertEqual(answer_of(before + "createDelay as=e " + call), wanted, (len(before), call))
+        fill = [call("createDelay", **{"as": "d"}, maxDelayTime=2**28)] * 16
+        nodes = [gain("g")] * 1007
+        for before, longest, wanted in [
+                ([], 0, "throw NotSupportedError"), ([], -(2**31), "throw NotSupportedError"),
+                ([], 2**28 + 1, "throw NotSupportedError profile:long-delay"), ([], 2**28, "ok"), ([], 1, "ok"),
+                (fill, 1, "throw NotSupportedError profile:delay-limit"), (fill, 0, "throw NotSupportedError"),
+                (fill, 2**28 + 1, "throw NotSupportedError profile:long-delay"),
+                (fill + nodes, 1, "throw NotSupportedError profile:node-limit"),
+                (fill + nodes, 0, "throw NotSupportedError")]:
+            creation = call("createDelay", **{"as": "e"}, maxDelayTime=longest)
+            self.assertEqual(answer_of([*before, creation]), wanted, (len(before), longest))
+        for time in -1, 2**31 - 1:
+            self.assertEqual(answer_of([call("createDelay", **{"as": "e"}, delayTime=time)]), "ok")
 
     def test_the_capacity_is_the_longest_time_and_a_quantum_at_least(self):
         for longest, rate, wanted in [(2**24, 48000, 48000), (1, 96000, 128), (2**28, 96000, 1536000), (2**28, 8000, 128000),
@@ -71,9 +120,10 @@ class Creations(unittest.TestCase):
             self.assertEqual(delay.Delay({"as": "d", "maxDelayTime": longest}, rate, 0).capacity, wanted)
 
     def test_what_a_refused_delay_would_have_is_free(self):
-        fill = "createDelay as=d maxDelayTime=268435456; " * 15 + "createDelay as=d maxDelayTime=268304384; "  # 128 are left
-        self.assertEqual(answer_of(fill + "createDelay as=e maxDelayTime=132096"), "throw NotSupportedError profile:delay-limit")
-        self.assertEqual(answer_of(fill + "createDelay as=e maxDelayTime=132096; createDelay as=e maxDelayTime=131072"), "ok")
+        longest = [2**28] * 15 + [268304384, 132096]  # 128 frames are left, and the last one would have 129
+        creations = [call("createDelay", **{"as": "d"}, maxDelayTime=it) for it in longest]
+        self.assertEqual(answer_of(creations), "throw NotSupportedError profile:delay-limit")
+        self.assertEqual(answer_of([*creations, call("createDelay", **{"as": "e"}, maxDelayTime=131072)]), "ok")
 
     def test_faults_of_reading_are_those_of_the_fields(self):
         for fields, wanted in [({}, "1 as MissingField"), ({"as": "d", "maxDelayTime": 1.0}, "1 maxDelayTime WrongKind"),
@@ -131,48 +181,45 @@ class Graphs(unittest.TestCase):
 
 
 class Times(unittest.TestCase):
-    def heard(self, delay_of_n, more="", first=0):
+    def heard(self, delay_of_n, *more):
         """Compares what a delay gives, whose time is set by more calls, with its delay in frames at each frame."""
-        found = samples_of(NUMBERS + worked_delays.THROUGH % "" + more)
+        found = samples_of([*NUMBERS, *delayed(), *more])
         wanted = [max(0, n - delay_of_n(n)) for n in range(384)]
         self.assertEqual(found, mono(*wanted))
 
     def test_halves_of_a_frame_go_up(self):
         for time, frames in (0, 0), (511, 0), (512, 1), (1535, 1), (1536, 2), (-1, 0), (131072, 128), (131071, 128), (130559, 127):
-            self.heard(lambda _: frames, "setValue node=d param=delayTime value=%d" % time)
+            self.heard(lambda _: frames, edit("d", "setValue", value=time))
 
     def test_the_computed_value_is_within_its_range_and_the_slot_is_not(self):
-        text = NUMBERS + "createDelay as=d delayTime=%d maxDelayTime=2048; readValue node=d param=delayTime"
         for time, frames in (-5000, 0), (2049, 2), (2**31 - 1, 2), (1024, 1):
-            session = session_of(text % time + "; connect from=c to=d; connect from=d to=destination", length=20)
-            self.assertIn("6 value %d" % time, session.lines)
+            calls = [*NUMBERS, *delayed(delayTime=time, maxDelayTime=2048), edit("d", "readValue")]
+            session = session_of(calls, length=20)
+            self.assertIn("8 value %d" % time, session.lines)
             self.assertEqual(session.samples, mono(*(max(0, n - frames) for n in range(20))))
 
     def test_rates(self):
-        ramp = """setValueAtTime node=d param=delayTime value=0 time=0
-            linearRampToValueAtTime node=d param=delayTime value=393216 time=384"""
-        self.heard(lambda n: n, ramp)
-        self.heard(lambda n: n - n % 128, ramp + "; setAutomationRate node=d param=delayTime value=k-rate")
+        growing = ramp("d", "delayTime", 393216, 384)
+        self.heard(lambda n: n, *growing)
+        self.heard(lambda n: n - n % 128, *growing, edit("d", "setAutomationRate", value="k-rate"))
 
     def test_nodes_that_are_connected(self):
-        ramp = """createConstantSource as=k; setValueAtTime node=k param=offset value=0 time=0; start node=k
-            linearRampToValueAtTime node=k param=offset value=393216 time=384; connectParam from=k to=d param=delayTime"""
-        self.heard(lambda n: n, ramp)
-        self.heard(lambda n: n - n % 128, ramp + "; setAutomationRate node=d param=delayTime value=k-rate")
-        self.heard(lambda n: max(0, n - 5), ramp + "; setValue node=d param=delayTime value=-5120")
+        growing = [*constant("k"), *ramp("k", "offset", 393216, 384), connect_param("k", "d", "delayTime")]
+        self.heard(lambda n: n, *growing)
+        self.heard(lambda n: n - n % 128, *growing, edit("d", "setAutomationRate", value="k-rate"))
+        self.heard(lambda n: max(0, n - 5), *growing, edit("d", "setValue", value=-5120))
 
     def test_every_operation_on_a_parameter_is_there(self):
         operations = [*automation.EDITS, *automation.LEFT_OUT_EDITS, "readValue"]
-        fields = {"value": "0", "values": "[0,0]", "time": "0", "duration": "5"}
+        fields = {"value": 0, "values": [0, 0], "time": 0, "duration": 5}
         for op in operations:
             given = {name: fields[name] for name, *_ in reading.OPERATIONS[op][2:]}
             given.update({"value": "k-rate"} if op == "setAutomationRate" else {})
-            call = "%s node=d param=delayTime %s" % (op, " ".join("%s=%s" % it for it in given.items()))
             wanted = automation.LEFT_OUT_EDITS.get(op)
             wanted = "throw NotSupportedError profile:" + wanted if wanted else "value 7" if op == "readValue" else "ok"
-            self.assertEqual(answer_of("createDelay as=d delayTime=7; " + call), wanted)
-        self.assertEqual(answer_of("createDelay as=d; setValue node=d param=gain value=0"), "throw TypeError")
-        self.assertEqual(answer_of("createGain as=g; setValue node=g param=delayTime value=0"), "throw TypeError")
+            self.assertEqual(answer_of([*NUMBERS, *delayed(delayTime=7), edit("d", op, **given)]), wanted)
+        self.assertEqual(answer_of([*NUMBERS, *delayed(), edit("d", "setValue", "gain", value=0)]), "throw TypeError")
+        self.assertEqual(answer_of([gain("g"), edit("g", "setValue", value=0)]), "throw TypeError")
 
     def test_values_of_many_frames_are_those_of_each(self):
         rng = random.Random("timelines")
@@ -254,57 +301,44 @@ class Channels(unittest.TestCase):
 
 
 class Cycles(unittest.TestCase):
-    LOOP = NUMBERS + "createDelay as=d delayTime=%d; connect from=c to=d; connect from=d to=destination; "
-
     def test_a_delay_in_a_cycle_lasts_a_quantum_at_least(self):
-        gain = "createGain as=g gain=0; connect from=d to=g; connect from=g to=d"
+        cycle = [gain("g", gain=0), connect("d", "g"), connect("g", "d")]
         for frames in 0, 1, 127, 128, 129, 200:
-            found = samples_of(self.LOOP % (1024 * frames) + gain)
-            self.assertEqual(found, mono(*(max(0, n - max(128, frames)) for n in range(384))))
-            found = samples_of(self.LOOP % (1024 * frames) + gain + "; disconnect from=g")
+            calls = [*NUMBERS, *delayed(delayTime=1024 * frames), *cycle]
+            self.assertEqual(samples_of(calls), mono(*(max(0, n - max(128, frames)) for n in range(384))))
+            found = samples_of([*calls, disconnect("g")])
             self.assertEqual(found, mono(*(max(0, n - frames) for n in range(384))))
 
     def test_a_cycle_by_a_parameter_is_one(self):
-        for text, is_one in [("connectParam from=d to=c param=offset", True), ("connectParam from=d to=g param=gain", False),
-                             ("connectParam from=d to=g param=gain; connect from=g to=d", True)]:
-            found = samples_of(self.LOOP % 0 + "createGain as=g gain=0; " + text, length=128)
-            self.assertEqual(found, mono(0) * 128 if is_one else mono(*range(128)), text)
+        by_gain = connect_param("d", "g", "gain")
+        for more, is_one in [([connect_param("d", "c", "offset")], True), ([by_gain], False),
+                             ([by_gain, connect("g", "d")], True)]:
+            found = samples_of([*NUMBERS, *delayed(), gain("g", gain=0), *more], length=128)
+            self.assertEqual(found, mono(0) * 128 if is_one else mono(*range(128)), more)
 
     def test_a_cycle_lasts_for_the_quanta_in_which_it_is_there(self):
         for first, last in itertools.combinations(range(1, 4), 2):
-            text = self.LOOP % 0 + """createGain as=g gain=0; suspend time=%d {connect from=d to=g; connect from=g to=d; resume}
-                suspend time=%d {disconnect from=d to=g; resume}""" % (128 * first, 128 * last)
+            calls = [*NUMBERS, *delayed(), gain("g", gain=0), suspend(128 * first, connect("d", "g"), connect("g", "d")),
+                     suspend(128 * last, disconnect("d", to="g"))]
             late = range(128 * first, 128 * last)
-            self.assertEqual(samples_of(text, length=512), mono(*(n - 128 if n in late else n for n in range(512))))
+            self.assertEqual(samples_of(calls, length=512), mono(*(n - 128 if n in late else n for n in range(512))))
 
     def test_a_muted_delay_is_silent_and_writes(self):
-        text = self.LOOP % 131072 + """connectParam from=d to=d param=delayTime
-            suspend time=256 {disconnectParam from=d to=d param=delayTime; resume}"""
-        self.assertEqual(samples_of(text), mono(*[0] * 256, *range(128, 256)))
+        calls = [*NUMBERS, *delayed(delayTime=131072), connect_param("d", "d", "delayTime"),
+                 suspend(256, connect_param("d", "d", "delayTime", "disconnectParam"))]
+        self.assertEqual(samples_of(calls), mono(*[0] * 256, *range(128, 256)))
 
     def test_a_muted_delay_has_one_channel(self):
-        muted = "connectParam from=d to=d param=delayTime; "
-        text = worked_delays.SIDES + "createDelay as=d; connect from=m to=d; " + worked_delays.COUNTED + "connect from=d to=h; "
-        self.assertEqual(samples_of(text, channels=6, length=1), [[5, 6, 0, 0, 0, 0]])
-        self.assertEqual(samples_of(text + muted, channels=6, length=1), [[0, 0, 4, 0, 0, 0]])
+        calls = [*constant("l", offset=2), *constant("r", offset=4), call("createChannelMerger", **{"as": "m"}, numberOfInputs=2),
+                 connect("l", "m", input=0), connect("r", "m", input=1), call("createDelay", **{"as": "d"}), connect("m", "d"),
+                 *constant("c", offset=8), gain("h"), connect("c", "h"), connect("h", "destination"), connect("d", "h")]
+        self.assertEqual(samples_of(calls, channels=6, length=1), [[5, 6, 0, 0, 0, 0]])
+        muted = connect_param("d", "d", "delayTime")
+        self.assertEqual(samples_of([*calls, muted], channels=6, length=1), [[0, 0, 4, 0, 0, 0]])
 
     def test_nodes_behind_a_cycle_are_not_muted(self):
-        text = NUMBERS + """createGain as=g; createDelay as=d; connect from=g to=g; connect from=g to=d; connect from=c to=d
-            connect from=c to=g; connect from=d to=destination"""
-        self.assertEqual(samples_of(text), mono(*range(384)))
-
-
-class Worked(unittest.TestCase):
-    def test_sessions_that_were_worked_out_by_hand(self):
-        worked = [by_hand.worked(it) for it in worked_delays.SESSIONS.values()]
-        worked += [by_hand.worked_with_lines(it) for name, it in worked_delays.SUSPENDED.items() if name != LONG]
-        self.assertEqual(by_hand.sessions_that_differ(worked), [])
-
-    def test_a_long_session_is_compared_at_some_frames(self):
-        _, script, text, samples = by_hand.worked(("createGain as=g", (1, 9, RATE), {}, [], {3: [0]}))
-        self.assertEqual(by_hand.sessions_that_differ([("", script, text, samples)]), [])
-        self.assertEqual(len(by_hand.sessions_that_differ([("", script, text, {3: [1]})])), 1)
-        self.assertEqual(len(by_hand.sessions_that_differ([("", script.replace(b"9", b"8", 1), text, samples)])), 1)
+        calls = [*NUMBERS, *delayed(), gain("g"), connect("g", "g"), connect("g", "d"), connect("c", "g")]
+        self.assertEqual(samples_of(calls), mono(*range(384)))
 
 
 class Meaning(unittest.TestCase):

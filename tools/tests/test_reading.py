@@ -6,11 +6,13 @@ import re
 import unittest
 
 import fixtures
-from expecting import by_hand, reading, sessions
+from expecting import reading, sessions
 import random_scripts
 from reporting import entries, rules, script_reading, transcript_reading, wav_samples
 from reporting.following import Session
 from reporting.text import BadInput, quoted, visible
+from waplay_tools.cases.__main__ import CASES, files_in
+from waplay_tools.cases.case import read_case
 
 
 def fault_of(data):
@@ -192,22 +194,25 @@ class Following(unittest.TestCase):
             "Suspended at frame 1,536: the list of call 20", "The end"])
         self.assertEqual([call.ordinal for call in found.not_run], [23])
 
-    def test_worked_sessions_with_suspensions_belong_to_their_scripts(self):
-        worked = by_hand.sessions()
-        for name, data, text, _ in worked["suspensions"] + worked["wave shapers"] + worked["filters"] + worked["delays"]:
-            if not text:  # an asset can't be read
-                continue
-            script = script_reading.script_of(data)
-            found = Session(script, transcript_reading.lines_of(text.encode(), "t"), ("s", "t"))
-            marks = [mark for mark in found.marks if mark.kind != "ended"]
-            resolved = [int(it) for it in re.findall(r"^(\d+) resolved$", text, re.M)]
-            self.assertEqual([mark.told.ordinal for mark in marks],
-                             [it for it in resolved if script.by_ordinal[it].op == "suspend"], name)
-            self.assertEqual([mark.low for mark in marks if mark.kind == "stalled"],
-                             [int(it) for it in re.findall(r"^end stalled (\d+)$", text, re.M)], name)
-            answered = {int(it) for it in re.findall(r"^(\d+) ", text, re.M)}
-            self.assertEqual([call.ordinal for call in found.not_run],
-                             [call.ordinal for call in script.calls if call.ordinal not in answered], name)
+    def test_transcripts_of_cases_belong_to_their_scripts(self):
+        for path in files_in([CASES]):
+            case = read_case(path)
+            if case.script is not None and case.text():  # without a text an asset can't be read
+                self.belongs_to_its_script(path.stem, case.input_bytes(), case.text())
+
+    def belongs_to_its_script(self, name, data, text):
+        """Whether what a transcript tells is put where it belongs in its script."""
+        script = script_reading.script_of(data)
+        found = Session(script, transcript_reading.lines_of(text.encode(), "t"), ("s", "t"))
+        marks = [mark for mark in found.marks if mark.kind != "ended"]
+        resolved = [int(it) for it in re.findall(r"^(\d+) resolved$", text, re.M)]
+        self.assertEqual([mark.told.ordinal for mark in marks],
+                         [it for it in resolved if script.by_ordinal[it].op == "suspend"], name)
+        self.assertEqual([mark.low for mark in marks if mark.kind == "stalled"],
+                         [int(it) for it in re.findall(r"^end stalled (\d+)$", text, re.M)], name)
+        answered = {int(it) for it in re.findall(r"^(\d+) ", text, re.M)}
+        self.assertEqual([call.ordinal for call in found.not_run],
+                         [call.ordinal for call in script.calls if call.ordinal not in answered], name)
 
     def test_transcripts_that_do_not_belong_to_their_script(self):
         data, text = fixtures.suspended()
