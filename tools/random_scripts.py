@@ -1386,7 +1386,8 @@ KINDS = {
 # What is kept of a buffer: what a node has, so that a call can take it for one, and its size.
 Sound = collections.namedtuple("Sound", "inputs outputs plays channels length parameter", defaults=[None])
 
-# An asset that is a link to this path. Else an asset is its bytes, a number of zero bytes, or None for a folder.
+# An asset that is a link to this path. Else an asset is its bytes, a number of zero bytes, or None for
+# a folder.
 Link = collections.namedtuple("Link", "target")
 
 # What a member is spoiled with: much of it is of a wrong kind or out of range for most fields.

@@ -28,6 +28,10 @@ def call(op, **fields):
     return {"op": op, **fields}
 
 
+def create(op, name, **fields):
+    return {"op": op, "as": name, **fields}
+
+
 def connect(source, target, **fields):
     return call("connect", **{"from": source}, to=target, **fields)
 
@@ -57,19 +61,22 @@ def ramp(node, param, value, time):
 
 def delayed(**fields):
     """Calls that make a delay d, which hears c and is heard."""
-    return [call("createDelay", **{"as": "d"}, **fields), connect("c", "d"), connect("d", "destination")]
+    creation = create("createDelay", "d", **fields)
+    return [creation, connect("c", "d"), connect("d", "destination")]
 
 
 def constant(name, **fields):
-    return [call("createConstantSource", **{"as": name}, **fields), call("start", node=name)]
+    return [create("createConstantSource", name, **fields), call("start", node=name)]
 
 
 def gain(name, **fields):
-    return call("createGain", **{"as": name}, **fields)
+    return create("createGain", name, **fields)
 
 
 # A constant c whose sample at each frame is the frame's number.
-NUMBERS = [call("createConstantSource", **{"as": "c"}), *ramp("c", "offset", 1024, 512), call("start", node="c")]
+NUMBERS = [
+    create("createConstantSource", "c"), *ramp("c", "offset", 1024, 512), call("start", node="c"),
+]
 
 
 def mono(*samples):
@@ -89,7 +96,8 @@ def samples_of(calls, **context):
 def answer_of(calls):
     """The answer to the last of the calls."""
     session = session_of(calls, length=1)
-    return next(line.split(" ", 1)[1] for line in session.lines if line.startswith("%d " % (session.calls_run - 1)))
+    last = "%d " % (session.calls_run - 1)
+    return next(line.removeprefix(last) for line in session.lines if line.startswith(last))
 
 
 def delays_and_others(*kinds):
@@ -99,19 +107,21 @@ def delays_and_others(*kinds):
 
 class Creations(unittest.TestCase):
     def test_refusals_come_in_their_order(self):
-        fill = [call("createDelay", **{"as": "d"}, maxDelayTime=2**28)] * 16
+        fill = [create("createDelay", "d", maxDelayTime=2**28)] * 16
         nodes = [gain("g")] * 1007
         for before, longest, wanted in [
                 ([], 0, "throw NotSupportedError"), ([], -(2**31), "throw NotSupportedError"),
-                ([], 2**28 + 1, "throw NotSupportedError profile:long-delay"), ([], 2**28, "ok"), ([], 1, "ok"),
-                (fill, 1, "throw NotSupportedError profile:delay-limit"), (fill, 0, "throw NotSupportedError"),
+                ([], 2**28 + 1, "throw NotSupportedError profile:long-delay"),
+                ([], 2**28, "ok"), ([], 1, "ok"),
+                (fill, 1, "throw NotSupportedError profile:delay-limit"),
+                (fill, 0, "throw NotSupportedError"),
                 (fill, 2**28 + 1, "throw NotSupportedError profile:long-delay"),
                 (fill + nodes, 1, "throw NotSupportedError profile:node-limit"),
                 (fill + nodes, 0, "throw NotSupportedError")]:
-            creation = call("createDelay", **{"as": "e"}, maxDelayTime=longest)
+            creation = create("createDelay", "e", maxDelayTime=longest)
             self.assertEqual(answer_of([*before, creation]), wanted, (len(before), longest))
         for time in -1, 2**31 - 1:
-            self.assertEqual(answer_of([call("createDelay", **{"as": "e"}, delayTime=time)]), "ok")
+            self.assertEqual(answer_of([create("createDelay", "e", delayTime=time)]), "ok")
 
     def test_the_capacity_is_the_longest_time_and_a_quantum_at_least(self):
         for longest, rate, wanted in [(2**24, 48000, 48000), (1, 96000, 128), (2**28, 96000, 1536000), (2**28, 8000, 128000),
@@ -120,10 +130,12 @@ class Creations(unittest.TestCase):
             self.assertEqual(delay.Delay({"as": "d", "maxDelayTime": longest}, rate, 0).capacity, wanted)
 
     def test_what_a_refused_delay_would_have_is_free(self):
-        longest = [2**28] * 15 + [268304384, 132096]  # 128 frames are left, and the last one would have 129
-        creations = [call("createDelay", **{"as": "d"}, maxDelayTime=it) for it in longest]
+        # 128 frames are left, and the last one would have 129.
+        longest = [2**28] * 15 + [268304384, 132096]
+        creations = [create("createDelay", "d", maxDelayTime=it) for it in longest]
         self.assertEqual(answer_of(creations), "throw NotSupportedError profile:delay-limit")
-        self.assertEqual(answer_of([*creations, call("createDelay", **{"as": "e"}, maxDelayTime=131072)]), "ok")
+        smaller = create("createDelay", "e", maxDelayTime=131072)
+        self.assertEqual(answer_of([*creations, smaller]), "ok")
 
     def test_faults_of_reading_are_those_of_the_fields(self):
         for fields, wanted in [({}, "1 as MissingField"), ({"as": "d", "maxDelayTime": 1.0}, "1 maxDelayTime WrongKind"),
@@ -204,7 +216,8 @@ class Times(unittest.TestCase):
         self.heard(lambda n: n - n % 128, *growing, edit("d", "setAutomationRate", value="k-rate"))
 
     def test_nodes_that_are_connected(self):
-        growing = [*constant("k"), *ramp("k", "offset", 393216, 384), connect_param("k", "d", "delayTime")]
+        heard = connect_param("k", "d", "delayTime")
+        growing = [*constant("k"), *ramp("k", "offset", 393216, 384), heard]
         self.heard(lambda n: n, *growing)
         self.heard(lambda n: n - n % 128, *growing, edit("d", "setAutomationRate", value="k-rate"))
         self.heard(lambda n: max(0, n - 5), *growing, edit("d", "setValue", value=-5120))
@@ -217,8 +230,10 @@ class Times(unittest.TestCase):
             given.update({"value": "k-rate"} if op == "setAutomationRate" else {})
             wanted = automation.LEFT_OUT_EDITS.get(op)
             wanted = "throw NotSupportedError profile:" + wanted if wanted else "value 7" if op == "readValue" else "ok"
-            self.assertEqual(answer_of([*NUMBERS, *delayed(delayTime=7), edit("d", op, **given)]), wanted)
-        self.assertEqual(answer_of([*NUMBERS, *delayed(), edit("d", "setValue", "gain", value=0)]), "throw TypeError")
+            made = [*NUMBERS, *delayed(delayTime=7)]
+            self.assertEqual(answer_of([*made, edit("d", op, **given)]), wanted)
+        other = edit("d", "setValue", "gain", value=0)
+        self.assertEqual(answer_of([*NUMBERS, *delayed(), other]), "throw TypeError")
         self.assertEqual(answer_of([gain("g"), edit("g", "setValue", value=0)]), "throw TypeError")
 
     def test_values_of_many_frames_are_those_of_each(self):
@@ -305,7 +320,8 @@ class Cycles(unittest.TestCase):
         cycle = [gain("g", gain=0), connect("d", "g"), connect("g", "d")]
         for frames in 0, 1, 127, 128, 129, 200:
             calls = [*NUMBERS, *delayed(delayTime=1024 * frames), *cycle]
-            self.assertEqual(samples_of(calls), mono(*(max(0, n - max(128, frames)) for n in range(384))))
+            late = mono(*(max(0, n - max(128, frames)) for n in range(384)))
+            self.assertEqual(samples_of(calls), late)
             found = samples_of([*calls, disconnect("g")])
             self.assertEqual(found, mono(*(max(0, n - frames) for n in range(384))))
 
@@ -318,10 +334,14 @@ class Cycles(unittest.TestCase):
 
     def test_a_cycle_lasts_for_the_quanta_in_which_it_is_there(self):
         for first, last in itertools.combinations(range(1, 4), 2):
-            calls = [*NUMBERS, *delayed(), gain("g", gain=0), suspend(128 * first, connect("d", "g"), connect("g", "d")),
-                     suspend(128 * last, disconnect("d", to="g"))]
+            calls = [
+                *NUMBERS, *delayed(), gain("g", gain=0),
+                suspend(128 * first, connect("d", "g"), connect("g", "d")),
+                suspend(128 * last, disconnect("d", to="g")),
+            ]
             late = range(128 * first, 128 * last)
-            self.assertEqual(samples_of(calls, length=512), mono(*(n - 128 if n in late else n for n in range(512))))
+            wanted = mono(*(n - 128 if n in late else n for n in range(512)))
+            self.assertEqual(samples_of(calls, length=512), wanted)
 
     def test_a_muted_delay_is_silent_and_writes(self):
         calls = [*NUMBERS, *delayed(delayTime=131072), connect_param("d", "d", "delayTime"),
@@ -329,15 +349,21 @@ class Cycles(unittest.TestCase):
         self.assertEqual(samples_of(calls), mono(*[0] * 256, *range(128, 256)))
 
     def test_a_muted_delay_has_one_channel(self):
-        calls = [*constant("l", offset=2), *constant("r", offset=4), call("createChannelMerger", **{"as": "m"}, numberOfInputs=2),
-                 connect("l", "m", input=0), connect("r", "m", input=1), call("createDelay", **{"as": "d"}), connect("m", "d"),
-                 *constant("c", offset=8), gain("h"), connect("c", "h"), connect("h", "destination"), connect("d", "h")]
+        calls = [
+            *constant("l", offset=2), *constant("r", offset=4),
+            create("createChannelMerger", "m", numberOfInputs=2),
+            connect("l", "m", input=0), connect("r", "m", input=1),
+            create("createDelay", "d"), connect("m", "d"),
+            *constant("c", offset=8), gain("h"), connect("c", "h"), connect("h", "destination"),
+            connect("d", "h"),
+        ]
         self.assertEqual(samples_of(calls, channels=6, length=1), [[5, 6, 0, 0, 0, 0]])
         muted = connect_param("d", "d", "delayTime")
         self.assertEqual(samples_of([*calls, muted], channels=6, length=1), [[0, 0, 4, 0, 0, 0]])
 
     def test_nodes_behind_a_cycle_are_not_muted(self):
-        calls = [*NUMBERS, *delayed(), gain("g"), connect("g", "g"), connect("g", "d"), connect("c", "g")]
+        cycle = [gain("g"), connect("g", "g"), connect("g", "d"), connect("c", "g")]
+        calls = [*NUMBERS, *delayed(), *cycle]
         self.assertEqual(samples_of(calls), mono(*range(384)))
 
 

@@ -23,7 +23,8 @@ class Mixing(unittest.TestCase):
 
     def test_a_product_at_the_end_of_the_range_is_exact(self):
         centre = [0, 0, -(2**31), 0, 0, 0]
-        self.assertEqual(mixed(centre, 2, "speakers"), [-128 * 11863283] * 2)  # the root of 1/2 is 11863283 / 2^24
+        root_of_half = 11863283  # over 2^24
+        self.assertEqual(mixed(centre, 2, "speakers"), [-128 * root_of_half] * 2)
 
 
 if __name__ == "__main__":

@@ -1,8 +1,8 @@
-"""Tests of the program that no case can tell: runs that are compared with one another, and a path that names the
-folder of the run.
+"""Tests of the program that no case can tell: runs that are compared with one another, and a path
+that names the folder of the run.
 
-The program is the one that the variable WAPLAY names, or else the shipped one. Where neither is there, the tests are
-skipped."""
+The program is the one that the variable WAPLAY names, or else the shipped one. Where neither is
+there, the tests are skipped."""
 
 import hashlib
 import json
@@ -18,14 +18,22 @@ import load_script
 
 SHIPPED = Path(fixtures.TOP, "bin", "waplay-x86_64-linux")
 PROGRAM = Path(os.environ.get("WAPLAY") or SHIPPED).absolute()
-LOAD = "e499f2a9fe115d8819822d99f6bd86dedf661f0c01e0cd0a21d442a1e631ac63"  # of tools/expected.py, for the script of 0
+# The digest that tools/expected.py gives for the script of the load of 0, and the size of the file.
+LOAD = "e499f2a9fe115d8819822d99f6bd86dedf661f0c01e0cd0a21d442a1e631ac63"
 LOAD_BYTES = 44 + 480000 * 2 * 3  # a frame has two samples of three bytes
-SUMMARY = re.compile(r"summary calls (\d+) quanta (\d+) ended (\d+) refused (\d+) peak \d+ sum -?\d+\nend completed\n")
+SUMMARY = re.compile(
+    r"summary calls (\d+) quanta (\d+) ended (\d+) refused (\d+) peak \d+ sum -?\d+\n"
+    r"end completed\n"
+)
+SECONDS = 120  # for a run
 
 
 def run(folder: str, *words: str, data: bytes = b"") -> tuple[int, str]:
     """Runs the program in a folder: its status and its text."""
-    ran = subprocess.run([PROGRAM, *words], input=data, capture_output=True, cwd=folder, timeout=120, check=False)
+    command = [PROGRAM, *words]
+    ran = subprocess.run(
+        command, input=data, capture_output=True, cwd=folder, timeout=SECONDS, check=False
+    )
     return ran.returncode, (ran.stdout + ran.stderr).decode()
 
 
@@ -46,7 +54,8 @@ class Program(unittest.TestCase):
         self.assertEqual(run(self.folder, "--order", "down", "down.wav", data=script), (0, text))
         status, summary = run(self.folder, "--gen", "0", "load.wav")
         self.assertEqual(status, 0)
-        self.assertEqual(run(self.folder, "--gen", "0", "--order=down", "load_down.wav"), (0, summary))
+        other = run(self.folder, "--gen", "0", "--order=down", "load_down.wav")
+        self.assertEqual(other, (0, summary))
         wanted = self.file("script.wav")
         self.assertEqual((len(wanted), hashlib.sha256(wanted).hexdigest()), (LOAD_BYTES, LOAD))
         for name in "down.wav", "load.wav", "load_down.wav":

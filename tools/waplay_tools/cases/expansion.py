@@ -9,8 +9,8 @@ _RANGE = re.compile(r"(\d+)\.\.(\d+) (.*)")
 
 
 def runs_in(runs: list[list[Any]]) -> list[int]:
-    """The numbers of runs: how many, the first one, and what each has more than the one before; or how
-    many times, and the runs that come so often."""
+    """The numbers of runs: how many, the first one, and what each has more than the one before; or
+    how many times, and the runs that come so often."""
     numbers: list[int] = []
     for count, first, *step in runs:
         numbers += [first + step[0] * at for at in range(count)] if step else runs_in(first) * count
