@@ -38,6 +38,7 @@ class ShortForms(unittest.TestCase):
         for numbers in ([], [5], [1, 2], [0, 0, 0, 7], [1, 2, 3, 9, 9], [3, 1, 4, 1, 5]):
             self.assertEqual(runs_in(runs_of(numbers)), numbers)
         self.assertEqual(runs_of([1, 2, 3, 9, 9]), [[3, 1, 1], [2, 9, 0]])
+        self.assertEqual(runs_of([1, 0, 0, 0, 1, 1]), [[1, 1, 0], [3, 0, 0], [2, 1, 0]])
 
     def test_runs_that_come_again_and_again(self):
         self.assertEqual(runs_in([[2, [[1, 5, 0], [2, 7, 1]]], [1, 0, 0]]), [5, 7, 8, 5, 7, 8, 0])

@@ -18,27 +18,18 @@ def runs_in(runs: list[list[Any]]) -> list[int]:
 
 
 def runs_of(numbers: list[int]) -> list[list[int]]:
-    """Runs that have these numbers, as few as going along them finds."""
-    runs: list[list[int]] = []
-    for number in numbers:
-        if runs:
-            count, first, step = runs[-1]
-            if count == 1 or number == first + step * count:
-                runs[-1] = [count + 1, first, number - first if count == 1 else step]
-                continue
-        runs.append([1, number, 0])
-    return _split_pairs(runs)
-
-
-def _split_pairs(runs: list[list[int]]) -> list[list[int]]:
-    """The runs, where two numbers that differ stand alone rather than as a step."""
-    split = []
-    for count, first, step in runs:
-        if count == 2 and step:
-            split += [[1, first, 0], [1, first + step, 0]]
-        else:
-            split.append([count, first, step])
-    return split
+    """Runs that have these numbers, each as long as it goes. Two numbers that differ are no run."""
+    runs, at = [], 0
+    while at < len(numbers):
+        step = numbers[at + 1] - numbers[at] if at + 1 < len(numbers) else 0
+        end = at + 1
+        while end < len(numbers) and numbers[end] - numbers[end - 1] == step:
+            end += 1
+        if end - at == 2 and step:
+            end, step = at + 1, 0
+        runs.append([end - at, numbers[at], step])
+        at = end
+    return runs
 
 
 def lines_in(lines: list[str]) -> list[str]:
