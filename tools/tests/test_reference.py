@@ -99,6 +99,18 @@ pub fn launch(boat: Boat) {
 }
 
 
+def run_tool(top, *words):
+    """Runs the tool: its status, and what it prints."""
+    told = io.StringIO()
+    with contextlib.redirect_stdout(told), contextlib.redirect_stderr(told):
+        argv, sys.argv = sys.argv, ["reference", "--top", str(top), *words]
+        try:
+            status = command.main()
+        finally:
+            sys.argv = argv
+    return status, told.getvalue()
+
+
 class MadeUp(unittest.TestCase):
     """A made-up repository of four crates."""
 
@@ -131,15 +143,8 @@ class MadeUp(unittest.TestCase):
         return str(caught.exception)
 
     def run_tool(self, *words):
-        """Runs the tool: its status, and what it prints."""
-        told = io.StringIO()
-        with contextlib.redirect_stdout(told), contextlib.redirect_stderr(told):
-            argv, sys.argv = sys.argv, ["reference", "--top", str(self.top), *words]
-            try:
-                status = command.main()
-            finally:
-                sys.argv = argv
-        return status, told.getvalue()
+        """Runs the tool on the made-up repository."""
+        return run_tool(self.top, *words)
 
 
 class Pages(MadeUp):
@@ -311,6 +316,9 @@ class ThisRepository(unittest.TestCase):
     def test_links(self):
         pages = {Path(name): text for name, text in self.pages.items()}
         self.assertEqual([], dead_links(pages, TOP / "no such folder"))
+
+    def test_documents(self):
+        self.assertEqual((0, ""), run_tool(TOP, "--check"))
 
     def test_anchors_differ(self):
         for name, text in self.pages.items():
