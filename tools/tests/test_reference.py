@@ -53,6 +53,7 @@ pub fn twice_of(number: u64) -> u64
     number * 2
 }
 """,
+    "crates/boat/specs/Lib.antt": "pub mod Boat\n",
     "crates/boat/specs/Boat.antt": """-- A boat.
 use Rattle.base.specs.Sizes.{Size}
 use Rattle.base.specs.Sizes as size
@@ -237,6 +238,14 @@ class Refusals(MadeUp):
     def test_name_handed_on_without_item(self):
         self.change("crates/boat/src/lib.rt", "{Boat, launch}", "{Boat, sink}")
         self.assertIn("no item is called sink", self.refused())
+
+    def test_name_of_no_crate(self):
+        self.change("crates/boat/src/lib.rt", "pub use base::", "pub use bay::")
+        self.assertIn("bay::twice_of is of no known crate", self.refused())
+
+    def test_file_that_no_list_has(self):
+        self.put("crates/base/specs/Deeper/More.antt", "-- More.\n")
+        self.assertIn("crates/base/specs/Lib.antt: not a list of the files", self.refused())
 
     def test_crate_without_comment(self):
         self.change("crates/boat/src/lib.rt", "//! Boats.\n", "")

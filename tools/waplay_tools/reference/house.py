@@ -21,7 +21,7 @@ GHOST_USE = re.compile(
 REEXPORT = re.compile(
     r"pub use ([a-z_0-9]+(?:::[a-z_0-9]+)*)::(?:\{([^}]*)\}|([A-Za-z_0-9]+))", re.S
 )
-LIST_OF_FILES = re.compile(r"(?:pub mod [A-Za-z0-9]+|--.*|)")
+LISTED = re.compile(r"(?:pub mod ([A-Za-z0-9]+)|--.*|)")
 
 
 @dataclasses.dataclass
@@ -31,6 +31,14 @@ class CodeFile:
     source: Source
     items: list[Item]
     uses: list[Use]
+
+    def shown(self) -> str:
+        """Its path within the crate."""
+        return "/".join(self.source.path.parts[2:])
+
+    def module(self) -> str:
+        """The name of its module, as the root of the crate has it."""
+        return "::".join(self.source.path.with_suffix("").parts[3:])
 
 
 @dataclasses.dataclass
@@ -95,10 +103,13 @@ class House:
             raise Unreadable(f"{self.shown(roots[0])}: no //! comment says what the crate is")
         crate = Crate(name, about, self.bases[name])
         if is_product:
-            crate.code = [self.read_code(it) for it in sorted((folder / "src").glob("*.rt"))]
+            crate.code = [self.read_code(it) for it in sorted((folder / "src").rglob("*.rt"))]
             crate.specs = self.read_specs(folder / "specs")
             root = next(it for it in crate.code if it.source.path.name == roots[0].name)
             crate.public, crate.borrowed = public_in(root, crate.code)
+            for other, item in crate.borrowed:
+                if other not in crate.bases:
+                    raise Unreadable(f"{root.source.path}: {other}::{item} is of no known crate")
         return crate
 
     def read_code(self, path: Path) -> CodeFile:
@@ -108,15 +119,16 @@ class House:
         return CodeFile(source, items, ghost_uses(source, items))
 
     def read_specs(self, folder: Path) -> dict[str, Definitions]:
-        """Reads the definitions of a crate, by file."""
+        """Reads the definitions of a crate, by file. Lib.antt lists the files."""
         listed = folder / "Lib.antt"
-        for line in listed.read_text(encoding="utf-8").splitlines() if listed.exists() else []:
-            if not LIST_OF_FILES.fullmatch(line):
-                raise Unreadable(f"{self.shown(listed)}: {line!r} is no file of definitions")
-        files = [it for it in sorted(folder.glob("*.antt")) if it != listed]
+        text = listed.read_text(encoding="utf-8") if listed.exists() else ""
+        names = [LISTED.fullmatch(line) for line in text.splitlines()]
+        files = {it.stem: it for it in sorted(folder.rglob("*.antt")) if it != listed}
+        if not all(names) or {it[1] for it in names if it[1]} != set(files):
+            raise Unreadable(f"{self.shown(listed)}: not a list of the files beside it")
         return {
-            it.stem: read_definitions(self.shown(it), it.read_text(encoding="utf-8"))
-            for it in files
+            name: read_definitions(self.shown(path), path.read_text(encoding="utf-8"))
+            for name, path in files.items()
         }
 
     def shown(self, path: Path) -> Path:
@@ -160,25 +172,18 @@ def ghost_uses(source: Source, items: list[Item]) -> list[Use]:
 
 def public_in(root: CodeFile, code: list[CodeFile]) -> tuple[set[str], list[tuple[str, str]]]:
     """The names that a crate hands on: its own items, and those of other crates."""
-    modules = {it.source.path.stem for it in code}
+    modules = {it.module(): it for it in code}
     public = {it.name for it in root.items if it.is_public and it.name}
     borrowed = []
     for item in root.items:
-        if item.kind == "mod" and item.is_public:
-            public |= {
-                it.name
-                for file in code
-                if file.source.path.stem == item.name
-                for it in file.items
-                if it.is_public
-            }
+        if item.kind == "mod" and item.is_public and item.name in modules:
+            public |= {it.name for it in modules[item.name].items if it.is_public}
         if item.kind != "use" or not item.is_public:
             continue
         use = REEXPORT.fullmatch(item.head)
         if not use:
-            raise Unreadable(
-                f"{root.source.path}:{item.line}: a `pub use` of a form that is not known"
-            )
+            where = f"{root.source.path}:{item.line}"
+            raise Unreadable(f"{where}: a `pub use` of a form that is not known")
         names = [it.strip() for it in (use[2] or use[3]).split(",") if it.strip()]
         if use[1] in modules:
             public |= set(names)

@@ -108,13 +108,13 @@ class CratePage:
             elif item.is_public and item.name in self.crate.public and item.kind in (*TYPES, "fn"):
                 self.add_item(file, item, scope)
         if len(self.lines) > before:
-            self.lines[before:before] = [f"### src/{file.source.path.name}", ""]
+            self.lines[before:before] = [f"### {file.shown()}", ""]
 
     def entry(self, file: CodeFile, name: str, what: str) -> Entry:
         """Gives something its place on the page."""
         anchor = f"{what}.{name}"
         self.anchors.add(anchor)
-        entry = Entry(name, what, self.crate.name, f"src/{file.source.path.name}", anchor)
+        entry = Entry(name, what, self.crate.name, file.shown(), anchor)
         self.reference.entries.append(entry)
         self.add(f'<a id="{anchor}"></a>', "", f"#### `{name}`")
         return entry

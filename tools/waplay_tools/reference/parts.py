@@ -19,7 +19,7 @@ from waplay_tools.reference.scanning import Unreadable
 
 BEGIN = re.compile(r"<!-- made by tools/reference: ([^>\n]*?) -->\n")
 END = "<!-- end -->"
-DOCUMENTS = ("*.md", "docs/*.md", "tests/*.md", "recorder/*.md")
+DOCUMENTS = ("*.md", "docs/*.md", "tests/*.md", "recorder/*.md", "examples/*.md", "tools/*.md")
 PICTURE = Path("docs/pictures/crates.svg")
 
 
