@@ -11,12 +11,54 @@ TOP = Path(__file__).resolve().parents[2]
 sys.path.insert(0, str(TOP / "tools"))
 
 from waplay_tools.reference import __main__ as command  # noqa: E402
+from waplay_tools.reference import operations, picture  # noqa: E402
 from waplay_tools.reference.house import House  # noqa: E402
 from waplay_tools.reference.links import dead_links  # noqa: E402
 from waplay_tools.reference.pages import Reference  # noqa: E402
 from waplay_tools.reference.parts import renewed  # noqa: E402
 from waplay_tools.reference.scanning import Unreadable  # noqa: E402
 
+# A crate of scripts: two operations with the same field, one with a field of its own, one without.
+SCRIPTS = {
+    "crates/script_ast/src/lib.rt": "//! Scripts.\n",
+    "crates/script_ast/specs/Lib.antt": "pub mod Entries\npub mod Fields\npub mod OpNames\n",
+    "crates/script_ast/specs/Fields.antt": """-- The names of fields.
+abbrev pub field_word : Field → List ℕ
+field_word As = codes "as"
+field_word Gain = codes "gain"
+""",
+    "crates/script_ast/specs/Entries.antt": """-- The fields of operations.
+abbrev pub create : List Row
+create =
+    row field.As kind.NewName Needed ∷
+    row field.Gain kind.Fix (Number (neg_ℤ (pos 8))) ∷ []
+
+abbrev pub name : List Row
+name = row field.As kind.Name Null ∷ []
+""",
+    "crates/script_ast/specs/OpNames.antt": """-- The operations.
+abbrev pub param_op_word : ParamOpName → List ℕ
+param_op_word param.Hold = codes "hold"
+
+abbrev pub op_word : OpName → List ℕ
+op_word Create = codes "create"
+op_word Find = codes "find"
+op_word (Param name) = param_op_word name
+op_word Rest = codes "rest"
+
+abbrev pub param_op_fields : ParamOpName → List Row
+param_op_fields param.Hold = entry.name
+
+abbrev pub fields_of : OpName → List Row
+fields_of Create = entry.create
+fields_of Find = entry.name
+fields_of (Param name) = param_op_fields name
+fields_of Rest = []
+
+abbrev pub operations : List OpName
+operations = Create ∷ Find ∷ Param param.Hold ∷ Rest ∷ []
+""",
+}
 FILES = {
     "crates.txt": "# lowest first\nbase:\nboat: base clap\nboat_tests: boat\nwaplay: boat base\n",
     "crates/base/specs/Lib.antt": "pub mod Sizes\n",
@@ -256,6 +298,42 @@ class Refusals(MadeUp):
         self.assertIn("crates.txt:6: 'ship:' names no crate", self.refused())
 
 
+class Operations(MadeUp):
+    """The table of operations."""
+
+    def setUp(self):
+        super().setUp()
+        for name, text in SCRIPTS.items():
+            self.put(name, text)
+        self.put(
+            "crates.txt",
+            "script_ast:\n" + FILES["crates.txt"].replace("boat base", "boat script_ast"),
+        )
+
+    def rows(self):
+        """The rows of the table, without its head."""
+        return operations.fields_table(House(self.top))[2:]
+
+    def test_rows(self):
+        wanted = [
+            "| `create` | `as` (new name), `gain` (fix, -8) |",
+            "| `find`, `hold` | `as` (name or null, null) |",
+            "| `rest` | none |",
+        ]
+        self.assertEqual(wanted, self.rows())
+
+    def test_refused(self):
+        name = "crates/script_ast/specs/Entries.antt"
+        for old, new in (
+            ("kind.Fix", "kind.Song"),
+            ("Null", "Nil"),
+            ("∷ []\n\nabbrev", "\n\nabbrev"),
+        ):
+            self.put(name, SCRIPTS[name].replace(old, new))
+            with self.assertRaises(Unreadable):
+                self.rows()
+
+
 class Parts(MadeUp):
     """The parts of written documents."""
 
@@ -325,6 +403,21 @@ class ThisRepository(unittest.TestCase):
     def test_links(self):
         pages = {Path(name): text for name, text in self.pages.items()}
         self.assertEqual([], dead_links(pages, TOP / "no such folder"))
+
+    def test_picture(self):
+        house = House(TOP)
+        drawn = picture.svg(house)
+        for name in house.product:
+            self.assertIn(f">{name}</text>", drawn)
+        house.product.append("raft")
+        with self.assertRaisesRegex(Unreadable, "differ in raft"):
+            picture.svg(house)
+
+    def test_operation(self):
+        fields = ("`node` (name)", "`when` (time, 0)", "`offset` (time, 0)")
+        row = f"| `start` | {', '.join(fields)}, `duration` (time or null, null) |"
+        self.assertIn(row, self.pages["operations.md"])
+        self.assertIn("| `createOscillator` | `oscillator` |", self.pages["operations.md"])
 
     def test_documents(self):
         self.assertEqual((0, ""), run_tool(TOP, "--check"))
