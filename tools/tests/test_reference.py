@@ -385,6 +385,14 @@ class Parts(MadeUp):
         self.assertEqual(0, status)
         self.assertIn("index.md: 5 pages", told)
         self.assertIn("# boat\n", (out / "boat.md").read_text(encoding="utf-8"))
+        (out / "ship.md").write_text("# ship\n", encoding="utf-8")
+        self.run_tool(str(out))
+        self.assertFalse((out / "ship.md").exists())
+
+    def test_make_where_others_stand(self):
+        self.put("out/ship.md", "# ship\n")
+        self.run_tool(str(self.top / "out"))
+        self.assertTrue((self.top / "out" / "ship.md").exists())
 
     def test_unreadable(self):
         self.change("crates/boat/src/lib.rt", "//! Boats.\n", "")

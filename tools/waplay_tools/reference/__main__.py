@@ -6,7 +6,7 @@ from pathlib import Path
 
 from waplay_tools.reference import links, parts
 from waplay_tools.reference.house import House
-from waplay_tools.reference.pages import Reference
+from waplay_tools.reference.pages import HEAD, Reference
 from waplay_tools.reference.scanning import Unreadable
 
 TOP = Path(__file__).resolve().parents[3]
@@ -67,10 +67,15 @@ def write(house: House) -> int:
 
 
 def make(house: House, out: Path) -> int:
-    """Writes the pages."""
+    """Writes the pages, and takes away those of an earlier time that are none any more."""
     reference = Reference(house)
     pages = reference.text()
     out.mkdir(parents=True, exist_ok=True)
+    index = out / "index.md"
+    if index.exists() and index.read_text(encoding="utf-8").startswith(HEAD):
+        for path in out.glob("*.md"):
+            if path.name not in pages:
+                path.unlink()
     for name, text in pages.items():
         (out / name).write_text(text, encoding="utf-8")
     size = sum(len(text.encode()) for text in pages.values())

@@ -19,6 +19,8 @@ from waplay_tools.reference.house import CodeFile, Crate, House
 TYPES = ("struct", "enum", "trait", "type", "const", "static")
 # The ghost members that say how a type is seen, and not what.
 HOW_SEEN = ("view", "inverse")
+# How the index begins.
+HEAD = "# Reference\n"
 
 
 @dataclasses.dataclass(frozen=True)
@@ -304,7 +306,7 @@ def one_line(text: str) -> str:
 def index_page(house: House) -> str:
     """The page that the others hang on."""
     lines = [
-        "# Reference",
+        HEAD.strip(),
         "",
         "Made from the sources by `tools/reference`. Each crate has a page: its calls and types "
         "with their contracts, and the definitions that the contracts name.",
