@@ -8,11 +8,14 @@ import stat
 import sys
 import tempfile
 import unittest
+from pathlib import Path
 
 import fixtures
 import command_lines
 from expecting import sessions
 from command_lines import BAD_OUT, BAD_TEXT, NO_OUT, NOT_TEXT, REPEATED, SEVERAL, UNKNOWN, WITHOUT_TEXT, NoReading
+from waplay_tools.cases.case import read_case
+from waplay_tools.cases.words import words_of
 
 PLAIN = command_lines.Reading("o", 24, "up", "render", None)
 
@@ -176,6 +179,23 @@ class Lines(unittest.TestCase):
                 self.assertEqual(self.reason(joined(parts[:place] + [parts[place]] + parts[place:])), REPEATED, parts)
                 short = [parts[place][0].replace("--", "--x", 1), *parts[place][1:]]
                 self.assertEqual(self.reason(joined(parts[:place] + [short] + parts[place + 1:])), UNKNOWN, parts)
+
+
+class Cases(unittest.TestCase):
+    def test_words_are_read_as_the_cases_say(self):
+        reasons = set()
+        for path in sorted(Path(fixtures.TOP, "tests", "cases").rglob("*.json")):
+            case = read_case(path)
+            words = [os.fsencode(word) for word in case.words]
+            if case.status == 2:
+                reasons.add(command_lines.answer(words))
+                self.assertRaises(NoReading, command_lines.reading, words)
+                continue
+            asked, of_runner = command_lines.reading(words), words_of(case.words)
+            self.assertEqual(
+                (asked.out, asked.bits, asked.mode, asked.generated is not None),
+                (of_runner.out, of_runner.bits, of_runner.mode, of_runner.is_generated), path)
+        self.assertEqual(reasons, set(command_lines.REASONS))
 
 
 class RandomLines(unittest.TestCase):
