@@ -2,7 +2,7 @@ use Rattle.std.proofs.Common.{◌^◌, ◌-◌, ◌*◌, ◌≤◌, pos, rules, 
 use Rattle.std.proofs.lemmas.List.{places}
 use Rattle.std.proofs.lemmas.List.Elements.{All-take, All-replicate}
 use Rattle.lane_kern.specs.Blocks.{IsWithin}
-use Rattle.mix_tests.proofs.blocks.is_mixed_by_frames.Goals as goal
+use Rattle.base_tests.proofs.blocks.is_mixed_by_frames.Goals as goal
 
 pub mix_add-requires-clause-lengths : goal.mix_add-requires-clause-lengths
 mix_add-requires-clause-lengths c =

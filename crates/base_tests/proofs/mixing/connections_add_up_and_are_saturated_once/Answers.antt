@@ -2,7 +2,7 @@ use Rattle.std.proofs.Common.{pos, replicate, arith}
 use Rattle.std.specs.Prelude.{All}
 use Rattle.std.proofs.lemmas.List.Elements.{All-replicate}
 use Rattle.lane_kern.specs.Blocks.{IsWithin}
-use Rattle.mix_tests.proofs.mixing.connections_add_up_and_are_saturated_once.Goals as goal
+use Rattle.base_tests.proofs.mixing.connections_add_up_and_are_saturated_once.Goals as goal
 
 zeros_within : All (IsWithin 0) (replicate 4 (pos 0))
 zeros_within = All-replicate (IsWithin 0) 4 (pos 0) (omega arith)

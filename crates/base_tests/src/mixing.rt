@@ -63,6 +63,7 @@ fn speakers_are_mixed_down(rt: HostRuntime) {
         268_435_456,
         536_870_912,
     ];
+    let ends = [2_147_483_647, 2_147_483_646, 2_147_483_645, -2_147_483_645];
     for (src, want) in [
         ([3, 4].as_slice(), [4].as_slice()),
         ([-3, -4].as_slice(), [-3].as_slice()),
@@ -71,6 +72,8 @@ fn speakers_are_mixed_down(rt: HostRuntime) {
             [10, 200, 3000, 40_000].as_slice(),
             [1505, 20_100].as_slice(),
         ),
+        (ends.as_slice(), [1_073_741_823].as_slice()),
+        (ends.as_slice(), [2_147_483_646, 1].as_slice()),
         (powers.as_slice(), [505_351_897].as_slice()),
         (powers.as_slice(), [254_042_876, 460_632_620].as_slice()),
         (
