@@ -140,14 +140,21 @@ fn is_whole(alloc: Global, outcome: &Outcome) -> Result<bool, NoMemory> {
     Ok(is_heard && lines.as_slice() == LINES)
 }
 
+fn comes_out(alloc: Global, script: &Script) -> Result<bool, Fail>
+    requires { IsWellFormed script.now }
+{
+    let (outcome, goes) = outcome_again(alloc, script)?;
+    let is_whole = is_whole(alloc, &outcome);
+    drop(outcome);
+    Ok(goes && is_whole?)
+}
+
 #[test]
 fn a_call_and_a_quantum_can_be_done_again(rt: HostRuntime) -> Result<(), Fail> {
     let script = script_again(rt.alloc())?;
-    let (outcome, goes) = outcome_again(rt.alloc(), &script)?;
-    let is_whole = is_whole(rt.alloc(), &outcome);
-    drop(outcome);
+    let comes_out = comes_out(rt.alloc(), &script);
     drop(script);
-    assert!(rt; goes && is_whole?);
+    assert!(rt; comes_out?);
     Ok(())
 }
 
@@ -170,14 +177,20 @@ fn run_again(alloc: Global, script: &Script) -> Result<Outcome, Stop>
     outcome
 }
 
+fn comes_out_of_a_run(alloc: Global, script: &Script) -> Result<bool, Fail>
+    requires { IsWellFormed script.now }
+{
+    let outcome = run_again(alloc, script)?;
+    let is_whole = is_whole(alloc, &outcome);
+    drop(outcome);
+    Ok(is_whole?)
+}
+
 #[test]
 fn a_script_can_be_run_again(rt: HostRuntime) -> Result<(), Fail> {
     let script = script_again(rt.alloc())?;
-    let ran = run_again(rt.alloc(), &script);
+    let comes_out = comes_out_of_a_run(rt.alloc(), &script);
     drop(script);
-    let outcome = ran?;
-    let is_whole = is_whole(rt.alloc(), &outcome);
-    drop(outcome);
-    assert!(rt; is_whole?);
+    assert!(rt; comes_out?);
     Ok(())
 }
