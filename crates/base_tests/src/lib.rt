@@ -1,9 +1,13 @@
-//! Tests of the lower crates: numbers, schedules, nodes, transcripts, names and WAV files. A crate
-//! with tests is proved twice, so they stand apart.
+//! Tests of the lower crates, of what no session shows: numbers, blocks and their mixing, schedules, nodes,
+//! transcripts, names and WAV files. A crate with tests is proved twice, so they stand apart.
 #![tactic(auto)]
 
 #[cfg(test)]
-mod kinds;
+mod blocks;
+#[cfg(test)]
+mod kernels;
+#[cfg(test)]
+mod mixing;
 #[cfg(test)]
 mod names;
 #[cfg(test)]
@@ -12,8 +16,6 @@ mod nodes;
 mod numbers;
 #[cfg(test)]
 mod schedules;
-#[cfg(test)]
-mod shapers;
 #[cfg(test)]
 mod transcripts;
 #[cfg(test)]

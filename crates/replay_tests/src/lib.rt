@@ -1,9 +1,12 @@
-//! Tests of the top call: its words, its statuses, what faults leave, and every word of a transcript.
+//! Tests of the top call and of a session, of what no run of the program shows: reads, writes, fetches and
+//! appends that fail, memory that is refused, and a session turn by turn.
 #![tactic(auto)]
 
 #[cfg(test)]
-mod options;
+mod faults;
+#[cfg(test)]
+mod refused_memory;
 #[cfg(test)]
 mod runs;
 #[cfg(test)]
-mod spelling;
+mod turns;

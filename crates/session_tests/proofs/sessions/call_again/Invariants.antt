@@ -1,6 +1,0 @@
-use Rattle.std.proofs.Common.{drop}
-use Rattle.script_ast.specs.WellFormed.{AreCallsAfter}
-use Rattle.session_tests.proofs.sessions.call_again.Given as goal
-
-abbrev pub invariant-loop-call : goal.invariant-loop-call
-invariant-loop-call l = AreCallsAfter l.call-index (drop l.call-index l.calls)
