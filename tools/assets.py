@@ -153,8 +153,10 @@ def beat() -> list[list[int]]:
 
 
 def pick() -> list[list[int]]:
-    """A burst of bright noise that sets a string going, as long as the longest string."""
-    return [bright(400, 24000)]
+    """A burst that sets a string going, as long as the longest string: noise, from which the same
+    is taken away 64 frames later, as where a string is plucked near its end."""
+    burst = noise(400, 16000)
+    return [[value - before for value, before in zip(burst, [0] * 64 + burst)]]
 
 
 def saw() -> list[list[int]]:
