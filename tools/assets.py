@@ -197,6 +197,11 @@ def pad() -> list[list[int]]:
     ]
 
 
+def slow() -> list[list[int]]:
+    """One period of a sine, a fifth of a second long, that moves other values."""
+    return [[sine(frame * TURN // 8820) * 32767 // FULL for frame in range(8820)]]
+
+
 def choir() -> list[list[int]]:
     """A voice of 20 partials of 110 Hz, which goes from a dark vowel to a bright one."""
     frames, waves = 48000, []
@@ -221,6 +226,7 @@ ASSETS = {
     "pick.wav": Asset(44100, 16, pick),
     "saw.wav": Asset(44100, 16, saw),
     "pad.wav": Asset(44100, 16, pad),
+    "slow.wav": Asset(44100, 16, slow),
     "bell_1.wav": Asset(44100, 16, bell(880)),
     "bell_2.wav": Asset(44100, 16, bell(784)),
     "bell_3.wav": Asset(44100, 16, bell(698)),
