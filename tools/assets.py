@@ -38,7 +38,7 @@ def triangle(frame: int, period: int, height: int) -> int:
 
 
 def sine(turn: int) -> int:
-    """The sine of so many parts of a turn, in units of FULL: a parabola a half turn, bent once."""
+    """The sine of so many parts of a turn, in units of FULL: a parabola for a half, bent once."""
     x = TURN // 2 - turn % TURN
     arch = x * (TURN // 2 - abs(x)) // 2**13
     return arch + 225 * (arch * abs(arch) // FULL - arch) // 1000
@@ -77,7 +77,8 @@ def decay(frames: int, half: int) -> Iterator[int]:
 
 def struck(wave: list[int], half: int, height: int) -> list[int]:
     """The wave as it fades after a stroke, and begins with this height."""
-    return [value * level // FULL * height // FULL for value, level in zip(wave, decay(len(wave), half))]
+    levels = decay(len(wave), half)
+    return [value * level // FULL * height // FULL for value, level in zip(wave, levels)]
 
 
 def mixed(*waves: list[int]) -> list[int]:
@@ -100,7 +101,8 @@ def drum_loop() -> list[list[int]]:
 
 def small_bell() -> list[list[int]]:
     """Two notes of a bell, struck once."""
-    return [[faded(triangle(f, 10, 12000) + triangle(f, 14, 9000), f, 1600) for f in range(1600)]]
+    notes = [triangle(f, 10, 12000) + triangle(f, 14, 9000) for f in range(1600)]
+    return [[faded(value, f, 1600) for f, value in enumerate(notes)]]
 
 
 def chord() -> list[list[int]]:
@@ -160,7 +162,7 @@ def pick() -> list[list[int]]:
 
 
 def saw() -> list[list[int]]:
-    """One period of a saw of 24 partials. Played at rates of 2, 3, 4 it sounds the notes of a horn."""
+    """One period of a saw of 24 partials. Played at the rates 2, 3, 4 it has the notes of a horn."""
     frames = 1604
     return [[
         sum(sine(frame * partial * TURN // frames) // partial for partial in range(1, 25)) * 3 // 8
@@ -176,8 +178,11 @@ PARTIALS = (500, 5200, 16000), (1000, 6600, 9000), (1200, 5200, 7000), (1500, 26
 def bell(hertz: int) -> Callable[[], list[list[int]]]:
     """A bell of this frequency, with the partials of church bells: one at a half, a minor third."""
     def make() -> list[list[int]]:
-        parts = [struck(tone(hertz * part, 44100, 40000), half, height) for part, height, half in PARTIALS]
-        return [mixed(*parts)]
+        waves = (
+            struck(tone(hertz * part, 44100, 40000), half, height)
+            for part, height, half in PARTIALS
+        )
+        return [mixed(*waves)]
     return make
 
 
@@ -242,8 +247,8 @@ def wav_bytes(rate: int, bits: int, channels: list[list[int]]) -> bytes:
     block = width * len(channels)
     body = b"".join((value + 128 if bits == 8 else value % 2**bits).to_bytes(width, "little")
                     for frame in zip(*channels) for value in frame)
-    head = struct.pack("<4sI8sIHHIIHH4sI", b"RIFF", 36 + len(body), b"WAVEfmt ", 16, 1, len(channels),
-                       rate, rate * block, block, bits, b"data", len(body))
+    head = struct.pack("<4sI8sIHHIIHH4sI", b"RIFF", 36 + len(body), b"WAVEfmt ", 16, 1,
+                       len(channels), rate, rate * block, block, bits, b"data", len(body))
     return head + body + b"\0" * (len(body) % 2)
 
 
@@ -252,9 +257,9 @@ def main() -> int:
     words = argparse.ArgumentParser(description=__doc__,
                                     formatter_class=argparse.RawDescriptionHelpFormatter)
     words.add_argument("--check", action="store_true",
-                       help="write nothing; name each file that is not as it would be written (status 1 if any)")
+                       help="write nothing; name each file that is otherwise (status 1 if any)")
     words.add_argument("--sums", action="store_true",
-                       help="write nothing; print the size, the frames, the greatest sample and the sums of each")
+                       help="write nothing; print size, frames, greatest sample and sums of each")
     arguments = words.parse_args()
     wrong = 0
     for name, asset in ASSETS.items():
@@ -263,7 +268,8 @@ def main() -> int:
         path = FOLDER / name
         if arguments.sums:
             peak = max(abs(value) for channel in channels for value in channel)
-            print(name, len(data), "bytes,", len(channels[0]), "frames, peak", peak, "sums", *map(sum, channels))
+            size = f"{len(data)} bytes, {len(channels[0])} frames"
+            print(f"{name} {size}, peak {peak}, sums", *map(sum, channels))
         elif not arguments.check:
             path.write_bytes(data)
         elif not path.exists() or path.read_bytes() != data:

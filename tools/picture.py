@@ -67,7 +67,7 @@ def main() -> int:
     """Prints the picture of the file that is named."""
     words = argparse.ArgumentParser(prog="picture.py", description=__doc__,
                                     formatter_class=argparse.RawDescriptionHelpFormatter)
-    words.add_argument("wav", type=Path, metavar="WAV", help="the file; the picture goes to standard output")
+    words.add_argument("wav", type=Path, metavar="WAV", help="the file; the picture is printed")
     path = words.parse_args().wav
     try:
         recording = recording_of(path.read_bytes())
