@@ -162,7 +162,7 @@ def pick() -> list[list[int]]:
 
 
 def saw() -> list[list[int]]:
-    """One period of a saw of 24 partials. Played at the rates 2, 3, 4 it has the notes of a horn."""
+    """One period of a saw of 24 partials. At the rates 2, 3, 4 it has the notes of a horn."""
     frames = 1604
     return [[
         sum(sine(frame * partial * TURN // frames) // partial for partial in range(1, 25)) * 3 // 8
