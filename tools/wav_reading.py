@@ -5,6 +5,7 @@ tools/expected.py reads assets with it, and tools/wav_check.py compares the prog
 has no code in common with the program.
 """
 
+import functools
 import struct
 
 PCM = bytes.fromhex("0100000000001000800000aa00389b71")  # the subformat of an extended format
@@ -30,6 +31,7 @@ class Recording:
         return value(self.bits, self.data[place : place + width])
 
 
+@functools.lru_cache(maxsize=2**16)
 def value(bits, sample):
     """The nearest whole number to the sample in units of 2^-24, where halves go up."""
     if bits == 8:

@@ -137,14 +137,16 @@ class BufferSource(Node):
         ends = [None if played is None else self.start + played, super().end()]
         return min((end for end in ends if end is not None), default=None)
 
-    def position(self, frame):
-        """The frame of the buffer that is heard at a frame."""
-        place = self.first() + (frame - self.start) * self.rate
-        first, last = self.loop()
-        return first + (place - first) % (last - first) if self.is_looping and place >= last else place
+    def positions(self, frames):
+        """The frames of the buffer that are heard at these frames."""
+        begin, (first, last) = self.first(), self.loop()
+        places = [begin + (frame - self.start) * self.rate for frame in frames]
+        if self.is_looping:
+            return [first + (place - first) % (last - first) if place >= last else place for place in places]
+        return places
 
     def content(self, played, first, levels):
-        places = [self.position(frame) for frame in played]
+        places = self.positions(played)
         return [[self.buffer.sample(channel, place) for place in places] for channel in range(self.buffer.channels)]
 
 

@@ -32,8 +32,9 @@ def products(block, levels):
 
 
 def summed(blocks):
-    """The exact sum of blocks, saturated once; silence where there is none."""
-    total = blocks[0] if len(blocks) == 1 else [sum(values) for values in zip(SILENCE, *blocks)]
+    """The exact sum of blocks, saturated once; silence where there is none. Silent ones add nothing."""
+    blocks = [block for block in blocks if block is not SILENCE] or [SILENCE]
+    total = blocks[0] if len(blocks) == 1 else [sum(values) for values in zip(*blocks)]
     return bounded(total, *FIX)
 
 

@@ -1,7 +1,9 @@
 """Scripts, transcripts and WAV files that the tests of tools are given."""
 
+import glob
 import json
 import os
+import pathlib
 import random
 import struct
 import subprocess
@@ -9,13 +11,23 @@ import sys
 
 TOOLS = os.path.dirname(os.path.dirname(os.path.abspath(__file__)))
 TOP = os.path.dirname(TOOLS)
-EXAMPLES = os.path.join(TOP, "examples")
+EXAMPLES = os.path.join(TOP, "examples")  # the folder of assets
+CASES = os.path.join(TOP, "tests", "cases")
 for folder in TOOLS, os.path.dirname(os.path.abspath(__file__)):
     if folder not in sys.path:
         sys.path.insert(0, folder)
 sys.dont_write_bytecode = True
 
 from expecting import sessions
+from waplay_tools.cases.case import read_case
+
+# The cases that the tests of tools take: sessions of each kind of node, of refusals, and of suspensions.
+SESSIONS = (
+    "balance_control", "constant", "cue_that_never_comes", "disconnecting", "drum_loop", "edited_while_it_plays",
+    "feedback_delay", "fold_down_five_point_one", "hi_hat_choked", "low_pass_on_an_impulse", "merger_fixed_attributes",
+    "mono_and_stereo_files", "one_shot_cut_by_stop", "ramp_held_where_it_is", "refused_calls", "six_channels",
+    "soft_clipping", "sustained_note", "tremolo", "voice_piano_and_room",
+)
 
 HOSTILE_NAMES = [
     "</script><script>window.hurt=1</script>", '"><img src=x onerror="window.hurt=1">', "' onmouseover='window.hurt=1",
@@ -56,10 +68,15 @@ def write(folder, name, data):
     return path
 
 
-def example(name):
-    """The bytes of an example's script, its transcript and its WAV file, if any, as they are worked out."""
-    with open(os.path.join(EXAMPLES, name + ".json"), "rb") as file:
-        data = file.read()
+def script_of_case(name):
+    """The bytes of the script of the case of this name, whatever its subject."""
+    (path,) = glob.glob(os.path.join(CASES, "*", name + ".json"))
+    return read_case(pathlib.Path(path)).input_bytes() + b"\n"
+
+
+def session_of_case(name):
+    """The bytes of a case's script, its transcript and its WAV file, if any, as they are worked out."""
+    data = script_of_case(name)
     status, text, session = sessions.replayed(data, EXAMPLES)
     return data, text, sessions.wav_bytes(session) if status == 0 else None
 

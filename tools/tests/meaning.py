@@ -134,7 +134,7 @@ class Meaning:
                 return 0
             if node.kind == "constant":
                 return self.parameter(frame, number, "offset")
-            return node.buffer.sample(channel, node.position(frame))
+            return node.buffer.sample(channel, node.positions([frame])[0])
         if node.kind == "gain":
             level = self.parameter(frame, number, "gain")
             return saturated(rounded_quotient(self.heard(frame, number, 0, channel) * level, ONE))

@@ -33,11 +33,11 @@ class Difference(unittest.TestCase):
         return ran.stderr.decode()
 
     def test_equal_transcripts(self):
-        text = fixtures.example("hi_hat_choked")[1]
+        text = fixtures.session_of_case("hi_hat_choked")[1]
         self.assertEqual(self.run_on(text, text), (0, "The transcripts are equal: 47 lines.\n"))
 
     def test_where_they_part_and_what_differs(self):
-        data, text, _ = fixtures.example("hi_hat_choked")
+        data, text, _ = fixtures.session_of_case("hi_hat_choked")
         script = fixtures.write(self.folder, "it.json", data)
         other = text.replace("\n6 ok\n", "\n6 throw NotSupportedError profile:node-limit\n")
         status, told = self.run_on(text, other, "--script", script, "--context", "1")
@@ -84,7 +84,7 @@ class Difference(unittest.TestCase):
             self.assertEqual(difference.parting(lines_of(text), other), at + 1)
 
     def test_input_that_is_of_no_use(self):
-        data, text, _ = fixtures.example("constant")
+        data, text, _ = fixtures.session_of_case("constant")
         script, good = fixtures.write(self.folder, "it.json", data), fixtures.write(self.folder, "good", text)
         other = fixtures.write(self.folder, "other", fixtures.suspended()[1])
         nowhere = os.path.join(self.folder, "nowhere")

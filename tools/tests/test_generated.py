@@ -62,9 +62,8 @@ class Loads(unittest.TestCase):
 
 class SecondCalculation(unittest.TestCase):
     def test_a_session_that_is_checked_has_the_same_lines(self):
-        for name in sorted(name[:-5] for name in os.listdir(fixtures.EXAMPLES) if name.endswith(".json")):
-            with open(os.path.join(fixtures.EXAMPLES, name + ".json"), "rb") as file:
-                data = file.read()
+        for name in fixtures.SESSIONS:
+            data = fixtures.script_of_case(name)
             status, text, session = sessions.replayed(data, fixtures.EXAMPLES, is_checked=True)
             self.assertEqual((status, text), sessions.replayed(data, fixtures.EXAMPLES)[:2], name)
             self.assertIsNone(session and session.values, name)

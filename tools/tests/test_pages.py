@@ -31,9 +31,9 @@ def pages():
     yield "resumed", data, text, sound, bytes(other)
     yield "stalled", *fixtures.suspended(), None, None
     yield "hostile", *fixtures.hostile(), None
-    yield "ended", *fixtures.example("hi_hat_choked"), None
-    yield "decoded", *fixtures.example("drum_loop"), None
-    yield "refused", *fixtures.example("refused_calls"), None
+    yield "ended", *fixtures.session_of_case("hi_hat_choked"), None
+    yield "decoded", *fixtures.session_of_case("drum_loop"), None
+    yield "refused", *fixtures.session_of_case("refused_calls"), None
     yield "wide", wide, "1 pending\n1 resolved\ncomplete 33554\nend completed\n", quiet, None
     yield "x" * 120, b'{"version": 1, "context": [}', "script: BadJson\n", None, None
     yield "fault", fixtures.script([{"op": "<b>" * 100}]), "script: 1 op UnknownOp\n", None, None

@@ -179,7 +179,7 @@ class Following(unittest.TestCase):
 
     def test_ends_of_decoded_files_lie_between_their_frames(self):
         for name in ("drum_loop", "mono_and_stereo_files", "one_shot_cut_by_stop", "sustained_note"):
-            data, text, _ = fixtures.example(name)
+            data, text, _ = fixtures.session_of_case(name)
             _, _, session = sessions.replayed(data, fixtures.EXAMPLES)
             found = Session(script_reading.script_of(data), transcript_reading.lines_of(text.encode(), "t"), ("s", "t"))
             for mark in found.marks:
@@ -238,8 +238,8 @@ class Following(unittest.TestCase):
 
     def test_changed_transcripts_are_refused_or_followed_without_another_error(self):
         rng, refused = random.Random("changed"), 0
-        texts = [fixtures.suspended(), fixtures.resumed()[:2], fixtures.example("refused_calls")[:2],
-                 fixtures.example("hi_hat_choked")[:2]]
+        texts = [fixtures.suspended(), fixtures.resumed()[:2], fixtures.session_of_case("refused_calls")[:2],
+                 fixtures.session_of_case("hi_hat_choked")[:2]]
         words = [("ok", "throw TypeError"), ("ended 1", "ended 9"), ("1", "2"), ("pending", "ok"),
                  ("resolved", "rejected TypeError"), ("completed", "idle")]
         for _ in range(1500):

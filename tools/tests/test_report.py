@@ -81,9 +81,9 @@ class Report(unittest.TestCase):
         self.assertRegex(ran.stderr.decode(), r"\Areport: [^\n]+\n\Z")
         return ran.stderr.decode()
 
-    def test_every_example_has_its_page(self):
-        for name in sorted(it[:-5] for it in os.listdir(fixtures.EXAMPLES) if it.endswith(".json")):
-            data, text, sound = fixtures.example(name)
+    def test_every_session_has_its_page(self):
+        for name in fixtures.SESSIONS:
+            data, text, sound = fixtures.session_of_case(name)
             page = self.report(fixtures.written(self.folder, name, data, text, sound))
             channels = json.loads(data)["context"]["channels"] if sound else 0
             self.assertEqual(len(page.of("path", **{"class": "envelope"})), channels)
@@ -115,7 +115,7 @@ class Report(unittest.TestCase):
 
     def test_peaks_and_sums_are_those_of_a_plain_sum(self):
         for name in ("hi_hat_choked", "six_channels", "drum_loop"):
-            data, text, sound = fixtures.example(name)
+            data, text, sound = fixtures.session_of_case(name)
             page = self.report(fixtures.written(self.folder, name, data, text, sound))
             _, _, session = sessions.replayed(data, fixtures.EXAMPLES)
             for channel, samples in enumerate(zip(*session.samples)):
@@ -151,7 +151,7 @@ class Report(unittest.TestCase):
         self.assertNotRegex(text, "[\u0000-\u0008\u000b-\u001f\u007f-\u009f\u202a-\u202e\u2066-\u2069]")
 
     def test_hostile_file_names(self):
-        data, text, sound = fixtures.example("constant")
+        data, text, sound = fixtures.session_of_case("constant")
         name = "</title><script>window.hurt=1</script>\n\u202e'\"&".replace("/", "\u2215").encode() + b"\xff"
         folder = os.fsencode(self.folder)
         paths = [os.path.join(folder, name + end) for end in (b".json", b".txt", b".wav")]
@@ -230,7 +230,7 @@ class Report(unittest.TestCase):
         self.assertIn("The files differ in channels (1 here, 2 there), frames (2,048 here, 1 there), ", page.text())
 
     def test_input_that_is_of_no_use(self):
-        data, text, sound = fixtures.example("hi_hat_choked")
+        data, text, sound = fixtures.session_of_case("hi_hat_choked")
         script, transcript, wav = fixtures.written(self.folder, "it", data, text, sound)
         nowhere = os.path.join(self.folder, "no\nwhere")
         empty = fixtures.write(self.folder, "empty", b"")
@@ -244,14 +244,15 @@ class Report(unittest.TestCase):
         self.assertIn("third word", self.refused(script, transcript))
         self.assertIn("is no transcript", self.refused(script, script, wav))
         self.assertIn("does not belong", self.refused(empty, transcript, wav))
-        self.assertIn("does not belong", self.refused(os.path.join(fixtures.EXAMPLES, "constant.json"), transcript, wav))
+        other = fixtures.write(self.folder, "other.json", fixtures.script_of_case("constant"))
+        self.assertIn("does not belong", self.refused(other, transcript, wav))
         short = fixtures.write(self.folder, "short.wav", fixtures.wav([[0] * 191]))
         self.assertIn("its length is 191, and the context's is 192", self.refused(script, transcript, short))
         idle = fixtures.written(self.folder, "idle", fixtures.script([]), "end idle\n")
         self.assertIn("no WAV file", self.refused(*idle, "--against", wav))
 
     def test_a_page_that_can_not_be_written(self):
-        paths = fixtures.written(self.folder, "it", *fixtures.example("constant"))
+        paths = fixtures.written(self.folder, "it", *fixtures.session_of_case("constant"))
         with open("/dev/full", "wb") as full:
             command = [sys.executable, os.path.join(fixtures.TOOLS, "report"), *paths]
             ran = subprocess.run(command, stdout=full, stderr=subprocess.PIPE)

@@ -1,0 +1,68 @@
+"""Whether README and the guide say what comes when their commands are typed in."""
+
+import json
+import re
+import unittest
+from pathlib import Path
+
+import fixtures
+from expecting.sessions import replayed
+
+TOP = Path(fixtures.TOP)
+EXAMPLES = TOP / "examples"
+
+
+def blocks_of(document: str) -> list[str]:
+    """The blocks of a document that are indented by four blanks, without them."""
+    text = (TOP / document).read_text(encoding="utf-8")
+    found = re.findall(r"(?:^ {4}.*\n(?:\n(?= {4}))?)+", text, re.M)
+    return [re.sub(r"^ {4}", "", block, flags=re.M).strip("\n") for block in found]
+
+
+def block_with(document: str, words: str) -> str:
+    """The first block of a document in which these words stand."""
+    return next(block for block in blocks_of(document) if words in block)
+
+
+class Documents(unittest.TestCase):
+    def test_the_first_piece_stands_in_the_readme(self):
+        piece = json.loads((EXAMPLES / "first_piece.json").read_text(encoding="utf-8"))
+        told = json.loads(block_with("README.md", '"version"'))
+        self.assertEqual(told, {name: it for name, it in piece.items() if name != "about"})
+
+    def test_the_lines_of_the_first_piece_stand_in_the_readme(self):
+        lines = (EXAMPLES / "first_piece.txt").read_text(encoding="utf-8").splitlines()
+        text = " ".join((TOP / "README.md").read_text(encoding="utf-8").split())
+        told = ", ".join(f"`{line}`" for line in [lines[0], *lines[8:]])
+        self.assertEqual(lines[1:8], [f"{call} ok" for call in range(2, 9)])
+        self.assertIn(told.replace(", ", ", `2 ok` to `8 ok`, ", 1), text)
+
+    def test_the_first_piece_of_the_guide_has_its_transcript(self):
+        script = block_with("docs/GUIDE.md", '"version"')
+        status, text, _ = replayed(script.encode(), str(EXAMPLES), is_checked=True)
+        self.assertEqual((status, text.strip()), (0, block_with("docs/GUIDE.md", "end completed")))
+
+    def test_the_echo_of_the_guide_can_be_added(self):
+        script = block_with("docs/GUIDE.md", '"version"')
+        echo = block_with("docs/GUIDE.md", '"createDelay"')
+        longer = re.sub(r"(?=\{ \"op\": \"startRendering\")", lambda _: echo.strip() + "\n", script)
+        status, text, _ = replayed(longer.encode(), str(EXAMPLES), is_checked=True)
+        self.assertEqual((status, re.findall("throw|rejected", text)), (0, []))
+
+    def test_every_piece_stands_in_the_page_of_pieces(self):
+        page = (TOP / "docs" / "EXAMPLES.md").read_text(encoding="utf-8")
+        pictures = page + (TOP / "README.md").read_text(encoding="utf-8")
+        for path in sorted(EXAMPLES.glob("*.json")):
+            self.assertIn(f"](../examples/{path.name})", page)
+            self.assertIn(f"pictures/{path.stem}.svg", pictures)
+            self.assertTrue(path.with_suffix(".txt").is_file(), path)
+
+
+class Assets(unittest.TestCase):
+    def test_the_files_are_those_that_are_made(self):
+        ran = fixtures.run("assets.py", "--check")
+        self.assertEqual((ran.returncode, ran.stdout), (0, b""))
+
+
+if __name__ == "__main__":
+    unittest.main()
