@@ -3,7 +3,7 @@
 own.
 
     python3 tools/delays.py            the digest of what their readers give, which
-                                       crates/delay_tests/src/digests.rt is to give too
+                                       crates/effect_tests/src/delay_digests.rt is to give too
     python3 tools/delays.py --count    how often a block could be read, how many of its samples were 0, and
                                        how many were mixed up
 

@@ -3,7 +3,7 @@
 calculation, apart from the crates' own.
 
     python3 tools/filters.py            the digest of all refusals and outputs, which
-                                        crates/causal_tests/src/digests.rt is to give too
+                                        crates/effect_tests/src/causal_digests.rt is to give too
     python3 tools/filters.py --count    how often each refusal was given, and how many outputs of filters
                                         were saturated
 
