@@ -24,7 +24,7 @@ pub struct Level {
 }
 
 /// How a level holds its values: one that it has at all frames, or one for each frame.
-#[derive(Clone, Copy, Debug)]
+#[derive(Clone, Copy)]
 pub enum Values<'a> {
     Steady(Fix),
     Moving(&'a [Fix]),

@@ -1,9 +1,13 @@
 //! Tests of the lower crates, of what no session shows: numbers, blocks and their mixing, schedules, nodes,
-//! transcripts, names and WAV files. A crate with tests is proved twice, so they stand apart.
+//! transcripts, names, buffers and WAV files. A crate with tests is proved twice, so they stand apart.
 #![tactic(auto)]
 
 #[cfg(test)]
 mod blocks;
+#[cfg(test)]
+mod buffer_refusals;
+#[cfg(test)]
+mod buffer_samples;
 #[cfg(test)]
 mod kernels;
 #[cfg(test)]

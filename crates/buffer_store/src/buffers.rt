@@ -4,7 +4,7 @@ ghost use Rattle.buffer_store.specs.Buffers as spec;
 use wa_base::{Fix, NoMemory, Samples};
 
 /// What a buffer has besides its samples.
-#[derive(Clone, Copy, Debug, PartialEq, Eq)]
+#[derive(Clone, Copy, PartialEq, Eq)]
 pub struct Shape {
     /// The number of channels (numberOfChannels), from 1 to 32.
     pub channels: u32,
@@ -17,7 +17,7 @@ pub struct Shape {
 }
 
 /// A buffer (AudioBuffer).
-#[derive(Debug, Drop)]
+#[derive(Drop)]
 pub struct Buffer {
     pub shape: Shape,
     /// The samples, one channel after another.

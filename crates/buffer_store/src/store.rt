@@ -22,7 +22,7 @@ const MAX_SAMPLES: u64 = 134_217_728;
 /// The buffers of a session, in order of creation. Contracts see them as the list of buffers.
 ///
 /// A buffer is never removed. All buffers have at most 134,217,728 samples together.
-#[derive(Debug, Drop)]
+#[derive(Drop)]
 pub struct Store {
     buffers: Vec<Buffer>,
     // The number of samples in all buffers.

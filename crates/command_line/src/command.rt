@@ -10,7 +10,7 @@ use std::alloc::{AllocError, Global};
 use wa_base::NoMemory;
 
 /// The texts that words give, each where it is given.
-#[derive(Clone, Copy, Debug)]
+#[derive(Clone, Copy)]
 pub struct Texts<'a> {
     pub bits: Option<&'a str>,
     pub order: Option<&'a str>,

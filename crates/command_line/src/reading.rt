@@ -13,7 +13,7 @@ pub const USAGE: &[u8] =
     b"words: waplay [--bits 16|24] [--order up|down] [--mode render|check] [--gen N] OUT\n";
 
 /// What is done with a script.
-#[derive(Clone, Copy, Debug, PartialEq, Eq)]
+#[derive(Clone, Copy, PartialEq, Eq)]
 pub enum Mode {
     /// The session runs, and its samples are rendered into a WAV file.
     Render,

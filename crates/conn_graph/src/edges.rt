@@ -4,14 +4,14 @@ ghost use Rattle.conn_graph.specs.Edges as spec;
 use wa_base::{NodeId, ParamId};
 
 /// Where a connection leads: to an input of a node, or to a parameter.
-#[derive(Clone, Copy, Debug, PartialEq, Eq)]
+#[derive(Clone, Copy, PartialEq, Eq)]
 pub enum Target {
     Input { node: NodeId, input: u32 },
     Param(ParamId),
 }
 
 /// A connection: from an output of a node to a target.
-#[derive(Clone, Copy, Debug, PartialEq, Eq)]
+#[derive(Clone, Copy, PartialEq, Eq)]
 pub struct Edge {
     pub from: NodeId,
     pub output: u32,
@@ -38,7 +38,7 @@ pub enum Form {
 }
 
 /// How many inputs and outputs a node has, and whether it is a delay.
-#[derive(Clone, Copy, Debug, PartialEq, Eq)]
+#[derive(Clone, Copy, PartialEq, Eq)]
 pub struct Ports {
     pub inputs: u32,
     pub outputs: u32,

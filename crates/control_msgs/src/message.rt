@@ -8,7 +8,7 @@ use meaning::{Change, World};
 use wa_base::NoMemory;
 
 /// What changed in the world of the control side. Frames count from the start of the context.
-#[derive(Debug, Drop)]
+#[derive(Drop)]
 pub enum Message {
     /// An accepted call changed it.
     Change(Change),

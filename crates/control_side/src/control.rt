@@ -29,7 +29,7 @@ use transcript::{Answer, Line};
 use wa_base::{BufId, ContextSpec, Name, NoMemory, NodeId, QUANTUM, State};
 
 /// What a call did: its answer, and the change of the world of which the side that renders has to hear.
-#[derive(Debug, Drop)]
+#[derive(Drop)]
 pub struct Stepped {
     pub answer: Answer,
     pub change: Option<Change>,

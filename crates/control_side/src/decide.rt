@@ -17,7 +17,7 @@ use transcript::Answer;
 use wa_base::{BufId, Exc, Name, NoMemory, NodeId};
 
 /// What an operation comes to, before anything is changed.
-#[derive(Debug, Drop)]
+#[derive(Drop)]
 pub(crate) enum Decided {
     /// It is answered, and leaves all as it is.
     Answer(Answer),

@@ -9,7 +9,7 @@ use std::marker::Model;
 use wa_base::{ContextSpec, Exc, NoMemory, QUANTUM, Refusal, State};
 
 /// What a quantum led to.
-#[derive(Clone, Copy, Debug, PartialEq, Eq)]
+#[derive(Clone, Copy, PartialEq, Eq)]
 pub enum Turn {
     /// Rendering goes on.
     Went,

@@ -19,7 +19,7 @@ use std::sync::ledger::Ledger;
 use wa_base::{End, NoMemory, Steps, Tie};
 
 /// The unmuted ends of a graph in a legal order.
-#[derive(Debug, Drop)]
+#[derive(Drop)]
 pub struct Ordered {
     pub ends: Ends,
 }

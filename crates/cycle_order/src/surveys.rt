@@ -19,7 +19,7 @@ pub type Ids = Items<NodeId>;
 pub type Ends = Items<End>;
 
 /// What a survey of a graph says.
-#[derive(Debug, Drop)]
+#[derive(Drop)]
 pub struct Surveyed {
     /// The delays in a cycle, in order of node number.
     pub in_cycle: Ids,

@@ -1,11 +1,22 @@
-//! Tests of the top call over sessions of delays, wave shapers and IIR filters.
+//! Tests of effects over their public calls: wave shapers, IIR filters and delay lines. A crate with tests
+//! is proved twice, so they stand apart.
 #![tactic(auto)]
 
 #[cfg(test)]
-mod delaying;
+mod causal_digests;
 #[cfg(test)]
-mod echoing;
+mod delay_blocks;
 #[cfg(test)]
-mod filtering;
+mod delay_digests;
 #[cfg(test)]
-mod shaping;
+mod delay_lines;
+#[cfg(test)]
+mod digest;
+#[cfg(test)]
+mod filters;
+#[cfg(test)]
+mod random;
+#[cfg(test)]
+mod shapers;
+#[cfg(test)]
+mod tried;

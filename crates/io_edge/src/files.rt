@@ -8,7 +8,7 @@ use std::alloc::Global;
 use wa_base::Bytes;
 
 /// What a store has at a path, within a limit.
-#[derive(Debug, Drop)]
+#[derive(Drop)]
 pub enum Fetched {
     /// All bytes of the file.
     Bytes(Bytes),

@@ -2,7 +2,7 @@ ghost use Rattle.std.specs.Prelude.{◌≡◌, ◌<◌};
 ghost use Rattle.load_gen.specs.Voices.{next_state, number_of};
 
 /// A linear congruential generator of random numbers.
-#[derive(Clone, Copy, Debug)]
+#[derive(Clone, Copy)]
 pub struct Random {
     /// Below 2^31 once a number was drawn.
     pub state: u32,

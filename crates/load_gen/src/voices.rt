@@ -9,7 +9,7 @@ use std::marker::Model;
 use wa_base::{Fix, NoMemory};
 
 /// A voice: its place, from 0 on, and what was drawn for it.
-#[derive(Debug, Drop)]
+#[derive(Drop)]
 pub struct Voice {
     place: u32,
     offset: u32,

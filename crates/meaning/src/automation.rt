@@ -10,7 +10,7 @@ use wa_base::{Exc, Fix, NoMemory, ParamId, Rate, Samples};
 
 /// What a control call edits in a parameter (AudioParam). Times and durations are frames, values are
 /// in units of 2^-24.
-#[derive(Debug, Drop)]
+#[derive(Drop)]
 pub enum ParamEdit {
     /// Its value is set now (AudioParam.value).
     SetNow {

@@ -9,7 +9,7 @@ use wa_base::{BufId, Exc, NoMemory, Refusal, Samples};
 use wav_io::Wav;
 
 /// What a control call edits in the buffers.
-#[derive(Debug, Drop)]
+#[derive(Drop)]
 pub enum BufferEdit {
     /// A silent buffer is created (BaseAudioContext.createBuffer).
     Create {

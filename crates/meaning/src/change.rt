@@ -17,7 +17,7 @@ use sched_source::Loop;
 use wa_base::{BufId, Exc, Feature, Interp, Mode, NoMemory, NodeId, ParamId, Samples};
 
 /// What a control call edits in a world. It names nodes by their numbers.
-#[derive(Debug, Drop)]
+#[derive(Drop)]
 pub enum Edit {
     /// A node is created (the factory methods of BaseAudioContext).
     Create {
@@ -66,7 +66,7 @@ pub enum Edit {
 }
 
 /// How the inputs of a node are to be mixed (the attributes of AudioNode).
-#[derive(Clone, Copy, Debug)]
+#[derive(Clone, Copy)]
 pub enum AttributeEdit {
     /// channelCount
     Count(u32),
@@ -77,7 +77,7 @@ pub enum AttributeEdit {
 }
 
 /// An edit, and the time of the context at which its call came, in frames.
-#[derive(Debug, Drop)]
+#[derive(Drop)]
 pub struct Change {
     pub time: u64,
     pub edit: Edit,

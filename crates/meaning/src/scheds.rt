@@ -20,7 +20,7 @@ pub struct Play {
 }
 
 /// A part of the loop of a buffer source, and its new value. Times are frames of the buffer.
-#[derive(Clone, Copy, Debug)]
+#[derive(Clone, Copy)]
 pub enum LoopPart {
     /// Whether it loops (AudioBufferSourceNode.loop).
     On(bool),

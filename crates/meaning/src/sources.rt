@@ -11,7 +11,7 @@ use node_table::Kind;
 use wa_base::{BufId, Exc, Feature, NodeId};
 
 /// What a control call edits in a source. Times are frames.
-#[derive(Clone, Copy, Debug)]
+#[derive(Clone, Copy)]
 pub enum SourceEdit {
     /// It is started (AudioScheduledSourceNode.start).
     Start {

@@ -12,7 +12,7 @@ use wa_base::{BufId, Name, NoMemory, NodeId};
 const DESTINATION: &[u8] = b"destination";
 
 /// What a name stands for.
-#[derive(Clone, Copy, Debug, PartialEq, Eq)]
+#[derive(Clone, Copy, PartialEq, Eq)]
 pub enum Object {
     Node(NodeId),
     Buffer(BufId),

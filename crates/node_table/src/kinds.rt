@@ -5,7 +5,7 @@ use causal_core::{curve_refusal, filter_refusal};
 use wa_base::{Exc, Feature, Fix, NoMemory, ParamName, Samples};
 
 /// What a node is, with what it was created with.
-#[derive(Debug, Drop)]
+#[derive(Drop)]
 pub enum Kind {
     /// The node whose input the context renders (AudioDestinationNode).
     Destination,

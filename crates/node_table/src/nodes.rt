@@ -13,7 +13,7 @@ const MAX_NODES: usize = 1_024;
 const MAX_DELAY_FRAMES: u64 = 4_194_304;
 
 /// How the channels of a node's inputs are mixed, and when the node was created.
-#[derive(Clone, Copy, Debug, PartialEq, Eq)]
+#[derive(Clone, Copy, PartialEq, Eq)]
 pub struct Attrs {
     /// The number of channels that the mode speaks of (channelCount), from 1 to 32.
     pub count: u32,
@@ -51,7 +51,7 @@ impl Attrs {
 }
 
 /// A node (AudioNode).
-#[derive(Debug, Drop)]
+#[derive(Drop)]
 pub struct Node {
     pub kind: Kind,
     pub attrs: Attrs,
@@ -95,7 +95,7 @@ impl Node {
 /// The nodes of a graph, in order of creation. Contracts see them as the list of nodes.
 ///
 /// The destination is node 0, and is there from the start. A node is never removed.
-#[derive(Debug, Drop)]
+#[derive(Drop)]
 pub struct Nodes {
     pub(crate) nodes: Vec<Node>,
     // How many frames the delays keep together.

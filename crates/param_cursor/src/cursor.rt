@@ -16,7 +16,7 @@ use wa_base::{Fix, Steps};
 /// frame. It keeps no event, so after an edit of the timeline it is moved by `reseek`.
 ///
 /// A call looks at an event only through `Timeline::look`, and each look is a step.
-#[derive(Clone, Copy, Debug, PartialEq, Eq)]
+#[derive(Clone, Copy, PartialEq, Eq)]
 pub struct Cursor {
     place: usize,
 }

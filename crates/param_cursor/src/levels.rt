@@ -6,7 +6,7 @@ use param_events::{Event, curve_value};
 use wa_base::Fix;
 
 /// A value that every frame has until another one.
-#[derive(Clone, Copy, Debug, PartialEq, Eq)]
+#[derive(Clone, Copy, PartialEq, Eq)]
 pub struct Level {
     pub value: Fix,
     /// The frame before which the value stays.

@@ -7,7 +7,7 @@ ghost use Rattle.sched_source.specs.Playback.{IsPlayable};
 /// the loop begins (`loopStart`), and the frame before which it ends (`loopEnd`).
 ///
 /// Where these two are no loop within the buffer, the whole buffer loops.
-#[derive(Clone, Copy, Debug, PartialEq, Eq)]
+#[derive(Clone, Copy, PartialEq, Eq)]
 pub struct Loop {
     pub on: bool,
     pub first: i64,
@@ -17,7 +17,7 @@ pub struct Loop {
 /// What a buffer source plays (AudioBufferSourceNode): its playback rate, which is whole, its loop, and
 /// what `start` was given: the offset and the duration, and the length of the buffer. Until then the
 /// offset and the length are 0.
-#[derive(Clone, Copy, Debug, PartialEq, Eq)]
+#[derive(Clone, Copy, PartialEq, Eq)]
 pub struct Content {
     pub(crate) rate: u32,
     pub(crate) points: Loop,

@@ -13,7 +13,7 @@ use wa_base::{Exc, Feature, Fix};
 /// start.
 ///
 /// A source starts once. It may be stopped again and again until it has ended; the last call counts.
-#[derive(Clone, Copy, Debug, PartialEq, Eq)]
+#[derive(Clone, Copy, PartialEq, Eq)]
 pub struct Sched {
     start: Option<u64>,
     stop: Option<u64>,

@@ -4,7 +4,7 @@ use crate::operations::Op;
 use wa_base::{ContextSpec, Items};
 
 /// A call of a script.
-#[derive(Debug, Drop)]
+#[derive(Drop)]
 pub struct Call {
     /// The place of the call in document order, from 1 on.
     pub ordinal: u32,
@@ -18,7 +18,7 @@ pub type Calls = Items<Call>;
 
 /// A script: the context that it asks for, and every call in order of ordinals, those of `then`
 /// lists included.
-#[derive(Debug, Drop)]
+#[derive(Drop)]
 pub struct Script {
     pub context: ContextSpec,
     pub calls: Calls,

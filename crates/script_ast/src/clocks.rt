@@ -1,5 +1,5 @@
 /// What the times of a script are counted in.
-#[derive(Clone, Copy, Debug, PartialEq, Eq)]
+#[derive(Clone, Copy, PartialEq, Eq)]
 pub enum Clock {
     /// Whole frames.
     Frames,

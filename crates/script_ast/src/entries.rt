@@ -5,7 +5,7 @@ use crate::fields::Field;
 use crate::operations::Oversample;
 
 /// What the JSON value of a field has to be.
-#[derive(Clone, Copy, Debug, PartialEq, Eq)]
+#[derive(Clone, Copy, PartialEq, Eq)]
 pub enum Kind {
     /// A whole number from -2^31 to 2^31 - 1.
     Fix,
@@ -44,7 +44,7 @@ pub enum Kind {
 }
 
 /// What stands for a field that is absent.
-#[derive(Clone, Copy, Debug, PartialEq, Eq)]
+#[derive(Clone, Copy, PartialEq, Eq)]
 pub enum Fallback {
     /// The field has to be there.
     Needed,
@@ -63,7 +63,7 @@ pub enum Fallback {
 }
 
 /// A field of an entry: its name, its kind and its default.
-#[derive(Clone, Copy, Debug, PartialEq, Eq)]
+#[derive(Clone, Copy, PartialEq, Eq)]
 pub struct Row {
     pub field: Field,
     pub kind: Kind,

@@ -13,7 +13,7 @@ use crate::param_ops::ParamOpName;
 use wa_base::Feature;
 
 /// The name of an operation that the profile leaves out.
-#[derive(Clone, Copy, Debug, PartialEq, Eq)]
+#[derive(Clone, Copy, PartialEq, Eq)]
 pub enum LeftOutName {
     CreateOscillator,
     CreatePeriodicWave,
@@ -83,7 +83,7 @@ impl LeftOutName {
 }
 
 /// The name of an operation that a script may have.
-#[derive(Clone, Copy, Debug, PartialEq, Eq)]
+#[derive(Clone, Copy, PartialEq, Eq)]
 pub enum OpName {
     CreateConstantSource,
     CreateGain,

@@ -5,7 +5,7 @@ use crate::paths::Path;
 use wa_base::{Feature, Fix, Interp, Mode, Name, Rate, Samples};
 
 /// How often a shaper samples its curve (OverSampleType).
-#[derive(Clone, Copy, Debug, PartialEq, Eq)]
+#[derive(Clone, Copy, PartialEq, Eq)]
 pub enum Oversample {
     Off,
     Two,
@@ -28,7 +28,7 @@ impl Oversample {
 /// An operation of a script with its fields. Values and curves are in units of 2^-24, and times are
 /// whole frames; `max_delay_time` and `delay_time` alone are seconds, in units of 2^-24. Each
 /// operation is described in the named section of the Web Audio recommendation of 17 June 2021.
-#[derive(Debug, Drop)]
+#[derive(Drop)]
 pub enum Op {
     /// The ConstantSourceNode Interface.
     CreateConstantSource {

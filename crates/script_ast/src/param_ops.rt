@@ -9,7 +9,7 @@ use crate::entries::{
 };
 
 /// The name of an operation on a parameter (AudioParam).
-#[derive(Clone, Copy, Debug, PartialEq, Eq)]
+#[derive(Clone, Copy, PartialEq, Eq)]
 pub enum ParamOpName {
     SetValue,
     SetValueAtTime,

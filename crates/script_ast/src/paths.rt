@@ -5,7 +5,7 @@ use std::marker::Model;
 use wa_base::NoMemory;
 
 /// The path of a file in the folder of assets. Contracts see it as its bytes.
-#[derive(Debug, Drop)]
+#[derive(Drop)]
 pub struct Path {
     text: String,
 }

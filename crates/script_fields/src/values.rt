@@ -9,7 +9,7 @@ use script_ast::{Clock, Kind, interp_named, mode_named, oversample_named, rate_n
 use serde_json::{Number, Value};
 
 /// Why a value is not taken for a field.
-#[derive(Clone, Copy, Debug, PartialEq, Eq)]
+#[derive(Clone, Copy, PartialEq, Eq)]
 pub enum Cause {
     WrongKind,
     OutOfRange,

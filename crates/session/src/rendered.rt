@@ -4,7 +4,7 @@ ghost use Rattle.session.specs.Rows.{interleaved};
 use wa_base::{ContextSpec, Fix, Samples};
 
 /// What a session rendered. Its samples stand channel after channel, `spec.length` of them for each.
-#[derive(Debug, Drop)]
+#[derive(Drop)]
 pub struct Rendered {
     pub spec: ContextSpec,
     pub samples: Samples,

@@ -21,7 +21,7 @@ use transcript::{EndWord, Lines};
 use wa_base::{NoMemory, Refusal, State};
 
 /// What a session led to.
-#[derive(Debug, Drop)]
+#[derive(Drop)]
 pub struct Outcome {
     /// The lines of its transcript, without that of its end.
     pub lines: Lines,

@@ -13,7 +13,7 @@ use wa_base::Fix;
 pub(crate) const KEPT: usize = 20;
 
 // A channel of a filter: the newest inputs and outputs, the newest of all first.
-#[derive(Clone, Copy, Debug)]
+#[derive(Clone, Copy)]
 pub(crate) struct History {
     pub(crate) inputs: [Fix; KEPT],
     pub(crate) outputs: [Fix; KEPT],

@@ -18,7 +18,7 @@ const SILENT: History = History {
 };
 
 /// The state of an IIR filter (IIRFilterNode): its coefficients, and what it remembers of each channel.
-#[derive(Debug, Drop)]
+#[derive(Drop)]
 pub struct Iir {
     forward: Samples,
     back: Samples,

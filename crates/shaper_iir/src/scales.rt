@@ -9,7 +9,7 @@ use wa_base::{Fix, sat};
 const MOST: u64 = 1 << 61;
 
 // What the sums of a filter can be in 64 bits, and what they are divided by.
-#[derive(Clone, Copy, Debug)]
+#[derive(Clone, Copy)]
 pub(crate) struct Scale {
     // How far from 0 inputs and outputs may be for sums in 64 bits.
     pub(crate) reach: u64,

@@ -10,7 +10,7 @@ use wa_base::{Fix, NoMemory, Samples};
 
 /// The state of a wave shaper (WaveShaperNode): the curve in force. It keeps no frame, since its output
 /// rests on the newest frame alone.
-#[derive(Debug, Drop)]
+#[derive(Drop)]
 pub struct Shaper {
     alloc: Global,
     curve: Option<Samples>,

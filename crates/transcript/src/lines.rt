@@ -19,7 +19,7 @@ pub enum EndWord {
 
 /// The answer to a call. A promise that is settled within the call is `Resolved` or `Rejected`, and one
 /// that is settled later is `Pending`.
-#[derive(Clone, Copy, Debug, PartialEq, Eq)]
+#[derive(Clone, Copy, PartialEq, Eq)]
 pub enum Answer {
     Ok,
     Throw(Exc),
@@ -33,7 +33,7 @@ pub enum Answer {
 }
 
 /// A line of a transcript.
-#[derive(Debug, Drop)]
+#[derive(Drop)]
 pub enum Line {
     /// The call with this ordinal was answered so.
     Call(u32, Answer),
@@ -46,7 +46,7 @@ pub enum Line {
 }
 
 /// The lines of a transcript, in order.
-#[derive(Debug, Drop)]
+#[derive(Drop)]
 pub struct Lines {
     lines: Vec<Line>,
 }

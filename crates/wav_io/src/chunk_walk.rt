@@ -9,7 +9,7 @@ pub(crate) const HEAD_LEN: usize = 8;
 const NAME_LEN: usize = 4;
 
 /// What a chunk is.
-#[derive(Clone, Copy, Debug)]
+#[derive(Clone, Copy)]
 pub(crate) enum Kind {
     FormatChunk,
     DataChunk,
@@ -18,7 +18,7 @@ pub(crate) enum Kind {
 }
 
 /// A chunk: where it begins, what it is, and the bytes of its body, which need not all be in the file.
-#[derive(Clone, Copy, Debug)]
+#[derive(Clone, Copy)]
 pub(crate) struct Chunk {
     pub place: usize,
     pub kind: Kind,

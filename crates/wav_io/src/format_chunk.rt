@@ -24,7 +24,7 @@ const PCM_GUID: [u8; 16] = [1, 0, 0, 0, 0, 0, 16, 0, 128, 0, 0, 170, 0, 56, 155,
 const MAX_CHANNELS: u32 = 32;
 
 /// What the format chunk says of the samples.
-#[derive(Clone, Copy, Debug)]
+#[derive(Clone, Copy)]
 pub(crate) struct Format {
     pub rate: u32,
     pub channels: u32,

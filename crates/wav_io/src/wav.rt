@@ -3,7 +3,7 @@ use thiserror::Error;
 use wa_base::{NoMemory, Samples};
 
 /// What a WAV file of PCM samples holds.
-#[derive(Debug, Drop)]
+#[derive(Drop)]
 pub struct Wav {
     /// The frames a second. Any number of 32 bits can stand in a file, 0 too.
     pub rate: u32,
