@@ -78,7 +78,7 @@ fn a_delay_has_the_fields_of_the_format(rt: HostRuntime) {
         row(Field::MaxDelayTime, Kind::Fix, Fallback::Number(16_777_216)),
         row(Field::DelayTime, Kind::Fix, Fallback::Number(0)),
     ];
-    assert_eq!(rt; OpName::CreateDelay.fields(), want.as_slice());
+    assert!(rt; OpName::CreateDelay.fields() == want.as_slice());
 }
 
 #[test]
@@ -91,7 +91,7 @@ fn a_curve_of_a_parameter_has_the_fields_of_the_format(rt: HostRuntime) {
         row(Field::Duration, Kind::Time, Fallback::Needed),
     ];
     let name = ParamOpName::SetValueCurveAtTime;
-    assert_eq!(rt; name.fields(), want.as_slice());
+    assert!(rt; name.fields() == want.as_slice());
     assert_eq!(rt; name.word(), "setValueCurveAtTime");
 }
 
@@ -103,11 +103,8 @@ fn a_field_has_the_default_of_its_row(rt: HostRuntime) {
         (Field::Duration, Fallback::Null),
         (Field::Gain, Fallback::Needed),
     ] {
-        assert_eq!(rt;
-            fallback_in(OpName::Start.fields(), field),
-            want,
-            "of {field}"
-        );
+        let found = fallback_in(OpName::Start.fields(), field);
+        assert!(rt; found == want, "of {field}");
     }
 }
 
