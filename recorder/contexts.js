@@ -7,16 +7,15 @@ import {Recording, entryOfNode, recordingOfContext} from './recording.js';
 import {frameOf} from './values.js';
 import {quietly, wrapConstructor, wrapPromise} from './wrapping.js';
 
-// The arguments of both constructors of an OfflineAudioContext.
-function shapeOf(args, context) {
-  const isOptions = args.length === 1 && typeof args[0] === 'object' && args[0];
-  const [channels, length, rate] = isOptions ? [args[0].numberOfChannels ?? 1, args[0].length, args[0].sampleRate] : args;
-  return {channels: channels >>> 0, length: length >>> 0, rate: Math.fround(+rate), quantum: context && context.renderQuantumSize || 128};
+// What a context is made of. It is asked, and not the page's options, as these may be read once alone.
+function shapeOf(context) {
+  const {length, sampleRate, destination} = context;
+  return {channels: destination.channelCount, length, rate: sampleRate, quantum: context.renderQuantumSize || 128};
 }
 
 function contextCreated(args, context, exception) {
   if (!context) return; // it was refused, so there is nothing to record
-  const recording = new Recording(shapeOf(args, context));
+  const recording = new Recording(shapeOf(context));
   recording.context = context;
   recordingOfContext.set(context, recording);
   if (!Number.isInteger(recording.rate)) recording.lose('context-rate');

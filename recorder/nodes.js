@@ -169,15 +169,30 @@ function nodeCreated(kind, context, options, node, exception) {
   if (kind === 'WaveShaperNode') curveTaken(entry, creation);
 }
 
-// Members of options that are lists.
-const LISTS = {IIRFilterNode: ['feedforward', 'feedback'], WaveShaperNode: ['curve']};
+const CHANNELS = ['channelCount', 'channelCountMode', 'channelInterpretation'];
 
-// The arguments of a constructor, with lists that are gone through once.
+// The members of the options of each kind that the recorder reads, in the order in which browsers ask for them.
+const MEMBERS = {
+  ConstantSourceNode: ['offset'], GainNode: [...CHANNELS, 'gain'], DelayNode: [...CHANNELS, 'delayTime', 'maxDelayTime'],
+  ChannelSplitterNode: [...CHANNELS, 'numberOfOutputs'], ChannelMergerNode: [...CHANNELS, 'numberOfInputs'],
+  WaveShaperNode: [...CHANNELS, 'curve', 'oversample'], IIRFilterNode: [...CHANNELS, 'feedback', 'feedforward'],
+  AudioBufferSourceNode: ['buffer', 'detune', 'loop', 'loopEnd', 'loopStart', 'playbackRate'],
+  OscillatorNode: [...CHANNELS, 'detune', 'frequency', 'periodicWave', 'type'],
+  BiquadFilterNode: [...CHANNELS, 'Q', 'detune', 'frequency', 'gain', 'type'],
+  AnalyserNode: [...CHANNELS, 'fftSize', 'maxDecibels', 'minDecibels', 'smoothingTimeConstant'],
+};
+const LISTS = ['feedforward', 'feedback', 'curve'];
+
+// The arguments of a constructor. Each member of its options is asked for once, and lists are gone through once.
 function takenOptions(kind, [context, options, ...others]) {
-  const lists = (LISTS[kind] || []).filter(name => options && isGiven(options[name]));
-  if (!lists.length) return [context, options, ...others];
-  const taken = lists.map(name => [name, {value: takenNumbers(options[name]), enumerable: true}]);
-  return [context, Object.create(options, Object.fromEntries(taken)), ...others];
+  const isObject = options !== null && ['object', 'function'].includes(typeof options);
+  if (!MEMBERS[kind] || !isObject) return [context, options, ...others];
+  const taken = {};
+  for (const name of MEMBERS[kind]) {
+    const value = options[name];
+    if (value !== undefined) taken[name] = LISTS.includes(name) ? takenNumbers(value) : value;
+  }
+  return [context, taken, ...others];
 }
 
 // What a copy of a source needs of the options.
@@ -213,7 +228,7 @@ function wrapAttributeAsCall(prototype, name, op, valueOf) {
 export function wrapNodes() {
   for (const [kind, {op}] of Object.entries(NODE_KINDS)) {
     wrapConstructor(kind, ([context, options], node, exception) => nodeCreated(kind, context, Object(options), node, exception),
-      args => takenOptions(kind, args));
+      args => args.length > 1 ? takenOptions(kind, args) : args);
     wrapMethod(BaseAudioContext.prototype, op, (context, args, node, exception) =>
       nodeCreated(kind, context, FACTORY_OPTIONS[op] ? FACTORY_OPTIONS[op](args) : {}, node, exception), args => op === 'createIIRFilter' ? args.map(takenNumbers) : args);
   }

@@ -16,6 +16,9 @@ import {replaceTimers} from './timers.js';
 import {replaceWorkers} from './workers.js';
 import {faults, wrapConstructor} from './wrapping.js';
 
+const hide = (name, value) =>
+  Object.defineProperty(globalThis, name, {value, writable: true, enumerable: false, configurable: true});
+
 function stepIn() {
   wrapContexts();
   wrapNodes();
@@ -28,7 +31,9 @@ function stepIn() {
     replaceTimers();
     replaceWorkers();
   } else wrapConstructor('AudioContext', () => { realTime.unrecorded++; });
-  globalThis.waplayRecorder = waplayRecorder;
+  // A page that goes through the names of its window does not see ours.
+  hide('waplayRecorder', waplayRecorder);
+  if (globalThis.waplayRecorderOptions) hide('waplayRecorderOptions', globalThis.waplayRecorderOptions);
 }
 
 const CHUNK = 2 ** 21; // words of samples that are handed over at once
