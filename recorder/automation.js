@@ -3,7 +3,9 @@
 // A place is a time in frames and may lie between two frames. Values are those of the standard's formulas.
 // The rewriting of calls asks here what a parameter does, and puts it into words that a script has.
 
-class Timeline {
+import {framePlace} from './values.js';
+
+export class Timeline {
   constructor(startValue) {
     this.startValue = startValue; // before the first event
     this.events = [];             // {kind: set, ramp, exponential, target or curve, place, value, ...}, in order of places
@@ -67,19 +69,19 @@ class Timeline {
   }
 }
 
-function curveValue({place: begin, duration, values}, place) {
+export function curveValue({place: begin, duration, values}, place) {
   if (place >= begin + duration) return values[values.length - 1];
   const position = (place - begin) / duration * (values.length - 1);
   const before = Math.min(Math.floor(position), values.length - 2);
   return values[before] + (values[before + 1] - values[before]) * (position - before);
 }
 
-function targetValue({place: begin, value, timeConstant}, startValue, place) {
+export function targetValue({place: begin, value, timeConstant}, startValue, place) {
   return timeConstant > 0 ? value + (startValue - value) * Math.exp(-(place - begin) / timeConstant) : value;
 }
 
 // A value on a ramp to `event` that began at `begin` with `startValue`.
-function rampValue(event, begin, startValue, place) {
+export function rampValue(event, begin, startValue, place) {
   if (place >= event.place) return event.value;
   const part = (place - begin) / (event.place - begin);
   if (event.kind === 'ramp') return startValue + (event.value - startValue) * part;
@@ -87,7 +89,7 @@ function rampValue(event, begin, startValue, place) {
 }
 
 // The event of a page's call. Places before now stand for now.
-function eventOf(parameter, method, args) {
+export function eventOf(parameter, method, args) {
   const recording = parameter.recording;
   const placeOf = seconds => Math.max(framePlace(recording, +seconds), recording.now);
   const value = Math.fround(+args[0]);

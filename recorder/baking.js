@@ -3,6 +3,11 @@
 // A source is rendered alone by the browser, in a context of its own, and its samples become a buffer. A biquad
 // with steady parameters becomes an IIR filter, and an analyser a gain. All of this is for the option `lower`.
 
+import {contentOf} from './buffers.js';
+import {biquadCoefficients, putCoefficients, sectionsOf} from './filters.js';
+import {native} from './native.js';
+import {ONE, fixedValue, framePlace, loseOfList, nearestFixedList} from './values.js';
+
 // Losses of a buffer source's calls that a baked one has not.
 const BAKED_LOSSES = ['time-rounded', 'playback-rate', 'playback-rate-automation', 'detune', 'resampling'];
 
@@ -114,7 +119,7 @@ function lowerFilter(recording, entry) {
 }
 
 // Replaces what can be replaced of a recording that is complete.
-async function bake(recording) {
+export async function bake(recording) {
   for (const source of recording.sources)
     if (source.isBakeable && needsBaking(recording, source)) await bakeSource(recording, source);
   const isLeft = recording.sources.some(source => source.kind === 'OscillatorNode' && source.creation.op === 'createOscillator');

@@ -5,6 +5,12 @@
 // to a buffer that a source has acquired. A buffer that was changed since it was last acquired therefore
 // becomes a second one in the script: a new version, which stands before the call that gives it to its source.
 
+import {native} from './native.js';
+import {settings} from './settings.js';
+import {recordingOfContext} from './recording.js';
+import {loseOfList, nearestFixedList} from './values.js';
+import {wrapMethod} from './wrapping.js';
+
 const versionsOfBuffer = new WeakMap(); // AudioBuffer -> Map(recording -> its versions, in order)
 
 function versionsIn(recording, buffer) {
@@ -29,14 +35,14 @@ function newVersion(recording, buffer) {
 
 // The name under which a call speaks of a buffer. Where the script does not know it yet, the call that makes
 // it is added to `calls`.
-function bufferName(recording, buffer, calls) {
+export function bufferName(recording, buffer, calls) {
   const versions = versionsIn(recording, buffer);
   if (!versions.length) calls.push(newVersion(recording, buffer).call);
   return versions[versions.length - 1].name;
 }
 
 // The samples of a buffer. One with a detached channel is silent as a whole.
-function contentOf(buffer) {
+export function contentOf(buffer) {
   const channels = [];
   for (let channel = 0; channel < buffer.numberOfChannels; channel++)
     channels.push(native.getChannelData.call(buffer, channel));
@@ -44,18 +50,18 @@ function contentOf(buffer) {
   return isWhole ? channels : channels.map(() => new Float32Array(buffer.length));
 }
 
-function equalSamples(one, other) {
+export function equalSamples(one, other) {
   return one.length === other.length && one.every((samples, channel) => {
     const others = other[channel];
     return samples.length === others.length && samples.every((sample, place) => sample === others[place]);
   });
 }
 
-const isSilent = samples => samples.every(channel => channel.every(sample => sample === 0));
+export const isSilent = samples => samples.every(channel => channel.every(sample => sample === 0));
 
 // A source that has `buffer` starts, or a started one gets it: the script's source gets the version with this
 // content, which is the answer.
-function acquireBuffer(recording, source, buffer) {
+export function acquireBuffer(recording, source, buffer) {
   const lists = contentOf(buffer).map(nearestFixedList);
   const samples = lists.map(list => list.wholes);
   const versions = versionsIn(recording, buffer);
@@ -68,7 +74,7 @@ function acquireBuffer(recording, source, buffer) {
   }
   if (!version.samples) {
     version.samples = samples;
-    if (options.lower) version.floats = contentOf(buffer).map(channel => Float32Array.from(channel));
+    if (settings.lower) version.floats = contentOf(buffer).map(channel => Float32Array.from(channel));
     for (const list of lists) loseOfList(recording, list, version.call);
   }
   source.bufferCall.buffer = version.name;
@@ -77,14 +83,14 @@ function acquireBuffer(recording, source, buffer) {
 }
 
 // Whether buffers were written after they were last acquired is known once rendering is over.
-function loseOfLateWrites(recording) {
+export function loseOfLateWrites(recording) {
   for (const [buffer, version] of recording.acquired)
     if (!equalSamples(contentOf(buffer).map(channel => nearestFixedList(channel).wholes), version.samples))
       recording.lose('buffer-written', version.call);
   recording.acquired.clear();
 }
 
-function wrapBuffers() {
+export function wrapBuffers() {
   wrapMethod(BaseAudioContext.prototype, 'createBuffer', (context, args, buffer, exception) => {
     const recording = recordingOfContext.get(context);
     if (!recording || recording.leavesOut(exception)) return;

@@ -1,7 +1,11 @@
 // Connections: connect and disconnect in all their forms, to nodes and to parameters.
 
+import {loseOfParameter} from './parameters.js';
+import {entryOfNode, entryOfParameter} from './recording.js';
+import {wrapMethod} from './wrapping.js';
+
 // Where an argument leads: {node} or {parameter} of the same recording, or null where it is of another context.
-function endOf(recording, object) {
+export function endOf(recording, object) {
   const parameter = entryOfParameter.get(object);
   if (parameter) return parameter.recording === recording ? {parameter} : null;
   const node = entryOfNode.get(object);
@@ -16,7 +20,7 @@ function parameterConnected(recording, parameter, call) {
   loseOfParameter(recording, parameter, call);
 }
 
-function wrapConnections() {
+export function wrapConnections() {
   wrapMethod(AudioNode.prototype, 'connect', (node, [target, output, input], result, exception) => {
     const from = entryOfNode.get(node);
     if (!from || from.recording.leavesOut(exception)) return;

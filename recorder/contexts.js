@@ -1,5 +1,12 @@
 // Contexts: their constructors, and the promises of startRendering, suspend and resume.
 
+import {contentOf, loseOfLateWrites} from './buffers.js';
+import {native} from './native.js';
+import {registerParameters} from './nodes.js';
+import {Recording, entryOfNode, recordingOfContext} from './recording.js';
+import {frameOf} from './values.js';
+import {quietly, wrapConstructor, wrapPromise} from './wrapping.js';
+
 // The arguments of both constructors of an OfflineAudioContext.
 function shapeOf(args, context) {
   const isOptions = args.length === 1 && typeof args[0] === 'object' && args[0];
@@ -72,7 +79,7 @@ function resumptionAsked(recording) {
   return {fulfilled() {}, rejected: reason => recording.outcomes.set(call, reason.name)};
 }
 
-function wrapContexts() {
+export function wrapContexts() {
   wrapConstructor('OfflineAudioContext', contextCreated);
   const offline = native.OfflineAudioContext.prototype;
   wrapPromise(offline, 'startRendering', renderingAsked);

@@ -3,6 +3,10 @@
 // Many pages take a note apart once its source has ended. The browser tells of that at some moment while
 // rendering runs, so its event is kept back, and the page gets one at the suspension after the source's end.
 
+import {native} from './native.js';
+import {entryOfParameter} from './recording.js';
+import {addAudioTimer, addTimer, removeTimer} from './timers.js';
+
 // When a source ends, in seconds. Undefined where it does not end, or where only the browser knows when.
 function endOfSource(entry) {
   const {node, kind, startTime, stopTime, playedFor = Infinity, offset = 0} = entry;
@@ -21,14 +25,14 @@ function endOfSource(entry) {
 const tellEnded = entry => entry.node.dispatchEvent(new Event('ended'));
 
 // The source was started, or its stop was set: the time of its event is this one from now on.
-function scheduleEnding(entry) {
+export function scheduleEnding(entry) {
   if (entry.ending) removeTimer(entry.ending);
   const seconds = endOfSource(entry);
   entry.ending = seconds === undefined ? 0 : addAudioTimer(() => tellEnded(entry), seconds);
 }
 
 // Keeps the browser's event back. It is heard before the page's listeners, as the node is new.
-function keepEndingBack(entry) {
+export function keepEndingBack(entry) {
   entry.node.addEventListener('ended', event => {
     if (!event.isTrusted) return;
     event.stopImmediatePropagation();

@@ -1,5 +1,7 @@
 // Filters: coefficients as whole numbers, biquads as IIR filters, and sections of order 2.
 
+import {ONE, nearestFixed} from './values.js';
+
 const isWholeFixed = number => Number.isInteger(number * ONE);
 
 // Numerator and denominator of a filter may be multiplied by one number. A power of two that brings the
@@ -12,7 +14,7 @@ function scaleOfCoefficients(coefficients) {
 }
 
 // Puts the coefficients of a filter into its call.
-function putCoefficients(recording, call, feedforward, feedback) {
+export function putCoefficients(recording, call, feedforward, feedback) {
   const all = [...feedforward, ...feedback].map(Number);
   const scale = all.length ? Math.min(2 ** 20, scaleOfCoefficients(all)) : 1;
   let greatestError = 0, isRounded = false;
@@ -43,7 +45,7 @@ function biquadLimit(type, isLow, isHigh, q, amplitude) {
 }
 
 // The standard's coefficients of a biquad ("Filters Characteristics"): {feedforward, feedback}, or {gain}.
-function biquadCoefficients({type, frequency, Q, gain, detune}, rate) {
+export function biquadCoefficients({type, frequency, Q, gain, detune}, rate) {
   const tuned = Math.min(Math.max(frequency * 2 ** (detune / 1200), 0), rate / 2);
   const amplitude = 10 ** (gain / 40);
   const limit = biquadLimit(type, tuned <= 0, tuned >= rate / 2, Q, amplitude);
@@ -138,7 +140,7 @@ function factorsOf(terms) {
 
 // A filter of an order above 2 as a row of filters of order 2: [{feedforward, feedback}, ...]. Null where the
 // parts do not give the whole again, as for filters whose numerator begins with 0.
-function sectionsOf(feedforward, feedback) {
+export function sectionsOf(feedforward, feedback) {
   if (feedforward.length !== feedback.length || feedforward.length < 4 || !feedforward[0] || !feedback[0]) return null;
   const above = factorsOf(feedforward), below = factorsOf(feedback);
   const gain = feedforward[0] / feedback[0];

@@ -1,9 +1,11 @@
 // Limits: what waplay refuses of contexts and scripts for their size.
 
-const NODE_LIMIT = 1024, CONNECTION_LIMIT = 8192, BUFFER_LIMIT = 2 ** 27, DELAY_LIMIT = 2 ** 22;
-const ASSET_LIMIT = 2 ** 26, SCRIPT_LIMIT = 2 ** 24;
+import {ONE, isGiven} from './values.js';
 
-function loseOfContext(recording) {
+const NODE_LIMIT = 1024, CONNECTION_LIMIT = 8192, BUFFER_LIMIT = 2 ** 27, DELAY_LIMIT = 2 ** 22;
+export const ASSET_LIMIT = 2 ** 26, SCRIPT_LIMIT = 2 ** 24;
+
+export function loseOfContext(recording) {
   const {channels, length, rate, quantum} = recording;
   const isFine = channels >= 1 && channels <= 32 && length >= 1 && length <= 2 ** 25 && channels * length <= 2 ** 26 &&
                  rate >= 8000 && rate <= 96000 && quantum === 128;
@@ -14,7 +16,7 @@ const isCreationOfNode = (recording, call) => call.op !== 'createPeriodicWave' &
 
 // Goes through the calls and counts. Connections are counted as if none were taken away but by a plain
 // disconnect of a whole node, so a script near the limit may be said to pass it.
-function loseOfSizes(recording) {
+export function loseOfSizes(recording) {
   const connections = new Map();
   let nodes = 1, count = 0, samples = 0, delays = 0;
   recording.eachCall(call => {

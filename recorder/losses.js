@@ -8,9 +8,9 @@
 //
 // `heard` marks what is rounded so far that it may be heard. Such lines come before the other rounded ones.
 
-const GRADES = ['refused', 'lowered', 'rounded', 'exact'];
+export const GRADES = ['refused', 'lowered', 'rounded', 'exact'];
 
-const LOSS_KINDS = {
+export const LOSS_KINDS = {
   // Numbers and times.
   'value-rounded': {grade: 'rounded', says: 'values that are no multiple of 2^-24'},
   'sample-rounded': {grade: 'rounded', says: 'samples that are no multiple of 2^-24'},

@@ -6,7 +6,11 @@
 //
 // An event that was rewritten keeps its `calls`, the list that they stand in, and the frames from `first` to `last`.
 
-const CALL_ALONE = null;
+import {Timeline, curveValue, rampValue, targetValue} from './automation.js';
+import {fixedParameterValue} from './parameters.js';
+import {LAST_FRAME, fixedList, nearestFixed} from './values.js';
+
+export const CALL_ALONE = null;
 const SMALLEST_STEP = 2 ** -26; // a target that is this near counts as reached
 const NEAR = 2 ** -25;          // how far the line between two points of a curve may be from the page's value
 const SHORTEST = 256;           // frames of a curve, where there are more of them
@@ -201,7 +205,7 @@ function lowerHold(parameter, {place}) {
   return {calls, keepsCall: false, kind: 'lowered-hold'};
 }
 
-const LOWERING = {
+export const LOWERING = {
   set: lowerSet, ramp: lowerRamp, exponential: lowerRamp, target: lowerTarget, curve: lowerCurve,
   cancel: lowerCancel, hold: lowerHold,
 };

@@ -1,34 +1,35 @@
 // Nodes: their creation by factories and constructors, and their attributes.
 
-// Of each interface its operation, what its names in a script begin with, and the feature word where waplay
-// leaves it out.
-const NODE_KINDS = {
-  ConstantSourceNode: {op: 'createConstantSource', prefix: 'constant'},
-  GainNode: {op: 'createGain', prefix: 'gain'},
-  DelayNode: {op: 'createDelay', prefix: 'delay'},
-  ChannelSplitterNode: {op: 'createChannelSplitter', prefix: 'splitter'},
-  ChannelMergerNode: {op: 'createChannelMerger', prefix: 'merger'},
-  WaveShaperNode: {op: 'createWaveShaper', prefix: 'shaper'},
-  IIRFilterNode: {op: 'createIIRFilter', prefix: 'filter'},
-  AudioBufferSourceNode: {op: 'createBufferSource', prefix: 'source'},
-  OscillatorNode: {op: 'createOscillator', prefix: 'oscillator', feature: 'oscillator'},
-  BiquadFilterNode: {op: 'createBiquadFilter', prefix: 'biquad', feature: 'biquad'},
-  ConvolverNode: {op: 'createConvolver', prefix: 'convolver', feature: 'convolver'},
-  StereoPannerNode: {op: 'createStereoPanner', prefix: 'panner', feature: 'stereo-panner'},
-  PannerNode: {op: 'createPanner', prefix: 'panner', feature: 'panner'},
-  DynamicsCompressorNode: {op: 'createDynamicsCompressor', prefix: 'compressor', feature: 'compressor'},
-  AnalyserNode: {op: 'createAnalyser', prefix: 'analyser', feature: 'analyser'},
-  MediaElementAudioSourceNode: {op: 'createMediaElementSource', prefix: 'media', feature: 'media-element-source'},
-  MediaStreamAudioSourceNode: {op: 'createMediaStreamSource', prefix: 'media', feature: 'media-stream-source'},
-  MediaStreamTrackAudioSourceNode: {op: 'createMediaStreamTrackSource', prefix: 'media', feature: 'media-stream-track-source'},
-  MediaStreamAudioDestinationNode: {op: 'createMediaStreamDestination', prefix: 'media', feature: 'media-stream-destination'},
-  ScriptProcessorNode: {op: 'createScriptProcessor', prefix: 'processor', feature: 'script-processor'},
-  AudioWorkletNode: {op: 'createAudioWorkletNode', prefix: 'worklet', feature: 'audio-worklet'},
+import {Timeline} from './automation.js';
+import {bufferName} from './buffers.js';
+import {keepEndingBack} from './endings.js';
+import {putCoefficients} from './filters.js';
+import {native} from './native.js';
+import {creationOf, featureOf, wordsOf} from './operations.js';
+import {settings} from './settings.js';
+import {entryOfNode, entryOfParameter, recordingOfContext} from './recording.js';
+import {ONE, fixedList, fixedSeconds, fixedValue, frameOf, isGiven, nearestFixed} from './values.js';
+import {wrapAttribute, wrapConstructor, wrapMethod} from './wrapping.js';
+
+// Of each interface what its names in a script begin with.
+const NAME_PREFIXES = {
+  ConstantSourceNode: 'constant', GainNode: 'gain', DelayNode: 'delay', ChannelSplitterNode: 'splitter',
+  ChannelMergerNode: 'merger', WaveShaperNode: 'shaper', IIRFilterNode: 'filter', AudioBufferSourceNode: 'source',
+  OscillatorNode: 'oscillator', BiquadFilterNode: 'biquad', ConvolverNode: 'convolver', StereoPannerNode: 'panner',
+  PannerNode: 'panner', DynamicsCompressorNode: 'compressor', AnalyserNode: 'analyser',
+  MediaElementAudioSourceNode: 'media', MediaStreamAudioSourceNode: 'media', MediaStreamTrackAudioSourceNode: 'media',
+  MediaStreamAudioDestinationNode: 'media', ScriptProcessorNode: 'processor', AudioWorkletNode: 'worklet',
 };
 
-const MODES = ['max', 'clamped-max', 'explicit'];
-const INTERPRETATIONS = ['speakers', 'discrete'];
-const OVERSAMPLES = ['none', '2x', '4x'];
+// Of each interface its operation, that prefix, and the feature word where waplay leaves it out.
+export const NODE_KINDS = Object.fromEntries(Object.entries(NAME_PREFIXES).map(([kind, prefix]) => {
+  const op = creationOf(kind);
+  return [kind, {op, prefix, feature: featureOf(op)}];
+}));
+
+const MODES = wordsOf('setChannelCountMode');
+const INTERPRETATIONS = wordsOf('setChannelInterpretation');
+const OVERSAMPLES = wordsOf('setOversample');
 
 // What the options of each kind put into the call of its creation.
 const CREATION = {
@@ -66,7 +67,7 @@ const CREATION = {
   },
 };
 
-function putPlaybackRate(recording, call, rate) {
+export function putPlaybackRate(recording, call, rate) {
   call.playbackRate = nearestFixed(Math.fround(rate)).whole;
   if (!(rate >= 1 && Number.isInteger(rate))) recording.lose('playback-rate', call);
 }
@@ -109,7 +110,7 @@ function parametersOf(object) {
   return found;
 }
 
-function registerParameters(entry, object) {
+export function registerParameters(entry, object) {
   for (const [name, parameter] of parametersOf(object)) {
     const timeline = new Timeline(native.value.call(parameter));
     entryOfParameter.set(parameter, {recording: entry.recording, node: entry, name, events: 0, timeline});
@@ -169,7 +170,7 @@ function wrapAttributeAsCall(prototype, name, op, valueOf) {
   });
 }
 
-function wrapNodes() {
+export function wrapNodes() {
   for (const [kind, {op}] of Object.entries(NODE_KINDS)) {
     wrapConstructor(kind, ([context, options], node, exception) => nodeCreated(kind, context, Object(options), node, exception));
     wrapMethod(BaseAudioContext.prototype, op, (context, args, node, exception) =>
@@ -212,6 +213,6 @@ function wrapNodes() {
 }
 
 // Notes what was done to a source, to be done again to a copy of it, see baking.js.
-function journal(entry, repeat) {
-  if (entry && options.lower) entry.journal.push(repeat);
+export function journal(entry, repeat) {
+  if (entry && settings.lower) entry.journal.push(repeat);
 }

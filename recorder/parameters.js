@@ -1,5 +1,13 @@
 // Parameters: the attribute value and the methods of AudioParam.
 
+import {Timeline, eventOf} from './automation.js';
+import {CALL_ALONE, LOWERING} from './lowering.js';
+import {journal, putPlaybackRate} from './nodes.js';
+import {settings} from './settings.js';
+import {entryOfParameter} from './recording.js';
+import {fixedList, fixedSeconds, fixedValue, frameOf} from './values.js';
+import {wrapAttribute, wrapMethod} from './wrapping.js';
+
 const SCRIPT_PARAMETERS = {ConstantSourceNode: ['offset'], GainNode: ['gain'], DelayNode: ['delayTime']};
 
 // Whether a script can say what happens to a parameter.
@@ -7,7 +15,7 @@ const isInScript = parameter => (SCRIPT_PARAMETERS[parameter.node.kind] || []).i
 
 const isOfBufferSource = parameter => parameter.node.kind === 'AudioBufferSourceNode';
 
-function fixedParameterValue(parameter, value, call) {
+export function fixedParameterValue(parameter, value, call) {
   if (!isInScript(parameter)) {
     call.valueOfPage = value; // waplay reads no such member; it is for people
     return 0;
@@ -17,7 +25,7 @@ function fixedParameterValue(parameter, value, call) {
 }
 
 // What waplay refuses of a parameter, whatever the call.
-function loseOfParameter(recording, parameter, call) {
+export function loseOfParameter(recording, parameter, call) {
   if (!isOfBufferSource(parameter)) return;
   recording.lose(parameter.name === 'detune' ? 'detune' : 'playback-rate-automation', call);
 }
@@ -91,7 +99,7 @@ function keepEvent(parameter, event, call) {
 // The calls for a page's call on a parameter, rewritten where the option `lower` asks for it.
 function automationCalls(parameter, call, event, fill) {
   const {recording} = parameter;
-  const lowered = event && options.lower && isInScript(parameter) ? LOWERING[event.kind](parameter, event) : CALL_ALONE;
+  const lowered = event && settings.lower && isInScript(parameter) ? LOWERING[event.kind](parameter, event) : CALL_ALONE;
   const calls = lowered ? lowered.calls : [];
   if (lowered && lowered.kind) {
     if (calls.length) for (const made of calls) recording.lose(lowered.kind, made);
@@ -167,7 +175,7 @@ function rateSet(object, rate, exception) {
   recording.emit([{op: 'setAutomationRate', node: node.name, param: parameter.name, value: rate}], exception);
 }
 
-function wrapParameters() {
+export function wrapParameters() {
   for (const method of Object.keys(AUTOMATION))
     wrapMethod(AudioParam.prototype, method, (object, args, result, exception) => automated(method, object, args, result, exception));
   wrapAttribute(AudioParam.prototype, 'value', valueSet);

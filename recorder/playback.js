@@ -6,7 +6,7 @@
 const UNIT = 2 ** 24;
 const valueOf = whole => whole / UNIT;
 
-class Player {
+export class Player {
   constructor(script, assets) {
     const {channels, length, rate} = script.context;
     this.context = new OfflineAudioContext(channels, length, rate);
@@ -133,7 +133,7 @@ const PLAYED = {
 };
 
 // Plays the script at a path. Gives the floats of each channel as base64.
-async function playScript(path) {
+export async function playScript(path) {
   const script = await (await fetch(path)).json();
   const every = calls => calls.flatMap(call => [call, ...every(call.then ?? [])]);
   const assets = new Map();

@@ -5,6 +5,8 @@
 // plays the script, and both have to sound alike. All times lie on frames and all values on multiples of 2^-10,
 // so that nothing is rounded but what `lower` rewrites.
 
+import {Player} from './playback.js';
+
 const SESSION_RATE = 32768; // a power of two: every frame is a time without rounding
 const SESSION_LENGTH = 4096;
 
@@ -147,7 +149,7 @@ async function tryRandomSession(seed, canLower, tolerance) {
   const wanted = [], found = [];
   let least = Infinity, report = '';
   while (wanted.length < 5 && least > tolerance) {
-    const number = waplayRecorder.progress().contexts + 1;
+    const {waplayRecorder} = globalThis, number = waplayRecorder.progress().contexts + 1;
     wanted.push(await new RandomSession(seed, canLower).render());
     const script = JSON.parse(await waplayRecorder.text(number));
     report = await waplayRecorder.report(number);
@@ -160,7 +162,7 @@ async function tryRandomSession(seed, canLower, tolerance) {
 }
 
 // Tries sessions of these seeds. Gives one line on each that is not as wanted, and the greatest difference.
-async function tryRandomSessions(first, last, canLower, tolerance) {
+export async function tryRandomSessions(first, last, canLower, tolerance) {
   const wrong = [];
   let greatest = 0;
   for (let seed = first; seed <= last; seed++) {

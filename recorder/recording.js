@@ -4,14 +4,16 @@
 // `then` list of each suspension and of startRendering. `current` is the list that the page's next call
 // belongs to. Losses and outcomes hang on the call objects, so a call that is rewritten takes them with it.
 
-const recordings = [];
+import {native} from './native.js';
+
+export const recordings = [];
 
 // What the recorder knows about the page's objects.
-const recordingOfContext = new WeakMap();
-const entryOfNode = new WeakMap();       // node -> {recording, name, kind, list, ...}
-const entryOfParameter = new WeakMap();  // AudioParam -> {recording, node (the node's entry), name, ...}
+export const recordingOfContext = new WeakMap();
+export const entryOfNode = new WeakMap();       // node -> {recording, name, kind, list, ...}
+export const entryOfParameter = new WeakMap();  // AudioParam -> {recording, node (the node's entry), name, ...}
 
-class Recording {
+export class Recording {
   constructor({channels, length, rate, quantum}) {
     Object.assign(this, {channels, length, rate, quantum});
     this.number = recordings.push(this);

@@ -1,5 +1,7 @@
 // Reports: one line for each kind of loss, worst first, and a verdict.
 
+import {GRADES, LOSS_KINDS} from './losses.js';
+
 const MOST_NUMBERS = 12; // of calls in a line
 
 // The losses by kind, with the numbers of the calls. A loss of a call that was rewritten is none any more.
@@ -37,7 +39,7 @@ function verdictOf(losses) {
 }
 
 // The report of a recording whose script was written: {lines, verdict, grades}.
-function writeReport(recording, {numbers, count, assets}) {
+export function writeReport(recording, {numbers, count, assets}) {
   const losses = lossesByKind(recording, numbers);
   const {number, channels, length, rate} = recording;
   const head = `context ${number}: ${channels} channels, ${length} frames, ${rate} frames a second; ` +

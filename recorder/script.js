@@ -1,5 +1,12 @@
 // Scripts: the recorded calls as the JSON text that waplay reads, and the buffers as assets.
 
+import {bake} from './baking.js';
+import {equalSamples, isSilent} from './buffers.js';
+import {ASSET_LIMIT, SCRIPT_LIMIT, loseOfContext, loseOfSizes} from './limits.js';
+import {settings} from './settings.js';
+import {ONE} from './values.js';
+import {faults} from './wrapping.js';
+
 // Suspensions that changed nothing, as those at which a timer found nothing to do.
 function dropIdleSuspensions(recording) {
   recording.removeCalls(call => call.op === 'suspend' && call.then.length && call.then.every(inner => inner.op === 'resume'));
@@ -24,11 +31,11 @@ function flattenSuspensions(recording) {
 }
 
 // What is done once before a recording is written.
-async function finish(recording) {
+export async function finish(recording) {
   if (recording.isFinished) return;
   recording.isFinished = true;
   if (recording.phase !== 'complete') recording.lose('not-finished');
-  else if (options.lower) await bake(recording).catch(fault => {
+  else if (settings.lower) await bake(recording).catch(fault => {
     faults.push(String(fault && fault.stack || fault));
     recording.lose('recorder-fault');
   });
@@ -54,7 +61,7 @@ const copyCall = (version, channel, samples, first) =>
   ({op: 'copyToChannel', buffer: version.name, channel, samples: Array.from(samples), ...(first ? {at: first} : {})});
 
 // The bytes of an asset: its channels interleaved. A whole number v of 2^-24 is 128 v in 32 bits.
-function interleaved(channels, length) {
+export function interleaved(channels, length) {
   const words = new Int32Array(channels.length * length);
   channels.forEach((samples, channel) => samples.forEach((sample, frame) => {
     words[frame * channels.length + channel] = Math.min(ONE - 1, Math.max(-ONE, sample)) * 128;
@@ -81,7 +88,7 @@ function bufferCalls(recording, version, assets) {
 }
 
 // The script of a finished recording: {text, assets, numbers}. `numbers` has the ordinal of each call.
-function writeScript(recording, withAssets) {
+export function writeScript(recording, withAssets) {
   const assets = withAssets ? [] : null, numbers = new Map();
   const versionOfCall = new Map(recording.versions.map(version => [version.call, version]));
   let count = 0;

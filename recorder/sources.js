@@ -1,5 +1,13 @@
 // Sources: start and stop, and the buffer and the loop of a buffer source.
 
+import {acquireBuffer, bufferName} from './buffers.js';
+import {scheduleEnding} from './endings.js';
+import {native} from './native.js';
+import {journal} from './nodes.js';
+import {entryOfNode} from './recording.js';
+import {frameOf, isGiven} from './values.js';
+import {wrapAttribute, wrapMethod} from './wrapping.js';
+
 // A time of start or stop. One that has passed means now, so its fraction has no meaning.
 function scheduledFrame(recording, seconds, call, rule) {
   const place = seconds * recording.rate;
@@ -95,7 +103,7 @@ function loopSet(name, op, node, value, exception) {
   placeBeforeStart(entry, [call], exception, 'loop-change');
 }
 
-function wrapSources() {
+export function wrapSources() {
   // Each browser has start and stop at another place of the chain of prototypes.
   for (const kind of ['AudioScheduledSourceNode', 'ConstantSourceNode', 'OscillatorNode', 'AudioBufferSourceNode']) {
     wrapMethod(globalThis[kind].prototype, 'start', sourceStarted);

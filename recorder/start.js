@@ -1,15 +1,31 @@
 // Start: the recorder steps in, and what people and tools call is put under the name waplayRecorder.
 
-wrapContexts();
-wrapNodes();
-wrapConnections();
-wrapBuffers();
-wrapSources();
-wrapParameters();
-if (options.realtime) {
-  replaceAudioContext();
-  replaceTimers();
-} else wrapConstructor('AudioContext', () => { realTime.unrecorded++; });
+import {wrapBuffers} from './buffers.js';
+import {wrapConnections} from './connections.js';
+import {wrapContexts} from './contexts.js';
+import {wrapNodes} from './nodes.js';
+import {settings} from './settings.js';
+import {wrapParameters} from './parameters.js';
+import {recordings} from './recording.js';
+import {writeReport} from './report.js';
+import {finish, interleaved, writeScript} from './script.js';
+import {wrapSources} from './sources.js';
+import {goRealTime, holdClock, realTime, replaceAudioContext, replaceTimers} from './timers.js';
+import {faults, wrapConstructor} from './wrapping.js';
+
+function stepIn() {
+  wrapContexts();
+  wrapNodes();
+  wrapConnections();
+  wrapBuffers();
+  wrapSources();
+  wrapParameters();
+  if (settings.realtime) {
+    replaceAudioContext();
+    replaceTimers();
+  } else wrapConstructor('AudioContext', () => { realTime.unrecorded++; });
+  globalThis.waplayRecorder = waplayRecorder;
+}
 
 const CHUNK = 2 ** 21; // words of samples that are handed over at once
 
@@ -39,7 +55,7 @@ async function finishedText(number) {
   return finished(number, false);
 }
 
-globalThis.waplayRecorder = {
+const waplayRecorder = {
   // The script of a context as one text, with all samples in it. Contexts are numbered from 1.
   async text(number = 1) {
     return (await finishedText(number)).script.text;
@@ -55,7 +71,7 @@ globalThis.waplayRecorder = {
   hold: holdClock,
 
   // Records a real-time piece, once it was started. Only with the option realtime.
-  go: () => options.realtime ? goRealTime() : Promise.resolve(false),
+  go: () => settings.realtime ? goRealTime() : Promise.resolve(false),
 
   // For tools/record: what has happened so far.
   progress: () => ({
@@ -92,3 +108,5 @@ globalThis.waplayRecorder = {
     return base64Of(this.kept.rendered[channel].subarray(first, first + CHUNK));
   },
 };
+
+if (globalThis.OfflineAudioContext && !globalThis.waplayRecorder) stepIn();

@@ -14,6 +14,7 @@ import array
 import json
 import os
 import re
+import shutil
 import sys
 import tempfile
 import time
@@ -47,13 +48,13 @@ class Tally:
 
 
 def open_modules(browser, served, folder, names):
-    """Opens a page in a served folder that has these modules of the recorder's folder."""
-    scripts = []
-    for name in names:
-        with open(os.path.join(FOLDER, name), encoding="utf-8") as file:
-            scripts.append(f"<script>\n{file.read()}</script>")
+    """Opens a page in a served folder that has the exports of these modules of the recorder's folder."""
+    for name in ["playback.js", *names]:
+        shutil.copy(os.path.join(FOLDER, name), folder)
+    lines = [f"import * as module{number} from './{name}'; Object.assign(globalThis, module{number});"
+             for number, name in enumerate(names)]
     with open(os.path.join(folder, "modules.html"), "w", encoding="utf-8") as file:
-        file.write("<!doctype html><title>modules</title>" + "".join(scripts))
+        file.write("<!doctype html><script type=module>\n" + "\n".join(lines) + "\ndocument.title = 'modules';</script>")
     browser.open(served.url_of("modules.html"))
     while not browser.evaluate("document.readyState === 'complete' && document.title === 'modules'"):
         time.sleep(0.02)
@@ -142,7 +143,7 @@ def check_random_sessions(tally, browser):
         with tempfile.TemporaryDirectory() as folder:
             served = Folder(folder)
             try:
-                open_modules(browser, served, folder, ["playback.js", "random_sessions.js"])
+                open_modules(browser, served, folder, ["random_sessions.js"])
                 told = browser.evaluate(f"tryRandomSessions(1, {last}, {options}.lower, {tolerance})", timeout=300)
             finally:
                 served.close()

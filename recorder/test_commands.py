@@ -126,7 +126,7 @@ def check_replaying(tally, chromium):
 def check_by_hand(tally, chromium):
     """A page that loads the built recorder itself: one call gives the script as a text."""
     with tempfile.TemporaryDirectory() as folder:
-        subprocess.run([sys.executable, os.path.join(FOLDER, "build"), os.path.join(folder, "recorder.js")], check=True)
+        subprocess.run([os.path.join(FOLDER, "build"), os.path.join(folder, "recorder.js")], check=True)
         with open(os.path.join(FOLDER, "examples", "drums.html"), encoding="utf-8") as file:
             write_text(folder, "drums.html", "<script src='recorder.js'></script>\n" + file.read())
         browser = Browser(chromium)

@@ -6,7 +6,12 @@
 // is due, the page's callbacks run, and rendering goes on. So the page and its sound have one clock, however
 // fast it is rendered.
 
-const realTime = {contexts: [], isAwaited: !options.click, clockIsAudio: false, milliseconds: 0, startedAt: 0, waiting: 0, unrecorded: 0};
+import {native} from './native.js';
+import {NODE_KINDS} from './nodes.js';
+import {settings} from './settings.js';
+import {recordingOfContext} from './recording.js';
+
+export const realTime = {contexts: [], isAwaited: !settings.click, clockIsAudio: false, milliseconds: 0, startedAt: 0, waiting: 0, unrecorded: 0};
 const timers = [];
 let timerCount = 0;
 
@@ -39,7 +44,7 @@ function armTimer(timer) {
   }, Math.max(0, timer.due - pageNow()));
 }
 
-function addTimer(callback, milliseconds, isRepeated, args) {
+export function addTimer(callback, milliseconds, isRepeated, args) {
   if (typeof callback !== 'function') return 0;
   const delay = Math.max(+milliseconds || 0, isRepeated ? 1 : 0);
   const timer = {id: ++timerCount, callback, args, due: clockNow() + delay, period: isRepeated ? delay : 0};
@@ -49,19 +54,19 @@ function addTimer(callback, milliseconds, isRepeated, args) {
 }
 
 // A timer at a time of the audio. It is due where the page's clock is at that time.
-function addAudioTimer(callback, seconds) {
+export function addAudioTimer(callback, seconds) {
   timers.push({id: ++timerCount, callback, args: [], seconds, period: 0});
   return timerCount;
 }
 
 const dueOf = timer => timer.seconds === undefined ? timer.due : realTime.startedAt + timer.seconds * 1000;
 
-function removeTimer(id) {
+export function removeTimer(id) {
   const place = timers.findIndex(timer => timer.id === id);
   if (place >= 0) native.clearTimeout(timers.splice(place, 1)[0].native);
 }
 
-function replaceTimers() {
+export function replaceTimers() {
   globalThis.setTimeout = (callback, milliseconds, ...args) => addTimer(callback, milliseconds, false, args);
   globalThis.setInterval = (callback, milliseconds, ...args) => addTimer(callback, milliseconds, true, args);
   globalThis.clearTimeout = globalThis.clearInterval = removeTimer;
@@ -96,7 +101,7 @@ function addMediaStandIns(context, recording) {
 }
 
 // From now on the page's clock is that of the audio, which begins with `go`.
-function holdClock() {
+export function holdClock() {
   realTime.isAwaited = true;
   if (realTime.clockIsAudio || !realTime.contexts.length) return;
   Object.assign(realTime, {startedAt: pageNow(), clockIsAudio: true});
@@ -105,7 +110,7 @@ function holdClock() {
 
 function makeRealTimeContext(shape) {
   const rate = shape && shape.sampleRate ? +shape.sampleRate : 48000;
-  const context = new globalThis.OfflineAudioContext(2, Math.max(1, Math.round(options.realtime * rate)), rate);
+  const context = new globalThis.OfflineAudioContext(2, Math.max(1, Math.round(settings.realtime * rate)), rate);
   const recording = recordingOfContext.get(context);
   recording.isRealTime = true;
   realTime.contexts.push(recording);
@@ -126,7 +131,7 @@ function makeRealTimeContext(shape) {
   return context;
 }
 
-function replaceAudioContext() {
+export function replaceAudioContext() {
   const AudioContext = function (shape) { return makeRealTimeContext(shape); };
   AudioContext.prototype = BaseAudioContext.prototype;
   const isOurs = object => realTime.contexts.some(recording => recording.context === object);
@@ -177,7 +182,7 @@ function suspendForTimers(recording) {
 }
 
 // Records a real-time piece. It is called once, when the page is loaded and the piece was started.
-async function goRealTime() {
+export async function goRealTime() {
   const recording = realTime.contexts.find(candidate => candidate.main.length) || realTime.contexts[0];
   if (!recording) return false;
   for (const other of realTime.contexts) if (other !== recording && other.main.length) recording.lose('real-time-second');

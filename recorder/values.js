@@ -2,22 +2,22 @@
 //
 // A script holds a value or a sample v as the whole number v * 2^24, and a time as a number of frames.
 
-const ONE = 2 ** 24;
+export const ONE = 2 ** 24;
 const LOWEST = -(2 ** 31), HIGHEST = 2 ** 31 - 1;
-const LAST_FRAME = 2 ** 40;
+export const LAST_FRAME = 2 ** 40;
 const ROOM_OF_A_FRAME = 1e-6; // a time this near to a frame is meant as that frame: k / rate is rounded in double
 
-const isGiven = value => value !== undefined && value !== null;
+export const isGiven = value => value !== undefined && value !== null;
 
 // The nearest whole number of 2^-24, and how far away it is. Out of range it is the lowest or the highest.
-function nearestFixed(number) {
+export function nearestFixed(number) {
   const exact = number * ONE;
   const whole = Math.min(HIGHEST, Math.max(LOWEST, Math.round(exact))) || 0; // `|| 0` takes away the sign of -0
   return {whole, error: Math.abs(whole - exact) / ONE, inRange: Math.round(exact) >= LOWEST && Math.round(exact) <= HIGHEST};
 }
 
 // A value of a parameter. Parameters are single floats, so that is what the browser computes with.
-function fixedValue(recording, number, call) {
+export function fixedValue(recording, number, call) {
   if (!Number.isFinite(number)) {
     recording.lose('not-finite', call);
     return 0;
@@ -29,7 +29,7 @@ function fixedValue(recording, number, call) {
 }
 
 // A list of samples or of points of a curve, and how many of them are not as they were.
-function nearestFixedList(numbers) {
+export function nearestFixedList(numbers) {
   const wholes = new Int32Array(numbers.length);
   let rounded = 0, outside = 0, unreal = 0, greatest = 0;
   for (let place = 0; place < numbers.length; place++) {
@@ -50,20 +50,20 @@ function nearestFixedList(numbers) {
 }
 
 // The same for a call. One loss of a kind stands for the whole list, with the number of its items.
-function loseOfList(recording, {rounded, outside, unreal, greatest}, call) {
+export function loseOfList(recording, {rounded, outside, unreal, greatest}, call) {
   if (unreal) recording.lose('not-finite', call, 0, unreal);
   if (outside) recording.lose('sample-range', call, 0, outside);
   if (rounded) recording.lose('sample-rounded', call, greatest, rounded);
 }
 
-function fixedList(recording, numbers, call) {
+export function fixedList(recording, numbers, call) {
   const list = nearestFixedList(numbers);
   loseOfList(recording, list, call);
   return Array.from(list.wholes);
 }
 
 // A delay in seconds. It stays a value in seconds, and waplay makes frames of it: whole frames come back whole.
-function fixedSeconds(recording, seconds, call) {
+export function fixedSeconds(recording, seconds, call) {
   if (!Number.isFinite(seconds)) {
     recording.lose('not-finite', call);
     return 0;
@@ -77,7 +77,7 @@ function fixedSeconds(recording, seconds, call) {
 }
 
 // The place of a time among the frames, as a real number. One that is meant as a whole frame is whole.
-function framePlace(recording, seconds) {
+export function framePlace(recording, seconds) {
   const place = seconds * recording.rate, frame = Math.round(place);
   return Math.abs(place - frame) <= ROOM_OF_A_FRAME + Math.abs(place) * 4e-16 ? frame : place;
 }
@@ -85,7 +85,7 @@ function framePlace(recording, seconds) {
 // A time as a frame. `rule` is
 //   'next'      where the standard acts at the first frame at or after the time: nothing is lost
 //   'nearest'   where the fraction has a meaning: the fraction is lost
-function frameOf(recording, seconds, call, rule) {
+export function frameOf(recording, seconds, call, rule) {
   if (!Number.isFinite(seconds)) {
     recording.lose('not-finite', call);
     return 0;

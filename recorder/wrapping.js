@@ -3,26 +3,16 @@
 // Each wrapper calls the browser first, and then tells the recorder what was called and what came of it.
 // A fault of the recorder itself never reaches the page; it becomes a loss of the recording.
 
-const native = {
-  setTimeout: globalThis.setTimeout.bind(globalThis),
-  clearTimeout: globalThis.clearTimeout.bind(globalThis),
-  getChannelData: AudioBuffer.prototype.getChannelData,
-  value: Object.getOwnPropertyDescriptor(AudioParam.prototype, 'value').get,
-  currentTime: Object.getOwnPropertyDescriptor(BaseAudioContext.prototype, 'currentTime').get,
-  OfflineAudioContext: globalThis.OfflineAudioContext,
-  AudioBuffer: globalThis.AudioBuffer,
-  OscillatorNode: globalThis.OscillatorNode,
-  AudioBufferSourceNode: globalThis.AudioBufferSourceNode,
-};
+import {entryOfNode, entryOfParameter, recordingOfContext} from './recording.js';
 
-const faults = [];
+export const faults = [];
 
 function recordingOf(object) {
   const entry = entryOfNode.get(object) || entryOfParameter.get(object);
   return recordingOfContext.get(object) || (entry && entry.recording);
 }
 
-function quietly(object, tell) {
+export function quietly(object, tell) {
   try {
     tell();
   } catch (fault) {
@@ -34,7 +24,7 @@ function quietly(object, tell) {
 
 // Wraps a method. `tell(object, args, result, exception)` is called after it. `before(object)` is called
 // first, and what it returns is the last argument of `tell`.
-function wrapMethod(prototype, name, tell, before) {
+export function wrapMethod(prototype, name, tell, before) {
   const inner = prototype && prototype[name];
   if (typeof inner !== 'function' || !Object.hasOwn(prototype, name)) return;
   const outer = {[name](...args) {
@@ -53,7 +43,7 @@ function wrapMethod(prototype, name, tell, before) {
 }
 
 // Wraps the setter of an attribute. `tell(object, value, exception)` is called after it.
-function wrapAttribute(prototype, name, tell) {
+export function wrapAttribute(prototype, name, tell) {
   const inner = prototype && Object.getOwnPropertyDescriptor(prototype, name);
   if (!inner || !inner.set) return;
   Object.defineProperty(prototype, name, {
@@ -74,7 +64,7 @@ function wrapAttribute(prototype, name, tell) {
 }
 
 // Wraps a constructor. `tell(args, object, exception)` is called after it.
-function wrapConstructor(name, tell) {
+export function wrapConstructor(name, tell) {
   const inner = globalThis[name];
   if (!inner) return;
   const outer = new Proxy(inner, {
@@ -97,7 +87,7 @@ function wrapConstructor(name, tell) {
 
 // Wraps a method that gives a promise. `tell(recording, args)` is called before the browser is, and may give
 // {fulfilled, rejected}, which hear how the promise settled before the page does.
-function wrapPromise(prototype, name, tell) {
+export function wrapPromise(prototype, name, tell) {
   const inner = prototype && prototype[name];
   if (typeof inner !== 'function' || !Object.hasOwn(prototype, name)) return;
   const outer = {[name](...args) {
