@@ -1,135 +1,179 @@
-// Baking: nodes that a script has not, or has only in whole frames, are replaced once rendering is over.
+// Baking: sources that a script has not, or has only in whole frames, become buffers, with the option `lower`.
 //
-// A source is rendered alone by the browser, in a context of its own, and its samples become a buffer. A biquad
-// with steady parameters becomes an IIR filter, and an analyser a gain. All of this is for the option `lower`.
+// Once rendering is over the browser renders copies of them, of each from its start to its stop. Many copies
+// share a rendering: each has channels of its own, and sources that do not sound at one time may have the same
+// ones. What the page did to a source at a suspension or a timer is done to its copy at the same frame.
 
 import {contentOf} from './buffers.js';
-import {biquadCoefficients, putCoefficients, sectionsOf} from './filters.js';
+import {endOfSource} from './endings.js';
+import {BUFFER_LIMIT} from './limits.js';
 import {native} from './native.js';
-import {ONE, fixedValue, framePlace, loseOfList, nearestFixedList} from './values.js';
+import {framePlace, loseOfList, nearestFixedList} from './values.js';
 
 // Losses of a buffer source's calls that a baked one has not.
 const BAKED_LOSSES = ['time-rounded', 'playback-rate', 'playback-rate-automation', 'detune', 'resampling'];
 
-const ATTRIBUTE_OPS = ['setChannelCount', 'setChannelCountMode', 'setChannelInterpretation'];
+const MOST_CHANNELS = 32, MOST_SAMPLES = 2 ** 26; // of one rendering
+const GAP = 256; // frames between sources of one channel
+const QUANTUM = 128;
 
-// Calls on a node itself. Its connections and its attributes stay with what comes in its place.
-const isCallOn = (name, call) => call.node === name && !ATTRIBUTE_OPS.includes(call.op);
-
-function needsBaking(recording, source) {
-  if (source.kind === 'OscillatorNode') return true;
-  const isOf = call => call && (call === source.creation || call.node === source.name);
-  return recording.losses.some(({kind, call}) => BAKED_LOSSES.includes(kind) && isOf(call));
+// The names of sources that have such a loss.
+function namesToBake(recording) {
+  const names = new Set();
+  for (const {kind, call} of recording.losses)
+    if (call && BAKED_LOSSES.includes(kind)) names.add(call.as === undefined ? call.node : call.as);
+  return names;
 }
 
-// Puts calls in the place of the one that creates a node, and takes away all calls on it.
-function replaceNode(recording, entry, calls) {
-  recording.removeCalls(call => isCallOn(entry.name, call));
-  entry.list.splice(entry.list.indexOf(entry.creation), 1, ...calls);
-  entry.creation = calls.find(call => call.as === entry.name);
-  recording.refusedNames.delete(entry.name);
-}
-
-// The frames from a source's start to its stop, within the context.
+// Where a source begins and ends, within the context. What is rendered goes a little further, to be sure.
 function framesOf(recording, source) {
+  const known = endOfSource(source), seconds = known === undefined ? source.stopTime : known;
   const first = Math.min(recording.length, Math.floor(framePlace(recording, source.startTime)));
-  const end = source.stopTime === undefined ? recording.length : Math.ceil(framePlace(recording, source.stopTime));
-  return {first, end: Math.min(recording.length, Math.max(first, end))};
+  const last = seconds === undefined ? recording.length : Math.ceil(framePlace(recording, seconds));
+  return {first, last: Math.max(first, last), end: Math.min(recording.length, Math.max(first, last) + QUANTUM)};
 }
 
-// Renders a copy of a source alone, up to a frame.
-async function renderAlone(recording, source, end) {
-  const channels = source.kind === 'OscillatorNode' ? 1 : source.channels || 1;
-  const context = new native.OfflineAudioContext(channels, end, recording.rate);
+// The sources that are baked: {source, first, last, end, channels}. Sizes are looked at first: what has no room in the
+// buffers of a script is not baked.
+function planOf(recording) {
+  const names = namesToBake(recording), parts = [];
+  let samples = 0;
+  for (const source of recording.sources) {
+    if (!source.isBakeable || (source.kind !== 'OscillatorNode' && !names.has(source.name))) continue;
+    const part = {source, first: 0, last: 0, end: 0, channels: source.kind === 'OscillatorNode' ? 1 : source.channels || 1};
+    if (source.startCall) Object.assign(part, framesOf(recording, source));
+    const size = part.channels * (part.end - part.first);
+    if (samples + size > BUFFER_LIMIT) {
+      recording.lose('baking-limit', source.creation);
+      continue;
+    }
+    samples += size;
+    parts.push(part);
+  }
+  return parts;
+}
+
+// Gives each part a track, which is a row of channels, and puts the tracks into as few renderings as there is room
+// for: [[track, ..], ..]. A track is {channels, end, parts}, and its parts do not overlap.
+function renderingsOf(parts) {
+  const tracks = [];
+  for (const part of [...parts].sort((one, other) => one.first - other.first)) {
+    let track = tracks.find(candidate => candidate.channels === part.channels && candidate.end + GAP <= part.first);
+    if (!track) tracks.push(track = {channels: part.channels, end: 0, parts: []});
+    track.parts.push(part);
+    track.end = part.end;
+  }
+  const renderings = [];
+  let channels = Infinity, longest = 0;
+  for (const track of tracks) {
+    channels += track.channels;
+    longest = Math.max(longest, track.end);
+    if (channels > MOST_CHANNELS || channels * longest > MOST_SAMPLES) {
+      renderings.push([]);
+      channels = track.channels;
+      longest = track.end;
+    }
+    renderings[renderings.length - 1].push(track);
+  }
+  return renderings;
+}
+
+// Makes the copy of a source, and connects it to the channels of its track.
+function copyOf({source, channels}, context, merger, place) {
+  const copy = new native[source.kind](context, source.options); // the journal has the content of its buffer
+  if (channels === 1) copy.connect(merger, 0, place);
+  else {
+    const splitter = context.createChannelSplitter(channels);
+    copy.connect(splitter);
+    for (let channel = 0; channel < channels; channel++) splitter.connect(merger, channel, place + channel);
+  }
+  return copy;
+}
+
+// What is to be done at which frame: the copies are made, and the page's calls are done to them.
+function actionsOf(tracks, context, merger) {
+  const actions = new Map();
+  const at = (frame, action) => {
+    if (!actions.has(frame)) actions.set(frame, []);
+    actions.get(frame).push(action);
+  };
+  let place = 0;
+  for (const track of tracks) {
+    for (const part of track.parts) {
+      const first = place;
+      let copy;
+      at(part.source.bornAt, () => { copy = copyOf(part, context, merger, first); });
+      for (const {frame, repeat} of part.source.journal) if (frame < part.end) at(frame, () => repeat(copy));
+    }
+    place += track.channels;
+  }
+  return actions;
+}
+
+// Renders the parts of some tracks side by side, and gives the channels.
+async function render(recording, tracks) {
+  const channels = tracks.reduce((sum, track) => sum + track.channels, 0);
+  const length = Math.max(...tracks.map(track => track.end));
+  const context = new native.OfflineAudioContext(channels, length, recording.rate);
   context.destination.channelInterpretation = 'discrete';
-  const copyOptions = {...source.options};
-  delete copyOptions.buffer; // the journal has its content
-  const copy = new native[source.kind](context, copyOptions);
-  for (const repeat of source.journal) repeat(copy);
-  copy.connect(context.destination);
-  return contentOf(await context.startRendering());
+  const merger = context.createChannelMerger(channels);
+  merger.connect(context.destination);
+  const faults = [];
+  const doAll = actions => {
+    try {
+      for (const action of actions) action();
+    } catch (fault) {
+      faults.push(fault);
+    }
+  };
+  for (const [frame, actions] of actionsOf(tracks, context, merger)) {
+    if (frame === 0) doAll(actions);
+    else if (frame < length) context.suspend(frame / recording.rate).then(() => {
+      doAll(actions);
+      context.resume();
+    }, fault => { faults.push(fault); });
+  }
+  const rendered = contentOf(await context.startRendering());
+  if (faults.length) throw faults[0];
+  return rendered;
 }
 
-async function bakeSource(recording, source) {
-  if (!source.startCall) { // it is never heard
-    const call = {op: 'createConstantSource', as: source.name};
-    replaceNode(recording, source, [call]);
-    recording.lose('baked-source', call);
-    return;
-  }
-  const {first, end} = framesOf(recording, source);
-  const creation = {op: 'createBufferSource', as: source.name}, calls = [creation];
-  if (end > first) {
-    const lists = (await renderAlone(recording, source, end)).map(channel => nearestFixedList(channel.subarray(first)));
-    // What is silent at the end needs no room.
-    const length = Math.max(1, ...lists.map(({wholes}) => wholes.findLastIndex(sample => sample !== 0) + 1));
-    const call = {op: 'createBuffer', as: recording.newName('baked'), channels: lists.length, length, rate: recording.rate};
-    recording.versions.push({name: call.as, call, samples: lists.map(({wholes}) => wholes.subarray(0, length))});
-    for (const list of lists) loseOfList(recording, list, call);
-    creation.buffer = call.as;
-    calls.unshift(call);
-    calls.push({op: 'start', node: source.name, when: first});
-  }
-  replaceNode(recording, source, calls);
+// The calls that come in the place of a source: a buffer of these samples that plays from its first frame on.
+// What is silent at the end needs no samples, but for the number of channels, which is heard.
+function callsOf(recording, {source, first, last}, channels) {
+  const creation = {op: 'createBufferSource', as: source.name};
+  const lists = channels.map(nearestFixedList), least = channels.length > 1 ? Math.min(last - first, channels[0].length) : 0;
+  const length = Math.max(least, ...lists.map(({wholes}) => wholes.findLastIndex(sample => sample !== 0) + 1));
   recording.lose('baked-source', creation);
+  if (length === 0) return [creation];
+  const call = {op: 'createBuffer', as: recording.newName('baked'), channels: lists.length, length, rate: recording.rate};
+  recording.versions.push({name: call.as, call, samples: lists.map(({wholes}) => wholes.slice(0, length))});
+  for (const list of lists) loseOfList(recording, list, call);
+  creation.buffer = call.as;
+  return [call, creation, {op: 'start', node: source.name, when: first}];
 }
 
-// A filter becomes a row of sections. Inside, all is 32 times louder where there is room for it: the output that
-// is fed back is rounded to 2^-24, and small coefficients lose bits. A gain behind the row takes this back.
-function replaceByRow(recording, entry, sections, kind) {
-  const peak = Math.max(...recording.rendered.map(channel => channel.reduce((most, sample) => Math.max(most, Math.abs(sample)), 0)));
-  const isGuarded = peak < 2; // what is inside is taken to be at most twice as loud as what is heard
-  if (!isGuarded && sections.length === 1 && entry.kind === 'IIRFilterNode') return; // it stays as it is
-  const names = sections.map((section, place) => place === sections.length - 1 && !isGuarded ? entry.name : `${entry.name}_${place + 1}`);
-  const calls = sections.map(({feedforward, feedback}, place) => {
-    const call = {op: 'createIIRFilter', as: names[place]};
-    putCoefficients(recording, call, place === 0 && isGuarded ? feedforward.map(term => term * 32) : feedforward, feedback);
-    if (kind) recording.lose(kind, call);
-    return call;
-  });
-  if (isGuarded) {
-    calls.push({op: 'createGain', as: entry.name, gain: ONE / 32});
-    recording.lose('guarded-filter', calls[calls.length - 1]);
-    names.push(entry.name);
-  }
-  for (let place = 1; place < names.length; place++) calls.push({op: 'connect', from: names[place - 1], to: names[place]});
-  // What led into the filter leads into the first of the row.
-  recording.eachCall(call => {
-    if (call.to === entry.name && !call.param) call.to = names[0];
-    if (call.node === entry.name && ATTRIBUTE_OPS.includes(call.op)) call.node = names[0];
-  });
-  replaceNode(recording, entry, calls);
+// A source that is never started is never heard.
+function callsOfUnstarted(recording, source) {
+  const call = {op: 'createConstantSource', as: source.name};
+  recording.lose('baked-source', call);
+  return [call];
 }
 
-function lowerBiquad(recording, entry) {
-  const {node} = entry, valueOf = name => native.value.call(node[name]);
-  const settings = {type: node.type, frequency: valueOf('frequency'), Q: valueOf('Q'), gain: valueOf('gain'), detune: valueOf('detune')};
-  const {gain, feedforward, feedback} = biquadCoefficients(settings, recording.rate);
-  if (gain === undefined) return replaceByRow(recording, entry, [{feedforward, feedback}], 'lowered-biquad');
-  const call = {op: 'createGain', as: entry.name};
-  call.gain = fixedValue(recording, gain, call);
-  replaceNode(recording, entry, [call]);
-  recording.lose('lowered-biquad', call);
-}
-
-function lowerFilter(recording, entry) {
-  const feedforward = Array.from(entry.options.feedforward, Number), feedback = Array.from(entry.options.feedback, Number);
-  const sections = sectionsOf(feedforward, feedback);
-  replaceByRow(recording, entry, sections || [{feedforward, feedback}], sections && 'lowered-sections');
-}
-
-// Replaces what can be replaced of a recording that is complete.
-export async function bake(recording) {
-  for (const source of recording.sources)
-    if (source.isBakeable && needsBaking(recording, source)) await bakeSource(recording, source);
-  const isLeft = recording.sources.some(source => source.kind === 'OscillatorNode' && source.creation.op === 'createOscillator');
-  if (!isLeft) recording.removeCalls(call => call.op === 'createPeriodicWave');
-  for (const entry of recording.filters)
-    if (entry.kind === 'IIRFilterNode') lowerFilter(recording, entry);
-    else if (entry.isSteady) lowerBiquad(recording, entry);
-  for (const entry of recording.analysers) {
-    const call = {op: 'createGain', as: entry.name};
-    replaceNode(recording, entry, [call]);
-    recording.lose('lowered-analyser', call);
+// Bakes what can be baked of a recording that is complete.
+export async function bakeSources(recording, replacements) {
+  const parts = planOf(recording);
+  for (const {source} of parts) if (!source.startCall) replacements.put(source, callsOfUnstarted(recording, source));
+  for (const tracks of renderingsOf(parts.filter(({source}) => source.startCall))) {
+    const rendered = await render(recording, tracks);
+    let place = 0;
+    for (const track of tracks) {
+      for (const part of track.parts) {
+        const channels = rendered.slice(place, place + track.channels).map(channel => channel.subarray(part.first, part.end));
+        replacements.put(part.source, callsOf(recording, part, channels));
+      }
+      place += track.channels;
+    }
+    recording.work++;
   }
 }

@@ -9,7 +9,7 @@ import {native} from './native.js';
 import {settings} from './settings.js';
 import {recordingOfContext} from './recording.js';
 import {loseOfList, nearestFixedList} from './values.js';
-import {wrapMethod} from './wrapping.js';
+import {wrapMethod, wrapPromise} from './wrapping.js';
 
 const versionsOfBuffer = new WeakMap(); // AudioBuffer -> Map(recording -> its versions, in order)
 
@@ -108,9 +108,8 @@ export function wrapBuffers() {
       recording.emit([{op: 'copyToChannel', buffer: versions[versions.length - 1].name, channel: args[1] >>> 0, samples: []}], exception);
   });
 
-  wrapMethod(BaseAudioContext.prototype, 'decodeAudioData', (context, args, promise) => {
-    const recording = recordingOfContext.get(context);
-    if (!recording || !promise) return;
-    promise.then(() => recording.lose('asset-decoded'), () => {});
-  });
+  wrapPromise(BaseAudioContext.prototype, 'decodeAudioData', recording => ({
+    fulfilled: () => recording.lose('asset-decoded'),
+    rejected() {},
+  }));
 }

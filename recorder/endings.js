@@ -8,7 +8,7 @@ import {entryOfParameter} from './recording.js';
 import {addAudioTimer, addTimer, removeTimer} from './timers.js';
 
 // When a source ends, in seconds. Undefined where it does not end, or where only the browser knows when.
-function endOfSource(entry) {
+export function endOfSource(entry) {
   const {node, kind, startTime, stopTime, playedFor = Infinity, offset = 0} = entry;
   const stop = stopTime === undefined ? Infinity : Math.max(startTime, stopTime);
   let end = Infinity;
@@ -16,6 +16,7 @@ function endOfSource(entry) {
     const [rate, detune] = [node.playbackRate, node.detune].map(parameter => entryOfParameter.get(parameter));
     if (rate.events || detune.events || !entry.isBakeable) return undefined;
     const speed = native.value.call(node.playbackRate) * 2 ** (native.value.call(node.detune) / 1200);
+    if (!(speed > 0)) return undefined;
     const length = node.loop ? Infinity : Math.max(0, (entry.buffer ? entry.buffer.duration : 0) - offset);
     end = startTime + Math.min(playedFor, length) / speed;
   }

@@ -1,38 +1,75 @@
-// Filters: coefficients as whole numbers, biquads as IIR filters, and sections of order 2.
+// Filters: coefficients as whole numbers, and biquads as IIR filters.
 
+import {peakOf, responseError} from './responses.js';
 import {ONE, nearestFixed} from './values.js';
+
+const ROOM = 127.99;  // coefficients stay below 128
+const MOST_SCALE = 2 ** 20;
+const SCALES = 256;   // how many scales are tried
 
 const isWholeFixed = number => Number.isInteger(number * ONE);
 
-// Numerator and denominator of a filter may be multiplied by one number. A power of two that brings the
-// greatest coefficient near to 128 saves the most bits, and is exact by itself.
-function scaleOfCoefficients(coefficients) {
-  const greatest = Math.max(...coefficients.map(Math.abs));
+// Numerator and denominator of a filter may be multiplied by one number. One that is large saves bits. Of those
+// that are at least half as large as can be, the one with the least error is taken.
+function scaleOfCoefficients(feedforward, feedback) {
+  const all = [...feedforward, ...feedback], greatest = Math.max(...all.map(Math.abs));
   if (!Number.isFinite(greatest) || greatest === 0) return 1;
-  if (greatest < 128 && coefficients.every(isWholeFixed)) return 1;
-  return 2 ** Math.floor(Math.log2(127.99 / greatest));
+  if (greatest < 128 && all.every(isWholeFixed)) return 1;
+  const most = Math.min(MOST_SCALE, 2 ** Math.floor(Math.log2(ROOM / greatest)));
+  if (all.every(term => isWholeFixed(term * most))) return most;
+  let best = most, least = Infinity;
+  for (let number = 0; number < SCALES; number++) {
+    const scale = most * (1 - number / (2 * SCALES)), error = errorOfScale(feedforward, feedback, scale);
+    if (error < least) [best, least] = [scale, error];
+  }
+  return best;
 }
 
-// Puts the coefficients of a filter into its call.
-export function putCoefficients(recording, call, feedforward, feedback) {
-  const all = [...feedforward, ...feedback].map(Number);
-  const scale = all.length ? Math.min(2 ** 20, scaleOfCoefficients(all)) : 1;
-  let greatestError = 0, isRounded = false;
-  const fixed = coefficient => {
-    if (!Number.isFinite(+coefficient)) {
-      recording.lose('not-finite', call);
-      return 0;
-    }
-    const {whole, error, inRange} = nearestFixed(coefficient * scale);
-    if (!inRange) recording.lose('value-range', call);
+const roundingOf = term => Math.round(term * ONE) / ONE - term;
+
+// What rounding does to a filter, for a choice between scales: the sums of all terms, which are the response to
+// what is low, and the terms themselves.
+function errorOfScale(feedforward, feedback, scale) {
+  const relative = terms => {
+    const scaled = terms.map(term => term * scale), sum = scaled.reduce((whole, term) => whole + term, 0);
+    const errors = scaled.map(roundingOf), size = Math.max(...scaled.map(Math.abs));
+    const ofSum = Math.abs(errors.reduce((whole, error) => whole + error, 0)) / Math.max(Math.abs(sum), size * 2 ** -40);
+    return ofSum + errors.reduce((whole, error) => whole + Math.abs(error), 0) / size;
+  };
+  return relative(feedforward) + relative(feedback);
+}
+
+// The coefficients of a filter as a script has them: {feedforward, feedback, scale, isRounded, isInRange}.
+export function roundedCoefficients(feedforward, feedback) {
+  const scale = scaleOfCoefficients(feedforward, feedback);
+  let isRounded = false, isInRange = true;
+  const fixed = term => {
+    const {whole, error, inRange} = nearestFixed(term * scale);
     isRounded = isRounded || error > 0;
-    greatestError = Math.max(greatestError, error / scale);
+    isInRange = isInRange && inRange;
     return whole;
   };
-  call.feedforward = Array.from(feedforward, fixed);
-  call.feedback = Array.from(feedback, fixed);
-  if (scale !== 1) recording.lose('coefficients-scaled', call);
-  if (isRounded) recording.lose('coefficients-rounded', call, greatestError);
+  return {feedforward: feedforward.map(fixed), feedback: feedback.map(fixed), scale, isRounded, isInRange};
+}
+
+// Puts the coefficients of a filter into its call. What the rounding does to the sound is told once the script is
+// whole, see loseOfFilters.
+export function putCoefficients(recording, call, feedforward, feedback) {
+  const numbers = [feedforward, feedback].map(terms => Array.from(terms, Number));
+  if (numbers.some(terms => !terms.every(Number.isFinite))) recording.lose('not-finite', call);
+  const [above, below] = numbers.map(terms => terms.map(term => Number.isFinite(term) ? term : 0));
+  const rounded = roundedCoefficients(above, below);
+  Object.assign(call, {feedforward: rounded.feedforward, feedback: rounded.feedback});
+  if (rounded.scale !== 1) recording.lose('coefficients-scaled', call);
+  if (!rounded.isInRange) recording.lose('value-range', call);
+  return {call, feedforward: above, feedback: below, isRounded: rounded.isRounded};
+}
+
+// How far the response of a row is off with the coefficients that its calls have, and whether it is another one.
+export function coefficientError(row) {
+  const found = row.map(({call}) => ({feedforward: call.feedforward, feedback: call.feedback}));
+  const error = responseError(row, found);
+  return {error, isLost: !(error < peakOf(row) / 2)};
 }
 
 // What a biquad is where its frequency is 0 or half the rate, or its Q is 0: a gain.
@@ -81,76 +118,4 @@ function shelfCoefficients(amplitude, cosine, sine) {
     low: [terms(-1).map(term => term * amplitude), terms(1)],
     high: [terms(1).map(term => term * amplitude), terms(-1)],
   };
-}
-
-const valueOfTerms = (terms, place) => terms.reduce((sum, term) => sum * place + term, 0);
-
-// Takes the roots at 1 and -1 out of a polynomial, which many filters have several times. What is left has
-// roots that are found well.
-function withoutUnitRoots(terms) {
-  const roots = [];
-  let left = terms;
-  for (const root of [1, -1])
-    while (left.length > 1 && Math.abs(valueOfTerms(left, root)) < 1e-12 * left.reduce((sum, term) => sum + Math.abs(term), 0)) {
-      let carried = 0;
-      left = left.slice(0, -1).map(term => (carried = carried * root + term));
-      roots.push([root, 0]);
-    }
-  return {roots, left};
-}
-
-// The roots of a polynomial whose terms stand in falling order of powers and begin with 1 (Durand and Kerner).
-function rootsOf(terms) {
-  const order = terms.length - 1;
-  const times = ([a, b], [c, d]) => [a * c - b * d, a * d + b * c];
-  const minus = ([a, b], [c, d]) => [a - c, b - d];
-  const over = ([a, b], [c, d]) => [(a * c + b * d) / (c * c + d * d), (b * c - a * d) / (c * c + d * d)];
-  const valueAt = place => terms.reduce((sum, term) => {
-    const [real, other] = times(sum, place);
-    return [real + term, other];
-  }, [0, 0]);
-  const roots = Array.from({length: order}, (_, number) => {
-    const angle = 0.4 + 2 * Math.PI * number / order;
-    return [0.9 * Math.cos(angle), 0.9 * Math.sin(angle)];
-  });
-  for (let turn = 0; turn < 500; turn++)
-    for (let number = 0; number < order; number++) {
-      const others = roots.filter((_, other) => other !== number);
-      const apart = others.reduce((product, root) => times(product, minus(roots[number], root)), [1, 0]);
-      roots[number] = minus(roots[number], over(valueAt(roots[number]), apart));
-    }
-  return roots;
-}
-
-// A polynomial with real terms as a product of such ones of order 2, and one of order 1 where the order is odd.
-// Roots pair with what is nearest to their conjugate. So roots that lie together, which are found as a cloud, pair too.
-function factorsOf(terms) {
-  const unit = withoutUnitRoots(terms.map(term => term / terms[0]));
-  const roots = [...unit.roots, ...rootsOf(unit.left)].sort((one, other) => Math.abs(one[1]) - Math.abs(other[1]));
-  const factors = [];
-  while (roots.length > 1) {
-    const [real, other] = roots.pop();
-    const distances = roots.map(root => Math.hypot(root[0] - real, root[1] + other));
-    const [[itsReal, itsOther]] = roots.splice(distances.indexOf(Math.min(...distances)), 1);
-    factors.push([1, -real - itsReal, real * itsReal - other * itsOther]);
-  }
-  if (roots.length) factors.push([1, -roots[0][0]]);
-  return factors;
-}
-
-// A filter of an order above 2 as a row of filters of order 2: [{feedforward, feedback}, ...]. Null where the
-// parts do not give the whole again, as for filters whose numerator begins with 0.
-export function sectionsOf(feedforward, feedback) {
-  if (feedforward.length !== feedback.length || feedforward.length < 4 || !feedforward[0] || !feedback[0]) return null;
-  const above = factorsOf(feedforward), below = factorsOf(feedback);
-  const gain = feedforward[0] / feedback[0];
-  const product = factors => factors.reduce((terms, factor) => {
-    const sum = new Array(terms.length + factor.length - 1).fill(0);
-    terms.forEach((term, place) => factor.forEach((part, next) => { sum[place + next] += term * part; }));
-    return sum;
-  }, [1]);
-  const isNear = (factors, terms) => product(factors).length === terms.length &&
-    product(factors).every((term, place) => Math.abs(term - terms[place] / terms[0]) < 1e-9);
-  if (!isNear(above, feedforward) || !isNear(below, feedback) || above.length !== below.length) return null;
-  return above.map((factor, place) => ({feedforward: place ? factor : factor.map(term => term * gain), feedback: below[place]}));
 }

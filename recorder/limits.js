@@ -2,7 +2,8 @@
 
 import {ONE, isGiven} from './values.js';
 
-const NODE_LIMIT = 1024, CONNECTION_LIMIT = 8192, BUFFER_LIMIT = 2 ** 27, DELAY_LIMIT = 2 ** 22;
+export const BUFFER_LIMIT = 2 ** 27;
+const NODE_LIMIT = 1024, CONNECTION_LIMIT = 8192, DELAY_LIMIT = 2 ** 22;
 export const ASSET_LIMIT = 2 ** 26, SCRIPT_LIMIT = 2 ** 24;
 
 export function loseOfContext(recording) {

@@ -1,14 +1,17 @@
 // Losses: what a script cannot keep of a page as it is, kind by kind.
 //
 // The grade says what became of the sound:
-//   exact     nothing is lost; the script says the same in other words
-//   rounded   a number or a time is the nearest one that a script can hold
-//   lowered   a call was rewritten into others that sound the same (with the option `lower`)
 //   refused   waplay refuses the call, or the script stands for something else than the page did
+//   silent    the browser rendered nothing but zeros
+//   heard     a number or a time is rounded so far that it may be heard
+//   lowered   a call was rewritten into others that sound the same (with the option `lower`)
+//   rounded   a number or a time is the nearest one that a script can hold
+//   exact     nothing is lost; the script says the same in other words
 //
-// `heard` marks what is rounded so far that it may be heard. Such lines come before the other rounded ones.
+// A rounded kind that `isMeasured` has errors of the sound: from HEARD_FROM on its grade is `heard`.
 
-export const GRADES = ['refused', 'lowered', 'rounded', 'exact'];
+export const GRADES = ['refused', 'silent', 'heard', 'lowered', 'rounded', 'exact'];
+const HEARD_FROM = 2 ** -16;
 
 export const LOSS_KINDS = {
   // Numbers and times.
@@ -20,7 +23,7 @@ export const LOSS_KINDS = {
   'time-next-frame': {grade: 'exact', says: 'times between two frames; the next frame means the same'},
   'time-near-frame': {grade: 'exact', says: 'times within a millionth of a frame; that frame is taken'},
   'time-rounded': {grade: 'rounded', says: 'times between two frames; the nearest frame is taken'},
-  'delay-fraction': {grade: 'rounded', heard: true,
+  'delay-fraction': {grade: 'heard',
     says: 'A DELAY OF A FRACTION OF A FRAME OR ONE THAT MOVES: chorus, flanger and tuned strings change'},
 
   // Calls in another place or another form.
@@ -31,8 +34,11 @@ export const LOSS_KINDS = {
     says: 'buffers written after a source acquired them; it keeps what it acquired, where Chromium may play what is written'},
   'call-left-out': {grade: 'exact',
     says: 'calls that the browser refused for their arguments, or that concern another context; left out'},
-  'coefficients-scaled': {grade: 'exact', says: 'filter coefficients times one power of two on both sides'},
-  'coefficients-rounded': {grade: 'rounded', says: 'filter coefficients that are no multiple of 2^-24'},
+  'coefficients-scaled': {grade: 'exact', says: 'filter coefficients times one number on both sides'},
+  'coefficients-rounded': {grade: 'rounded', isMeasured: true,
+    says: 'filter coefficients that are no multiple of 2^-24; the error is that of the response'},
+  'feedback-rounded': {grade: 'rounded', isMeasured: true,
+    says: 'filters that feed back what is rounded to 2^-24; the error is the most that this can add up to'},
 
   // Rewritten calls.
   'lowered-ramp': {grade: 'lowered', says: 'linear ramps between frames; curves and values'},
@@ -48,6 +54,12 @@ export const LOSS_KINDS = {
   'lowered-analyser': {grade: 'lowered', says: 'analysers; gains of 1, as they pass their input on'},
 
   // What a script cannot say.
+  'silent': {grade: 'silent', says: 'THE BROWSER RENDERED SILENCE: no sample is other than 0'},
+  'call-after-end': {grade: 'refused', says: 'calls of a real-time piece after the end of its rendering; they are not in its sound'},
+  'worker-clock': {grade: 'refused', says: 'a worker whose clock is its own; what it does comes at another time of the piece'},
+  'filter-lost': {grade: 'refused', says: 'a filter that is another one with its coefficients rounded to 2^-24'},
+  'level-range': {grade: 'refused', says: 'a filter whose output is 128 or more, where waplay saturates'},
+  'baking-limit': {grade: 'refused', says: 'a source that is not baked, as all buffers would have more than 134,217,728 samples'},
   'call-while-rendering': {grade: 'refused', says: 'calls made while rendering runs, outside a suspension; no frame is known for them'},
   'second-curve': {grade: 'refused',
     says: 'a curve of a WaveShaperNode after its first one, or one of fewer than two points; browsers take it, waplay does not'},
@@ -93,3 +105,9 @@ const FEATURES = {
 
 for (const word of Object.keys(FEATURES))
   LOSS_KINDS[word] = {grade: 'refused', feature: true, says: FEATURES[word]};
+
+// The grade of a loss of this kind with this error.
+export function gradeOf(kind, error) {
+  const {grade, isMeasured} = LOSS_KINDS[kind];
+  return isMeasured && error >= HEARD_FROM ? 'heard' : grade;
+}

@@ -13,5 +13,6 @@ export const native = {
   OfflineAudioContext: globalThis.OfflineAudioContext,
   AudioBuffer: globalThis.AudioBuffer,
   OscillatorNode: globalThis.OscillatorNode,
+  AnalyserNode: globalThis.AnalyserNode,
   AudioBufferSourceNode: globalThis.AudioBufferSourceNode,
 };

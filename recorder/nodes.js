@@ -4,12 +4,12 @@ import {Timeline} from './automation.js';
 import {bufferName} from './buffers.js';
 import {keepEndingBack} from './endings.js';
 import {putCoefficients} from './filters.js';
+import {journal} from './journal.js';
 import {native} from './native.js';
 import {creationOf, featureOf, wordsOf} from './operations.js';
-import {settings} from './settings.js';
 import {entryOfNode, entryOfParameter, recordingOfContext} from './recording.js';
 import {ONE, fixedList, fixedSeconds, fixedValue, frameOf, isGiven, nearestFixed} from './values.js';
-import {wrapAttribute, wrapConstructor, wrapMethod} from './wrapping.js';
+import {takenNumbers, wrapAttribute, wrapConstructor, wrapMethod} from './wrapping.js';
 
 // Of each interface what its names in a script begin with.
 const NAME_PREFIXES = {
@@ -56,7 +56,8 @@ const CREATION = {
     if (call.oversample && call.oversample !== 'none') recording.lose('oversample', call);
   },
   IIRFilterNode(recording, call, options) {
-    putCoefficients(recording, call, options.feedforward || [], options.feedback || []);
+    const section = putCoefficients(recording, call, options.feedforward || [], options.feedback || []);
+    recording.rows.push({sections: [section], lead: 1, trailing: 1});
   },
   AudioBufferSourceNode(recording, call, options) {
     if (isGiven(options.loop)) call.loop = Boolean(options.loop);
@@ -118,7 +119,8 @@ export function registerParameters(entry, object) {
 }
 
 function registerNode(recording, node, entry) {
-  Object.assign(entry, {recording, node, list: recording.current, startCall: null, journal: [], isBakeable: true, isSteady: true});
+  Object.assign(entry, {recording, node, list: recording.current, bornAt: recording.now, startCall: null, journal: [],
+    isBakeable: true, isSteady: true});
   entryOfNode.set(node, entry);
   registerParameters(entry, node);
   if (recording.isRealTime && node instanceof AudioScheduledSourceNode) keepEndingBack(entry);
@@ -142,12 +144,33 @@ function nodeCreated(kind, context, options, node, exception) {
   if (NODE_KINDS[kind].feature) recording.refusedNames.add(creation.as);
   recording.emit(calls, exception);
   if (!node) return;
-  registerNode(recording, node, {name: creation.as, kind, creation, options: {...options}});
+  registerNode(recording, node, {name: creation.as, kind, creation, options: keptOptions(kind, options)});
   const entry = entryOfNode.get(node);
   if (kind === 'AudioBufferSourceNode' && isGiven(options.buffer))
     Object.assign(entry, {buffer: options.buffer, bufferCall: creation, bufferList: recording.current});
+  if (kind === 'IIRFilterNode') entry.coefficients = recording.rows[recording.rows.length - 1].sections[0];
   if (kind === 'WaveShaperNode') curveTaken(entry, creation);
 }
+
+// Members of options that are lists.
+const LISTS = {IIRFilterNode: ['feedforward', 'feedback'], WaveShaperNode: ['curve']};
+
+// The arguments of a constructor, with lists that are gone through once.
+function takenOptions(kind, [context, options, ...others]) {
+  const lists = (LISTS[kind] || []).filter(name => options && isGiven(options[name]));
+  if (!lists.length) return [context, options, ...others];
+  const taken = lists.map(name => [name, {value: takenNumbers(options[name]), enumerable: true}]);
+  return [context, Object.create(options, Object.fromEntries(taken)), ...others];
+}
+
+// What a copy of a source needs of the options.
+const KEPT_OPTIONS = {
+  OscillatorNode: ['type', 'frequency', 'detune', 'periodicWave'],
+  AudioBufferSourceNode: ['playbackRate', 'detune', 'loop', 'loopStart', 'loopEnd'],
+};
+
+const keptOptions = (kind, options) => Object.fromEntries(
+  (KEPT_OPTIONS[kind] || []).filter(name => options[name] !== undefined).map(name => [name, options[name]]));
 
 // The arguments of a factory as the options of its constructor.
 const FACTORY_OPTIONS = {
@@ -172,9 +195,10 @@ function wrapAttributeAsCall(prototype, name, op, valueOf) {
 
 export function wrapNodes() {
   for (const [kind, {op}] of Object.entries(NODE_KINDS)) {
-    wrapConstructor(kind, ([context, options], node, exception) => nodeCreated(kind, context, Object(options), node, exception));
+    wrapConstructor(kind, ([context, options], node, exception) => nodeCreated(kind, context, Object(options), node, exception),
+      args => takenOptions(kind, args));
     wrapMethod(BaseAudioContext.prototype, op, (context, args, node, exception) =>
-      nodeCreated(kind, context, FACTORY_OPTIONS[op] ? FACTORY_OPTIONS[op](args) : {}, node, exception));
+      nodeCreated(kind, context, FACTORY_OPTIONS[op] ? FACTORY_OPTIONS[op](args) : {}, node, exception), args => op === 'createIIRFilter' ? args.map(takenNumbers) : args);
   }
   const waveCreated = (context, exception) => {
     const recording = recordingOfContext.get(context);
@@ -210,9 +234,4 @@ export function wrapNodes() {
     const entry = entryOfNode.get(node);
     if (entry && entry.recording.current !== entry.list) entry.isSteady = false;
   });
-}
-
-// Notes what was done to a source, to be done again to a copy of it, see baking.js.
-export function journal(entry, repeat) {
-  if (entry && settings.lower) entry.journal.push(repeat);
 }

@@ -2,11 +2,12 @@
 
 import {Timeline, eventOf} from './automation.js';
 import {CALL_ALONE, LOWERING} from './lowering.js';
-import {journal, putPlaybackRate} from './nodes.js';
+import {journal} from './journal.js';
+import {putPlaybackRate} from './nodes.js';
 import {settings} from './settings.js';
 import {entryOfParameter} from './recording.js';
 import {fixedList, fixedSeconds, fixedValue, frameOf} from './values.js';
-import {wrapAttribute, wrapMethod} from './wrapping.js';
+import {takenNumbers, wrapAttribute, wrapMethod} from './wrapping.js';
 
 const SCRIPT_PARAMETERS = {ConstantSourceNode: ['offset'], GainNode: ['gain'], DelayNode: ['delayTime']};
 
@@ -129,9 +130,9 @@ function automated(method, object, args, result, exception) {
     return;
   }
   if (!exception) {
-    node.isSteady = false;
     journal(node, copy => copy[parameter.name][method](...args));
     const isNow = method === 'setValueAtTime' && +args[1] <= 0 && recording.phase === 'before';
+    if (!isNow || recording.current !== node.list) node.isSteady = false;
     if (becomesCreationOption(parameter, Math.fround(+args[0]), isNow)) return;
   }
   if (node.kind === 'listener') return emitOfListener(recording, exception);
@@ -149,11 +150,7 @@ function valueSet(object, value, exception) {
   const {recording, node} = parameter, number = Math.fround(+value);
   if (!exception) {
     if (recording.current !== node.list) node.isSteady = false;
-    const seconds = recording.now / recording.rate;
-    journal(node, copy => {
-      if (seconds > 0) copy[parameter.name].setValueAtTime(number, seconds);
-      else copy[parameter.name].value = number;
-    });
+    journal(node, copy => { copy[parameter.name].value = number; });
     if (becomesCreationOption(parameter, number, true)) return;
   }
   if (node.kind === 'listener') return emitOfListener(recording, exception);
@@ -177,7 +174,8 @@ function rateSet(object, rate, exception) {
 
 export function wrapParameters() {
   for (const method of Object.keys(AUTOMATION))
-    wrapMethod(AudioParam.prototype, method, (object, args, result, exception) => automated(method, object, args, result, exception));
+    wrapMethod(AudioParam.prototype, method, (object, args, result, exception) => automated(method, object, args, result, exception),
+      ([first, ...others]) => [takenNumbers(first), ...others]);
   wrapAttribute(AudioParam.prototype, 'value', valueSet);
   wrapAttribute(AudioParam.prototype, 'automationRate', rateSet);
 }

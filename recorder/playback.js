@@ -1,17 +1,20 @@
-// Playback: performs a script with the browser's own Web Audio, to see that a recording says what its page did.
+// Playback: performs a script with the browser's own Web Audio.
 //
-// It is for tests only, and no stand-in for waplay: values are floating-point numbers again, and what differs
-// between browsers and waplay's profile differs here too. A call that waplay refuses is left out.
+// The tests see with it that a recording says what its page did, and the recorder how loud it is inside filters. It
+// is no stand-in for waplay: values are floating-point numbers again, and what differs between browsers and waplay's
+// profile differs here too. A call that waplay refuses is left out.
 
 const UNIT = 2 ** 24;
 const valueOf = whole => whole / UNIT;
 
 export class Player {
-  constructor(script, assets) {
+  // `assets` has an AudioBuffer for each path.
+  constructor(script, assets, context) {
     const {channels, length, rate} = script.context;
-    this.context = new OfflineAudioContext(channels, length, rate);
-    this.assets = assets; // path -> AudioBuffer
+    this.context = context || new OfflineAudioContext(channels, length, rate);
+    this.assets = assets;
     this.named = new Map([['destination', this.context.destination]]);
+    this.heads = new Map(); // nodes whose inputs are those of another one
     this.rendering = null;
   }
 
@@ -25,13 +28,31 @@ export class Player {
     this.named.set(call.as, object);
   }
 
+  // The node that an input belongs to.
+  headOf(name) {
+    return this.heads.get(name) || this.named.get(name);
+  }
+
+  createFilter(call) {
+    if (call.feedforward) this.bind(call, this.context.createIIRFilter(call.feedforward.map(valueOf), call.feedback.map(valueOf)));
+  }
+
+  createBuffer(call) {
+    this.bind(call, new AudioBuffer({numberOfChannels: call.channels, length: call.length, sampleRate: call.rate}));
+  }
+
+  // Lets something be done at the quantum of a frame. It has to resume.
+  at(frame, action) {
+    this.context.suspend(this.secondsOf(frame)).then(action, () => {});
+  }
+
   // Performs a list. A call that fails changes nothing, as in waplay.
   perform(calls) {
     for (const call of calls) {
       try {
         if (PLAYED[call.op]) PLAYED[call.op](this, call);
       } catch (fault) {
-        console.info(`${call.op}: ${fault.message}`);
+        // waplay refuses the call too, or the recorder told of it
       }
     }
   }
@@ -60,18 +81,15 @@ const PLAYED = {
     const curve = call.curve ? call.curve.map(valueOf) : undefined;
     player.bind(call, new WaveShaperNode(player.context, {curve, oversample: call.oversample ?? 'none'}));
   },
-  createIIRFilter(player, call) {
-    player.bind(call, player.context.createIIRFilter(call.feedforward.map(valueOf), call.feedback.map(valueOf)));
-  },
+  createIIRFilter(player, call) { player.createFilter(call); },
+  createBiquadFilter(player, call) { player.createFilter(call); },
   createBufferSource(player, call) {
     player.bind(call, new AudioBufferSourceNode(player.context, {
       buffer: call.buffer ? player.named.get(call.buffer) : null, loop: call.loop ?? false,
       loopStart: player.secondsOf(call.loopStart ?? 0), loopEnd: player.secondsOf(call.loopEnd ?? 0),
       playbackRate: valueOf(call.playbackRate ?? UNIT)}));
   },
-  createBuffer(player, call) {
-    player.bind(call, new AudioBuffer({numberOfChannels: call.channels, length: call.length, sampleRate: call.rate}));
-  },
+  createBuffer(player, call) { player.createBuffer(call); },
   decodeAudioData(player, call) {
     const asset = player.assets.get(call.path); // a copy, as the script may write into it
     const copy = new AudioBuffer({numberOfChannels: asset.numberOfChannels, length: asset.length, sampleRate: asset.sampleRate});
@@ -82,22 +100,22 @@ const PLAYED = {
     player.named.get(call.buffer).copyToChannel(Float32Array.from(call.samples, valueOf), call.channel, call.at ?? 0);
   },
   connect(player, call) {
-    player.named.get(call.from).connect(player.named.get(call.to), call.output ?? 0, call.input ?? 0);
+    player.named.get(call.from).connect(player.headOf(call.to), call.output ?? 0, call.input ?? 0);
   },
   connectParam(player, call) {
     player.named.get(call.from).connect(parameterOf(player, call), call.output ?? 0);
   },
   disconnect(player, call) {
-    const node = player.named.get(call.from), to = player.named.get(call.to);
+    const node = player.named.get(call.from), to = player.headOf(call.to);
     node.disconnect(...[to, call.output, call.input].filter(word => word !== undefined && word !== null));
   },
   disconnectParam(player, call) {
     const from = player.named.get(call.from);
     from.disconnect(...[parameterOf(player, call), call.output].filter(word => word !== undefined && word !== null));
   },
-  setChannelCount(player, call) { player.named.get(call.node).channelCount = call.value; },
-  setChannelCountMode(player, call) { player.named.get(call.node).channelCountMode = call.value; },
-  setChannelInterpretation(player, call) { player.named.get(call.node).channelInterpretation = call.value; },
+  setChannelCount(player, call) { player.headOf(call.node).channelCount = call.value; },
+  setChannelCountMode(player, call) { player.headOf(call.node).channelCountMode = call.value; },
+  setChannelInterpretation(player, call) { player.headOf(call.node).channelInterpretation = call.value; },
   setCurve(player, call) { player.named.get(call.node).curve = call.curve && Float32Array.from(call.curve, valueOf); },
   setOversample(player, call) { player.named.get(call.node).oversample = call.value; },
   setBuffer(player, call) { player.named.get(call.node).buffer = call.buffer && player.named.get(call.buffer); },
@@ -125,9 +143,7 @@ const PLAYED = {
   cancelScheduledValues(player, call) { parameterOf(player, call).cancelScheduledValues(player.secondsOf(call.time)); },
   cancelAndHoldAtTime(player, call) { parameterOf(player, call).cancelAndHoldAtTime(player.secondsOf(call.time)); },
   setAutomationRate(player, call) { parameterOf(player, call).automationRate = call.value; },
-  suspend(player, call) {
-    player.context.suspend(player.secondsOf(call.time)).then(() => player.perform(call.then ?? []), () => {});
-  },
+  suspend(player, call) { player.at(call.time, () => player.perform(call.then ?? [])); },
   resume(player) { player.context.resume().catch(() => {}); },
   startRendering(player) { player.rendering = player.rendering || player.context.startRendering(); },
 };

@@ -6,7 +6,8 @@
 //
 // Without lowering all times lie on frames and all values on multiples of 2^-10, so that nothing is rounded.
 // With it there are oscillators, biquads, filters of high orders, targets, exponential ramps, cancels and holds,
-// and times between frames.
+// and times between frames. Browsers let nodes that hear nothing, or that nothing hears, stand still: so what is
+// automated or has a history hears a hum all the time, and is heard by a silent gain.
 
 import {Player} from './playback.js';
 
@@ -36,7 +37,7 @@ function sizeAt(terms, angle) {
   return Math.hypot(real, other);
 }
 
-class RandomSession {
+export class RandomSession {
   constructor(seed, canLower, context) {
     this.draw = drawer(seed);
     this.canLower = canLower;
@@ -87,13 +88,14 @@ class RandomSession {
     const {above, below} = this.coefficients();
     const filter = this.context.createIIRFilter(above, below);
     above.fill(0); // a page may use its arrays again
-    return filter;
+    return Object.assign(filter, {channelCount: 2, channelCountMode: 'explicit'});
   }
 
   biquad() {
     return new BiquadFilterNode(this.context, {
       type: this.one(['lowpass', 'highpass', 'bandpass', 'notch', 'allpass', 'peaking', 'lowshelf', 'highshelf']),
-      frequency: this.one([30, 80, 200, 1000, 4000]), Q: this.one([0.5, 1, 4]), gain: this.one([-6, 3]), detune: this.one([0, 100])});
+      frequency: this.one([30, 80, 200, 1000, 4000]), Q: this.one([0.5, 1, 4]), gain: this.one([-6, 3]), detune: this.one([0, 100]),
+      channelCount: 2, channelCountMode: 'explicit'});
   }
 
   oscillator() {
@@ -128,6 +130,19 @@ class RandomSession {
     return this.one(this.canLower ? [...plain, ...more] : plain)();
   }
 
+  // Lets a node run from the beginning to the end.
+  keepRunning(node) {
+    if (!this.canLower) return;
+    if (!this.hum) {
+      this.hum = new ConstantSourceNode(this.context, {offset: 1 / 64});
+      this.silent = new GainNode(this.context, {gain: 0});
+      this.silent.connect(this.context.destination);
+      this.hum.start();
+    }
+    if (node.numberOfInputs === 1 && node.numberOfOutputs === 1) this.hum.connect(node);
+    if (node.numberOfOutputs === 1) node.connect(this.silent);
+  }
+
   // Connects an earlier node to a later one, or to the destination, so that there are no cycles.
   connect() {
     const to = this.draw(this.nodes.length + 1), from = this.nodes[this.draw(to)] || this.nodes[0];
@@ -139,7 +154,8 @@ class RandomSession {
   }
 
   start(source) {
-    const when = this.seconds(this.now, 600);
+    this.keepRunning(source);
+    const when = this.canLower && source instanceof ConstantSourceNode ? this.now / SESSION_RATE : this.seconds(this.now, 600);
     if (source instanceof AudioBufferSourceNode && this.draw(2)) source.start(when, this.seconds(0, 100), this.seconds(0, 3500));
     else source.start(when);
     if (this.draw(2)) source.stop(this.seconds(this.now + 700, 5500));
@@ -212,7 +228,7 @@ class RandomSession {
       () => node.disconnect(other.gain, output),
       () => node.connect(this.context.destination, output),
       () => { if (node instanceof GainNode) node.gain.value = this.value(); },
-      () => { node.channelCountMode = this.one(['max', 'clamped-max', 'explicit']); },
+      () => { if (!this.isFilter(node)) node.channelCountMode = this.one(['max', 'clamped-max', 'explicit']); },
     ];
     const more = [
       () => this.changeAutomation(node),
@@ -229,8 +245,11 @@ class RandomSession {
     const node = this.node();
     this.nodes.push(node);
     if (node instanceof AudioScheduledSourceNode) this.start(node);
+    else this.keepRunning(node);
     node.connect(this.context.destination, this.draw(node.numberOfOutputs));
   }
+
+  isFilter(node) { return node instanceof BiquadFilterNode || node instanceof IIRFilterNode; }
 
   // What the browser refuses is part of a session, too.
   attempt(action) {
@@ -246,6 +265,7 @@ class RandomSession {
     for (let count = 8 + this.draw(16); count > 0; count--) this.attempt(() => this.connect());
     for (const node of this.nodes) {
       if (node instanceof AudioScheduledSourceNode) this.start(node);
+      else this.keepRunning(node);
       if (this.draw(3) === 0) node.connect(this.context.destination);
       const found = this.automated(node);
       if (found && this.draw(2)) this.automate(found, 0);
@@ -283,7 +303,7 @@ export function beginRealTimeSession(seed, canLower) {
 }
 
 // The greatest difference of two rendered buffers.
-function differenceOf(one, other) {
+export function differenceOf(one, other) {
   let greatest = 0;
   for (let channel = 0; channel < one.numberOfChannels; channel++) {
     const samples = other.getChannelData(channel);

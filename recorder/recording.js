@@ -34,6 +34,8 @@ export class Recording {
     this.refusedNames = new Set(); // names of nodes of kinds that waplay leaves out
     this.sources = [];         // entries of nodes that baking may replace
     this.filters = [];
+    this.rows = [];            // of filters, with the coefficients that the page gave, see filter_rows.js
+    this.work = 0;             // grows while this is finished
     this.analysers = [];
     this.versions = [];        // versions of buffers, see buffers.js
     this.acquired = new Map(); // AudioBuffer -> the version that a source acquired last

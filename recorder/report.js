@@ -1,6 +1,6 @@
 // Reports: one line for each kind of loss, worst first, and a verdict.
 
-import {GRADES, LOSS_KINDS} from './losses.js';
+import {GRADES, LOSS_KINDS, gradeOf} from './losses.js';
 
 const MOST_NUMBERS = 12; // of calls in a line
 
@@ -15,8 +15,8 @@ function lossesByKind(recording, numbers) {
     sum.error = Math.max(sum.error, error);
     if (call) sum.calls.add(numbers.get(call));
   }
-  const rank = ({grade, heard}) => GRADES.indexOf(grade) - (heard ? 0.5 : 0);
-  return [...byKind.values()].sort((one, other) => rank(one) - rank(other) || other.count - one.count);
+  const losses = [...byKind.values()].map(loss => ({...loss, grade: gradeOf(loss.kind, loss.error)}));
+  return losses.sort((one, other) => GRADES.indexOf(one.grade) - GRADES.indexOf(other.grade) || other.count - one.count);
 }
 
 // Errors of times are in frames, all others in values where 1 is full scale.
@@ -35,7 +35,7 @@ function lossLine({kind, grade, count, error, calls, says}) {
 
 function verdictOf(losses) {
   const worst = GRADES.find(grade => losses.some(loss => loss.grade === grade));
-  return {refused: 'refused in part', lowered: 'lowered', rounded: 'rounded'}[worst] || 'whole';
+  return {refused: 'refused in part', exact: 'whole'}[worst] || worst || 'whole';
 }
 
 // The report of a recording whose script was written: {lines, verdict, grades}.
@@ -45,5 +45,5 @@ export function writeReport(recording, {numbers, count, assets}) {
   const head = `context ${number}: ${channels} channels, ${length} frames, ${rate} frames a second; ` +
                `${count} calls, ${assets.length} assets`;
   return {lines: [head, ...losses.map(lossLine)], verdict: verdictOf(losses),
-          kinds: losses.map(({kind, grade}) => ({kind, grade})), grades: [...new Set(losses.map(({grade}) => grade))]};
+          kinds: losses.map(({kind, grade, count, error}) => ({kind, grade, count, error})), grades: [...new Set(losses.map(({grade}) => grade))]};
 }

@@ -1,8 +1,10 @@
 // Scripts: the recorded calls as the JSON text that waplay reads, and the buffers as assets.
 
-import {bake} from './baking.js';
+import {bakeSources} from './baking.js';
 import {equalSamples, isSilent} from './buffers.js';
 import {ASSET_LIMIT, SCRIPT_LIMIT, loseOfContext, loseOfSizes} from './limits.js';
+import {loseOfFilters, lowerFilters} from './filter_rows.js';
+import {Replacements} from './replacing.js';
 import {settings} from './settings.js';
 import {ONE} from './values.js';
 import {faults} from './wrapping.js';
@@ -30,17 +32,40 @@ function flattenSuspensions(recording) {
   recording.main.splice(start < 0 ? recording.main.length : start, 0, ...found);
 }
 
+function lowerAnalysers(recording, replacements) {
+  for (const entry of recording.analysers) {
+    const call = {op: 'createGain', as: entry.name};
+    recording.lose('lowered-analyser', call);
+    replacements.put(entry, [call]);
+  }
+}
+
+// Replaces what can be replaced of a recording that is complete. Filters come last, as the levels inside them are
+// measured in what is there by then.
+async function lower(recording) {
+  const nodes = new Replacements(recording);
+  await bakeSources(recording, nodes);
+  lowerAnalysers(recording, nodes);
+  nodes.apply();
+  const isLeft = recording.sources.some(source => source.creation.op === 'createOscillator');
+  if (!isLeft) recording.removeCalls(call => call.op === 'createPeriodicWave');
+  const filters = new Replacements(recording);
+  await lowerFilters(recording, filters);
+  filters.apply();
+}
+
 // What is done once before a recording is written.
 export async function finish(recording) {
   if (recording.isFinished) return;
   recording.isFinished = true;
   if (recording.phase !== 'complete') recording.lose('not-finished');
-  else if (settings.lower) await bake(recording).catch(fault => {
+  else if (settings.lower) await lower(recording).catch(fault => {
     faults.push(String(fault && fault.stack || fault));
     recording.lose('recorder-fault');
   });
   if (recording.isRealTime || depthOf(recording.main) > 40) flattenSuspensions(recording);
   if (recording.isRealTime) dropIdleSuspensions(recording);
+  loseOfFilters(recording);
   loseOfContext(recording);
   loseOfSizes(recording);
 }

@@ -3,7 +3,7 @@
 import {acquireBuffer, bufferName} from './buffers.js';
 import {scheduleEnding} from './endings.js';
 import {native} from './native.js';
-import {journal} from './nodes.js';
+import {journal} from './journal.js';
 import {entryOfNode} from './recording.js';
 import {frameOf, isGiven} from './values.js';
 import {wrapAttribute, wrapMethod} from './wrapping.js';

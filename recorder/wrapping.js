@@ -3,6 +3,7 @@
 // Each wrapper calls the browser first, and then tells the recorder what was called and what came of it.
 // A fault of the recorder itself never reaches the page; it becomes a loss of the recording.
 
+import {native} from './native.js';
 import {entryOfNode, entryOfParameter, recordingOfContext} from './recording.js';
 
 export const faults = [];
@@ -22,21 +23,29 @@ export function quietly(object, tell) {
   }
 }
 
-// Wraps a method. `tell(object, args, result, exception)` is called after it. `before(object)` is called
-// first, and what it returns is the last argument of `tell`.
-export function wrapMethod(prototype, name, tell, before) {
+// The numbers of an array or of anything else that can be gone through. It is gone through once: a page may give a
+// generator, or an array that it writes into later. What is none is left for the browser to refuse.
+export function takenNumbers(list) {
+  const isList = list !== null && typeof list === 'object' && typeof list[Symbol.iterator] === 'function';
+  return isList ? Array.from(list, number => +number) : list;
+}
+
+// Wraps a method. `tell(object, args, result, exception)` is called after it. `take(args)` may give arguments that
+// stand for those of the page.
+export function wrapMethod(prototype, name, tell, take = args => args) {
   const inner = prototype && prototype[name];
   if (typeof inner !== 'function' || !Object.hasOwn(prototype, name)) return;
-  const outer = {[name](...args) {
-    let result, exception, earlier;
-    if (before) quietly(this, () => { earlier = before(this, args); });
+  const outer = {[name](...given) {
+    let args = given, result, exception, isThrown = false;
     try {
+      args = take(given);
       result = inner.apply(this, args);
     } catch (thrown) {
       exception = thrown;
+      isThrown = true;
     }
-    quietly(this, () => tell(this, args, result, exception, earlier));
-    if (exception) throw exception;
+    quietly(this, () => tell(this, args, result, exception));
+    if (isThrown) throw exception;
     return result;
   }}[name];
   Object.defineProperty(prototype, name, {value: outer, writable: true, enumerable: true, configurable: true});
@@ -63,26 +72,40 @@ export function wrapAttribute(prototype, name, tell) {
   });
 }
 
-// Wraps a constructor. `tell(args, object, exception)` is called after it.
-export function wrapConstructor(name, tell) {
+// Wraps a constructor. `tell(args, object, exception)` is called after it, and `take` is as for methods.
+export function wrapConstructor(name, tell, take = args => args) {
   const inner = globalThis[name];
   if (!inner) return;
   const outer = new Proxy(inner, {
-    construct(target, args, newTarget) {
-      let object, exception;
+    construct(target, given, newTarget) {
+      let args = given, object, exception, isThrown = false;
       try {
+        args = take(given);
         object = Reflect.construct(target, args, newTarget === outer ? target : newTarget);
       } catch (thrown) {
         exception = thrown;
+        isThrown = true;
       }
       quietly(args[0], () => tell(args, object, exception));
-      if (exception) throw exception;
+      if (isThrown) throw exception;
       return object;
     },
   });
   const property = {value: outer, writable: true, enumerable: false, configurable: true};
   for (const alias of [name, 'webkit' + name]) if (globalThis[alias] === inner) Object.defineProperty(globalThis, alias, property);
   Object.defineProperty(inner.prototype, 'constructor', property);
+}
+
+// A promise that settles as this one does, but after `fulfilled` or `rejected` heard of it. Nothing is added to the
+// promise that the page gets, so a rejection that the page does not handle is still told to it.
+export function heardPromise(promise, object, {fulfilled, rejected}) {
+  return native.then.call(promise, value => {
+    quietly(object, () => fulfilled(value));
+    return value;
+  }, reason => {
+    quietly(object, () => rejected(reason));
+    throw reason;
+  });
 }
 
 // Wraps a method that gives a promise. `tell(recording, args)` is called before the browser is, and may give
@@ -95,9 +118,7 @@ export function wrapPromise(prototype, name, tell) {
     let heard;
     if (recording) quietly(this, () => { heard = tell(recording, args); });
     const promise = inner.apply(this, args);
-    if (heard) promise.then(value => quietly(this, () => heard.fulfilled(value)),
-                            reason => quietly(this, () => heard.rejected(reason)));
-    return promise;
+    return heard ? heardPromise(promise, this, heard) : promise;
   }}[name];
   Object.defineProperty(prototype, name, {value: outer, writable: true, enumerable: true, configurable: true});
 }
