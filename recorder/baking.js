@@ -44,7 +44,7 @@ function planOf(recording) {
     if (source.startCall) Object.assign(part, framesOf(recording, source));
     const size = part.channels * (part.end - part.first);
     if (samples + size > BUFFER_LIMIT) {
-      recording.lose('baking-limit', source.creation);
+      recording.lose('buffer-limit', source.creation);
       continue;
     }
     samples += size;

@@ -1,6 +1,6 @@
 // Contexts: their constructors, and the promises of startRendering, suspend and resume.
 
-import {contentOf, loseOfLateWrites} from './buffers.js';
+import {contentOf, isSilent, loseOfLateWrites} from './buffers.js';
 import {native} from './native.js';
 import {registerParameters} from './nodes.js';
 import {Recording, entryOfNode, recordingOfContext} from './recording.js';
@@ -33,6 +33,7 @@ function renderingFinished(recording, buffer) {
   recording.now = recording.length;
   loseOfLateWrites(recording);
   recording.rendered = contentOf(buffer).map(samples => Float32Array.from(samples));
+  if (isSilent(recording.rendered)) recording.lose('silent');
 }
 
 function renderingAsked(recording) {

@@ -5,7 +5,7 @@
 
 import {native} from './native.js';
 import {entryOfParameter} from './recording.js';
-import {addAudioTimer, addTimer, removeTimer} from './timers.js';
+import {addAudioTimer, addTimer, removeTimer} from './clock.js';
 
 // When a source ends, in seconds. Undefined where it does not end, or where only the browser knows when.
 export function endOfSource(entry) {

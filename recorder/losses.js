@@ -28,12 +28,12 @@ export const LOSS_KINDS = {
 
   // Calls in another place or another form.
   'creation-option': {grade: 'exact', says: 'playbackRate set before start; an option of the creation'},
-  'reordered': {grade: 'exact', says: 'buffer or loop set after start at the same time; set before it'},
+  'reordered': {grade: 'exact', says: 'a buffer, a loop or a curve set again or after start at the same time; set once, before it'},
   'asset-decoded': {grade: 'exact', says: 'decodeAudioData; the decoded samples are kept'},
   'buffer-written': {grade: 'exact',
     says: 'buffers written after a source acquired them; it keeps what it acquired, where Chromium may play what is written'},
   'call-left-out': {grade: 'exact',
-    says: 'calls that the browser refused for their arguments, or that concern another context; left out'},
+    says: 'calls that the browser refused for their arguments, that change nothing, or that concern another context; left out'},
   'coefficients-scaled': {grade: 'exact', says: 'filter coefficients times one number on both sides'},
   'coefficients-rounded': {grade: 'rounded', isMeasured: true,
     says: 'filter coefficients that are no multiple of 2^-24; the error is that of the response'},
@@ -59,10 +59,9 @@ export const LOSS_KINDS = {
   'worker-clock': {grade: 'refused', says: 'a worker whose clock is its own; what it does comes at another time of the piece'},
   'filter-lost': {grade: 'refused', says: 'a filter that is another one with its coefficients rounded to 2^-24'},
   'level-range': {grade: 'refused', says: 'a filter whose output is 128 or more, where waplay saturates'},
-  'baking-limit': {grade: 'refused', says: 'a source that is not baked, as all buffers would have more than 134,217,728 samples'},
   'call-while-rendering': {grade: 'refused', says: 'calls made while rendering runs, outside a suspension; no frame is known for them'},
   'second-curve': {grade: 'refused',
-    says: 'a curve of a WaveShaperNode after its first one, or one of fewer than two points; browsers take it, waplay does not'},
+    says: 'another curve of a WaveShaperNode after its first one; browsers take it, waplay does not'},
   'context-rate': {grade: 'refused', says: 'a rate that is no whole number'},
   'context-limit': {grade: 'refused',
     says: 'a context that waplay refuses: 1 to 32 channels, 8,000 to 96,000 frames a second, quanta of 128 frames'},
@@ -100,7 +99,7 @@ const FEATURES = {
   'long-delay': 'a delay of more than 16 seconds',
   'asset-size': 'a buffer of more than 67,108,864 bytes; silence stands for it',
   'node-limit': 'more than 1,024 nodes', 'connection-limit': 'more than 8,192 connections',
-  'buffer-limit': 'more than 134,217,728 samples in all buffers', 'delay-limit': 'more than 4,194,304 frames in all delays',
+  'buffer-limit': 'more than 134,217,728 samples in all buffers; a source that would need more is not baked', 'delay-limit': 'more than 4,194,304 frames in all delays',
 };
 
 for (const word of Object.keys(FEATURES))

@@ -129,11 +129,28 @@ function registerNode(recording, node, entry) {
   if (entry.kind === 'AnalyserNode') recording.analysers.push(entry);
 }
 
-// The browser took a curve. waplay takes one for each shaper, of two points or more.
+const isSameCurve = (one, other) => one.length === other.length && one.every((point, place) => point === other[place]);
+
+// Whether a curve can do without a call of its own: the same one is there, or no frame lies between it and the first.
+function isCurveSettled(entry, call) {
+  const {recording, first, isTaken} = entry;
+  if (!first || !call.curve) return false;
+  const isSameTime = entry.curveList === recording.current && (recording.phase !== 'rendering' || recording.sameTurn);
+  if (!isTaken && isSameCurve(first.curve, call.curve)) recording.lose('call-left-out');
+  else if (!isTaken && isSameTime) {
+    first.curve = call.curve;
+    recording.lose('reordered', first);
+  } else return false;
+  return true;
+}
+
+// The browser took a curve. waplay takes one for each shaper. To browsers one of no point is none.
 function curveTaken(entry, call) {
+  if (call.curve && !call.curve.length) call.curve = null;
+  entry.isTaken = !call.curve && Boolean(entry.first); // the curve was taken away
   if (!call.curve) return;
-  if (entry.hasCurve || call.curve.length < 2) entry.recording.lose('second-curve', call);
-  entry.hasCurve = true;
+  if (entry.first) entry.recording.lose('second-curve', call);
+  else Object.assign(entry, {first: call, curveList: entry.recording.current});
 }
 
 // A page created a node, or was refused one.
@@ -220,6 +237,7 @@ export function wrapNodes() {
     if (!entry || entry.recording.leavesOut(exception)) return;
     const call = {op: 'setCurve', node: entry.name, curve: null};
     if (isGiven(curve)) call.curve = fixedList(entry.recording, Float32Array.from(curve), call);
+    if (!exception && isCurveSettled(entry, call)) return;
     entry.recording.emit([call], exception);
     if (!exception) curveTaken(entry, call);
   });

@@ -60,6 +60,8 @@ export class Recording {
     if (exception && last) this.outcomes.set(last, exception.name);
     if (this.phase === 'rendering' && !this.sameTurn)
       for (const call of calls) this.lose('call-while-rendering', call);
+    if (this.phase === 'complete' && this.isRealTime)
+      for (const call of calls) this.lose('call-after-end', call);
   }
 
   // A TypeError of argument checks has no counterpart in a script: the call changed nothing and is left out.

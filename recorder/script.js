@@ -66,16 +66,15 @@ export async function finish(recording) {
   if (recording.isRealTime || depthOf(recording.main) > 40) flattenSuspensions(recording);
   if (recording.isRealTime) dropIdleSuspensions(recording);
   loseOfFilters(recording);
-  loseOfContext(recording);
-  loseOfSizes(recording);
+  if (loseOfContext(recording)) loseOfSizes(recording);
 }
 
-// Runs of samples that a 32-bit WAV file cannot hold, which are those outside -1 to below 1.
+// Runs of samples that a 32-bit WAV file cannot hold, which are those outside -1 to 1.
 function runsOutside(samples) {
   const runs = [];
   let run = null;
   samples.forEach((sample, place) => {
-    if (sample >= -ONE && sample < ONE) return;
+    if (sample >= -ONE && sample <= ONE) return;
     if (run && place - run.end < 16) run.end = place + 1;
     else runs.push(run = {first: place, end: place + 1});
   });
@@ -85,18 +84,22 @@ function runsOutside(samples) {
 const copyCall = (version, channel, samples, first) =>
   ({op: 'copyToChannel', buffer: version.name, channel, samples: Array.from(samples), ...(first ? {at: first} : {})});
 
-// The bytes of an asset: its channels interleaved. A whole number v of 2^-24 is 128 v in 32 bits.
+// The word of a sample. A whole number v of 2^-24 is 128 v in 32 bits, and 1 is the greatest word, which waplay reads
+// as 1.
+const wordOf = sample => sample >= ONE ? 2 ** 31 - 1 : Math.max(-ONE, sample) * 128;
+
+// The bytes of an asset: its channels interleaved.
 export function interleaved(channels, length) {
   const words = new Int32Array(channels.length * length);
   channels.forEach((samples, channel) => samples.forEach((sample, frame) => {
-    words[frame * channels.length + channel] = Math.min(ONE - 1, Math.max(-ONE, sample)) * 128;
+    words[frame * channels.length + channel] = wordOf(sample);
   }));
   return words;
 }
 
 // The calls that make a buffer with its samples. With `assets` its samples are a file, and what that cannot
 // hold is written over it; else all samples are in the script.
-function bufferCalls(recording, version, assets) {
+function bufferCalls(recording, version, assets, name) {
   const {call, samples} = version;
   if (!samples || isSilent(samples) || call.rate !== recording.rate) return [call]; // another rate is refused in any case
   if (!assets) return [call, ...samples.map((channel, number) => copyCall(version, number, channel, 0))];
@@ -105,7 +108,7 @@ function bufferCalls(recording, version, assets) {
     return [call];
   }
   const known = assets.find(asset => equalSamples(asset.samples, samples));
-  const path = known ? known.path : `${recording.number}-b${assets.length + 1}.wav`;
+  const path = known ? known.path : `${name}-b${assets.length + 1}.wav`;
   if (!known) assets.push({path, samples, channels: samples.length, length: call.length, rate: call.rate});
   const patches = samples.flatMap((channel, number) =>
     runsOutside(channel).map(({first, end}) => copyCall(version, number, channel.subarray(first, end), first)));
@@ -113,13 +116,13 @@ function bufferCalls(recording, version, assets) {
 }
 
 // The script of a finished recording: {text, assets, numbers}. `numbers` has the ordinal of each call.
-export function writeScript(recording, withAssets) {
+export function writeScript(recording, withAssets, name) {
   const assets = withAssets ? [] : null, numbers = new Map();
   const versionOfCall = new Map(recording.versions.map(version => [version.call, version]));
   let count = 0;
   const write = list => list.flatMap(call => {
     const version = versionOfCall.get(call);
-    const parts = version ? bufferCalls(recording, version, assets) : [call];
+    const parts = version ? bufferCalls(recording, version, assets, name) : [call];
     numbers.set(call, count + 1);
     return parts.map(part => {
       count++;

@@ -1,6 +1,7 @@
 // Start: the recorder steps in, and what people and tools call is put under the name waplayRecorder.
 
 import {wrapBuffers} from './buffers.js';
+import {holdClock, realTime} from './clock.js';
 import {wrapConnections} from './connections.js';
 import {wrapContexts} from './contexts.js';
 import {wrapNodes} from './nodes.js';
@@ -8,9 +9,11 @@ import {settings} from './settings.js';
 import {wrapParameters} from './parameters.js';
 import {recordings} from './recording.js';
 import {writeReport} from './report.js';
+import {goRealTime, replaceAudioContext} from './real_time.js';
 import {finish, interleaved, writeScript} from './script.js';
 import {wrapSources} from './sources.js';
-import {goRealTime, holdClock, realTime, replaceAudioContext, replaceTimers} from './timers.js';
+import {replaceTimers} from './timers.js';
+import {replaceWorkers} from './workers.js';
 import {faults, wrapConstructor} from './wrapping.js';
 
 function stepIn() {
@@ -23,6 +26,7 @@ function stepIn() {
   if (settings.realtime) {
     replaceAudioContext();
     replaceTimers();
+    replaceWorkers();
   } else wrapConstructor('AudioContext', () => { realTime.unrecorded++; });
   globalThis.waplayRecorder = waplayRecorder;
 }
@@ -37,12 +41,12 @@ function base64Of(words) {
 }
 
 // The script and the report of a context, written once for each form.
-async function finished(number, withAssets) {
-  const recording = recordings[number - 1], form = withAssets ? 'files' : 'text';
+async function finished(number, withAssets, name) {
+  const recording = recordings[number - 1], form = withAssets ? `files ${name}` : 'text';
   if (!recording) throw new RangeError(`there is no context ${number}; ${recordings.length} were recorded`);
   if (!recording.written[form]) {
     await finish(recording);
-    const script = writeScript(recording, withAssets);
+    const script = writeScript(recording, withAssets, name);
     recording.written[form] = {recording, script, report: writeReport(recording, script)};
   }
   return recording.written[form];
@@ -73,24 +77,41 @@ const waplayRecorder = {
   // Records a real-time piece, once it was started. Only with the option realtime.
   go: () => settings.realtime ? goRealTime() : Promise.resolve(false),
 
-  // For tools/record: what has happened so far.
-  progress: () => ({
-    contexts: recordings.length,
-    realTime: realTime.contexts.length,
-    unrecorded: realTime.unrecorded,
-    waiting: realTime.waiting,
-    started: recordings.filter(recording => recording.start).length,
-    complete: recordings.filter(recording => recording.phase === 'complete').length,
-    faults: faults.slice(0, 20),
-  }),
+  // What tools/record asks. This and `result`, `assetChunk` and `renderedChunk` are all that it knows of the recorder.
+  //
+  // What has happened so far: counts of contexts, of those that started rendering and are complete, of real-time
+  // contexts with and without the option realtime, and of what is waited for; the seconds of sound of the contexts
+  // that started; a number that grows while `result` works; and faults of the recorder.
+  progress() {
+    const started = recordings.filter(recording => recording.start);
+    return {
+      contexts: recordings.length,
+      realTime: realTime.contexts.length,
+      unrecorded: realTime.unrecorded,
+      waiting: realTime.waiting,
+      started: started.length,
+      complete: recordings.filter(recording => recording.phase === 'complete').length,
+      seconds: started.reduce((sum, {length, rate}) => sum + length / rate, 0),
+      work: recordings.reduce((sum, {work}) => sum + work, 0),
+      faults: faults.slice(0, 20),
+    };
+  },
 
-  // For tools/record: the context's script, report and assets. Samples are base64, see `chunk`.
-  async result(number) {
-    const {recording, script, report} = await finished(number, true);
+  // The script of a context, its report and its assets, whose paths begin with `name`:
+  //   started    whether it started rendering
+  //   script     the text
+  //   lines, verdict, grades   the report; `grades` are those that occur, see losses.js
+  //   kinds      [{kind, grade, count, error}, ..]
+  //   outcomes   [[number of the call, name of its exception], ..]
+  //   assets     [{path, channels, length, rate}, ..]
+  //   rendered   {channels, length, rate}, or null where rendering did not end
+  // Samples come in chunks, as base64 of little-endian words.
+  async result(number, name = number) {
+    const {recording, script, report} = await finished(number, true, name);
     this.kept = {assets: script.assets, rendered: recording.rendered, place: null, words: null};
     return {
       started: Boolean(recording.start), script: script.text, ...report,
-      outcomes: [...recording.outcomes].map(([call, name]) => [script.numbers.get(call), name]).filter(([number]) => number),
+      outcomes: [...recording.outcomes].map(([call, exception]) => [script.numbers.get(call), exception]).filter(([ordinal]) => ordinal),
       assets: script.assets.map(({path, channels, length, rate}) => ({path, channels, length, rate})),
       rendered: recording.rendered && {channels: recording.channels, length: recording.length, rate: recording.rate},
     };
