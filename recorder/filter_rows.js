@@ -7,11 +7,12 @@ import {biquadCoefficients, coefficientError, putCoefficients} from './filters.j
 import {levelsOf} from './levels.js';
 import {native} from './native.js';
 import {feedbackError} from './responses.js';
-import {sectionsOf} from './sections.js';
+import {rowOf, sectionsOf} from './sections.js';
 import {ONE, fixedValue} from './values.js';
 
 const MOST_GUARD = 32;
-const ROOM = 64;               // the loudest that is let be inside; waplay saturates at 128
+const ROOM = 120;              // the loudest that is let be inside; waplay saturates at 128
+const ENOUGH = ROOM / 8;       // a level that leaves room for a guard of 8
 const LEAST_TOLD = 2 ** -20;   // errors of what is fed back below this are not told
 
 // A biquad with steady parameters: {gain}, or {row, gain, kind}.
@@ -20,7 +21,7 @@ function planOfBiquad({node}, rate) {
   const found = biquadCoefficients({type: node.type, frequency: valueOf('frequency'), Q: valueOf('Q'),
     gain: valueOf('gain'), detune: valueOf('detune')}, rate);
   if (found.gain !== undefined) return found;
-  return {...sectionsOf(found.feedforward, found.feedback), kind: 'lowered-biquad'};
+  return {...rowOf([found]), kind: 'lowered-biquad'};
 }
 
 // An IIR filter: {row, gain, kind}. One that is of order 2 at most is none of the lowered kinds. Null where it is
@@ -85,7 +86,7 @@ export async function lowerFilters(recording, replacements) {
     else if (plan) replaceByGain(recording, entry, plan.gain, replacements);
   }
   if (!plans.size) return;
-  const levels = await levelsOf(recording, new Map([...plans].map(([{name}, plan]) => [name, plan])));
+  const levels = await levelsOf(recording, new Map([...plans].map(([{name}, plan]) => [name, plan])), ENOUGH);
   for (const [entry, plan] of plans) {
     const {level, isTooLoud} = levels.get(entry.name) || {level: ROOM, isTooLoud: false}, guard = guardOf(level);
     if (plan.kind || guard > 1) {

@@ -1,10 +1,13 @@
-// Levels: how loud it is inside filters. One rendering of the script by the browser shows it.
+// Levels: how loud it is inside filters. Where the calls alone do not say enough, one rendering of the script shows it.
 //
 // Filters that are lowered run louder inside than they are heard, and waplay saturates at 128. The player performs
 // the script with each filter as a row of sections, and listens behind each section.
 
+import {Bounds} from './bounds.js';
 import {native} from './native.js';
 import {Player} from './playback.js';
+import {impulseSum} from './responses.js';
+import {ONE} from './values.js';
 
 const BLOCK = 32768; // what an analyser keeps
 const MOST_METERS = 128;
@@ -23,8 +26,9 @@ function nativeRow(context, {row, gain}) {
 
 // A player that measures. `rows` has the row of each filter by its name.
 class Measurer extends Player {
-  constructor(script, contents, rows, context) {
+  constructor(script, contents, rows, wanted, context) {
     super(script, new Map(), context);
+    this.wanted = wanted; // the names of the rows that are listened to
     this.contents = contents; // of createBuffer calls: the samples
     this.rows = rows;
     this.meters = [];
@@ -46,7 +50,7 @@ class Measurer extends Player {
     const {nodes, head, output} = nativeRow(this.context, found);
     this.heads.set(call.as, head);
     this.bind(call, output);
-    this.listenTo(call.as, [...nodes, output]);
+    if (this.wanted.has(call.as)) this.listenTo(call.as, nodes.length > 1 ? [...nodes, output] : [output]);
   }
 
   createBuffer(call) {
@@ -106,13 +110,13 @@ class Meter {
   }
 }
 
-// How loud it is at most in each of these rows: a map of {level, isTooLoud} by name. Meters hear the mean of both
-// channels, so the louder one is up to twice as loud.
-export async function levelsOf(recording, rows) {
+// Renders the script, and gives of each wanted row how loud it is at most: a map of {level, isTooLoud} by name. Meters
+// hear the mean of both channels, so the louder one is up to twice as loud.
+async function measured(recording, rows, wanted) {
   const {channels, length, rate} = recording;
   const context = new native.OfflineAudioContext(channels, length, rate);
   const contents = new Map(recording.versions.map(({call, samples}) => [call, samples || []]));
-  const player = new Measurer({context: {channels, length, rate}}, contents, rows, context);
+  const player = new Measurer({context: {channels, length, rate}}, contents, rows, wanted, context);
   player.readAll();
   player.perform(recording.main);
   await player.rendering;
@@ -120,4 +124,39 @@ export async function levelsOf(recording, rows) {
   const isShared = player.meterOfName.size > MOST_METERS;
   return new Map([...player.meterOfName].map(([name, {most}]) =>
     [name, {level: 2 * LOUDEST * most, isTooLoud: !isShared && LOUDEST * most > SATURATION}]));
+}
+
+// How much louder than its input it can be inside a row, and behind it.
+function gainInside({row, gain}) {
+  const inside = row.map((_, place) => impulseSum(row.slice(0, place + 1)));
+  return Math.max(...inside, inside[inside.length - 1] * Math.abs(gain));
+}
+
+function peakOfSamples(samples) {
+  let most = 0;
+  for (const channel of samples || []) for (const sample of channel) most = Math.max(most, Math.abs(sample));
+  return most / ONE;
+}
+
+// What is 4 channels or more is mixed down louder than its channels are.
+const isWide = call => call.channels > 2 || (call.op === 'createChannelMerger' && (call.numberOfInputs === undefined || call.numberOfInputs > 2));
+
+// How loud it is at most in each of these rows: a map of {level, isTooLoud} by name. A level of at most `enough` that
+// the calls show is taken; only where there is more, the script is rendered.
+export async function levelsOf(recording, rows, enough) {
+  const gains = new Map(), peaks = new Map(recording.versions.map(({name, samples}) => [name, peakOfSamples(samples)]));
+  const known = new Map([...rows].map(([name, plan]) => [name, JSON.stringify([plan.row, plan.gain])]));
+  const gainOf = name => {
+    const key = known.get(name);
+    if (key === undefined) return 0;
+    if (!gains.has(key)) gains.set(key, gainInside(rows.get(name)));
+    return gains.get(key);
+  };
+  let wide = false;
+  recording.eachCall(call => { wide = wide || isWide(call); });
+  const bounds = new Bounds(recording.main, gainOf, name => peaks.get(name) || 0);
+  const levels = new Map([...rows.keys()].map(name => [name, {level: wide ? Infinity : bounds.at(name), isTooLoud: false}]));
+  const wanted = new Set([...levels].filter(([, {level}]) => !(level <= enough)).map(([name]) => name));
+  if (wanted.size) for (const [name, level] of await measured(recording, rows, wanted)) levels.set(name, level);
+  return levels;
 }

@@ -8,10 +8,11 @@ const BLOCK = 4096;
 
 // The value of a polynomial in 1 / z, at an angle of the unit circle.
 function valueAt(terms, angle) {
+  const cosine = Math.cos(angle), sine = Math.sin(angle);
   let real = 0, other = 0;
   for (let power = terms.length - 1; power >= 0; power--) {
-    const turned = real * Math.cos(angle) + other * Math.sin(angle);
-    other = other * Math.cos(angle) - real * Math.sin(angle);
+    const turned = real * cosine + other * sine;
+    other = other * cosine - real * sine;
     real = turned + terms[power];
   }
   return [real, other];

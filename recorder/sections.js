@@ -128,12 +128,18 @@ function paired(above, below) {
 // Null where the numerator is 0 or the first term of the denominator is.
 export function sectionsOf(feedforward, feedback) {
   if (!feedback[0] || feedforward.every(term => term === 0)) return null;
+  if (Math.max(feedforward.length, feedback.length) <= 3) return rowOf([{feedforward, feedback}]);
   const above = factorsOfNumerator(feedforward), below = factorsOf(trimmed(feedback));
   const count = Math.max(1, above.length, below.length);
   while (above.length < count) above.push([1, 0, 0]);
   while (below.length < count) below.push([1, 0, 0]);
-  let gain = feedforward.find(term => term !== 0) / feedback[0];
-  const row = paired(above, below).map(section => {
+  return rowOf(paired(above, below), feedforward.find(term => term !== 0) / feedback[0]);
+}
+
+// Sections of order 2 and a gain as {row, gain}, where each section has a response of 1 at most.
+export function rowOf(sections, whole = 1) {
+  let gain = whole;
+  const row = sections.map(section => {
     const peak = peakOf([section]);
     if (!(peak > 0) || !Number.isFinite(peak)) return section;
     gain *= peak;
