@@ -18,7 +18,8 @@ function nodesOf(calls) {
   };
   for (const call of calls) {
     if (call.as) {
-      Object.assign(of(call.as), {creation: call, value: call.op === 'createGain' || call.op === 'createConstantSource' ? 1 : 0});
+      const isOne = (call.op === 'createGain' && call.gain === undefined) || (call.op === 'createConstantSource' && call.offset === undefined);
+      Object.assign(of(call.as), {creation: call, value: isOne ? 1 : 0});
       if (call.curve) of(call.as).curve = call.curve;
     }
     const node = of(call.as || call.node || call.to);

@@ -1,0 +1,47 @@
+// Timelines of parameters, by the formulas of the recommendation.
+
+import assert from 'node:assert/strict';
+import {test} from 'node:test';
+import {Timeline} from '../automation.js';
+
+const near = (found, wanted) => assert.ok(Math.abs(found - wanted) < 1e-9, `${found} in place of ${wanted}`);
+
+function timelineOf(...events) {
+  const timeline = new Timeline(0.5);
+  for (const event of events) timeline.put(event);
+  return timeline;
+}
+
+test('a ramp leads from the event before it', () => {
+  const timeline = timelineOf({kind: 'set', place: 100, value: 1}, {kind: 'ramp', place: 200, value: 3});
+  near(timeline.valueAt(50, 0), 0.5);
+  near(timeline.valueAt(150, 0), 2);
+  near(timeline.valueAt(300, 0), 3);
+});
+
+test('an exponential ramp is a power', () => {
+  const timeline = timelineOf({kind: 'set', place: 0, value: 1}, {kind: 'exponential', place: 100, value: 16});
+  near(timeline.valueAt(25, 0), 2);
+  near(timeline.valueAt(75, 0), 8);
+});
+
+test('a target is neared by its time constant', () => {
+  const timeline = timelineOf({kind: 'set', place: 0, value: 1}, {kind: 'target', place: 10, value: 0, timeConstant: 20});
+  near(timeline.valueAt(30, 0), Math.exp(-1));
+});
+
+test('a curve goes through its points and holds the last one', () => {
+  const timeline = timelineOf({kind: 'curve', place: 10, duration: 20, values: [0, 1, 0.5]});
+  near(timeline.valueAt(15, 0), 0.5);
+  near(timeline.valueAt(20, 0), 1);
+  near(timeline.valueAt(99, 0), 0.5);
+});
+
+test('a cancel takes away what is not over, and a hold keeps what was reached', () => {
+  const ramp = [{kind: 'set', place: 0, value: 0}, {kind: 'ramp', place: 100, value: 1}];
+  const cancelled = timelineOf(...ramp), held = timelineOf(...ramp);
+  cancelled.cancel(50);
+  near(cancelled.valueAt(80, 0), 0);
+  held.hold(50, 0);
+  near(held.valueAt(80, 0), 0.5);
+});
