@@ -22,12 +22,15 @@ function contextCreated(args, context, exception) {
   if (!Number.isInteger(recording.rate)) recording.lose('context-rate');
   entryOfNode.set(context.destination, {recording, name: 'destination', kind: 'destination', list: recording.main, journal: []});
   registerParameters({recording, name: 'listener', kind: 'listener', journal: []}, context.listener);
-  context.addEventListener('complete', event => quietly(context, () => renderingFinished(recording, event.renderedBuffer)));
+  context.addEventListener('complete', event => {
+    if (event.isTrusted) quietly(context, () => renderingFinished(recording, event.renderedBuffer));
+  });
 }
 
 // What the page calls from now on belongs to the list of startRendering.
 function renderingFinished(recording, buffer) {
   if (recording.phase === 'complete') return;
+  if (!recording.start) recording.begin({op: 'startRendering', then: []}); // by another window's method
   recording.phase = 'complete';
   recording.current = recording.start.then;
   recording.now = recording.length;
@@ -36,14 +39,18 @@ function renderingFinished(recording, buffer) {
   if (isSilent(recording.rendered)) recording.lose('silent');
 }
 
+// A call that the browser is sure to reject. Its promise is the browser's own.
+function refused(recording, call) {
+  recording.emit([call], {name: 'InvalidStateError'});
+  return null;
+}
+
 function renderingAsked(recording) {
   const call = {op: 'startRendering', then: []};
-  recording.emit([call]);
-  if (!recording.start) {
-    recording.start = call;
-    recording.phase = 'rendering';
-    recording.beginTurn();
-  }
+  if (recording.start) return refused(recording, call);
+  recording.begin(call);
+  recording.phase = 'rendering';
+  recording.beginTurn();
   return {
     fulfilled: buffer => renderingFinished(recording, buffer),
     rejected: reason => recording.outcomes.set(call, reason.name),
@@ -57,6 +64,8 @@ function suspensionAsked(recording, [seconds]) {
   }
   const call = {op: 'suspend', time: 0, then: []};
   call.time = frameOf(recording, +seconds, call, 'next');
+  if (call.time < 0 || call.time <= recording.now - recording.quantum || call.time >= recording.length + recording.quantum)
+    return refused(recording, call);
   recording.emit([call]);
   return {
     fulfilled() {
@@ -72,6 +81,7 @@ function suspensionAsked(recording, [seconds]) {
 
 function resumptionAsked(recording) {
   const call = {op: 'resume'};
+  if (recording.phase === 'before' && !recording.isRealTime) return refused(recording, call);
   recording.emit([call]);
   if (recording.phase === 'suspended') {
     recording.phase = 'rendering';

@@ -7,7 +7,7 @@ import {putPlaybackRate} from './nodes.js';
 import {settings} from './settings.js';
 import {entryOfParameter} from './recording.js';
 import {fixedList, fixedSeconds, fixedValue, frameOf} from './values.js';
-import {takenNumbers, wrapAttribute, wrapMethod} from './wrapping.js';
+import {takenArgument, wrapAttribute, wrapMethod} from './wrapping.js';
 
 const SCRIPT_PARAMETERS = {ConstantSourceNode: ['offset'], GainNode: ['gain'], DelayNode: ['delayTime']};
 
@@ -175,7 +175,7 @@ function rateSet(object, rate, exception) {
 export function wrapParameters() {
   for (const method of Object.keys(AUTOMATION))
     wrapMethod(AudioParam.prototype, method, (object, args, result, exception) => automated(method, object, args, result, exception),
-      ([first, ...others]) => [takenNumbers(first), ...others]);
-  wrapAttribute(AudioParam.prototype, 'value', valueSet);
+      args => args.map(takenArgument));
+  wrapAttribute(AudioParam.prototype, 'value', valueSet, takenArgument);
   wrapAttribute(AudioParam.prototype, 'automationRate', rateSet);
 }

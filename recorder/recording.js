@@ -64,11 +64,18 @@ export class Recording {
       for (const call of calls) this.lose('call-after-end', call);
   }
 
-  // A TypeError of argument checks has no counterpart in a script: the call changed nothing and is left out.
+  // A TypeError of argument checks has no counterpart in a script, and neither has what an argument of the page throws:
+  // the call changed nothing and is left out.
   leavesOut(exception) {
-    if (!exception || exception.name !== 'TypeError') return false;
+    if (!exception || exception instanceof DOMException || exception.name === 'RangeError') return false;
     this.lose('call-left-out');
     return true;
+  }
+
+  // Rendering starts with this call.
+  begin(call) {
+    this.emit([call]);
+    this.start = call;
   }
 
   // Calls that follow in the same turn as startRendering or resume came before rendering could go on.

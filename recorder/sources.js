@@ -6,7 +6,7 @@ import {native} from './native.js';
 import {journal} from './journal.js';
 import {entryOfNode} from './recording.js';
 import {frameOf, isGiven} from './values.js';
-import {wrapAttribute, wrapMethod} from './wrapping.js';
+import {takenArgument, wrapAttribute, wrapMethod} from './wrapping.js';
 
 // A time of start or stop. One that has passed means now, so its fraction has no meaning.
 function scheduledFrame(recording, seconds, call, rule) {
@@ -106,8 +106,8 @@ function loopSet(name, op, node, value, exception) {
 export function wrapSources() {
   // Each browser has start and stop at another place of the chain of prototypes.
   for (const kind of ['AudioScheduledSourceNode', 'ConstantSourceNode', 'OscillatorNode', 'AudioBufferSourceNode']) {
-    wrapMethod(globalThis[kind].prototype, 'start', sourceStarted);
-    wrapMethod(globalThis[kind].prototype, 'stop', sourceStopped);
+    wrapMethod(globalThis[kind].prototype, 'start', sourceStarted, args => args.map(takenArgument));
+    wrapMethod(globalThis[kind].prototype, 'stop', sourceStopped, args => args.map(takenArgument));
   }
   const prototype = globalThis.AudioBufferSourceNode.prototype;
   wrapAttribute(prototype, 'buffer', bufferSet);

@@ -30,15 +30,21 @@ export function takenNumbers(list) {
   return isList ? Array.from(list, number => +number) : list;
 }
 
+// An argument that is a list of numbers or a number, with what it takes to make numbers of objects done once.
+export function takenArgument(argument) {
+  const taken = takenNumbers(argument);
+  return taken === argument && argument !== null && typeof argument === 'object' ? +argument : taken;
+}
+
 // Wraps a method. `tell(object, args, result, exception)` is called after it. `take(args)` may give arguments that
 // stand for those of the page.
 export function wrapMethod(prototype, name, tell, take = args => args) {
   const inner = prototype && prototype[name];
   if (typeof inner !== 'function' || !Object.hasOwn(prototype, name)) return;
-  const outer = {[name](...given) {
-    let args = given, result, exception, isThrown = false;
+  putMethod(prototype, name, inner, {[name](...given) {
+    const args = given.length < inner.length ? given : take(given); // the browser refuses too few arguments first
+    let result, exception, isThrown = false;
     try {
-      args = take(given);
       result = inner.apply(this, args);
     } catch (thrown) {
       exception = thrown;
@@ -47,19 +53,25 @@ export function wrapMethod(prototype, name, tell, take = args => args) {
     quietly(this, () => tell(this, args, result, exception));
     if (isThrown) throw exception;
     return result;
-  }}[name];
+  }}[name]);
+}
+
+// Puts a method in the place of another one.
+function putMethod(prototype, name, inner, outer) {
+  Object.defineProperty(outer, 'length', {value: inner.length, configurable: true});
   Object.defineProperty(prototype, name, {value: outer, writable: true, enumerable: true, configurable: true});
 }
 
 // Wraps the setter of an attribute. `tell(object, value, exception)` is called after it.
-export function wrapAttribute(prototype, name, tell) {
+export function wrapAttribute(prototype, name, tell, take = value => value) {
   const inner = prototype && Object.getOwnPropertyDescriptor(prototype, name);
   if (!inner || !inner.set) return;
   Object.defineProperty(prototype, name, {
     configurable: true,
     enumerable: inner.enumerable,
     get: inner.get,
-    set(value) {
+    set(given) {
+      const value = take(given);
       let exception;
       try {
         inner.set.call(this, value);
@@ -78,9 +90,9 @@ export function wrapConstructor(name, tell, take = args => args) {
   if (!inner) return;
   const outer = new Proxy(inner, {
     construct(target, given, newTarget) {
-      let args = given, object, exception, isThrown = false;
+      const args = take(given);
+      let object, exception, isThrown = false;
       try {
-        args = take(given);
         object = Reflect.construct(target, args, newTarget === outer ? target : newTarget);
       } catch (thrown) {
         exception = thrown;
@@ -109,16 +121,16 @@ export function heardPromise(promise, object, {fulfilled, rejected}) {
 }
 
 // Wraps a method that gives a promise. `tell(recording, args)` is called before the browser is, and may give
-// {fulfilled, rejected}, which hear how the promise settled before the page does.
+// {fulfilled, rejected}, which hear how the promise settled before the page does, one microtask earlier. Where it
+// gives null, the page has the browser's own promise.
 export function wrapPromise(prototype, name, tell) {
   const inner = prototype && prototype[name];
   if (typeof inner !== 'function' || !Object.hasOwn(prototype, name)) return;
-  const outer = {[name](...args) {
+  putMethod(prototype, name, inner, {[name](...args) {
     const recording = recordingOfContext.get(this);
     let heard;
     if (recording) quietly(this, () => { heard = tell(recording, args); });
     const promise = inner.apply(this, args);
     return heard ? heardPromise(promise, this, heard) : promise;
-  }}[name];
-  Object.defineProperty(prototype, name, {value: outer, writable: true, enumerable: true, configurable: true});
+  }}[name]);
 }
