@@ -31,7 +31,7 @@ ARGUMENTS = [
     "--disable-backgrounding-occluded-windows",
 ]
 
-# The domains that tell what happens in a page; workers have the first one alone.
+# The domains that tell what happens in a page; workers have no Page.
 DOMAINS = ["Runtime", "Log", "Network", "Page"]
 
 
@@ -286,7 +286,7 @@ class Browser:
 
     def _target_came(self, session: str, kind: str) -> None:
         """A frame or a worker with a process of its own stands still until it is let go on."""
-        for domain in DOMAINS if kind == "iframe" else DOMAINS[:1]:
+        for domain in DOMAINS if kind == "iframe" else DOMAINS[:3]:
             self.tell(f"{domain}.enable", of=session)
         if kind == "iframe":
             for source in self.injected.values():

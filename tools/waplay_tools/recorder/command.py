@@ -13,6 +13,7 @@ from types import FrameType
 
 from waplay_tools.chromium import BrowserFault, find_chromium
 from waplay_tools.recorder import take
+from waplay_tools.recorder.bundle import NoBundle
 from waplay_tools.recorder.driving import Take, Wishes, record
 from waplay_tools.recorder.replaying import TOLERANCE, Replay, find_program, replay
 from waplay_tools.recorder.results import Recorded
@@ -142,7 +143,7 @@ def judge(words: argparse.Namespace, recorded: Recorded, ending: Ending) -> None
     wanted += ["lowered", "rounded"] if words.exact else []
     found = next((grade for grade in wanted if grade in recorded.grades), None)
     if found:
-        ending.add(LOST, f"{name}: {recorded.worst()} is {found}")
+        ending.add(LOST, f"{name}: {recorded.kind_of(found)} is {found}")
     if recorded.is_silent:
         ending.add(SILENT, f"{name} is silent")
 
@@ -168,8 +169,8 @@ def write(words: argparse.Namespace, taken: Take, ending: Ending) -> None:
         judge(words, recorded, ending)
         lines = replay_one(words, recorded, ending).lines if words.replay else []
         recorded.write_report(words.out, lines)
-        print(f"context {recorded.number}: {recorded.verdict}, {recorded.seconds:g} s")
-        for line in [*recorded.sound_lines(), *lines]:
+        print(f"context {recorded.number}: {recorded.verdict}, {recorded.seconds:.4g} s")
+        for line in [*recorded.worst_lines(), *recorded.sound_lines(), *lines]:
             print(f"  {line}")
     for line in [*taken.troubles[:MOST_LINES], *taken.missing]:
         print(line)
@@ -220,7 +221,7 @@ def main(arguments: list[str]) -> int:
         signal.signal(number, stop_at)
     try:
         ending = run(words)
-    except (BrowserFault, Refused, take.NoTake) as fault:
+    except (BrowserFault, NoBundle, Refused, take.NoTake) as fault:
         ending = Ending(NOTHING, str(fault))
     except OSError as fault:
         reason = f"{fault.filename or words.out} cannot be written: {fault.strerror}."

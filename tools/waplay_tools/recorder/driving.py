@@ -8,9 +8,10 @@ import time
 from collections.abc import Iterator
 from pathlib import Path
 
-from waplay_tools.chromium import Browser, BrowserFault, Event, Frame, FrameGone, NoAnswer
+from waplay_tools.chromium import Browser, BrowserFault, Frame, FrameGone, NoAnswer
 from waplay_tools.recorder import results
 from waplay_tools.recorder.bundle import recorder_text
+from waplay_tools.recorder.leaving import Leaving
 from waplay_tools.recorder.news import News
 from waplay_tools.recorder.results import Recorded
 from waplay_tools.recorder.serving import Folder
@@ -19,6 +20,10 @@ STEP = 0.05  # seconds between two looks at a page
 MOST_CALM = 0.25  # what one look counts at most: while a page computes it is not calm
 HOPE = 2.0  # seconds that a page is left calm where something went wrong in it
 PATIENCE = 10.0  # and where nothing did, and it has nothing to record
+PATIENCE_FOR_A_CLICK = 5.0  # and where it has a button
+
+# It comes before the recorder, which may put other timers in the place of the page's.
+LEAVING = Path(__file__).with_name("leaving.js").read_text(encoding="utf-8")
 
 PROGRESS = """({ready: document.readyState === 'complete',
     ...(globalThis.waplayRecorder ? waplayRecorder.progress() : {})})"""
@@ -79,6 +84,13 @@ class Progress:
         if is_main:
             self.is_loaded = bool(told.get("ready"))
 
+    def keep(self, recorded: Recorded) -> None:
+        """Adds a context of a document that went away."""
+        self.contexts += 1
+        self.started += 1
+        self.complete += 1
+        self.seconds += recorded.seconds
+
     def is_complete(self) -> bool:
         """Whether something was rendered, and nothing is being rendered."""
         return 0 < self.started == self.complete
@@ -91,17 +103,7 @@ class Session:
         self.browser, self.news, self.wishes = browser, news, wishes
         self.began = time.monotonic()
         self.progress = Progress()
-        self.kept: list[Recorded] = []  # of documents that went away
-        self.numbered = 0  # how many contexts these had made
-        self.lost: list[str] = []
-        self.known: dict[Frame, int] = {}  # how many contexts of a frame started
-        self.leaving: list[Event] = []  # documents that are about to be loaded
-        self.is_open = False
-        browser.listeners.append(self._hear)
-
-    def close(self) -> None:
-        """Stops following the browser."""
-        self.browser.listeners.remove(self._hear)
+        self.leaving = Leaving(browser, wishes.timeout)
 
     # Time.
 
@@ -117,44 +119,6 @@ class Session:
         """Whether no time is left."""
         return time.monotonic() > self.began + self.limit()
 
-    # Documents that go away.
-
-    def _hear(self, event: Event) -> None:
-        """Each document that is to be loaded waits until what it replaces was looked at."""
-        if event.method == "Fetch.requestPaused":
-            if self.is_open:
-                self.leaving.append(event)
-            else:
-                self._let_go(event)
-
-    def _let_go(self, event: Event) -> None:
-        self.browser.tell("Fetch.continueRequest", of=event.session,
-                          requestId=event.params["requestId"])
-
-    def _let_leave(self) -> None:
-        """Keeps what was recorded of documents that are about to be replaced."""
-        while self.leaving:
-            event = self.leaving.pop(0)
-            name = event.params["frameId"]
-            for frame in list(self.browser.frames):
-                if name in (frame.name, self.browser.target):
-                    self._keep(frame)
-            self._let_go(event)
-
-    def _keep(self, frame: Frame) -> None:
-        with contextlib.suppress(FrameGone):
-            deadline = time.monotonic() + self.left()
-            told = self._told(frame)
-            while told.get("started", 0) > told.get("complete", 0):
-                if time.monotonic() > deadline:
-                    break
-                self.browser.pump(STEP)
-                told = self._told(frame)
-            if told.get("started"):
-                self.kept += self._taken(frame, told["contexts"])
-                self.numbered += told["contexts"]
-                self.known.pop(frame, None)
-
     # Looking at the page.
 
     def _told(self, frame: Frame) -> dict:
@@ -168,31 +132,27 @@ class Session:
     def look(self) -> Progress:
         """What has happened so far."""
         self.browser.pump(STEP)
-        self._let_leave()
         progress = Progress()
         for frame in list(self.browser.frames):
             with contextlib.suppress(FrameGone):
-                told = self._told(frame)
-                progress.add(told, frame.is_main)
-                self.known[frame] = told.get("started", 0)
-        for frame in self.known.keys() - set(self.browser.frames):
-            if count := self.known.pop(frame):
-                self.lost.append(f"the page removed a frame with {count} contexts, which are lost")
+                progress.add(self._told(frame), frame.is_main)
+        for recorded in self.leaving.kept:
+            progress.keep(recorded)
         self.progress = progress
         return progress
 
     def looks(self) -> Iterator[tuple[Progress, float, float]]:
         """Looks at the page until the time is over. Gives for how long its progress has not
         changed, and for how long nothing happened in it at all."""
-        signs, quiet, calm = (None, None), 0.0, 0.0
+        last, heard, quiet, calm = Progress(), (-1, 0), 0.0, 0.0
         while not self.is_over():
             before = time.monotonic()
             progress = self.look()
             step = min(MOST_CALM, time.monotonic() - before)
-            now = (dataclasses.replace(progress), (self.news.count, len(self.browser.frames)))
-            quiet = quiet + step if now[0] == signs[0] else 0.0
-            calm = calm + step if now == signs and not self.news.loading() else 0.0
-            signs = now
+            now = (self.news.count, len(self.browser.frames))
+            quiet = quiet + step if progress == last else 0.0
+            calm = calm + step if quiet and now == heard and not self.news.loading() else 0.0
+            last, heard = progress, now
             yield progress, quiet, calm
 
     def is_hopeless(self, progress: Progress, calm: float) -> bool:
@@ -203,14 +163,16 @@ class Session:
         is_stalled = 0 < progress.started == progress.complete + progress.suspended
         if progress.started and not (is_stalled and progress.suspended):
             return False
-        if self.news.cause():
+        if self.news.cause() or (progress.unrecorded and not progress.contexts):
             return calm >= max(HOPE, wishes.quiet)
-        return calm >= max(PATIENCE, wishes.quiet) and not (wishes.until or wishes.contexts)
+        if wishes.until or wishes.contexts or calm < max(PATIENCE_FOR_A_CLICK, wishes.quiet):
+            return False
+        is_waiting = not wishes.click and not progress.contexts and self.clickable() is not None
+        return is_waiting or calm >= max(PATIENCE, wishes.quiet)
 
     def is_wanted(self, progress: Progress) -> bool:
         """Whether all is there that was asked for."""
-        done = progress.complete + sum(each.rendered is not None for each in self.kept)
-        if self.wishes.contexts and done < self.wishes.contexts:
+        if progress.complete < self.wishes.contexts:
             return False
         return not self.wishes.until or self.holds(self.wishes.until)
 
@@ -227,11 +189,10 @@ class Session:
     def wait_for_rendering(self) -> None:
         """Waits until all that started is rendered, and nothing new comes for a while."""
         for progress, quiet, calm in self.looks():
-            is_complete = progress.is_complete() or (self.kept and not progress.contexts)
-            if is_complete and progress.is_loaded and quiet >= self.wishes.quiet:
+            if progress.is_complete() and progress.is_loaded and quiet >= self.wishes.quiet:
                 if not self.news.loading() and self.is_wanted(progress):
                     return
-            if self.is_hopeless(progress, calm) and not self.kept:
+            if self.is_hopeless(progress, calm):
                 return
 
     def wait_for_piece(self) -> bool:
@@ -293,14 +254,16 @@ class Session:
 
     # What comes of it.
 
-    def _taken(self, frame: Frame, count: int) -> list[Recorded]:
-        """The contexts of a frame that started rendering."""
+    def _taken(self, frame: Frame, count: int, before: int) -> list[Recorded]:
+        """The contexts of a frame that started rendering. Other frames had some before."""
         seconds = self.wishes.timeout + 60 + 30 * (self.progress.seconds + self.wishes.realtime)
         found = []
         for inside in range(1, count + 1):
-            number = self.numbered + inside
+            number = before + inside
             try:
-                found.append(results.take_out(self.browser, frame, inside, number, seconds))
+                found.append(results.take_out(
+                    lambda text: self.browser.evaluate(text, timeout=seconds, frame=frame),
+                    inside, number))
             except NoAnswer:
                 raise BrowserFault(f"The script of context {number} was not written within "
                                    f"{seconds:.0f} seconds; --timeout gives more.") from None
@@ -308,22 +271,22 @@ class Session:
 
     def recorded(self) -> list[Recorded]:
         """All contexts that started rendering."""
-        found = list(self.kept)
+        found, before = list(self.leaving.kept), self.leaving.count
         for frame in list(self.browser.frames):
             with contextlib.suppress(FrameGone):
                 count = self._told(frame).get("contexts", 0)
-                found += self._taken(frame, count) if count else []
-                self.numbered += count
+                found += self._taken(frame, count, before)
+                before += count
         return found
 
     def missing(self) -> list[str]:
         """What was asked for and did not come."""
-        found = list(self.lost)
+        found = list(self.leaving.lost)
         if self.wishes.until and not self.holds(self.wishes.until):
             found.append(f"the page never came to --until {self.wishes.until}")
-        done = self.progress.complete + len(self.kept)
-        if done < self.wishes.contexts:
-            found.append(f"the page rendered {done} of --contexts {self.wishes.contexts}")
+        if self.progress.complete < self.wishes.contexts:
+            found.append(f"the page rendered {self.progress.complete} contexts, and --contexts "
+                         f"asks for {self.wishes.contexts}")
         return found
 
     def why_nothing(self) -> str:
@@ -336,6 +299,8 @@ class Session:
         else:
             text = f"The page made no {'AudioContext' if wishes.realtime else 'audio context'}"
         text += " after the click" if wishes.click else ""
+        if self.leaving.lost:
+            return f"{text}: {self.leaving.lost[0]}."
         if cause := self.news.cause():
             return f"{text}: it {cause}.{self._hint_at_root()}"
         text += f" within {min(self.limit(), time.monotonic() - self.began):.0f} seconds"
@@ -349,13 +314,16 @@ class Session:
         return " Only the page's folder is served; --root FOLDER serves one above it."
 
     def _hint_at_click(self) -> str:
-        if self.wishes.click:
-            return ""
+        found = None if self.wishes.click else self.clickable()
+        return f"; perhaps it waits for a click, as --click '{found}'" if found else ""
+
+    def clickable(self) -> str | None:
+        """The selector of a button of the page."""
         for frame in list(self.browser.frames):
             with contextlib.suppress(BrowserFault):
                 if found := self.browser.evaluate(CLICKABLE, timeout=5, frame=frame):
-                    return f"; perhaps it waits for a click, as --click '{found}'"
-        return ""
+                    return str(found)
+        return None
 
 
 @dataclasses.dataclass
@@ -371,16 +339,14 @@ class Take:
 
 def open_recorded(browser: Browser, url: str, wishes: Wishes, origin: str = "") -> Take:
     """Opens a page with the recorder in front of it, lets it play, and gives what it recorded."""
-    injected = browser.inject(wishes.options() + recorder_text())
+    injected = browser.inject(wishes.options() + LEAVING + recorder_text())
     news = News(browser, origin)
     session = Session(browser, news, wishes)
     try:
-        browser.call("Fetch.enable", patterns=[{"urlPattern": "*", "resourceType": "Document"}])
         try:
             browser.open(url, timeout=wishes.timeout)
         except NoAnswer:
             raise BrowserFault(f"{url} did not answer within {wishes.timeout:g} seconds.") from None
-        session.is_open = True
         session.run()
         contexts = session.recorded()
         if not contexts:
@@ -390,11 +356,9 @@ def open_recorded(browser: Browser, url: str, wishes: Wishes, origin: str = "") 
         return Take(contexts, news.lines(), news.exceptions(), session.missing(),
                     session.progress.faults)
     finally:
-        session.close()
+        session.leaving.close()
         news.close()
         browser.remove(injected)
-        with contextlib.suppress(BrowserFault):
-            browser.call("Fetch.disable", timeout=5)
 
 
 def record(wishes: Wishes, chromium: str) -> Take:

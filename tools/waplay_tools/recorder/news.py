@@ -2,6 +2,7 @@
 
 import dataclasses
 import re
+import time
 import urllib.parse
 
 from waplay_tools.chromium import Browser, Event
@@ -10,6 +11,7 @@ from waplay_tools.chromium import Browser, Event
 NEEDED = {"Document", "Script", "Fetch", "XHR", "Media", "Other", ""}
 # What stays open for as long as a page does.
 LASTING = {"WebSocket", "EventSource", "Media", "Ping", "Preflight", "SignedExchange"}
+MOST_SILENT = 15.0  # seconds without a byte after which a request is taken to stay open
 
 
 @dataclasses.dataclass
@@ -28,7 +30,11 @@ class Request:
 
     url: str
     kind: str
-    is_open: bool = True
+    seen: float = dataclasses.field(default_factory=time.monotonic)  # when it last had a byte
+
+    def is_open(self) -> bool:
+        """Whether more is to be expected of it."""
+        return self.kind not in LASTING and time.monotonic() - self.seen < MOST_SILENT
 
 
 class News:
@@ -50,7 +56,7 @@ class News:
     def loading(self) -> list[str]:
         """The addresses that are being loaded."""
         return [self.short(request.url) for request in self.requests.values()
-                if request.is_open and request.kind not in LASTING]
+                if request.is_open()]
 
     def lines(self) -> list[str]:
         """A line for each thing that went wrong, each once."""
@@ -102,6 +108,10 @@ class News:
         status = f"{response['status']} {response['statusText']}".strip()
         self._failed(params["requestId"], response["url"], params.get("type", ""), status)
 
+    def _hear_Network_dataReceived(self, params: dict) -> None:
+        if params["requestId"] in self.requests:
+            self.requests[params["requestId"]].seen = time.monotonic()
+
     def _hear_Network_loadingFinished(self, params: dict) -> None:
         self.requests.pop(params["requestId"], None)
 
@@ -135,13 +145,13 @@ class News:
             return
         words = [str(each.get("value", each.get("description", ""))) for each in params["args"]]
         first = " ".join(words).strip().splitlines()[:1]
-        self.troubles.append(Trouble("console", f"says {first[0] if first else 'an error'}"))
+        self.troubles.append(Trouble("console", f"says: {first[0].rstrip('.') if first else 'an error'}"))
 
     def _hear_Log_entryAdded(self, params: dict) -> None:
         entry = params["entry"]
         if entry["level"] == "error" and entry["source"] != "network":  # loads are heard above
             text = " ".join(entry["text"].split())
-            self.troubles.append(Trouble("console", f"has the error: {text}"))
+            self.troubles.append(Trouble("console", f"has an error: {text.rstrip('.')}"))
 
     def _thrown(self, details: dict) -> str:
         """An exception in one line, with its place."""
@@ -159,5 +169,8 @@ class News:
         """The file and the line. What is thrown through the recorder has its page further out."""
         frames = details.get("stackTrace", {}).get("callFrames", [])
         place = next((frame for frame in frames if frame["url"]), details)
-        name = self.short(place.get("url", "")).rsplit("/", 1)[-1].split("?")[0]
-        return f"{name or 'the page'}, line {place['lineNumber'] + 1}"
+        url = place.get("url", "")
+        name = self.short(url).rsplit("/", 1)[-1].split("?")[0] or "the page"
+        if url.startswith(("blob:", "data:")):
+            name = f"a {url[:4]} URL"
+        return f"{name}, line {place['lineNumber'] + 1}"

@@ -4,15 +4,12 @@ import array
 import base64
 import dataclasses
 import json
+import re
 import struct
 import sys
 from collections.abc import Callable
 from pathlib import Path
 from typing import Any
-
-from waplay_tools.chromium import Browser, Frame
-
-GRADES = ["refused", "heard", "lowered", "rounded", "exact"]  # worst first
 
 
 def words_of(text: str, kind: str) -> array.array:
@@ -60,10 +57,10 @@ def greatest(channels: list[array.array]) -> float:
 
 
 def clipped(channels: list[array.array]) -> int:
-    """How many samples a WAV file of whole numbers cannot hold."""
-    if greatest(channels) < 1:
+    """How many samples are outside -1 to 1."""
+    if greatest(channels) <= 1:
         return 0
-    return sum(not -1 <= sample < 1 for samples in channels for sample in samples)
+    return sum(abs(sample) > 1 for samples in channels for sample in samples)
 
 
 @dataclasses.dataclass
@@ -109,18 +106,19 @@ class Recorded:
         context, _ = json.JSONDecoder().raw_decode(self.script, place)
         return context["length"] / context["rate"] if context["rate"] else 0.0
 
-    def worst(self) -> str | None:
-        """The kind of the worst loss."""
-        kinds = sorted(self.kinds, key=lambda loss: GRADES.index(loss["grade"]))
-        return kinds[0]["kind"] if kinds else None
+    def kind_of(self, grade: str) -> str:
+        """The first kind of loss that has a grade."""
+        return next(loss["kind"] for loss in self.kinds if loss["grade"] == grade)
+
+    def worst_lines(self) -> list[str]:
+        """The lines of the losses that change what is heard."""
+        return [line for line in self.lines if line.startswith(("refused ", "silent ", "heard "))]
 
     def sound_lines(self) -> list[str]:
-        """Lines on what the browser rendered."""
-        if self.is_silent:
-            return ["silent: every sample that the browser rendered is 0"]
+        """A line on samples that are cut off in a WAV file of whole numbers."""
         count = clipped(self.rendered or [])
-        return [f"clipped: {count} samples are outside -1 to 1, which a WAV file of the program "
-                "cannot hold"] if count else []
+        return [f"clipped: {count} samples are outside -1 to 1, and a WAV file of the program has "
+                "the nearest that it can hold"] if count else []
 
     def files(self) -> dict[str, bytes]:
         """All files but the report, by their names."""
@@ -145,14 +143,10 @@ class Recorded:
         (folder / f"{self.number}.report.txt").write_text(text, encoding="utf-8")
 
 
-def take_out(browser: Browser, frame: Frame, inside: int, number: int,
-             timeout: float) -> Recorded | None:
-    """A context of a frame, by its number inside of it; None where it did not start rendering. It
-    is called `number` outside."""
-    def evaluate(text: str) -> Any:
-        return browser.evaluate(text, timeout=timeout, frame=frame)
-
-    result = evaluate(f"waplayRecorder.result({inside})")
+def take_out(ask: Callable[[str], Any], inside: int, number: int) -> Recorded | None:
+    """A context of a document, by its number inside of it; None where it did not start rendering.
+    It is called `number` outside. `ask` gives the value of an expression in the document."""
+    result = ask(f"waplayRecorder.result({inside}, {number})")
     if not result["started"]:
         return None
     recorded = Recorded(number, result["script"], result["lines"], result["verdict"],
@@ -160,25 +154,22 @@ def take_out(browser: Browser, frame: Frame, inside: int, number: int,
     for place, asset in enumerate(result["assets"]):
         count = asset["channels"] * asset["length"]
         words = words_in_chunks(
-            count, "i", lambda first: evaluate(f"waplayRecorder.assetChunk({place}, {first})"))
+            count, "i", lambda first: ask(f"waplayRecorder.assetChunk({place}, {first})"))
         recorded.assets.append(Asset(**asset, words=words))
     shape = result["rendered"]
     if shape:
         recorded.rate = int(shape["rate"])
         recorded.rendered = [
-            words_in_chunks(shape["length"], "f", lambda first: evaluate(
+            words_in_chunks(shape["length"], "f", lambda first: ask(
                 f"waplayRecorder.renderedChunk({channel}, {first})"))
             for channel in range(shape["channels"])]
-    if inside != number:
-        rename(recorded, inside)
     return recorded
 
 
-def rename(recorded: Recorded, inside: int) -> None:
-    """Lets the files of a context of an iframe have the number that it has outside."""
+def rename(recorded: Recorded) -> None:
+    """Puts the number of a context in the place of an @, where it was not known in the page."""
     for asset in recorded.assets:
-        path = asset.path.replace(f"{inside}-b", f"{recorded.number}-b", 1)
+        path = asset.path.replace("@-", f"{recorded.number}-", 1)
         recorded.script = recorded.script.replace(f'"path":"{asset.path}"', f'"path":"{path}"')
         asset.path = path
-    recorded.lines[0] = recorded.lines[0].replace(
-        f"context {inside}:", f"context {recorded.number}:", 1)
+    recorded.lines[0] = re.sub(r"^context .+?:", f"context {recorded.number}:", recorded.lines[0])
