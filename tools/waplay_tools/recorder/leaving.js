@@ -25,11 +25,22 @@
       await chunks(length, first => waplayRecorder.renderedChunk(channel, first));
   }
 
-  addEventListener('beforeunload', async () => {
+  let isLeaving = false, isHandedOver = false;
+  async function leave() {
+    if (isLeaving) return;
+    isLeaving = true;
     const {started, contexts} = progress();
     say({leaving: started && contexts});
     while (progress().started > progress().complete) await new Promise(done => later(done, 20));
     for (let number = 1; started && number <= contexts; number++) await handOver(number);
+    isLeaving = false;
+    isHandedOver = true;
+  }
+
+  // A document that is not loaded yet has no beforeunload.
+  if (globalThis.navigation) navigation.addEventListener('navigate', ({destination}) => {
+    if (!destination.sameDocument) leave();
   });
-  addEventListener('pagehide', () => say({gone: progress().started}));
+  addEventListener('beforeunload', leave);
+  addEventListener('pagehide', () => say({gone: isHandedOver ? 0 : progress().started}));
 })();
