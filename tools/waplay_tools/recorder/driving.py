@@ -17,6 +17,7 @@ from waplay_tools.recorder.results import Recorded
 from waplay_tools.recorder.serving import Folder
 
 STEP = 0.05  # seconds between two looks at a page
+LEAST = 5.0  # seconds that a page has to answer, even where its time is over
 MOST_CALM = 0.25  # what one look counts at most: while a page computes it is not calm
 HOPE = 2.0  # seconds that a page is left calm where something went wrong in it
 PATIENCE = 10.0  # and where nothing did, and it has nothing to record
@@ -112,8 +113,8 @@ class Session:
         return self.wishes.timeout + 4 * (self.progress.seconds + self.wishes.realtime)
 
     def left(self) -> float:
-        """How many seconds are left."""
-        return max(0.5, self.began + self.limit() - time.monotonic())
+        """How many seconds the page has to answer."""
+        return max(LEAST, self.began + self.limit() - time.monotonic())
 
     def is_over(self) -> bool:
         """Whether no time is left."""
@@ -344,9 +345,10 @@ def open_recorded(browser: Browser, url: str, wishes: Wishes, origin: str = "") 
     session = Session(browser, news, wishes)
     try:
         try:
-            browser.open(url, timeout=wishes.timeout)
+            browser.open(url, timeout=max(LEAST, wishes.timeout))
         except NoAnswer:
-            raise BrowserFault(f"{url} did not answer within {wishes.timeout:g} seconds.") from None
+            raise BrowserFault(f"{url} did not answer within {max(LEAST, wishes.timeout):g} "
+                               "seconds.") from None
         session.run()
         contexts = session.recorded()
         if not contexts:
