@@ -46,9 +46,9 @@ SPECIAL: dict[str, tuple[Any, Look]] = {
         len({call["buffer"] for call in calls if call["op"] == "createBufferSource"}))),
     "reordered": (["createBufferSource", "setBuffer", "setLoop", "start"], lambda _, calls: [
         call["op"] for call in calls if "source2" in (call.get("as"), call.get("node"))]),
-    # Timers every 20 milliseconds, and a frame after 90: the next quanta, none within another, and
-    # none that is idle.
-    "timers": ([1024, 1920, 2944, 3840, 5248], lambda _, calls: [
+    # Timers every 20 milliseconds, and a frame of the screen at 100: the next quanta, none within
+    # another, and none that is idle.
+    "timers": ([1024, 1920, 2944, 3840, 4864], lambda _, calls: [
         call["time"] for call in calls if call["op"] == "suspend"]),
 }
 

@@ -163,6 +163,7 @@ def take_out(ask: Callable[[str], Any], inside: int, number: int) -> Recorded | 
             words_in_chunks(shape["length"], "f", lambda first: ask(
                 f"waplayRecorder.renderedChunk({channel}, {first})"))
             for channel in range(shape["channels"])]
+    recorded.lines[0] = re.sub(r"^context .+?:", f"context {number}:", recorded.lines[0])
     return recorded
 
 
@@ -172,4 +173,3 @@ def rename(recorded: Recorded) -> None:
         path = asset.path.replace("@-", f"{recorded.number}-", 1)
         recorded.script = recorded.script.replace(f'"path":"{asset.path}"', f'"path":"{path}"')
         asset.path = path
-    recorded.lines[0] = re.sub(r"^context .+?:", f"context {recorded.number}:", recorded.lines[0])
