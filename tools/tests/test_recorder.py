@@ -216,7 +216,8 @@ class Replays(unittest.TestCase):
             {"op": "createGain", "as": "g"},
             {"op": "connect", "from": "d", "to": "g"}, {"op": "connect", "from": "g", "to": "d"})
 
-    def compared(self, samples: list[int], made: Recorded, transcript: str = "") -> replaying.Replay:
+    def compared(self, samples: list[int], made: Recorded,
+                 transcript: str = "") -> replaying.Replay:
         script = json.loads(made.script)
         return replaying.compare(file_of(samples), transcript, made, script, replaying.TOLERANCE)
 
@@ -330,7 +331,7 @@ class Departures(unittest.TestCase):
         return departures.known_departures(script, set(losses))
 
     def test_by_calls(self) -> None:
-        loop = [{"op": "connect", "from": "a", "to": "b"}, {"op": "connect", "from": "b", "to": "a"}]
+        loop = [{"op": "connect", "from": one, "to": other} for one, other in ("ab", "ba")]
         gains = [{"op": "createGain", "as": name} for name in "ab"]
         for calls, word in [
             ([*gains, *loop], "a cycle without a delay is not muted"),
@@ -374,7 +375,8 @@ class WhatAPageTells(unittest.TestCase):
         self.tell("Network.responseReceived", requestId=url, type=kind, response=answer)
 
     def throw(self, text: str, number: int = 1) -> None:
-        frames = [{"url": "", "lineNumber": 9}, {"url": "http://127.0.0.1:1/a/b.js?c", "lineNumber": 4}]
+        frames = [{"url": "", "lineNumber": 9},
+                  {"url": "http://127.0.0.1:1/a/b.js?c", "lineNumber": 4}]
         self.tell("Runtime.exceptionThrown", exceptionDetails={
             "exceptionId": number, "lineNumber": 0, "text": "Uncaught",
             "stackTrace": {"callFrames": frames},

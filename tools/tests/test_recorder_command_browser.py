@@ -37,7 +37,7 @@ SITE = {
     "resources/make.js": MAKE,
     "app/absolute.html": ABSOLUTE + "<script>piece()</script>",
     "app/above.html": "<script src=../resources/make.js></script><script>piece()</script>",
-    "app/frames.html": ABSOLUTE + "<iframe src=absolute.html></iframe>"
+    "app/frames.html": f"{ABSOLUTE}<iframe src=absolute.html></iframe>"
                        f'<iframe srcdoc="{INNER}"></iframe><script>piece(3)</script>',
     "app/sandboxed.html": "<iframe src=absolute.html sandbox=allow-scripts></iframe>",
     "app/click_inside.html": '<iframe srcdoc="<script src=/resources/make.js></script>'

@@ -63,7 +63,7 @@ class Suite(unittest.TestCase):
         self.assertEqual(self.recorded(page, Wishes(page="")), plain)
 
     def test_the_pages_pass_in_this_browser(self) -> None:
-        """What fails without the recorder is the browser's or the page's fault, and says nothing."""
+        """What fails without the recorder is a fault of the browser or the page."""
         for page in PAGES:
             with self.subTest(page.relative_to(ROOT)):
                 failed = [each for each in self.opened(page)["results"] if each[1] != "PASS"]

@@ -89,7 +89,8 @@ TROUBLES = {
         f"{NOT_STARTED}: it says: no EncodingError: Unable to decode audio data."),
     "missing_sample": Trouble(
         script(CONTEXT + "fetch('kick.wav').then(answer => answer.arrayBuffer())"
-               ".then(data => context.decodeAudioData(data)).then(() => context.startRendering());"),
+               ".then(data => context.decodeAudioData(data))"
+               ".then(() => context.startRendering());"),
         f"{NOT_STARTED}: it could not load /kick.wav (404 File not found) and threw EncodingError: "
         f"Unable to decode audio data (missing_sample.html, line 1).{SERVED}"),
     "missing_worker": Trouble(

@@ -3,7 +3,6 @@
 import contextlib
 import dataclasses
 import json
-import os
 import time
 from collections.abc import Iterator
 from pathlib import Path
@@ -365,11 +364,9 @@ def open_recorded(browser: Browser, url: str, wishes: Wishes, origin: str = "") 
 
 def record(wishes: Wishes, chromium: str) -> Take:
     """Records a page in a browser of its own."""
-    with contextlib.ExitStack() as stack:
-        browser = stack.enter_context(Browser(chromium))
+    with Browser(chromium) as browser:
         if wishes.is_url:
             return open_recorded(browser, wishes.page, wishes)
         page = Path(wishes.page)
-        root = wishes.root or Path(os.path.dirname(os.path.abspath(page)))
-        served = stack.enter_context(Folder(root))
-        return open_recorded(browser, served.url_of(page), wishes, served.origin)
+        with Folder(wishes.root or page.absolute().parent) as served:
+            return open_recorded(browser, served.url_of(page), wishes, served.origin)

@@ -144,8 +144,8 @@ class News:
         if params["type"] not in ("error", "assert"):
             return
         words = [str(each.get("value", each.get("description", ""))) for each in params["args"]]
-        first = " ".join(words).strip().splitlines()[:1]
-        self.troubles.append(Trouble("console", f"says: {first[0].rstrip('.') if first else 'an error'}"))
+        first = [*" ".join(words).strip().splitlines(), "an error"][0].rstrip(".")
+        self.troubles.append(Trouble("console", f"says: {first}"))
 
     def _hear_Log_entryAdded(self, params: dict) -> None:
         entry = params["entry"]

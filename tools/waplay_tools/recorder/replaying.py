@@ -128,8 +128,7 @@ def compare(replayed: bytes, transcript: str, recorded: Recorded, script: dict,
         return Replay([f"replay: failed, {fault}"], "fails")
     if not recorded.rendered:
         return Replay([*lines, "replay: the browser rendered nothing to compare with"], "differs")
-    shapes = [[len(channel) for channel in each] for each in (ours, recorded.rendered)]
-    if shapes[0] != shapes[1]:
+    if list(map(len, ours)) != list(map(len, recorded.rendered)):
         return Replay([*lines, "replay: channels or frames are not as many as in the browser"],
                       "differs")
     difference, channel, frame = greatest_difference(ours, recorded.rendered)
