@@ -55,6 +55,7 @@ SPECIAL: dict[str, tuple[Any, Look]] = {
 # Of the random sessions with and without lowering: the last seed, and the greatest difference when
 # they are played again.
 SESSIONS = [(False, 150, 1e-6), (True, 150, 2e-5)]
+TOGETHER = 10  # that are tried with one call
 
 # Of the examples: options, number of files, verdict, greatest difference when played again.
 EXAMPLES = {
@@ -110,20 +111,6 @@ class Pages(unittest.TestCase):
             self.assertLessEqual(apart, page.tolerance, "when it is played again")
             self.assertGreater(max(map(abs, recorded.rendered[0])), 0.01, "it is silent")
 
-    def test_random_sessions(self) -> None:
-        for lower, last, tolerance in SESSIONS:
-            with self.subTest(lower=lower), self.served() as served:
-                options = Wishes(page="", lower=lower).options()
-                injected = self.browser.inject(options + recorder_text())
-                try:
-                    open_modules(self.browser, served, ["random_sessions.js"])
-                    told = self.browser.evaluate(
-                        f"tryRandomSessions(1, {last}, {json.dumps(lower)}, {tolerance})",
-                        timeout=600)
-                finally:
-                    self.browser.remove(injected)
-                self.assertEqual(told["wrong"], [])
-
 
 def add_pages() -> None:
     """Makes a test of each page."""
@@ -134,6 +121,28 @@ def add_pages() -> None:
 
 
 add_pages()
+
+
+@needs_browser
+class RandomSessions(unittest.TestCase):
+    """Random sessions are made, recorded and played again in one page."""
+
+    def test_random_sessions(self) -> None:
+        for lower, last, tolerance in SESSIONS:
+            with self.subTest(lower=lower):
+                wrong = self.wrong(lower, last, tolerance)
+                self.assertEqual(wrong, [], f"{len(wrong)} of {last}")
+
+    def wrong(self, lower: bool, last: int, tolerance: float) -> list[str]:
+        with Browser(str(CHROMIUM)) as browser, Folder(temporary_folder(self)) as served:
+            browser.inject(Wishes(page="", lower=lower).options() + recorder_text())
+            open_modules(browser, served, ["random_sessions.js"])
+            found = []
+            for first in range(1, last + 1, TOGETHER):
+                words = f"{first}, {min(last, first + TOGETHER - 1)}, {json.dumps(lower)}"
+                told = browser.evaluate(f"tryRandomSessions({words}, {tolerance})", timeout=600)
+                found += told["wrong"]
+            return found
 
 
 @needs_browser
