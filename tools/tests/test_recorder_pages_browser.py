@@ -6,6 +6,7 @@ compared. That sees faults of the recorder, and none of waplay.
 
 import contextlib
 import json
+import os
 import unittest
 from collections.abc import Callable
 from typing import Any
@@ -164,7 +165,7 @@ class Examples(unittest.TestCase):
                 apart = difference(again, floats_of(folder / "1.browser.wav"))
                 self.assertLessEqual(apart, tolerance)
 
-    @unittest.skipUnless(find_program(None)[0], "waplay is not built")
+    @unittest.skipUnless(find_program(os.environ.get("WAPLAY"))[0], "waplay is not built")
     def test_replays_of_the_examples(self) -> None:
         for name, (words, *_) in EXAMPLES.items():
             with self.subTest(name):

@@ -138,7 +138,7 @@ TROUBLES = {
                            + "context.startRendering();"), "", status=0),
     "page_left": Trouble(
         "<iframe id=inner src=sound.html></iframe>"
-        + script("setTimeout(() => inner.remove(), 300);"),
+        + script("onmessage = () => inner.remove();"),
         f"{NONE}: the page left a document with 1 contexts, which are lost.",
         words=("--timeout", "4")),
     "too_few_contexts": Trouble(
@@ -173,7 +173,7 @@ class Troubles(unittest.TestCase):
     def look_at(self, name: str, trouble: Trouble) -> None:
         folder = temporary_folder(self)
         page = f"<!doctype html><title>{name}</title>{trouble.body}"
-        sound = script(SOUND + "context.startRendering();")
+        sound = script(SOUND + "context.startRendering().then(() => parent.postMessage(1));")
         write_files(folder, {f"{name}.html": page, "sound.html": f"<!doctype html>{sound}"})
         begun = time.monotonic()
         run = run_record(folder / f"{name}.html", folder / "out", *trouble.words)
