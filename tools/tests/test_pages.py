@@ -53,20 +53,20 @@ class Pages(unittest.TestCase):
             ran = fixtures.run("report", *paths, *more)
             assert ran.returncode == 0, ran.stderr
             cls.paths[name], cls.sounds[name] = fixtures.write(folder.name, name[:20] + ".html", ran.stdout), sound
-        cls.browser = browser.Browser().__enter__()
-        cls.addClassCleanup(cls.browser.__exit__)
+        cls.browser = browser.Browser()
+        cls.addClassCleanup(cls.browser.close)
 
     def show(self, name, width=1280, scheme="light", scripts=True):
         """Shows a page, which must not have an error of a script or of its policy."""
         self.browser.show(self.paths[name], width, scheme, scripts)
         if scripts:
-            self.browser.value("new Promise(done => setTimeout(done, 50))")
-        errors = [event["params"] for event in self.browser.events
-                  if event.get("method") in ("Runtime.exceptionThrown", "Log.entryAdded")]
+            self.browser.evaluate("new Promise(done => setTimeout(done, 50))")
+        errors = [event.params for event in self.browser.events
+                  if event.method in ("Runtime.exceptionThrown", "Log.entryAdded")]
         self.assertEqual(errors, [], name)
 
     def text(self, selector):
-        return self.browser.value("document.querySelector(%r).textContent" % selector)
+        return self.browser.evaluate("document.querySelector(%r).textContent" % selector)
 
     def test_nothing_overlaps_or_is_cut_off_and_texts_have_contrast(self):
         with open(os.path.join(HERE, "probe.js"), encoding="utf-8") as file:
@@ -76,7 +76,7 @@ class Pages(unittest.TestCase):
             for width in (390, 1280):
                 for scheme, ground in GROUNDS.items():
                     self.show(name, width, scheme)
-                    found = self.browser.value(probe)
+                    found = self.browser.evaluate(probe)
                     self.assertEqual(found["wrong"], [], (name, width, scheme))
                     self.assertEqual(found["ground"], ground)
                     self.assertGreater(found["boxes"], 10)
@@ -91,8 +91,8 @@ class Pages(unittest.TestCase):
                                ("it.style.color = '#999999'", "has a contrast of"),
                                ("it.style.cssText = 'width: 40px; overflow: hidden; white-space: nowrap'", "is cut off")]:
             self.show("ended", 390)
-            self.browser.value("(it => { %s; })(document.querySelector('.outcome'))" % change)
-            self.assertIn(wanted, " ".join(self.browser.value(probe)["wrong"]))
+            self.browser.evaluate("(it => { %s; })(document.querySelector('.outcome'))" % change)
+            self.assertIn(wanted, " ".join(self.browser.evaluate(probe)["wrong"]))
 
     def test_pictures_are_light_and_dark_at_both_widths(self):
         for width in (390, 1280):
@@ -111,28 +111,28 @@ class Pages(unittest.TestCase):
             probe = file.read()
         for width in (390, 1280):
             self.show("resumed", width, scripts=False)
-            self.assertEqual(self.browser.value(probe)["wrong"], [])
-            self.assertFalse(self.browser.value("document.querySelector('.tools').checkVisibility()"))
-            box = self.browser.value("(({width, height}) => [width, height])"
+            self.assertEqual(self.browser.evaluate(probe)["wrong"], [])
+            self.assertFalse(self.browser.evaluate("document.querySelector('.tools').checkVisibility()"))
+            box = self.browser.evaluate("(({width, height}) => [width, height])"
                                      "(document.querySelector('.envelope').getBoundingClientRect())")
             self.assertGreater(min(box), 40)
 
     def test_nothing_of_a_script_runs(self):
         for scripts in (True, False):
             self.show("hostile", scripts=scripts)
-            self.assertEqual(self.browser.value("typeof window.hurt"), "undefined")
-            self.assertEqual(self.browser.value("document.querySelectorAll('img, iframe, a').length"), 0)
-            self.assertEqual(self.browser.value("document.scripts.length"), 1)
-        requests = [event["params"]["request"]["url"][:5] for event in self.browser.events
-                    if event.get("method") == "Network.requestWillBeSent"]
+            self.assertEqual(self.browser.evaluate("typeof window.hurt"), "undefined")
+            self.assertEqual(self.browser.evaluate("document.querySelectorAll('img, iframe, a').length"), 0)
+            self.assertEqual(self.browser.evaluate("document.scripts.length"), 1)
+        requests = [event.params["request"]["url"][:5] for event in self.browser.events
+                    if event.method == "Network.requestWillBeSent"]
         self.assertTrue(set(requests) <= {"file:", "data:"}, requests)
 
     def test_the_policy_stops_what_is_put_in(self):
         self.show("hostile")
-        self.browser.value("""document.body.insertAdjacentHTML('beforeend',
+        self.browser.evaluate("""document.body.insertAdjacentHTML('beforeend',
                 '<img src="x" onerror="window.hurt = 1"><p onclick="window.hurt = 1">x</p>');
             document.querySelector('p[onclick]').click(); new Promise(done => setTimeout(done, 50))""")
-        self.assertEqual(self.browser.value("typeof window.hurt"), "undefined")
+        self.assertEqual(self.browser.evaluate("typeof window.hurt"), "undefined")
 
     def numbers(self, path):
         return [float(it) for it in re.findall(r"-?[\d.]+", path)]
@@ -140,9 +140,9 @@ class Pages(unittest.TestCase):
     def assert_drawn(self, name, first, last):
         """That the first channel's drawing is that of these frames, as Python draws them."""
         sound = sound_of(self.sounds[name], "it")
-        full = sound.full * float(self.browser.value("document.querySelector('.drawing').dataset.scale"))
+        full = sound.full * float(self.browser.evaluate("document.querySelector('.drawing').dataset.scale"))
         wanted = self.numbers(waveform.path_of(spans(sound.channels[0][first:last], waveform.COLUMNS), full))
-        found = self.numbers(self.browser.value("document.querySelector('.envelope').getAttribute('d')"))
+        found = self.numbers(self.browser.evaluate("document.querySelector('.envelope').getAttribute('d')"))
         self.assertEqual(len(found), len(wanted))
         self.assertLess(max(abs(a - b) for a, b in zip(found, wanted)), 0.11)
 
@@ -151,7 +151,7 @@ class Pages(unittest.TestCase):
             drawings = []
             for scripts in (True, False):
                 self.show(name, scripts=scripts)
-                drawings.append(self.browser.value("""[...document.querySelectorAll('.drawing')].map(it =>
+                drawings.append(self.browser.evaluate("""[...document.querySelectorAll('.drawing')].map(it =>
                     it.getAttribute('viewBox') + ' ' + it.querySelector('.envelope').getAttribute('d'))"""))
             for one, two in zip(*(map(self.numbers, it) for it in drawings)):
                 self.assertEqual(len(one), len(two))
@@ -162,10 +162,10 @@ class Pages(unittest.TestCase):
         self.assertEqual(self.text(".status"), "Shown: frames 0 to 2,048 of 2,048, the whole")
         self.assert_drawn("resumed", 0, 2048)
         for _ in range(40):
-            if self.browser.value("document.activeElement.className") == "wave":
+            if self.browser.evaluate("document.activeElement.className") == "wave":
                 break
             self.browser.key("Tab")
-        self.assertEqual(self.browser.value("getComputedStyle(document.activeElement).outlineStyle"), "solid")
+        self.assertEqual(self.browser.evaluate("getComputedStyle(document.activeElement).outlineStyle"), "solid")
         for key, first, last in [("+", 512, 1536), ("+", 768, 1280), ("ArrowRight", 896, 1408), ("ArrowLeft", 768, 1280),
                                  ("End", 1536, 2048), ("Home", 0, 512), ("-", 0, 1024), ("0", 0, 2048)]:
             self.browser.key(key)
@@ -175,31 +175,31 @@ class Pages(unittest.TestCase):
 
     def test_zooming_by_dragging_and_by_numbers(self):
         self.show("resumed", 1000)
-        self.browser.value("document.querySelector('.lane').scrollIntoView()")
-        left, top, width = self.browser.value(
+        self.browser.evaluate("document.querySelector('.lane').scrollIntoView()")
+        left, top, width = self.browser.evaluate(
             "(box => [box.left, box.top, box.width])(document.querySelector('.lane').getBoundingClientRect())")
         self.browser.drag((left + width * 0.25, top + 20), (left + width * 0.5, top + 30))
         first, last = (int(it.replace(",", "")) for it in re.findall(r"[\d,]+", self.text(".status"))[:2])
         self.assertAlmostEqual(first, 512, delta=4)
         self.assertAlmostEqual(last, 1024, delta=4)
         self.assert_drawn("resumed", first, last)
-        marks = self.browser.value("[...document.querySelectorAll('use.placed')]"
+        marks = self.browser.evaluate("[...document.querySelectorAll('use.placed')]"
                                    ".filter(it => it.style.display !== 'none').map(it => it.dataset.low)")
         self.assertEqual(sorted(map(int, marks)), [it for it in (512, 700, 900, 1000) if first <= it <= last])
-        self.browser.value("(form => { form.elements.first.value = 690; form.elements.last.value = 710; "
+        self.browser.evaluate("(form => { form.elements.first.value = 690; form.elements.last.value = 710; "
                            "form.requestSubmit(); })(document.querySelector('.range'))")
         self.assertEqual(self.text(".status"), "Shown: frames 690 to 710 of 2,048")
         self.assert_drawn("resumed", 690, 710)
-        self.browser.value("document.querySelector('button.frame').click()")
+        self.browser.evaluate("document.querySelector('button.frame').click()")
         self.assertIn("Shown: frames ", self.text(".status"))
         for button in ("in", "out", "earlier", "later", "whole"):
-            self.browser.value("document.querySelector('[data-do=%s]').click()" % button)
+            self.browser.evaluate("document.querySelector('[data-do=%s]').click()" % button)
         self.assert_drawn("resumed", 0, 2048)
 
     def test_the_sound_can_be_played(self):
         for name in ("resumed", "ended", "wide"):
             self.show(name)
-            state = self.browser.value("""new Promise(done => {
+            state = self.browser.evaluate("""new Promise(done => {
                 const it = document.querySelector('audio');
                 it.oncanplaythrough = () => done('plays ' + it.duration.toFixed(3));
                 it.onerror = () => done(it.error.message);
@@ -212,16 +212,16 @@ class Pages(unittest.TestCase):
     def test_rows_can_be_chosen_without_scripts(self):
         self.show("refused", scripts=False)
         count = "[...document.querySelectorAll('.transcript tbody tr:not(.part)')].filter(it => it.checkVisibility()).length"
-        self.assertEqual(self.browser.value(count), 39)
+        self.assertEqual(self.browser.evaluate(count), 39)
         for choice, rows in ("refusals", 18), ("events", 3), ("all", 39):
-            self.browser.value("document.querySelector('#only-%s').click()" % choice)
-            self.assertEqual(self.browser.value(count), rows)
+            self.browser.evaluate("document.querySelector('#only-%s').click()" % choice)
+            self.assertEqual(self.browser.evaluate(count), rows)
 
     def test_names_for_screen_readers(self):
         for name in ("resumed", "ended", "fault"):
             for width in (390, 1280):
                 self.show(name, width)
-                nodes = self.browser.ask("Accessibility.getFullAXTree")["nodes"]
+                nodes = self.browser.call("Accessibility.getFullAXTree")["nodes"]
                 roles = {}
                 for node in nodes:
                     role, title = node.get("role", {}).get("value"), node.get("name", {}).get("value", "")

@@ -1,4 +1,4 @@
-"""Reads the pages of the folder pages/: small pages, one for each kind of loss.
+"""Reads the pages of recorder/pages: small pages, one for each kind of loss.
 
 Each has a head and a body. The head says what its recording must give:
 
@@ -7,18 +7,19 @@ Each has a head and a body. The head says what its recording must give:
     played again  the greatest difference from the page, if the browser plays the script again
     realtime      that it is a real-time piece, and its length in seconds
     timeout       the seconds after which it is given up, 20 where nothing is said
-    form          own where the body is a whole script. Else it comes between the creation of a source and a
-                  gain and the rendering
+    form          own where the body is a whole script. Else it comes between the creation of a
+                  source and a gain and the rendering
     TYPE          words that make a page each, where the body has the word TYPE
 
-The pages of pages/lowered.md are recorded with the option lower.
+The pages of recorder/pages/lowered.md are recorded with the option lower.
 """
 
-import os
+import dataclasses
 import re
-from typing import NamedTuple, Optional
+from collections.abc import Iterator
+from pathlib import Path
 
-FOLDER = os.path.join(os.path.dirname(os.path.abspath(__file__)), "pages")
+FOLDER = Path(__file__).resolve().parents[2] / "recorder" / "pages"
 
 # What every page begins with.
 HEAD = """<!doctype html>
@@ -30,8 +31,11 @@ const later = () => new Promise(done => setTimeout(done, 0));
 
 // A source of a sawtooth whose samples are multiples of 2^-5.
 function saw(context, options = {}) {
-  const buffer = new AudioBuffer({length: 480, numberOfChannels: 1, sampleRate: context.sampleRate});
-  buffer.getChannelData(0).forEach((_, frame, samples) => { samples[frame] = (frame % 64 - 32) / 32; });
+  const buffer = new AudioBuffer({
+    length: 480, numberOfChannels: 1, sampleRate: context.sampleRate});
+  buffer.getChannelData(0).forEach((_, frame, samples) => {
+    samples[frame] = (frame % 64 - 32) / 32;
+  });
   return new AudioBufferSourceNode(context, {buffer, loop: true, ...options});
 }
 
@@ -51,35 +55,37 @@ FORMS = {
 }
 
 
-class Page(NamedTuple):
+@dataclasses.dataclass(frozen=True)
+class Page:
+    """A page, and what its recording must give."""
+
     name: str
-    kinds: list
+    kinds: set[str]
     verdict: str
-    tolerance: Optional[float]
+    tolerance: float | None
     realtime: float
     seconds: float
     lower: bool
     text: str
 
 
-def pages_of(name, lower):
+def pages_of(path: Path) -> Iterator[Page]:
     """The pages of a file."""
-    with open(os.path.join(FOLDER, name), encoding="utf-8") as file:
-        parts = re.split(r"^## ", file.read(), flags=re.MULTILINE)[1:]
+    parts = re.split(r"^## ", path.read_text(encoding="utf-8"), flags=re.MULTILINE)[1:]
     for part in parts:
         title, head, *body = part.split("\n\n", 2)
         fields = dict(re.findall(r"^([\w ]+): (.*)$", head, flags=re.MULTILINE))
         script = re.sub(r"^    ", "", "".join(body), flags=re.MULTILINE).rstrip("\n") + "\n"
         before, after = FORMS[fields.get("form", "plain")]
+        tolerance = fields.get("played again")
         for word in fields.get("TYPE", "-").split():
             yield Page(
                 name=title if word == "-" else f"{title}_{word}",
-                kinds=[kind for kind in fields["kinds"].split() if kind != "none"],
-                verdict=fields["verdict"],
-                tolerance=float(fields["played again"]) if "played again" in fields else None,
-                realtime=float(fields.get("realtime", 0)), seconds=float(fields.get("timeout", 20)), lower=lower,
+                kinds=set(fields["kinds"].split()) - {"none"}, verdict=fields["verdict"],
+                tolerance=None if tolerance is None else float(tolerance),
+                realtime=float(fields.get("realtime", 0)),
+                seconds=float(fields.get("timeout", 20)), lower=path.name == "lowered.md",
                 text=HEAD + before + script.replace("TYPE", word) + after + "</script>\n")
 
 
-PAGES = [page for name in sorted(os.listdir(FOLDER)) if name.endswith(".md")
-         for page in pages_of(name, lower=name == "lowered.md")]
+PAGES = [page for path in sorted(FOLDER.glob("*.md")) for page in pages_of(path)]

@@ -1,0 +1,178 @@
+"""Tests of what is recorded: the pages of recorder/pages, random sessions, and the examples.
+
+Where a script says what its page did, the browser plays the script again, and the two are
+compared. That sees faults of the recorder, and none of waplay.
+"""
+
+import contextlib
+import json
+import os
+import unittest
+from collections.abc import Callable
+from typing import Any
+
+from recorder_pages import PAGES, Page
+from recording import (CHROMIUM, RECORDER, difference, floats_of, needs_browser, open_modules,
+                       played, run_record, temporary_folder)
+
+from waplay_tools.chromium import Browser
+from waplay_tools.recorder.bundle import recorder_text
+from waplay_tools.recorder.driving import Wishes, open_recorded
+from waplay_tools.recorder.replaying import find_program
+from waplay_tools.recorder.results import Recorded
+from waplay_tools.recorder.serving import Folder
+
+Look = Callable[[Recorded, list[dict[str, Any]]], Any]
+
+
+def outcomes(recorded: Recorded, _: list[dict[str, Any]]) -> list[str]:
+    """The exceptions of the calls."""
+    return list(recorded.outcomes.values())
+
+
+# What some pages are for: of each the value that it must have, worked out of the recording and the
+# main list of its calls.
+SPECIAL: dict[str, tuple[Any, Look]] = {
+    "exception": (["IndexSizeError"], outcomes),
+    # A resumption before the start, and suspensions before the first frame, at one that is taken,
+    # and behind the end.
+    "refused_suspensions": (["InvalidStateError"] * 4, outcomes),
+    # The inner suspension stands in the list of the outer one, which ends with what resumes.
+    "suspension_in_a_suspension": ([["suspend", "resume"]], lambda _, calls: [
+        [inner["op"] for inner in call["then"]][-2:] for call in calls if call["op"] == "suspend"]),
+    # One buffer for each of two sources, and another one for the third, whose samples are those of
+    # the second's file or not.
+    "buffer_written_between_starts": ((2, 3), lambda recorded, calls: (
+        len(recorded.assets),
+        len({call["buffer"] for call in calls if call["op"] == "createBufferSource"}))),
+    "reordered": (["createBufferSource", "setBuffer", "setLoop", "start"], lambda _, calls: [
+        call["op"] for call in calls if "source2" in (call.get("as"), call.get("node"))]),
+    # Timers every 20 milliseconds, and a frame of the screen at 100: the next quanta, none within
+    # another, and none that is idle.
+    "timers": ([1024, 1920, 2944, 3840, 4864], lambda _, calls: [
+        call["time"] for call in calls if call["op"] == "suspend"]),
+}
+
+# Of the random sessions with and without lowering: the last seed, and the greatest difference when
+# they are played again.
+SESSIONS = [(False, 150, 1e-6), (True, 150, 2e-5)]
+TOGETHER = 10  # that are tried with one call
+
+# Of the examples: options, number of files, verdict, greatest difference when played again.
+EXAMPLES = {
+    "bells": (["--lower"], 10, "lowered", 3e-7),
+    "drums": ([], 6, "rounded", 1e-7),
+    "sequencer": (["--realtime", "5", "--click", "#start"], 8, "rounded", 1e-7),
+}
+
+
+@needs_browser
+class Pages(unittest.TestCase):
+    """One browser records and plays all pages."""
+
+    @classmethod
+    def setUpClass(cls) -> None:
+        cls.browser = Browser(str(CHROMIUM))
+        cls.addClassCleanup(cls.browser.close)
+
+    @contextlib.contextmanager
+    def served(self):
+        folder = temporary_folder(self)
+        with Folder(folder) as served:
+            yield served
+
+    def recorded(self, served: Folder, page: Page) -> Recorded:
+        path = served.root / "page.html"
+        path.write_text(page.text, encoding="utf-8")
+        wishes = Wishes(page=str(path), lower=page.lower, realtime=page.realtime,
+                        timeout=page.seconds, quiet=0.2)
+        recorded = open_recorded(self.browser, served.url_of(path), wishes).contexts[0]
+        recorded.write(served.root)
+        return recorded
+
+    def apart(self, served: Folder, recorded: Recorded) -> float:
+        """How far the script is from its page when it is played again."""
+        return difference(played(self.browser, served, recorded.number), recorded.rendered)
+
+    def look_at(self, page: Page) -> None:
+        with self.served() as served:
+            recorded = self.recorded(served, page)
+            self.assertEqual({loss["kind"] for loss in recorded.kinds}, page.kinds)
+            self.assertEqual(recorded.verdict, page.verdict)
+            if page.name in SPECIAL:
+                wanted, look = SPECIAL[page.name]
+                self.assertEqual(look(recorded, json.loads(recorded.script)["calls"]), wanted)
+            if page.tolerance is None:
+                return
+            apart = self.apart(served, recorded)
+            for _ in range(2):  # a change at a suspension may come one quantum late, now and then
+                if apart > page.tolerance:
+                    recorded = self.recorded(served, page)
+                    apart = self.apart(served, recorded)
+            self.assertLessEqual(apart, page.tolerance, "when it is played again")
+            self.assertGreater(max(map(abs, recorded.rendered[0])), 0.01, "it is silent")
+
+
+def add_pages() -> None:
+    """Makes a test of each page."""
+    for page in PAGES:
+        def look(self: Pages, page: Page = page) -> None:
+            self.look_at(page)
+        setattr(Pages, f"test_{page.name}", look)
+
+
+add_pages()
+
+
+@needs_browser
+class RandomSessions(unittest.TestCase):
+    """Random sessions are made, recorded and played again in one page."""
+
+    def test_random_sessions(self) -> None:
+        for lower, last, tolerance in SESSIONS:
+            with self.subTest(lower=lower):
+                wrong = self.wrong(lower, last, tolerance)
+                self.assertEqual(wrong, [], f"{len(wrong)} of {last}")
+
+    def wrong(self, lower: bool, last: int, tolerance: float) -> list[str]:
+        with Browser(str(CHROMIUM)) as browser, Folder(temporary_folder(self)) as served:
+            browser.inject(Wishes(page="", lower=lower).options() + recorder_text())
+            open_modules(browser, served, ["random_sessions.js"])
+            found = []
+            for first in range(1, last + 1, TOGETHER):
+                words = f"{first}, {min(last, first + TOGETHER - 1)}, {json.dumps(lower)}"
+                told = browser.evaluate(f"tryRandomSessions({words}, {tolerance})", timeout=600)
+                found += told["wrong"]
+            return found
+
+
+@needs_browser
+class Examples(unittest.TestCase):
+    """The examples are recorded by the command line, and played again; where there is a program,
+    it replays them."""
+
+    def test_examples(self) -> None:
+        for name, (words, files, verdict, tolerance) in EXAMPLES.items():
+            with self.subTest(name):
+                folder = temporary_folder(self)
+                run = run_record(RECORDER / "examples" / f"{name}.html", folder, *words)
+                self.assertEqual((run.returncode, run.stderr), (0, ""))
+                self.assertEqual(len(list(folder.iterdir())), files)
+                report = (folder / "1.report.txt").read_text(encoding="utf-8")
+                self.assertEqual(report.splitlines()[-1], f"verdict: {verdict}")
+                with Browser(str(CHROMIUM)) as browser, Folder(folder) as served:
+                    again = played(browser, served, 1)
+                apart = difference(again, floats_of(folder / "1.browser.wav"))
+                self.assertLessEqual(apart, tolerance)
+
+    @unittest.skipUnless(find_program(os.environ.get("WAPLAY"))[0], "waplay is not built")
+    def test_replays_of_the_examples(self) -> None:
+        for name, (words, *_) in EXAMPLES.items():
+            with self.subTest(name):
+                folder = temporary_folder(self)
+                run = run_record(RECORDER / "examples" / f"{name}.html", folder, *words, "--replay")
+                self.assertEqual((run.returncode, run.stderr), (0, ""))
+
+
+if __name__ == "__main__":
+    unittest.main()

@@ -1,0 +1,111 @@
+"""Where Chromium is known to depart from the profile, as far as the calls of a script show it."""
+
+from collections.abc import Iterator
+from typing import Any
+
+QUANTUM = 128
+
+Call = dict[str, Any]
+
+
+def all_calls(calls: list[Call]) -> Iterator[Call]:
+    """The calls in order of their ordinals."""
+    for call in calls:
+        yield call
+        yield from all_calls(call.get("then", []))
+
+
+def reached(start: str, links: dict[str, set[str]]) -> set[str]:
+    """What is reached from a node by at least one link."""
+    seen: set[str] = set()
+    left = [start]
+    while left:
+        for to in links.get(left.pop(), ()):
+            if to not in seen:
+                seen.add(to)
+                left.append(to)
+    return seen
+
+
+def cycles_of(edges: dict[str, set[str]]) -> list[set[str]]:
+    """For each node the nodes that lie on ways from it back to itself."""
+    back: dict[str, set[str]] = {}
+    for start, ends in edges.items():
+        for end in ends:
+            back.setdefault(end, set()).add(start)
+    return [reached(node, edges) & reached(node, back) for node in edges]
+
+
+def changes_at_once(call: Call) -> bool:
+    """Whether a call may change the next sample."""
+    return call["op"].startswith(("connect", "disconnect", "setChannel", "setValue"))
+
+
+def is_at_an_edge(time: int, length: int) -> bool:
+    """Whether a suspension is at frame 0, at the length, or rounded up to the length or past it."""
+    return time == 0 or time <= length <= -(-time // QUANTUM) * QUANTUM
+
+
+def is_at_its_most(calls: list[Call], delay: Call) -> bool:
+    """Whether a delay is ever set to its maxDelayTime or beyond."""
+    most = delay.get("maxDelayTime", 2**24)
+    values = [delay.get("delayTime", 0)]
+    for call in calls:
+        if call.get("node") == delay["as"] and call.get("param") == "delayTime":
+            values += call.get("values", [call.get("value", 0)])
+    return max(values) >= most
+
+
+def graph_departures(calls: list[Call]) -> Iterator[str]:
+    """Departures that the nodes and connections show."""
+    edges: dict[str, set[str]] = {}
+    for call in calls:
+        if call["op"] in ("connect", "connectParam"):
+            edges.setdefault(call["from"], set()).add(call["to"])
+    delays = [call for call in calls if call["op"] == "createDelay"]
+    names = {call["as"] for call in delays}
+    cycles = cycles_of(edges)
+    if any(cycle & names for cycle in cycles):
+        yield "a loop through a delay is one quantum longer in Chromium"
+    if any(cycle and not cycle & names for cycle in cycles):
+        yield "a cycle without a delay is not muted in Chromium"
+    if any(is_at_its_most(calls, delay) for delay in delays):
+        yield "a delay equal to maxDelayTime may leak the newest frame in Chromium"
+    sources = ("createConstantSource", "createBufferSource")
+    if any(call["op"] in sources and call["as"] not in edges for call in calls):
+        yield "a source that is not connected stands still in Chromium"
+
+
+BY_OPERATION = {
+    "createIIRFilter": "Chromium keeps the history of IIR filters in single floats, and begins it "
+                       "anew where their channels change",
+    "createChannelMerger": "a merger whose inputs are all silent has one channel in Chromium",
+    "cancelScheduledValues": "Chromium holds the value of a ramp that is cancelled on its way, and "
+                             "keeps a curve that ends at a cancel",
+}
+BY_OPERATION["cancelAndHoldAtTime"] = BY_OPERATION["cancelScheduledValues"]
+
+BY_LOSS = {
+    "lowered-biquad": "Chromium ends biquads at an estimated tail",
+    "lowered-target": "a target is late in Chromium where another event lies in the same quantum",
+    "time-near-frame": "a time that is by a rounding behind a frame counts from the next one in "
+                       "Chromium",
+    "buffer-written": "Chromium plays what is written into a buffer after a source acquired it",
+}
+
+
+def known_departures(script: dict[str, Any], losses: set[str]) -> list[str]:
+    """Where Chromium is known to differ from the profile, as far as the calls show it."""
+    calls = list(all_calls(script["calls"]))
+    ops = {call["op"] for call in calls}
+    found = list(graph_departures(calls))
+    found += [text for kind, text in BY_LOSS.items() if kind in losses]
+    found += [text for op, text in BY_OPERATION.items() if op in ops]
+    suspensions = [call for call in calls if call["op"] == "suspend"]
+    length = script["context"]["length"]
+    if any(is_at_an_edge(call["time"], length) for call in suspensions):
+        found.append("a suspension at frame 0 or at the length is accepted by Chromium")
+    if any(changes_at_once(inner) for call in suspensions for inner in call.get("then", [])):
+        found.append("a change at a suspension may come one quantum late in Chromium, in one run "
+                     "and not in the next")
+    return list(dict.fromkeys(found))

@@ -1,0 +1,175 @@
+"""Replays a recorded script with the built program, and compares it with what the browser rendered.
+"""
+
+import array
+import dataclasses
+import io
+import json
+import re
+import shutil
+import subprocess
+import wave
+from collections.abc import Sequence
+from pathlib import Path
+
+from waplay_tools.recorder.departures import all_calls, known_departures
+from waplay_tools.recorder.results import Recorded
+
+TOP = Path(__file__).resolve().parents[3]
+FULL = 2**23  # the samples of a file of 24 bits are whole numbers of 2^-23
+TOLERANCE = 2.0**-16
+SHOWN = 8  # calls that ended otherwise, in a line
+
+
+def find_program(wanted: str | None) -> tuple[Path | None, str]:
+    """The program that replays, or why there is none. The launcher ./waplay would build the program
+    where it is not built; here the program itself is taken, and no build is started."""
+    if wanted:
+        path = shutil.which(wanted) or wanted
+        if not Path(path).is_file():
+            return None, f"there is no program {wanted}"
+        if is_launcher(Path(path)):
+            return find_built(Path(path).absolute().parent)
+        return Path(path).absolute(), ""
+    return find_built(TOP)
+
+
+def is_launcher(path: Path) -> bool:
+    """Whether a file is a shell script that stands for the program in a checkout."""
+    with path.open("rb") as file:
+        return file.read(2) == b"#!" and (path.absolute().parent / "crates" / "waplay").is_dir()
+
+
+def find_built(top: Path) -> tuple[Path | None, str]:
+    """The program that a checkout has: what was built there, or what comes with it."""
+    places = [top / "bin" / "waplay-x86_64-linux", top / "crates" / "waplay" / "out" / "waplay"]
+    there = [path for path in places if path.is_file()]
+    if not there:
+        return None, "waplay is not built, and no build is started; --waplay names a program"
+    return max(there, key=lambda path: path.stat().st_mtime), ""  # the newer one
+
+
+@dataclasses.dataclass
+class Replay:
+    """What came of a replay."""
+
+    lines: list[str]
+    outcome: str  # agrees, differs, fails
+    difference: float | None = None
+    is_silent: bool = False
+
+
+def channels_of(data: bytes) -> list[list[int]]:
+    """The channels of a WAV file of 24 bits, as the program writes it."""
+    try:
+        with wave.open(io.BytesIO(data)) as file:
+            channels, width = file.getnchannels(), file.getsampwidth()
+            body = file.readframes(file.getnframes())
+    except (wave.Error, EOFError) as fault:
+        raise ValueError(f"its WAV file cannot be read: {fault}") from None
+    if width != 3:
+        raise ValueError("its WAV file has not 24 bits a sample")
+    return [[int.from_bytes(body[at:at + 3], "little", signed=True)
+             for at in range(3 * channel, len(body) - 2, 3 * channels)]
+            for channel in range(channels)]
+
+
+def greatest_difference(ours: Sequence[Sequence[int]],
+                        browser: Sequence[array.array]) -> tuple[float, int, int]:
+    """The greatest difference of two lists of channels, its channel and its frame. A file of 24
+    bits holds values from -1 to below 1, so what the browser has outside counts as what is next to
+    it."""
+    best = (0.0, 0, 0)
+    for channel, (one, other) in enumerate(zip(ours, browser)):
+        for frame, (mine, theirs) in enumerate(zip(one, other)):
+            difference = abs(mine / FULL - min(max(theirs, -1.0), 1.0 - 1.0 / FULL))
+            if difference > best[0]:
+                best = (difference, channel, frame)
+    return best
+
+
+def outcome_lines(transcript: str, outcomes: dict[int, str]) -> list[str]:
+    """A line on the calls that ended otherwise in the program than in the browser."""
+    told = {}
+    for line in transcript.splitlines():
+        match = re.match(r"(\d+) (?:throw|rejected) (.*)", line)
+        if match:
+            told[int(match.group(1))] = match.group(2)
+    names = {number: text.split()[0] for number, text in told.items()}
+    differing = sorted(number for number in names.keys() | outcomes.keys()
+                       if names.get(number) != outcomes.get(number))
+    if not differing:
+        return []
+    shown = [f"{number} ({told.get(number, 'ok')} for {outcomes.get(number, 'ok')})"
+             for number in differing[:SHOWN]]
+    more = f" and {len(differing) - SHOWN} more" if len(differing) > SHOWN else ""
+    return [f"replay: {len(differing)} calls ended otherwise than in the browser: "
+            f"{', '.join(shown)}{more}"]
+
+
+def why_it_failed(status: int, transcript: str, script: dict) -> str:
+    """A line on a run that did not end with status 0."""
+    fault = re.match(r"script: (\d+) op UnknownOp", transcript)
+    if fault:
+        number = int(fault.group(1))
+        op = list(all_calls(script["calls"]))[number - 1]["op"]
+        return f"replay: failed, the program does not build {op} (call {number})"
+    last = transcript.splitlines()[-1:] or ["no transcript"]
+    return f"replay: the program ended with status {status}: {last[0]}"
+
+
+def compare(replayed: bytes, transcript: str, recorded: Recorded, script: dict,
+            tolerance: float) -> Replay:
+    """What a run that ended well gave, beside what the browser gave."""
+    lines = outcome_lines(transcript, recorded.outcomes)
+    try:
+        ours = channels_of(replayed)
+    except ValueError as fault:
+        return Replay([f"replay: failed, {fault}"], "fails")
+    if not recorded.rendered:
+        return Replay([*lines, "replay: the browser rendered nothing to compare with"], "differs")
+    if list(map(len, ours)) != list(map(len, recorded.rendered)):
+        return Replay([*lines, "replay: channels or frames are not as many as in the browser"],
+                      "differs")
+    difference, channel, frame = greatest_difference(ours, recorded.rendered)
+    where = f" at frame {frame} of channel {channel}" if difference else ""
+    is_silent = not any(map(any, ours))
+    if is_silent:
+        lines.append("silent: every sample of the replay is 0")
+    lines.append(f"replay: greatest difference from the browser {difference:.3g}{where}")
+    if difference > tolerance:
+        losses = {loss["kind"] for loss in recorded.kinds}
+        lines += [f"known departure: {text}" for text in known_departures(script, losses)]
+    outcome = "differs" if difference > tolerance or recorded_otherwise(lines) else "agrees"
+    return Replay(lines, outcome, difference, is_silent)
+
+
+def recorded_otherwise(lines: list[str]) -> bool:
+    """Whether a line tells of calls that ended otherwise."""
+    return any("ended otherwise" in line for line in lines)
+
+
+def replay(program: Path, folder: Path, recorded: Recorded, tolerance: float = TOLERANCE,
+           timeout: float = 600) -> Replay:
+    """Runs the program over a recorded script. Its WAV file and its transcript come to the folder
+    of the take."""
+    script = json.loads(recorded.script)
+    path = folder / f"{recorded.number}.wav"
+    limit = timeout + 10 * recorded.seconds
+    try:
+        with (folder / f"{recorded.number}.json").open("rb") as given:
+            run = subprocess.run([program, path.absolute()], stdin=given, capture_output=True,
+                                 cwd=folder, timeout=limit, check=False)
+    except subprocess.TimeoutExpired:
+        return Replay([f"replay: failed, the program took more than {limit:.0f} seconds"], "fails")
+    except OSError as fault:
+        return Replay([f"replay: failed, {program} cannot be run: {fault.strerror}"], "fails")
+    transcript = run.stdout.decode(errors="replace")
+    (folder / f"{recorded.number}.txt").write_bytes(run.stdout)
+    if run.returncode != 0:
+        return Replay([why_it_failed(run.returncode, transcript, script)], "fails")
+    try:
+        replayed = path.read_bytes()
+    except OSError:
+        return Replay(["replay: failed, the program wrote no WAV file"], "fails")
+    return compare(replayed, transcript, recorded, script, tolerance)
