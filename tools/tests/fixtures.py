@@ -5,21 +5,17 @@ import json
 import os
 import pathlib
 import random
+import shlex
 import struct
 import subprocess
 import sys
 
-TOOLS = os.path.dirname(os.path.dirname(os.path.abspath(__file__)))
-TOP = os.path.dirname(TOOLS)
-EXAMPLES = os.path.join(TOP, "examples")  # the folder of assets
-CASES = os.path.join(TOP, "tests", "cases")
-for folder in TOOLS, os.path.dirname(os.path.abspath(__file__)):
-    if folder not in sys.path:
-        sys.path.insert(0, folder)
-sys.dont_write_bytecode = True
 
-from expecting import sessions
+from waplay_tools.expecting import sessions
 from waplay_tools.cases.case import read_case
+from waplay_tools.places import CASES, EXAMPLES, TOP
+
+TOOLS = TOP / "tools"
 
 # The cases that the tests of tools take: sessions of each kind of node, of refusals, and of suspensions.
 SESSIONS = (
@@ -57,7 +53,17 @@ def script(calls, channels=1, length=128, rate=48000):
 
 def run(tool, *words, **more):
     """A tool that has run with these words."""
-    return subprocess.run([sys.executable, os.path.join(TOOLS, tool), *words], capture_output=True, **more)
+    return subprocess.run([os.path.join(TOOLS, tool), *words], capture_output=True, **more)
+
+
+def program(folder, text):
+    """Writes a program of this text in Python, which finds the tools and the tests, and gives its path."""
+    words = [sys.executable, write(folder, "program.py", text)]
+    paths = f"{TOOLS}:{TOOLS / 'tests'}"
+    start = f'PYTHONDONTWRITEBYTECODE=1 PYTHONPATH={shlex.quote(paths)} exec {shlex.join(words)} "$@"'
+    path = write(folder, "program", f"#!/bin/sh\n{start}\n")
+    os.chmod(path, 0o755)
+    return path
 
 
 def write(folder, name, data):

@@ -6,10 +6,9 @@ import contextlib
 import copy
 import unittest.mock
 
-import fixtures
-from expecting import sessions
-from expecting.nodes import SOURCES
-from expecting.numbers import ONE, computed_count, mixed, rounded_quotient, saturated
+from waplay_tools.expecting import sessions
+from waplay_tools.expecting.nodes import SOURCES
+from waplay_tools.expecting.numbers import ONE, computed_count, mixed, rounded_quotient, saturated
 
 QUANTUM = 128
 

@@ -7,7 +7,7 @@ import fixtures
 
 class Assets(unittest.TestCase):
     def test_the_assets_are_those_that_are_made(self):
-        ran = fixtures.run("assets.py", "--check", text=True)
+        ran = fixtures.run("assets", "--check", text=True)
         self.assertEqual((ran.returncode, ran.stdout, ran.stderr), (0, "", ""))
 
 

@@ -11,10 +11,11 @@ from waplay_tools.cases.__main__ import CASES, files_in
 from waplay_tools.cases.case import Case, CaseFault, case_of, read_case
 from waplay_tools.cases.differences import differences, wanted_file
 from waplay_tools.cases.expansion import calls_in, lines_in, runs_in, runs_of
-from waplay_tools.cases.folder import TOP, changes_in, content_of, write_files
+from waplay_tools.cases.folder import changes_in, content_of, write_files
 from waplay_tools.cases.layout import layout
 from waplay_tools.cases.performers import Outcome
 from waplay_tools.cases.words import words_of
+from waplay_tools.places import TOP
 
 SCHEMA = json.loads((TOP / "tests" / "case.schema.json").read_text(encoding="utf-8"))
 CONTEXT = {"channels": 1, "length": 3, "rate": 8000}

@@ -4,16 +4,14 @@ import collections
 import itertools
 import os
 import random
-import stat
-import sys
 import tempfile
 import unittest
 from pathlib import Path
 
 import fixtures
-import command_lines
-from expecting import sessions
-from command_lines import BAD_OUT, BAD_TEXT, NO_OUT, NOT_TEXT, REPEATED, SEVERAL, UNKNOWN, WITHOUT_TEXT, NoReading
+from waplay_tools import command_lines
+from waplay_tools.expecting import sessions
+from waplay_tools.command_lines import BAD_OUT, BAD_TEXT, NO_OUT, NOT_TEXT, REPEATED, SEVERAL, UNKNOWN, WITHOUT_TEXT, NoReading
 from waplay_tools.cases.case import read_case
 from waplay_tools.cases.words import words_of
 
@@ -87,11 +85,9 @@ UNREAD = {
 
 # A program that does as the second reading wants, but for what the test has it do otherwise. It renders no loads, but
 # writes a text that hangs on the load and the bits.
-PROGRAM = """#!%s
+PROGRAM = """
 import hashlib, json, os, sys
-sys.path.insert(0, %r)
-sys.dont_write_bytecode = True
-from command_lines import *
+from waplay_tools.command_lines import *
 asked, reason = None, None
 try:
     asked = reading([os.fsencode(word) for word in sys.argv[1:]])
@@ -238,9 +234,8 @@ class RandomLines(unittest.TestCase):
 class Comparison(unittest.TestCase):
     def compared(self, change, *words, count=40):
         with tempfile.TemporaryDirectory() as work:
-            program = fixtures.write(work, "program", PROGRAM % (sys.executable, fixtures.TOOLS, change))
-            os.chmod(program, os.stat(program).st_mode | stat.S_IXUSR)
-            ran = fixtures.run("command_lines.py", "--count", str(count), "--seed", "3", "--program", program, *words)
+            program = fixtures.program(work, PROGRAM % change)
+            ran = fixtures.run("command-lines", "--count", str(count), "--seed", "3", "--program", program, *words)
         self.assertEqual(ran.stderr, b"")
         return ran.returncode, ran.stdout.decode().splitlines()
 

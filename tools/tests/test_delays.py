@@ -5,7 +5,6 @@ a calculation by recursion from one frame to another (meaning.py)."""
 
 import itertools
 import json
-import os
 import random
 import shutil
 import tempfile
@@ -14,11 +13,14 @@ import unittest
 import unittest.mock
 
 import fixtures
-import load_script
+from waplay_tools import load_script
 import meaning
-import random_scripts
-from expecting import automation, delay, graph, numbers, reading, refusals, sessions
-from expecting.graph import End
+from waplay_tools.random_scripts import maker
+from waplay_tools.random_scripts.answers import REFUSALS, answers_of
+from waplay_tools.random_scripts.assets import write_assets
+from waplay_tools.random_scripts.maker import operations, script_of
+from waplay_tools.expecting import automation, delay, graph, numbers, reading, refusals, sessions
+from waplay_tools.expecting.graph import End
 
 RATE = 16384  # 1,024 is the time of one frame, and 131,072 that of a quantum
 COUNT = 150  # random sessions
@@ -370,14 +372,14 @@ class Cycles(unittest.TestCase):
 class Meaning(unittest.TestCase):
     def scripts(self, count=COUNT):
         """Random scripts with delays whose assets stand in a folder of their own."""
-        shapes = [(1, random_scripts.Maker.delayed), (1, random_scripts.Maker.crossed)]
+        shapes = [(1, "delayed"), (1, "crossed")]
         for number in range(count):
-            with unittest.mock.patch.multiple(random_scripts, SHAPES=[], DELAY_SHAPES=shapes):
-                script, assets = random_scripts.script_of(99, number, random_scripts.operations())
+            with unittest.mock.patch.multiple(maker, SHAPES=[], DELAY_SHAPES=shapes):
+                script, assets = script_of(99, number, operations())
             if len(script["calls"]) <= 70:
                 folder = tempfile.mkdtemp()
                 self.addCleanup(shutil.rmtree, folder)
-                random_scripts.write_assets(folder, assets)
+                write_assets(folder, assets)
                 yield number, json.dumps(script).encode(), folder
 
     def test_random_sessions_are_those_of_the_recursion(self):
@@ -421,18 +423,18 @@ class Meaning(unittest.TestCase):
 
 class RandomScripts(unittest.TestCase):
     def test_delays_come_in_many_scripts(self):
-        texts = [json.dumps(random_scripts.script_of(3, number, random_scripts.operations())[0]) for number in range(80)]
+        texts = [json.dumps(script_of(3, number, operations())[0]) for number in range(80)]
         found = sum('"createDelay"' in text for text in texts)
         self.assertTrue(found > 30, found)
 
     def test_every_answer_of_a_creation_comes_up(self):
         answers = set()
-        for number, shape in enumerate([random_scripts.Maker.lines] * 4 + [random_scripts.Maker.crowd] * 2):
-            with unittest.mock.patch.multiple(random_scripts, SHAPES=[], DELAY_SHAPES=[(1, shape)]):
-                script, _ = random_scripts.script_of(5, number, random_scripts.operations())
+        for number, shape in enumerate(["lines"] * 4 + ["crowd"] * 2):
+            with unittest.mock.patch.multiple(maker, SHAPES=[], DELAY_SHAPES=[(1, shape)]):
+                script, _ = script_of(5, number, operations())
             _, text, _ = sessions.replayed(json.dumps(script).encode())
-            answers.update(random_scripts.answers_of(script, text))
-        wanted = {"createDelay throw " + refusal for refusal in random_scripts.REFUSALS["createDelay"]}
+            answers.update(answers_of(script, text))
+        wanted = {"createDelay throw " + refusal for refusal in REFUSALS["createDelay"]}
         self.assertEqual(wanted - answers, set())
 
 
@@ -456,7 +458,7 @@ class Loads(unittest.TestCase):
 
     def test_what_is_no_number_of_a_load(self):
         for word in "-1", "10000", "x", "1.0":
-            self.assertEqual(fixtures.run("load_script.py", word).returncode, 2)
+            self.assertEqual(fixtures.run("load-script", word).returncode, 2)
 
     def test_the_summary_is_that_of_each_voice_by_itself(self):
         length = 3000

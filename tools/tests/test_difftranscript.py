@@ -6,7 +6,7 @@ import tempfile
 import unittest
 
 import fixtures
-from reporting import difference, transcript_reading
+from waplay_tools.reporting import difference, transcript_reading
 
 
 def lines_of(text):

@@ -1,26 +1,21 @@
 """Tests of how a program's loads are compared, and of the second calculation where it is told to check or to give 16 bits."""
 
 import json
-import os
-import stat
 import struct
-import sys
 import tempfile
 import unittest
 import unittest.mock
 
 import fixtures
-import generated
-import load_script
-from expecting import numbers, sessions
+from waplay_tools import generated
+from waplay_tools import load_script
+from waplay_tools.expecting import numbers, sessions
 
 # A program that generates small scripts, and does with them what is wanted, but for what the test has it do otherwise.
-PROGRAM = """#!%s
+PROGRAM = """
 import json, os, sys
-sys.path[:0] = %r
-sys.dont_write_bytecode = True
-import command_lines
-from expecting.sessions import replayed, summary_of, wav_bytes
+from waplay_tools import command_lines
+from waplay_tools.expecting.sessions import replayed, summary_of, wav_bytes
 from test_generated import small
 asked = command_lines.reading([os.fsencode(word) for word in sys.argv[1:]])
 is_checked, is_generated = asked.mode == "check", asked.generated is not None
@@ -80,10 +75,8 @@ class SecondCalculation(unittest.TestCase):
 
 class Comparison(unittest.TestCase):
     def compared(self, change, number=7, is_whole=True):
-        with tempfile.TemporaryDirectory() as work, unittest.mock.patch("load_script.script", small):
-            paths = [fixtures.TOOLS, os.path.join(fixtures.TOOLS, "tests")]
-            program = fixtures.write(work, "program", PROGRAM % (sys.executable, paths, change))
-            os.chmod(program, os.stat(program).st_mode | stat.S_IXUSR)
+        with tempfile.TemporaryDirectory() as work, unittest.mock.patch("waplay_tools.load_script.script", small):
+            program = fixtures.program(work, PROGRAM % change)
             return generated.compared((program, number, is_whole))
 
     def test_a_program_that_does_what_is_wanted_does_not_differ(self):

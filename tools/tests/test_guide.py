@@ -6,7 +6,7 @@ import unittest
 from pathlib import Path
 
 import fixtures
-from expecting.sessions import replayed
+from waplay_tools.expecting.sessions import replayed
 
 TOP = Path(fixtures.TOP)
 EXAMPLES = TOP / "examples"
@@ -60,7 +60,7 @@ class Documents(unittest.TestCase):
 
 class Assets(unittest.TestCase):
     def test_the_files_are_those_that_are_made(self):
-        ran = fixtures.run("assets.py", "--check")
+        ran = fixtures.run("assets", "--check")
         self.assertEqual((ran.returncode, ran.stdout), (0, b""))
 
 

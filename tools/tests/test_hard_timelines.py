@@ -2,24 +2,19 @@
 
 import collections
 import json
-import os
 import shutil
-import sys
 import tempfile
 import unittest
 
 import fixtures
-import hard_timelines
-from expecting import sessions
+from waplay_tools import hard_timelines
+from waplay_tools.expecting import sessions
 
 PROFILE = "throw NotSupportedError profile:"
 
 # A program that gives what is worked out, but for what the test has it do otherwise.
-PROGRAM = """#!%s
-import sys
-sys.path.insert(0, %r)
-sys.dont_write_bytecode = True
-import hard_timelines
+PROGRAM = """
+from waplay_tools import hard_timelines
 status, text, file = hard_timelines.expected(sys.stdin.buffer.read())
 %s
 sys.stdout.buffer.write(text)
@@ -79,9 +74,8 @@ class Scripts(unittest.TestCase):
 class Comparison(unittest.TestCase):
     def compared(self, change):
         with tempfile.TemporaryDirectory() as work:
-            program = fixtures.write(work, "program", PROGRAM % (sys.executable, fixtures.TOOLS, change))
-            os.chmod(program, 0o755)
-            ran = fixtures.run("hard_timelines.py", "--program", program, "times", "short_curves")
+            program = fixtures.program(work, PROGRAM % change)
+            ran = fixtures.run("hard-timelines", "--program", program, "times", "short_curves")
         self.assertEqual(ran.stderr, b"")
         return ran.returncode, ran.stdout.decode().splitlines()
 

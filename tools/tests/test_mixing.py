@@ -4,8 +4,7 @@ The equations themselves have cases below tests/cases/channel-mixing."""
 
 import unittest
 
-import fixtures  # noqa: F401
-from expecting.numbers import mixed
+from waplay_tools.expecting.numbers import mixed
 
 COUNTS = range(1, 33)
 WITH_LAYOUT = {1, 2, 4, 6}  # the numbers of channels between which there are equations

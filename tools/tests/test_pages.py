@@ -12,8 +12,8 @@ import unittest
 
 import fixtures
 import browser
-from reporting import waveform
-from reporting.wav_samples import sound_of, spans
+from waplay_tools.reporting import waveform
+from waplay_tools.reporting.wav_samples import sound_of, spans
 
 HERE = os.path.dirname(os.path.abspath(__file__))
 GROUNDS = {"light": "rgb(255, 255, 255)", "dark": "rgb(15, 20, 25)"}

@@ -14,7 +14,7 @@ import unittest
 from pathlib import Path
 
 import fixtures
-import load_script
+from waplay_tools import load_script
 
 SHIPPED = Path(fixtures.TOP, "bin", "waplay-x86_64-linux")
 PROGRAM = Path(os.environ.get("WAPLAY") or SHIPPED).absolute()

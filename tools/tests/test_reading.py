@@ -1,22 +1,24 @@
 """Tests of how scripts, transcripts and WAV files are read, and of the rules in words."""
 
+import json
 import os
 import random
 import re
 import unittest
 
 import fixtures
-from expecting import reading, sessions
-import random_scripts
-from reporting import entries, rules, script_reading, transcript_reading, wav_samples
-from reporting.following import Session
-from reporting.text import BadInput, quoted, visible
+from waplay_tools.expecting import reading, sessions
+from waplay_tools.random_scripts.answers import REFUSALS
+from waplay_tools.random_scripts.maker import Maker
+from waplay_tools.reporting import entries, rules, script_reading, transcript_reading, wav_samples
+from waplay_tools.reporting.following import Session
+from waplay_tools.reporting.text import BadInput, quoted, visible
 from waplay_tools.cases.__main__ import CASES, files_in
 from waplay_tools.cases.case import read_case
 
 
 def fault_of(data):
-    """The fault of a script as tools/expecting/reading.py tells it."""
+    """The fault of a script as the second calculation tells it."""
     try:
         reading.script_of(data)
     except reading.Fault as fault:
@@ -28,7 +30,7 @@ def random_script(number, spoiled=False, most=60):
     """A random script of at most so many calls, with its assets' paths leading nowhere. Half of them have
     suspensions."""
     read = [op for op in reading.OPERATIONS if op != "suspend" or number % 2 == 0]
-    maker = random_scripts.Maker(random.Random("tools %d" % number), read)
+    maker = Maker(random.Random("tools %d" % number), read)
     script = maker.script()
     script["calls"] = script["calls"][:most] if isinstance(script.get("calls"), list) else script.get("calls")
     if spoiled and isinstance(script.get("context"), dict):
@@ -46,7 +48,7 @@ class Reading(unittest.TestCase):
     def test_faults_are_those_of_the_second_calculation(self):
         faulty = 0
         for number in range(1500):
-            data = random_scripts.json.dumps(random_script(number, number % 3 > 0)).encode()
+            data = json.dumps(random_script(number, number % 3 > 0)).encode()
             wanted, found = fault_of(data), script_reading.script_of(data).fault
             if wanted and wanted.endswith("UnknownOp") and found != wanted:
                 op = script_reading.script_of(data).by_ordinal[int(wanted.split()[0])].op
@@ -94,7 +96,7 @@ class Reading(unittest.TestCase):
 
 class Rules(unittest.TestCase):
     def test_every_refusal_has_its_rule(self):
-        built = {op: [it.rsplit("profile:", 1)[-1] for it in refusals] for op, refusals in random_scripts.REFUSALS.items()}
+        built = {op: [it.rsplit("profile:", 1)[-1] for it in refusals] for op, refusals in REFUSALS.items()}
         for op, refusals in built.items():
             for refusal in refusals:
                 is_feature = refusal not in transcript_reading.EXCEPTIONS
@@ -104,7 +106,7 @@ class Rules(unittest.TestCase):
                 self.assertNotEqual(told, "The profile leaves this out.", (op, refusal))
 
     def test_every_operation_that_may_be_refused_is_looked_at(self):
-        self.assertEqual(set(entries.OPERATIONS) - {*random_scripts.REFUSALS}, {"readState", "readTime"})
+        self.assertEqual(set(entries.OPERATIONS) - {*REFUSALS}, {"readState", "readTime"})
 
 
 class Samples(unittest.TestCase):
@@ -153,7 +155,7 @@ class Following(unittest.TestCase):
     def test_random_sessions_belong_to_their_scripts_and_sources_end_where_they_end(self):
         exact = between = 0
         for number in range(400):
-            data = random_scripts.json.dumps(random_script(number)).encode()
+            data = json.dumps(random_script(number)).encode()
             status, text, session = sessions.replayed(data, os.path.join(fixtures.TOP, "nowhere"))
             if status not in (0, 3):
                 continue

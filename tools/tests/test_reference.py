@@ -7,16 +7,15 @@ import tempfile
 import unittest
 from pathlib import Path
 
-TOP = Path(__file__).resolve().parents[2]
-sys.path.insert(0, str(TOP / "tools"))
+from waplay_tools.places import TOP
 
-from waplay_tools.reference import __main__ as command  # noqa: E402
-from waplay_tools.reference import operations, picture  # noqa: E402
-from waplay_tools.reference.house import House  # noqa: E402
-from waplay_tools.reference.links import dead_links  # noqa: E402
-from waplay_tools.reference.pages import Reference  # noqa: E402
-from waplay_tools.reference.parts import renewed  # noqa: E402
-from waplay_tools.reference.scanning import Unreadable  # noqa: E402
+from waplay_tools.reference import __main__ as command
+from waplay_tools.reference import operations, picture
+from waplay_tools.reference.house import House
+from waplay_tools.reference.links import dead_links
+from waplay_tools.reference.pages import Reference
+from waplay_tools.reference.parts import renewed
+from waplay_tools.reference.scanning import Unreadable
 
 # A crate of scripts: two operations with the same field, one with a field of its own, one without.
 SCRIPTS = {

@@ -6,17 +6,15 @@ import os
 import random
 import re
 import subprocess
-import sys
 import tempfile
 import unittest
 import unittest.mock
 
 import fixtures
-from expecting import sessions
-import random_scripts
+from waplay_tools.expecting import sessions
 import test_reading
-from reporting import sound_html, waveform
-from reporting.wav_samples import Differences, front_of, sound_of
+from waplay_tools.reporting import sound_html, waveform
+from waplay_tools.reporting.wav_samples import Differences, front_of, sound_of
 
 VOID = {"meta", "input", "br", "wbr", "img", "link", "hr"}
 
@@ -203,7 +201,7 @@ class Report(unittest.TestCase):
 
     def test_random_sessions_have_pages(self):
         for number in range(1000, 1060):
-            data = random_scripts.json.dumps(test_reading.random_script(number, number % 4 == 0)).encode()
+            data = json.dumps(test_reading.random_script(number, number % 4 == 0)).encode()
             _, text, session = sessions.replayed(data, os.path.join(self.folder, "nowhere"))
             if text:
                 sound = sessions.wav_bytes(session) if session and session.samples else None
@@ -254,7 +252,7 @@ class Report(unittest.TestCase):
     def test_a_page_that_can_not_be_written(self):
         paths = fixtures.written(self.folder, "it", *fixtures.session_of_case("constant"))
         with open("/dev/full", "wb") as full:
-            command = [sys.executable, os.path.join(fixtures.TOOLS, "report"), *paths]
+            command = [fixtures.TOOLS / "report", *paths]
             ran = subprocess.run(command, stdout=full, stderr=subprocess.PIPE)
         self.assertEqual(ran.returncode, 2)
         self.assertRegex(ran.stderr.decode(), r"\Areport: [^\n]+\n\Z")

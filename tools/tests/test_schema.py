@@ -1,4 +1,4 @@
-"""Holds docs/script.schema.json against the reader of tools/expecting/reading.py, over random good and faulty scripts.
+"""Holds docs/script.schema.json against the reader of the second calculation, over random good and faulty scripts.
 
 A schema can't say everything that the reader asks for. These differences have names here, are counted apart,
 and are only allowed where nothing else differs:
@@ -17,9 +17,9 @@ import random
 import unittest
 
 import fixtures
-from expecting import reading
+from waplay_tools.expecting import reading
 import test_reading
-from reporting import entries, schema
+from waplay_tools.reporting import entries, schema
 
 try:
     import jsonschema

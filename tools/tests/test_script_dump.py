@@ -7,7 +7,7 @@ from pathlib import Path
 from typing import Any
 
 import fixtures
-from expecting import reading
+from waplay_tools.expecting import reading
 
 DUMP = Path(fixtures.TOP) / "crates" / "script_dump"
 

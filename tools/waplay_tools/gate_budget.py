@@ -18,7 +18,8 @@ import threading
 import tomllib
 from pathlib import Path
 
-TOP = Path(__file__).resolve().parents[2]
+from waplay_tools.places import TOP
+
 BUDGET = TOP / ".ci" / "budget.toml"
 PROOFS, EDITS, TESTS, REST = "product-proofs", "edits", "tests", "rest"
 _TICKS = os.sysconf("SC_CLK_TCK")

@@ -12,7 +12,8 @@ import sys
 import time
 from pathlib import Path
 
-TOP = Path(__file__).resolve().parents[2]
+from waplay_tools.places import TOP
+
 FOLDERS = (TOP / "tools" / "tests", TOP / "recorder" / "tests")
 BROWSER = "browser"  # a module of tests whose name has this word wants a browser
 

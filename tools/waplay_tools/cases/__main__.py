@@ -12,11 +12,9 @@ from waplay_tools.cases.case import Case, CaseFault, read_case
 from waplay_tools.cases.changing import changed
 from waplay_tools.cases.differences import differences
 from waplay_tools.cases.examples import example_of
-from waplay_tools.cases.folder import TOP
 from waplay_tools.cases.performers import Outcome, calculate, perform
+from waplay_tools.places import CASES, EXAMPLES, SHIPPED, TOP
 
-CASES, EXAMPLES = TOP / "tests" / "cases", TOP / "examples"
-SHIPPED = TOP / "bin" / "waplay-x86_64-linux"
 SECOND = "the second calculation"
 
 

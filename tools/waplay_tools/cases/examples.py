@@ -4,7 +4,7 @@ import json
 from pathlib import Path
 
 from waplay_tools.cases.case import Case
-from waplay_tools.cases.folder import TOP
+from waplay_tools.places import TOP
 
 
 def example_of(path: Path) -> Case:

@@ -6,8 +6,7 @@ from typing import Any
 
 from waplay_tools import wav
 from waplay_tools.cases.expansion import runs_in
-
-TOP = Path(__file__).resolve().parents[3]
+from waplay_tools.places import TOP
 
 # A file's content: its bytes, how many zero bytes, or None for a folder.
 Content = bytes | int | None

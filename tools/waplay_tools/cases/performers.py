@@ -5,8 +5,8 @@ import os
 import subprocess
 from pathlib import Path
 
-from expecting.sessions import replayed
-from expecting.sessions import wav_bytes as expected_wav
+from waplay_tools.expecting.sessions import replayed
+from waplay_tools.expecting.sessions import wav_bytes as expected_wav
 from waplay_tools.cases.case import Case
 from waplay_tools.cases.folder import changes_in, write_files
 from waplay_tools.cases.words import words_of

@@ -4,12 +4,11 @@ import argparse
 import sys
 from pathlib import Path
 
+from waplay_tools.places import TOP
 from waplay_tools.reference import links, parts
 from waplay_tools.reference.house import House
 from waplay_tools.reference.pages import HEAD, Reference
 from waplay_tools.reference.scanning import Unreadable
-
-TOP = Path(__file__).resolve().parents[3]
 
 
 def read_words() -> argparse.Namespace:

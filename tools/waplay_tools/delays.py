@@ -1,0 +1,118 @@
+"""Works out what 5,000 random delays make of random samples: a second calculation, apart from the crates'
+own.
+
+    python3 tools/delays.py            the digest of what their readers give, which
+                                       crates/effect_tests/src/delay_digests.rt is to give too
+    python3 tools/delays.py --count    how often a block could be read, how many of its samples were 0, and
+                                       how many were mixed up
+
+It follows the rules of docs/PROFILE.md for delays in the plainest way: a delay keeps all that its writer
+wrote since its birth, and each sample is looked up by itself. Only the random numbers are made as the tests
+make them. It needs Python 3 and nothing else.
+"""
+
+import collections
+
+from waplay_tools import digests
+from waplay_tools.digests import mixed
+
+# Which channel each channel repeats where loudspeakers are mixed up; all other pairs keep their channels.
+SPEAKERS = {
+    (1, 2): (0, 0),
+    (1, 4): (0, 0, None, None),
+    (1, 6): (None, None, 0, None, None, None),
+    (2, 4): (0, 1, None, None),
+    (2, 6): (0, 1, None, None, None, None),
+    (4, 6): (0, 1, None, None, 2, 3),
+}
+
+
+def mixed_up(frame, to, is_discrete):
+    kept = tuple(c if c < len(frame) else None for c in range(to))
+    row = kept if is_discrete else SPEAKERS.get((len(frame), to), kept)
+    return [0 if c is None else frame[c] for c in row]
+
+
+class Delay:
+    def __init__(self, capacity, block):
+        self.capacity, self.block = capacity, block
+        self.frames = []
+        self.most = 1
+
+    def write(self, samples, channels):
+        for k in range(self.block):
+            self.frames.append([samples[c * self.block + k] for c in range(channels)])
+        self.most = max(self.most, channels)
+
+    def has(self, f, delay):
+        written, g = len(self.frames), f - delay
+        return g < 0 or g < written <= g + self.capacity + self.block
+
+    def read(self, channels, first, delays, is_discrete, counts):
+        """The samples of each channel in turn, or None where the delay does not keep what is asked for."""
+        if not all(self.has(first + k, d) for k, d in enumerate(delays)):
+            return None
+        block = []
+        for k, d in enumerate(delays):
+            g = first + k - d
+            frame = self.frames[g] if g >= 0 else []
+            counts["before birth"] += g < 0
+            counts["mixed up"] += 0 < len(frame) < channels
+            block.append(mixed_up(frame, channels, is_discrete) if g >= 0 else [0] * channels)
+        return [frame[c] for c in range(channels) for frame in block]
+
+
+def sample(random):
+    return random.below(2**31) * 2 - 2**31
+
+
+def delays_of(random, least, capacity):
+    delays = [least + random.below(capacity + 4)] * 16
+    if random.below(2) == 0:
+        delays = [least + random.below(capacity + 1) for _ in range(16)]
+    return delays
+
+
+def read(delay, random, digest, first, least, counts):
+    delays = delays_of(random, least, delay.capacity)
+    is_discrete = random.below(3) == 0
+    channels = max(delay.most, 1 + random.below(6))
+    samples = delay.read(channels, first, delays[:delay.block], is_discrete, counts)
+    counts["read" if samples is not None else "not read"] += 1
+    if samples is None:
+        return mixed(digest, 0)
+    digest = mixed(digest, 1)
+    for value in samples:
+        digest = mixed(digest, value + 2**31)
+    return digest
+
+
+def one_delay(random, digest, counts):
+    capacity = random.below(41)
+    block = 1 + random.below(16)
+    delay = Delay(capacity, block)
+    digest = mixed(digest, capacity)
+    in_cycle = random.below(2) == 0
+    for _ in range(12):
+        first = len(delay.frames)
+        if in_cycle:
+            digest = read(delay, random, digest, first, block, counts)
+        channels = (1, 1, 2, 2, 4, 6)[random.below(6)]
+        samples = [sample(random) for _ in range(96)]
+        delay.write(samples, channels)
+        if not in_cycle:
+            digest = read(delay, random, digest, first, 0, counts)
+    return digest
+
+
+def main():
+    random = digests.Random(2026)
+    digest = digests.EMPTY
+    counts = collections.Counter()
+    for _ in range(5_000):
+        digest = one_delay(random, digest, counts)
+    digests.tell(digest, counts)
+
+
+if __name__ == "__main__":
+    main()

@@ -1,0 +1,56 @@
+"""Delays: what their writers wrote, and what their readers read of it."""
+
+from waplay_tools.expecting.nodes import Node
+from waplay_tools.expecting.numbers import ONE, QUANTUM, SILENCE, mixed_blocks, rounded_quotient
+from waplay_tools.expecting.refusals import Refused, profile
+
+LONGEST = 16 * ONE  # seconds
+
+
+class Delay(Node):
+    """A delay that is born at a frame, which begins a quantum. Of each quantum it keeps what its writer wrote, as
+    far back as its reader may ask, and how many channels the writer had at most since the birth."""
+
+    def __init__(self, call, rate, birth):
+        longest = call.get("maxDelayTime", ONE)
+        if longest <= 0:
+            raise Refused("NotSupportedError")
+        if longest > LONGEST:
+            raise profile("long-delay")
+        super().__init__("delay", call["as"], call.get("delayTime", 0))
+        self.nominal = 0, longest
+        self.rate, self.birth = rate, birth
+        self.capacity = max(self.frames(longest), QUANTUM)
+        self.written, self.most = {}, {}
+
+    def frames(self, time):
+        return rounded_quotient(time * self.rate, ONE)
+
+    def write(self, first, channels):
+        """The writer has these channels in the quantum that begins here."""
+        self.written[first] = channels
+        self.most[first] = max(self.most_until(first - QUANTUM), len(channels))
+        asked = (first - self.capacity) // QUANTUM  # the first quantum that may be asked for, now and later
+        for kept in self.written, self.most:
+            kept.pop((asked - 1) * QUANTUM, None)
+
+    def most_until(self, first):
+        """The most channels that the writer had up to the quantum that begins here, and one at least."""
+        return self.most[first] if first >= self.birth else 1
+
+    def heard_from(self, first, count):
+        """What was written in the quantum that begins here, mixed to so many channels."""
+        if first < self.birth:
+            return [SILENCE] * count
+        return mixed_blocks(self.written[first], count, self.interpretation)
+
+    def read(self, first, times, is_in_cycle):
+        """The channels of the reader in the quantum that begins here, with these values of delayTime. In a cycle it
+        reads nothing that is written in the same quantum."""
+        count = self.most_until(first - QUANTUM if is_in_cycle else first)
+        least = QUANTUM if is_in_cycle else 0
+        places = [frame - max(least, self.frames(time)) for frame, time in enumerate(times, first)]
+        heard = {place // QUANTUM: None for place in places}
+        for quantum in heard:
+            heard[quantum] = self.heard_from(QUANTUM * quantum, count)
+        return [[heard[place // QUANTUM][c][place % QUANTUM] for place in places] for c in range(count)]

@@ -1,0 +1,181 @@
+"""Nodes, buffers and the assets that become buffers, by the rules of docs/PROFILE.md."""
+
+import os
+
+from waplay_tools.expecting.automation import Timeline
+from waplay_tools.expecting.numbers import FIX, ONE, QUANTUM, SILENCE
+
+ASSET_LIMIT = 2**26  # bytes of a file
+
+# The attributes of each kind of node that cannot change.
+FIXED = {
+    "destination": ("count", "mode"),
+    "constant": (),
+    "buffer source": (),
+    "gain": (),
+    "delay": (),
+    "splitter": ("count", "mode", "interpretation"),
+    "merger": ("count", "mode"),
+    "shaper": (),
+    "filter": (),
+}
+
+SOURCES = ("constant", "buffer source")
+
+# The parameters of each kind of node that has any, with the feature where no call may change them.
+PARAMETERS = {
+    "constant": {"offset": None},
+    "buffer source": {"playbackRate": "playback-rate-automation", "detune": "detune"},
+    "gain": {"gain": None},
+    "delay": {"delayTime": None},
+}
+
+
+class Node:
+    """A node. The value is the first one of a constant's offset, a gain's gain or a delay's delayTime, the number
+    of a splitter's outputs or of a merger's inputs, and the number of the destination's channels."""
+
+    nominal = FIX  # the range of the values of its parameters
+
+    def __init__(self, kind, name, value=None):
+        self.kind, self.name = kind, name
+        self.timelines = {parameter: Timeline(value) for parameter, feature in PARAMETERS.get(kind, {}).items()
+                          if feature is None}
+        self.inputs = {"constant": 0, "buffer source": 0, "merger": value}.get(kind, 1)
+        self.outputs = value if kind == "splitter" else 1
+        self.count, self.mode, self.interpretation = {
+            "destination": (value, "explicit", "speakers"),
+            "splitter": (value, "explicit", "discrete"),
+            "merger": (1, "explicit", "speakers"),
+        }.get(kind, (2, "max", "speakers"))
+        self.start = self.stop = None
+        self.ended = False
+
+    def end(self):
+        return None if self.stop is None else max(self.start, self.stop)
+
+    def played_from(self, first):
+        """The frames in which it plays of the quantum that begins here."""
+        end = self.end()
+        if self.start is None:
+            return range(first, first)
+        return range(max(self.start, first), first + QUANTUM if end is None else min(end, first + QUANTUM))
+
+    def times(self, call):
+        """The times of a call that starts or stops it."""
+        return [call.get("when", 0)]
+
+    def started(self, frame, call):
+        self.start = frame
+
+    def sound(self, first, levels):
+        """The channels of a source in the quantum that begins here, in which its parameters have these values. One
+        that plays in no frame of it has one, which is silent."""
+        played = self.played_from(first)
+        if not played:
+            return [SILENCE]
+        before, after = SILENCE[:played.start - first], SILENCE[played.stop - first:]
+        return [[*before, *part, *after] for part in self.content(played, first, levels)]
+
+    def content(self, played, first, levels):
+        """What the channels of a source have in the frames in which it plays."""
+        return [levels["offset"][played.start - first:played.stop - first]]
+
+
+class BufferSource(Node):
+    """A source that plays a buffer. Its times are frames of the session, and its offset, its duration
+    and the ends of its loop are frames of the buffer."""
+
+    def __init__(self, call, buffer):
+        super().__init__("buffer source", call["as"])
+        self.buffer, self.was_set = buffer, buffer is not None
+        self.is_looping = call.get("loop", False)
+        self.loop_start, self.loop_end = call.get("loopStart", 0), call.get("loopEnd", 0)
+        self.rate = call.get("playbackRate", ONE) // ONE
+        self.offset, self.duration = 0, None
+
+    def length(self):
+        return self.buffer.length if self.buffer else 0
+
+    def loop(self):
+        """The first frame of the buffer that is in the loop, and the first one behind the loop."""
+        first, last = self.loop_start, self.loop_end
+        if first >= 0 and last > 0 and first < last and first < self.length():
+            return first, min(last, self.length())
+        return 0, self.length()
+
+    def times(self, call):
+        if call["op"] == "stop":
+            return super().times(call)
+        return super().times(call) + [call.get("offset", 0), call.get("duration") or 0]
+
+    def started(self, frame, call):
+        super().started(frame, call)
+        self.offset, self.duration = call.get("offset", 0), call.get("duration")
+        if self.buffer:
+            self.buffer.is_acquired = True
+
+    def first(self):
+        """The frame of the buffer that it begins with."""
+        return min(self.offset, self.loop()[1] if self.is_looping else self.length())
+
+    def played(self):
+        """How many frames it plays, where that has a bound. The duration counts through the loop too."""
+        if self.length() == 0:
+            content = 0
+        elif self.is_looping:
+            content = self.duration
+        else:
+            content = self.length() - self.first()
+            content = content if self.duration is None else min(content, self.duration)
+        return None if content is None else -(-content // self.rate)  # rounded up
+
+    def end(self):
+        if self.start is None:
+            return None
+        played = self.played()
+        ends = [None if played is None else self.start + played, super().end()]
+        return min((end for end in ends if end is not None), default=None)
+
+    def positions(self, frames):
+        """The frames of the buffer that are heard at these frames."""
+        begin, (first, last) = self.first(), self.loop()
+        places = [begin + (frame - self.start) * self.rate for frame in frames]
+        if self.is_looping:
+            return [first + (place - first) % (last - first) if place >= last else place for place in places]
+        return places
+
+    def content(self, played, first, levels):
+        places = self.positions(played)
+        return [[self.buffer.sample(channel, place) for place in places] for channel in range(self.buffer.channels)]
+
+
+class Buffer:
+    """A buffer: a recording, or else zeros, and what was written over it."""
+
+    def __init__(self, channels, length, rate, recording=None):
+        self.channels, self.length, self.rate, self.recording = channels, length, rate, recording
+        self.written = {}  # of channels and frames
+        self.is_acquired = False
+
+    def sample(self, channel, frame):
+        there = self.recording.sample(channel, frame) if self.recording else 0
+        return self.written.get((channel, frame), there)
+
+
+class AssetFault(Exception):
+    """An asset that is there and could not be read."""
+
+
+def asset(folder, path):
+    """The bytes of a file of the folder, so many of them that they tell whether there are too many; None
+    where the system finds no file, and where the path could name one that is not in the folder."""
+    if path.startswith("/") or ".." in path.split("/") or "\0" in path:
+        return None
+    try:
+        with open(os.path.join(os.fsencode(folder), path.encode()), "rb") as file:
+            return file.read(ASSET_LIMIT + 1)
+    except (FileNotFoundError, NotADirectoryError):
+        return None
+    except OSError:
+        raise AssetFault

@@ -1,0 +1,199 @@
+"""Scripts: what their bytes are, and their first fault. The rules are those of docs/FORMATS.md."""
+
+import json
+import re
+
+from waplay_tools.expecting.numbers import ONE
+
+# The features of the operations that are left out.
+LEFT_OUT = dict(pair.split(":") for pair in """
+    createOscillator:oscillator createPeriodicWave:periodic-wave createBiquadFilter:biquad
+    createStereoPanner:stereo-panner createPanner:panner createDynamicsCompressor:compressor
+    createAnalyser:analyser setListener:listener createMediaElementSource:media-element-source
+    createMediaStreamSource:media-stream-source createConvolver:convolver
+    createMediaStreamTrackSource:media-stream-track-source
+    createMediaStreamDestination:media-stream-destination
+    createScriptProcessor:script-processor createAudioWorkletNode:audio-worklet""".split())
+
+PARAMETER = [("node", "name"), ("param", "name")]
+HELD = ("then", "calls", [])
+
+# The fields of the operations that are read: of each its name, its kind, and its default where it has
+# one. Null is a value of a field whose default is null, and of one whose kind says so.
+OPERATIONS = {
+    "createConstantSource": [("as", "new name"), ("offset", "fix", ONE)],
+    "createGain": [("as", "new name"), ("gain", "fix", ONE)],
+    "createDelay": [("as", "new name"), ("maxDelayTime", "fix", ONE), ("delayTime", "fix", 0)],
+    "createChannelSplitter": [("as", "new name"), ("numberOfOutputs", "count", 6)],
+    "createChannelMerger": [("as", "new name"), ("numberOfInputs", "count", 6)],
+    "createWaveShaper": [("as", "new name"), ("curve", "list", None), ("oversample", "none 2x 4x", "none")],
+    "createIIRFilter": [("as", "new name"), ("feedforward", "list"), ("feedback", "list")],
+    "createBufferSource": [("as", "new name"), ("buffer", "name", None), ("loop", "bool", False), ("loopStart", "time", 0),
+                           ("loopEnd", "time", 0), ("playbackRate", "fix", ONE)],
+    "createBuffer": [("as", "new name"), ("channels", "count"), ("length", "count"), ("rate", "count")],
+    "connect": [("from", "name"), ("output", "count", 0), ("to", "name"), ("input", "count", 0)],
+    "disconnect": [("from", "name"), ("output", "count", None), ("to", "name", None), ("input", "count", None)],
+    "connectParam": [("from", "name"), ("output", "count", 0), ("to", "name"), ("param", "name")],
+    "disconnectParam": [("from", "name"), ("to", "name"), ("param", "name"), ("output", "count", None)],
+    "setValue": [*PARAMETER, ("value", "fix")],
+    "setValueAtTime": [*PARAMETER, ("value", "fix"), ("time", "time")],
+    "linearRampToValueAtTime": [*PARAMETER, ("value", "fix"), ("time", "time")],
+    "setValueCurveAtTime": [*PARAMETER, ("values", "list"), ("time", "time"), ("duration", "time")],
+    "cancelScheduledValues": [*PARAMETER, ("time", "time")],
+    "cancelAndHoldAtTime": [*PARAMETER, ("time", "time")],
+    "setAutomationRate": [*PARAMETER, ("value", "a-rate k-rate")],
+    "exponentialRampToValueAtTime": PARAMETER,
+    "setTargetAtTime": PARAMETER,
+    "readValue": PARAMETER,
+    "setChannelCount": [("node", "name"), ("value", "count")],
+    "setChannelCountMode": [("node", "name"), ("value", "max clamped-max explicit")],
+    "setChannelInterpretation": [("node", "name"), ("value", "speakers discrete")],
+    "setCurve": [("node", "name"), ("curve", "list or null")],
+    "setOversample": [("node", "name"), ("value", "none 2x 4x")],
+    "setBuffer": [("node", "name"), ("buffer", "name or null")],
+    "setLoop": [("node", "name"), ("value", "bool")],
+    "setLoopStart": [("node", "name"), ("value", "time")],
+    "setLoopEnd": [("node", "name"), ("value", "time")],
+    "copyToChannel": [("buffer", "name"), ("channel", "count"), ("samples", "list"), ("at", "count", 0)],
+    "start": [("node", "name"), ("when", "time", 0), ("offset", "time", 0), ("duration", "time", None)],
+    "stop": [("node", "name"), ("when", "time", 0)],
+    "suspend": [("time", "time"), HELD],
+    "startRendering": [HELD],
+    "resume": [],
+    "decodeAudioData": [("as", "new name"), ("path", "path")],
+    "readState": [],
+    "readTime": [],
+}
+
+# The operations of these that the program does not read yet.
+AHEAD = ()
+
+RANGES = {"fix": (-(2**31), 2**31 - 1), "time": (-(2**40), 2**40), "count": (0, 2**32 - 1)}
+
+
+class Fault(Exception):
+    """A fault of a script, with what its line says."""
+
+
+class Members(list):
+    """The members of a JSON object as they are written, repeated ones too."""
+
+
+def bad_json(*_):
+    raise Fault("BadJson")
+
+
+def fraction(text):
+    value = float(text)
+    return value if abs(value) < float("inf") else bad_json()
+
+
+def whole(text):
+    value = fraction(text)
+    is_whole = text != "-0" and len(text) <= 20 and -(2**63) <= int(text) < 2**64
+    return int(text) if is_whole else value
+
+
+def looked_through(value, room):
+    """The value with objects for members. There is room for so many arrays and objects, one in another."""
+    if isinstance(value, list) and room == 0:
+        bad_json()
+    if isinstance(value, Members):
+        return {looked_through(key, 0): looked_through(it, room - 1) for key, it in value}
+    if isinstance(value, list):
+        return [looked_through(it, room - 1) for it in value]
+    if isinstance(value, str):
+        value.encode()  # fails where there is a lone surrogate
+    return value
+
+
+def json_of(data):
+    try:
+        value = json.loads(data.decode(), object_pairs_hook=Members, parse_constant=bad_json,
+                           parse_float=fraction, parse_int=whole)
+        return looked_through(value, 127)
+    except (ValueError, RecursionError):
+        bad_json()
+
+
+def cause(value, kind):
+    """What is wrong with a value that is to be of the kind, if anything is. A kind that is none of
+    the others is a list of words."""
+    if kind in RANGES:
+        low, high = RANGES[kind]
+        return "WrongKind" if type(value) is not int else None if low <= value <= high else "OutOfRange"
+    if kind in ("object", "calls", "bool"):
+        return None if isinstance(value, {"object": dict, "calls": list, "bool": bool}[kind]) else "WrongKind"
+    if kind == "list":
+        causes = [cause(it, "fix") for it in value] if isinstance(value, list) else ["WrongKind"]
+        return next((wrong for wrong in ("WrongKind", "OutOfRange") if wrong in causes), None)
+    if not isinstance(value, str):
+        return "WrongKind"
+    if kind == "path":
+        fits = 1 <= len(value.encode()) <= 255
+    elif kind == "new name":
+        fits = re.fullmatch("[A-Za-z0-9_-]{1,64}", value) and value != "destination"
+    else:
+        fits = kind == "name" or value in kind.split()
+    return None if fits else "OutOfRange"
+
+
+def look_at(ordinal, members, field, kind, *default):
+    if field not in members:
+        wrong = None if default else "MissingField"
+    elif members[field] is None and (default == (None,) or kind.endswith(" or null")):
+        wrong = None
+    else:
+        wrong = cause(members[field], kind.replace(" or null", ""))
+    if wrong:
+        raise Fault("%d %s %s" % (ordinal, field, wrong))
+
+
+def look_at_calls(calls, first):
+    """Looks at the calls of a list, and at those that they hold. The answer is the next ordinal."""
+    for call in calls:
+        ordinal = first
+        first += 1
+        if not isinstance(call, dict):
+            raise Fault("%d call WrongKind" % ordinal)
+        op = call.get("op")
+        if not isinstance(op, str) or op not in OPERATIONS and op not in LEFT_OUT:
+            raise Fault("%d op UnknownOp" % ordinal)
+        fields = OPERATIONS.get(op, [])
+        for field in fields:
+            look_at(ordinal, call, *field)
+        if op == "disconnect" and call.get("input") is not None:
+            for field in ("to", "output"):
+                if call.get(field) is None:
+                    raise Fault("%d %s MissingField" % (ordinal, field))
+        if HELD in fields:
+            first = look_at_calls(call.get("then", []), first)
+    return first
+
+
+def script_of(data):
+    """The script that the bytes are."""
+    script = json_of(data)
+    if not isinstance(script, dict):
+        raise Fault("0 script WrongKind")
+    look_at(0, script, "version", "count")
+    if script["version"] != 1:
+        raise Fault("0 version OutOfRange")
+    look_at(0, script, "context", "object")
+    for field in ("channels", "length", "rate"):
+        look_at(0, script["context"], field, "count")
+    look_at(0, script, "calls", "calls")
+    look_at_calls(script["calls"], 1)
+    return script
+
+
+def numbered(calls, first):
+    """The calls of a list with their ordinals and the lists that they hold, and the next ordinal."""
+    done = []
+    for call in calls:
+        ordinal, held = first, []
+        first += 1
+        if HELD in OPERATIONS.get(call["op"], []):
+            held, first = numbered(call.get("then", []), first)
+        done.append((ordinal, call, held))
+    return done, first

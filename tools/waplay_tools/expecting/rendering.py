@@ -1,0 +1,103 @@
+"""Rendering: the values that come to the destination, quantum after quantum, by the rules of docs/PROFILE.md."""
+
+from waplay_tools.expecting.graph import Graph
+from waplay_tools.expecting.nodes import SOURCES
+from waplay_tools.expecting.numbers import QUANTUM, SILENCE, bounded, computed_count, mixed_blocks, products, summed
+
+
+def input_of(node, sources):
+    """The channels of an input of a node, to which outputs with these channels are connected."""
+    count = computed_count(node.mode, node.count, [len(blocks) for blocks in sources])
+    mixes = [mixed_blocks(blocks, count, node.interpretation) for blocks in sources]
+    return [summed([mix[c] for mix in mixes]) for c in range(count)]
+
+
+def computed(nominal, own, sources):
+    """The values of a parameter, which are these without what is connected to it, and are to be in this range."""
+    added = summed([mixed_blocks(blocks, 1, "speakers")[0] for blocks in sources])
+    return bounded([value + more for value, more in zip(own, added)], *nominal)
+
+
+def outputs_of(node, heard, levels):
+    """What each output of a node carries that is no source and remembers nothing, where it hears this on each of
+    its inputs and its parameters have these values."""
+    if node.kind == "gain":
+        return [[products(block, levels["gain"]) for block in heard[0]]]
+    if node.kind == "shaper":
+        return [[[node.shaped(x) for x in block] for block in heard[0]]]
+    if node.kind == "splitter":  # its one input has as many channels as it has outputs
+        return [[block] for block in heard[0]]
+    if node.kind == "merger":  # each of its inputs has one channel
+        return [[block for blocks in heard for block in blocks]]
+    return heard
+
+
+class Rendering:
+    """A session's nodes and connections, as they are from one frame to another at which they may change."""
+
+    def __init__(self, session):
+        self.nodes = session.nodes
+        self.graph = Graph(session.nodes, session.edges)
+        self.connected = [[[] for _ in range(node.inputs)] for node in self.nodes]
+        self.controls = [{parameter: [] for parameter in node.timelines} for node in self.nodes]
+        for source, output, target, place in session.edges:
+            places = self.connected if isinstance(place, int) else self.controls
+            places[target][place].append((source, output))
+        muted = [self.nodes[end.node] for end in self.graph.muted]
+        self.muted_filters = [node for node in muted if node.kind == "filter"]
+        # Of each node its outputs, and of each output the blocks of its channels. A node that is muted is silent.
+        self.carried = [[[SILENCE]] * node.outputs for node in self.nodes]
+        self.made = {}
+
+    def made_of(self, key, make, *inputs):
+        """What is made of these inputs. It is made once for quanta behind one another in which they are the same."""
+        if key not in self.made or self.made[key][0] != inputs:
+            self.made[key] = inputs, make(*inputs)
+        return self.made[key][1]
+
+    def sources_of(self, edges):
+        return [self.carried[source][output] for source, output in edges]
+
+    def heard(self, number):
+        """The channels of each input of a node."""
+        return [self.made_of((number, place), input_of, self.nodes[number], self.sources_of(edges))
+                for place, edges in enumerate(self.connected[number])]
+
+    def levels(self, number, parameter, first):
+        """The values of a parameter in the quantum that begins here. At k-rate its first one is that of all frames."""
+        node, sources = self.nodes[number], self.sources_of(self.controls[number][parameter])
+        timeline = node.timelines[parameter]
+        own = timeline.values(first, 1 if timeline.is_k_rate else QUANTUM)
+        levels = self.made_of((number, parameter), computed, node.nominal, own, sources)
+        return levels * QUANTUM if timeline.is_k_rate else levels
+
+    def outputs(self, end, first):
+        """What each output of an end carries in the quantum that begins here."""
+        node = self.nodes[end.node]
+        levels = {parameter: self.levels(end.node, parameter, first) for parameter in node.timelines}
+        if node.kind in SOURCES:
+            return [node.sound(first, levels)]
+        if node.kind == "delay":
+            return [node.read(first, levels["delayTime"], end.node in self.graph.in_cycle)]
+        heard = self.heard(end.node)
+        if node.kind == "filter":
+            return [node.filtered(heard[0])]
+        return self.made_of((end.node, "outputs"), outputs_of, node, heard, levels)
+
+    def render(self, end, first):
+        """Renders an end in the quantum that begins here, in which all that leads to it was rendered."""
+        if end.is_writer:
+            self.nodes[end.node].write(first, self.heard(end.node)[0])
+            return
+        outputs = self.outputs(end, first)
+        if outputs != self.carried[end.node]:
+            self.carried[end.node] = outputs
+
+    def quanta(self, begin, end):
+        """Of each quantum from one frame to another the blocks of the destination's channels."""
+        for first in range(begin, end, QUANTUM):
+            for it in self.graph.order:
+                self.render(it, first)
+            for node in self.muted_filters:  # which hear nothing then
+                node.filtered([])
+            yield self.carried[0][0]

@@ -1,0 +1,451 @@
+"""Sessions: what each call of a script does, and the lines and the file that come of it. The rules are
+those of docs/PROFILE.md and docs/FORMATS.md."""
+
+import functools
+import itertools
+import os
+import struct
+
+from waplay_tools.expecting.automation import EDITS, LEFT_OUT_EDITS
+from waplay_tools.expecting.causal import Filter, Shaper, check_oversample
+from waplay_tools.expecting.delay import Delay
+from waplay_tools.expecting.nodes import ASSET_LIMIT, FIXED, PARAMETERS, SOURCES, AssetFault, Buffer, BufferSource, Node, asset
+from waplay_tools.expecting.numbers import ONE, QUANTUM, sample_of
+from waplay_tools.expecting.reading import LEFT_OUT, Fault, numbered, script_of
+from waplay_tools.expecting.refusals import Refused, profile
+from waplay_tools.expecting.rendering import Rendering
+from waplay_tools.expecting.wav_reading import WavFault, recording_of
+
+NODE_LIMIT = 1024
+CONNECTION_LIMIT = 8192
+BUFFER_LIMIT = 2**27  # samples of all buffers
+DELAY_LIMIT = 2**22  # frames of all delays
+KEPT = 10000  # frames that are kept for those that are like them
+
+
+# The attributes that a call sets.
+ATTRIBUTES = {"setChannelCount": "count", "setChannelCountMode": "mode", "setChannelInterpretation": "interpretation"}
+
+# The parts of its loop that a call sets of a buffer source.
+LOOPS = {"setLoop": "is_looping", "setLoopStart": "loop_start", "setLoopEnd": "loop_end"}
+
+# The calls that give a promise.
+PROMISES = ("suspend", "startRendering", "resume", "decodeAudioData")
+
+
+class Session:
+    """One session. Where it is only checked, nothing is rendered, and it has no values."""
+
+    def __init__(self, context, folder, is_checked=False):
+        self.channels, self.length, self.rate = (context[k] for k in ("channels", "length", "rate"))
+        self.folder, self.is_checked = folder, is_checked
+        self.nodes = [Node("destination", "destination", self.channels)]
+        self.buffers = []
+        self.names = {"destination": 0}  # of a node its number, and a buffer itself
+        self.edges = set()  # of (from, output, to, input), with a parameter's name for an input where it goes to one
+        self.now, self.state = 0, "suspended"
+        self.rendering = None  # the accepted startRendering: its ordinal and its list
+        self.suspensions = {}  # those to come, by their frames: of each its ordinal and its list
+        self.lines = []
+        self.calls_run = 0
+        self.values = None  # of each frame those of its channels, when it is through
+        self.peak = self.sum = 0  # of all values that were rendered: the greatest one without its sign, and their sum
+
+    def find(self, name, kinds=tuple(FIXED)):
+        number = self.names.get(name)
+        if not isinstance(number, int) or self.nodes[number].kind not in kinds:
+            raise Refused("TypeError")
+        return number
+
+    def find_buffer(self, name):
+        """The buffer of this name, which is None where null stands for the name."""
+        buffer = self.names.get(name)
+        if name is not None and not isinstance(buffer, Buffer):
+            raise Refused("TypeError")
+        return buffer
+
+    def check_node_limit(self):
+        if len(self.nodes) >= NODE_LIMIT:
+            raise profile("node-limit")
+
+    def add_node(self, node):
+        self.check_node_limit()
+        self.nodes.append(node)
+        self.names[node.name] = len(self.nodes) - 1
+        return "ok"
+
+    def add_buffer(self, name, buffer):
+        if sum(it.channels * it.length for it in self.buffers + [buffer]) > BUFFER_LIMIT:
+            raise profile("buffer-limit")
+        self.buffers.append(buffer)
+        self.names[name] = buffer
+
+    def check_rate(self, it):
+        if it.rate != self.rate:
+            raise profile("resampling")
+
+    def create(self, kind, name, value):
+        if kind in ("splitter", "merger") and not 1 <= value <= 32:
+            raise Refused("IndexSizeError")
+        return self.add_node(Node(kind, name, value))
+
+    def create_delay(self, call):
+        delay = Delay(call, self.rate, self.now)
+        self.check_node_limit()
+        if sum(node.capacity for node in self.nodes + [delay] if node.kind == "delay") > DELAY_LIMIT:
+            raise profile("delay-limit")
+        return self.add_node(delay)
+
+    def create_source(self, call):
+        buffer, rate = self.find_buffer(call.get("buffer")), call.get("playbackRate", ONE)
+        if rate <= 0 or rate % ONE != 0:
+            raise profile("playback-rate")
+        if buffer:
+            self.check_rate(buffer)
+        return self.add_node(BufferSource(call, buffer))
+
+    def create_buffer(self, call):
+        channels, length, rate = (call[key] for key in ("channels", "length", "rate"))
+        if not (1 <= channels <= 32 and length > 0 and 8000 <= rate <= 96000):
+            raise Refused("NotSupportedError")
+        self.add_buffer(call["as"], Buffer(channels, length, rate))
+        return "ok"
+
+    def decode(self, call):
+        data = asset(self.folder, call["path"])
+        if data is None:
+            raise Refused("NotFoundError")
+        if len(data) > ASSET_LIMIT:
+            raise profile("asset-size")
+        try:
+            it = recording_of(data)
+        except WavFault:
+            raise Refused("EncodingError")
+        self.check_rate(it)
+        self.add_buffer(call["as"], Buffer(it.channels, it.frames, it.rate, it))
+        return "resolved"
+
+    def shaper(self, call):
+        return self.nodes[self.find(call["node"], ("shaper",))]
+
+    def set_curve(self, call):
+        self.shaper(call).set_curve(call["curve"])
+        return "ok"
+
+    def set_oversample(self, call):
+        self.shaper(call)
+        check_oversample(call["value"])
+        return "ok"
+
+    def set_buffer(self, call):
+        node, buffer = self.nodes[self.find(call["node"], SOURCES[1:])], self.find_buffer(call["buffer"])
+        if buffer and node.was_set:
+            raise Refused("InvalidStateError")
+        if node.start is not None:
+            raise profile("late-buffer")
+        if buffer:
+            self.check_rate(buffer)
+            node.was_set = True
+        node.buffer = buffer
+        return "ok"
+
+    def set_loop(self, call):
+        node = self.nodes[self.find(call["node"], SOURCES[1:])]
+        if node.start is not None:
+            raise profile("loop-change")
+        setattr(node, LOOPS[call["op"]], call["value"])
+        return "ok"
+
+    def copy_to_channel(self, call):
+        buffer, channel, at = self.find_buffer(call["buffer"]), call["channel"], call.get("at", 0)
+        if channel >= buffer.channels:
+            raise Refused("IndexSizeError")
+        if buffer.is_acquired:
+            raise profile("buffer-acquired")
+        for frame, value in enumerate(call["samples"], at):
+            if frame < buffer.length:
+                buffer.written[channel, frame] = value
+        return "ok"
+
+    def add_edge(self, *edge):
+        if edge not in self.edges and len(self.edges) >= CONNECTION_LIMIT:
+            raise profile("connection-limit")
+        self.edges.add(edge)
+        return "ok"
+
+    def connect(self, call):
+        source, target = self.find(call["from"]), self.find(call["to"])
+        output, place = call.get("output", 0), call.get("input", 0)
+        if source == 0:
+            raise profile("destination-output")
+        if output >= self.nodes[source].outputs or place >= self.nodes[target].inputs:
+            raise Refused("IndexSizeError")
+        return self.add_edge(source, output, target, place)
+
+    def disconnect(self, call):
+        output, to, place = (call.get(key) for key in ("output", "to", "input"))
+        source = self.find(call["from"])
+        target = None if to is None else self.find(to)
+        if source == 0:
+            raise profile("destination-output")
+        if output is not None and output >= self.nodes[source].outputs:
+            raise Refused("IndexSizeError")
+        if place is not None and place >= self.nodes[target].inputs:
+            raise Refused("IndexSizeError")
+        meant = self.edges_of_form(source, output, target, place)
+        if target is not None:  # connections to the parameters of a node have a call of their own
+            meant = {edge for edge in meant if isinstance(edge[3], int)}
+            if not meant:
+                raise Refused("InvalidAccessError")
+        self.edges -= meant
+        return "ok"
+
+    def edges_of_form(self, *form):
+        return {edge for edge in self.edges if all(f in (None, e) for f, e in zip(form, edge))}
+
+    # Parameters.
+
+    def parameter(self, name, parameter):
+        """The number of the node of this name, which has such a parameter."""
+        number = self.find(name)
+        if parameter not in PARAMETERS.get(self.nodes[number].kind, ()):
+            raise Refused("TypeError")
+        return number
+
+    def check_parameter(self, number, parameter):
+        """What every call is refused with that names a parameter which none may change."""
+        feature = PARAMETERS[self.nodes[number].kind][parameter]
+        if feature:
+            raise profile(feature)
+
+    def connect_param(self, call):
+        source, target = self.find(call["from"]), self.parameter(call["to"], call["param"])
+        output = call.get("output", 0)
+        if source == 0:
+            raise profile("destination-output")
+        self.check_parameter(target, call["param"])
+        if output >= self.nodes[source].outputs:
+            raise Refused("IndexSizeError")
+        return self.add_edge(source, output, target, call["param"])
+
+    def disconnect_param(self, call):
+        source, target = self.find(call["from"]), self.parameter(call["to"], call["param"])
+        output = call.get("output")
+        if source == 0:
+            raise profile("destination-output")
+        self.check_parameter(target, call["param"])
+        if output is not None and output >= self.nodes[source].outputs:
+            raise Refused("IndexSizeError")
+        meant = self.edges_of_form(source, output, target, call["param"])
+        if not meant:
+            raise Refused("InvalidAccessError")
+        self.edges -= meant
+        return "ok"
+
+    def automate(self, call):
+        number = self.parameter(call["node"], call["param"])
+        self.check_parameter(number, call["param"])
+        timeline = self.nodes[number].timelines[call["param"]]
+        if call["op"] in LEFT_OUT_EDITS:
+            raise profile(LEFT_OUT_EDITS[call["op"]])
+        if call["op"] == "readValue":
+            return "value %d" % timeline.slot
+        EDITS[call["op"]](timeline, call, self.now)
+        return "ok"
+
+    # Attributes, sources and the context.
+
+    def set_attribute(self, call):
+        node, attribute = self.nodes[self.find(call["node"])], ATTRIBUTES[call["op"]]
+        if attribute == "count" and not 1 <= call["value"] <= 32:
+            raise Refused("NotSupportedError")
+        if attribute in FIXED[node.kind] and call["value"] != getattr(node, attribute):
+            raise Refused("InvalidStateError")
+        setattr(node, attribute, call["value"])
+        return "ok"
+
+    def schedule(self, call):
+        node = self.nodes[self.find(call["node"], SOURCES)]
+        frame = max(call.get("when", 0), self.now)
+        if (node.start is None) != (call["op"] == "start"):
+            raise Refused("InvalidStateError")
+        if min(node.times(call)) < 0:
+            raise Refused("RangeError")
+        if call["op"] == "start":
+            node.started(frame, call)
+        elif not node.ended:
+            node.stop = frame
+        return "ok"
+
+    def suspend(self, ordinal, call, held):
+        frame = -(-call["time"] // QUANTUM) * QUANTUM  # rounded up
+        if not self.now < frame < self.length or frame in self.suspensions:
+            raise Refused("InvalidStateError")
+        self.suspensions[frame] = ordinal, held
+        return "pending"
+
+    def start_rendering(self, ordinal, held):
+        if self.rendering is not None:
+            raise Refused("InvalidStateError")
+        self.rendering, self.state = (ordinal, held), "running"
+        return "pending"
+
+    def resume(self):
+        if self.rendering is None or self.state == "closed":
+            raise Refused("InvalidStateError")
+        self.state = "running"
+        return "resolved"
+
+    def answer(self, ordinal, call, held):
+        op = call["op"]
+        if op in LEFT_OUT:
+            raise profile(LEFT_OUT[op])
+        return {
+            "createConstantSource": lambda: self.create("constant", call["as"], call.get("offset", ONE)),
+            "createGain": lambda: self.create("gain", call["as"], call.get("gain", ONE)),
+            "createDelay": lambda: self.create_delay(call),
+            "createChannelSplitter": lambda: self.create("splitter", call["as"], call.get("numberOfOutputs", 6)),
+            "createChannelMerger": lambda: self.create("merger", call["as"], call.get("numberOfInputs", 6)),
+            "createWaveShaper": lambda: self.add_node(Shaper(call)),
+            "createIIRFilter": lambda: self.add_node(Filter(call)),
+            "createBufferSource": lambda: self.create_source(call),
+            "createBuffer": lambda: self.create_buffer(call),
+            "connect": lambda: self.connect(call),
+            "disconnect": lambda: self.disconnect(call),
+            "connectParam": lambda: self.connect_param(call),
+            "disconnectParam": lambda: self.disconnect_param(call),
+            **dict.fromkeys([*EDITS, *LEFT_OUT_EDITS, "readValue"], lambda: self.automate(call)),
+            **dict.fromkeys(ATTRIBUTES, lambda: self.set_attribute(call)),
+            "setCurve": lambda: self.set_curve(call),
+            "setOversample": lambda: self.set_oversample(call),
+            "setBuffer": lambda: self.set_buffer(call),
+            **dict.fromkeys(LOOPS, lambda: self.set_loop(call)),
+            "copyToChannel": lambda: self.copy_to_channel(call),
+            "start": lambda: self.schedule(call),
+            "stop": lambda: self.schedule(call),
+            "suspend": lambda: self.suspend(ordinal, call, held),
+            "startRendering": lambda: self.start_rendering(ordinal, held),
+            "resume": self.resume,
+            "decodeAudioData": lambda: self.decode(call),
+            "readState": lambda: "state " + self.state,
+            "readTime": lambda: "time %d" % self.now,
+        }[op]()
+
+    def run(self, calls):
+        for ordinal, call, held in calls:
+            self.calls_run += 1
+            try:
+                text = self.answer(ordinal, call, held)
+            except Refused as refused:
+                text = ("rejected " if call["op"] in PROMISES else "throw ") + str(refused)
+            self.lines.append("%d %s" % (ordinal, text))
+
+    def settle(self, ordinal, held):
+        """The promise of a call resolves, and the list that the call holds is run."""
+        self.lines.append("%d resolved" % ordinal)
+        self.run(held)
+
+    def pass_quantum(self):
+        """What comes after each quantum: sources end."""
+        self.now += QUANTUM
+        for number, node in enumerate(self.nodes):
+            if not node.ended and node.end() is not None and node.end() <= self.now:
+                node.ended = True
+                self.lines.append("ended %d %s" % (number, node.name))
+
+    def pass_quanta(self, end):
+        """What comes after each quantum up to a frame, before which no call is run. The current values are then
+        those of the last one's first frame."""
+        while self.now < end:
+            self.pass_quantum()
+        for node in self.nodes:
+            for timeline in node.timelines.values():
+                timeline.slot = timeline.value(self.now - QUANTUM)
+
+    def rendered(self, end):
+        """The values from now on up to a frame."""
+        values = []
+        for first, blocks in enumerate(Rendering(self).quanta(self.now, end)):
+            frames = list(zip(*blocks))[:end - self.now - QUANTUM * first]
+            values += frames
+            self.peak = max(self.peak, *map(abs, itertools.chain(*frames)))
+            self.sum += sum(itertools.chain(*frames))
+        return values
+
+    @functools.cached_property
+    def samples(self):
+        """Of each frame the samples of its channels, when the session is through."""
+        return None if self.values is None else samples_of(self.values, 24)
+
+    def replay(self, calls):
+        """The last line. The other lines and the samples stand in the session afterwards. Nothing is changed
+        between two suspensions, so what lies between them is rendered at once."""
+        if not (1 <= self.channels <= 32 and 1 <= self.length <= 2**25
+                and 8000 <= self.rate <= 96000 and self.channels * self.length <= 2**26):
+            return "end refused NotSupportedError"
+        self.run(calls)
+        if self.rendering is None:
+            return "end idle"
+        values = []
+        while self.now < self.length:
+            following = min(self.suspensions, default=self.length)
+            if not self.is_checked:
+                values += self.rendered(following)
+            self.pass_quanta(following)
+            if self.now < self.length:
+                self.state = "suspended"
+                self.settle(*self.suspensions.pop(self.now))
+                if self.state == "suspended":
+                    return "end stalled %d" % self.now
+        self.values, self.state = None if self.is_checked else values, "closed"
+        self.settle(*self.rendering)
+        self.lines.append("complete %d" % self.length)
+        return "end completed"
+
+
+def samples_of(values, bits):
+    """Of each frame the samples of so many bits. Of frames that are alike one is kept."""
+    alike, samples = {}, []
+    for frame in values:
+        if frame not in alike:
+            if len(alike) == KEPT:
+                alike.clear()
+            alike[frame] = [sample_of(value, bits) for value in frame]
+        samples.append(alike[frame])
+    return samples
+
+
+def wav_bytes(session, bits=24):
+    channels, rate, width = session.channels, session.rate, bits // 8
+    samples = session.samples if bits == 24 else samples_of(session.values, bits)
+    body = b"".join(s.to_bytes(width, "little", signed=True) for row in samples for s in row)
+    padding = len(body) % 2
+    return (b"RIFF" + struct.pack("<I", 36 + len(body) + padding) + b"WAVEfmt "
+            + struct.pack("<IHHIIHH", 16, 1, channels, rate, rate * channels * width, channels * width, bits)
+            + b"data" + struct.pack("<I", len(body)) + body + b"\0" * padding)
+
+
+def summary_of(session):
+    """What is told in place of the lines: how many calls were run, quanta rendered, sources ended and calls refused,
+    and, where it was rendered to its end, what the rendered values come to."""
+    words = [line.split() for line in session.lines]
+    numbers = {"calls": session.calls_run, "quanta": session.now // QUANTUM,
+               "ended": sum(first == "ended" for first, *_ in words),
+               "refused": sum(second in ("throw", "rejected") for _, second, *_ in words)}
+    if session.values is not None:
+        numbers.update(peak=session.peak, sum=session.sum)
+    return " ".join(["summary", *("%s %d" % it for it in numbers.items())])
+
+
+def replayed(data, folder=os.curdir, is_checked=False):
+    """What a script of these bytes gives, whose assets are in the folder: the status, the text, and the
+    session when it is over. Where it is only checked, nothing is rendered."""
+    try:
+        script = script_of(data)
+        session = Session(script["context"], folder, is_checked)
+        last = session.replay(numbered(script["calls"], 1)[0])
+    except Fault as fault:
+        return 4, "script: %s\n" % fault, None
+    except AssetFault:
+        return 7, "", None
+    return 0 if last == "end completed" else 3, "\n".join(session.lines + [last]) + "\n", session

@@ -1,0 +1,156 @@
+"""Works out what 10,000 random IIR filters and as many wave shapers make of random samples: a second
+calculation, apart from the crates' own.
+
+    python3 tools/filters.py            the digest of all refusals and outputs, which
+                                        crates/effect_tests/src/causal_digests.rt is to give too
+    python3 tools/filters.py --count    how often each refusal was given, and how many outputs of filters
+                                        were saturated
+
+It follows the rules of docs/PROFILE.md for the two kinds in the plainest way: a filter keeps all frames
+since its birth, and each sum is taken over all of them. Only the random numbers are made as the tests make
+them. It needs Python 3 and nothing else.
+"""
+
+import collections
+
+from waplay_tools import digests
+from waplay_tools.digests import GREATEST, LEAST, mixed, rounded
+
+
+class Samples(digests.Random):
+    """Random samples and coefficients."""
+
+    def sample(self):
+        kind = self.below(40)
+        if kind < 2:
+            return (LEAST, GREATEST)[kind]
+        return 0 if kind < 6 else self.below(2**26 + 1) - 2**25
+
+    def coefficient(self):
+        kind = self.below(12)
+        if kind < 6:
+            return (LEAST, GREATEST, 0, 0, 2**24, -1)[kind]
+        return 2 ** self.below(31) if kind < 8 else self.below(2**26 + 1) - 2**25
+
+    def coefficients(self):
+        return [self.coefficient() for _ in range(21)]
+
+    def divisor(self, first):
+        return (2**30, -1_000_000_007, first, first)[self.below(4)]
+
+    def samples(self):
+        return [self.sample() for _ in range(32)]
+
+    def count(self):
+        kind = self.below(24)
+        return (0, 21)[kind] if kind < 2 else 1 + self.below(20)
+
+
+def filter_refusal(forward, back):
+    if not (1 <= len(forward) <= 20 and 1 <= len(back) <= 20):
+        return "NotSupportedError"
+    if not any(forward) or back[0] == 0:
+        return "InvalidStateError"
+    return None
+
+
+def curve_refusal(curve, was_set):
+    if curve is not None and (len(curve) < 2 or was_set):
+        return "InvalidStateError"
+    return None
+
+
+class Filter:
+    def __init__(self, forward, back):
+        self.forward, self.back = forward, back
+        self.inputs, self.outputs = {}, {}
+
+    def hear(self, channel, x, born):
+        """One frame of a channel, which has heard so many frames of 0 before it was there."""
+        inputs = self.inputs.setdefault(channel, [0] * born)
+        outputs = self.outputs.setdefault(channel, [0] * born)
+        inputs.append(x)
+        n = len(inputs) - 1
+        total = sum(b * inputs[n - m] for m, b in enumerate(self.forward) if m <= n)
+        total -= sum(a * outputs[n - k] for k, a in enumerate(self.back) if 1 <= k <= n)
+        divisor = self.back[0]
+        if divisor < 0:
+            total, divisor = -total, -divisor
+        outputs.append(max(LEAST, min(GREATEST, rounded(total, divisor))))
+        return outputs[-1]
+
+
+class Shaper:
+    def __init__(self, curve):
+        self.curve = curve
+
+    def hear(self, _channel, x, _born):
+        if self.curve is None:
+            return x
+        at = x + 2**24
+        if at <= 0:
+            return self.curve[0]
+        if at >= 2**25:
+            return self.curve[-1]
+        way = (len(self.curve) - 1) * at
+        k = way // 2**25
+        rise = self.curve[k + 1] - self.curve[k]
+        return self.curve[k] + rounded(rise * (way - k * 2**25), 2**25)
+
+
+def with_samples(digest, samples):
+    for sample in samples:
+        digest = mixed(digest, sample + 2**31)
+    return digest
+
+
+def played(state, random, digest, counts):
+    outputs = []
+    x = random.samples()
+    outputs += [state.hear(0, x[k], 0) for k in range(16)]
+    x = random.samples()
+    outputs += [state.hear(c, x[16 * c + k], 16) for c in range(2) for k in range(16)]
+    for _ in range(5):
+        outputs += [state.hear(c, random.sample(), 16) for c in range(2)]
+    if isinstance(state, Filter):
+        counts["outputs of filters"] += len(outputs)
+        counts["saturated outputs"] += sum(y in (LEAST, GREATEST) for y in outputs)
+    return with_samples(digest, outputs)
+
+
+REFUSALS = (None, "NotSupportedError", "InvalidStateError")
+
+
+def one_filter(random, digest, counts):
+    forward, back = random.coefficients(), random.coefficients()
+    back[0] = random.divisor(back[0])
+    forward = forward[:random.count()]
+    back = back[:random.count()]
+    refusal = filter_refusal(forward, back)
+    counts["filter", refusal] += 1
+    digest = mixed(digest, REFUSALS.index(refusal))
+    return digest if refusal else played(Filter(forward, back), random, digest, counts)
+
+
+def one_shaper(random, digest, counts):
+    points = random.samples()
+    count = random.below(7)
+    curve = None if random.below(8) == 0 else points[:count]
+    refusal = curve_refusal(curve, random.below(16) == 0)
+    counts["shaper", refusal] += 1
+    digest = mixed(digest, REFUSALS.index(refusal))
+    return digest if refusal else played(Shaper(curve), random, digest, counts)
+
+
+def main():
+    random = Samples(2025)
+    digest = digests.EMPTY
+    counts = collections.Counter()
+    for _ in range(10_000):
+        digest = one_filter(random, digest, counts)
+        digest = one_shaper(random, digest, counts)
+    digests.tell(digest, counts)
+
+
+if __name__ == "__main__":
+    main()

@@ -1,0 +1,298 @@
+"""Compares waplay with tools/expected.py on scripts that are hard on parameters and their timelines, and measures it.
+
+    python3 tools/hard_timelines.py --program FILE          all of them
+    python3 tools/hard_timelines.py --program FILE NAME..   those of these names
+    python3 tools/hard_timelines.py --write FOLDER [NAME..] writes them: FOLDER/NAME.json
+
+They are: every operation on a parameter, on parameters that none may change and on nodes without the parameter; times
+and durations at the ends of their range and past them; curves of no point, of one, and of 100,000, also over fewer
+frames than they have points; 10,000 events in one timeline, put in forwards, backwards, at one time and at random, and
+taken away by cancels and holds, at suspensions too; 1,000 timelines of as many events as a script has room for, and one
+of 1,000 events each, which is too long; and 100,000 reads of a value and of the state.
+
+Of each script the status, the transcript and every byte of the file are compared. It prints a line for each with the
+user time and the peak memory of the run, and last how many differ. The status is 0 where none does. It needs Python 3
+and GNU time.
+"""
+
+import argparse
+import json
+import os
+import random
+import shutil
+import subprocess
+import sys
+import tempfile
+
+from waplay_tools.expecting.automation import EDITS, LEFT_OUT_EDITS
+from waplay_tools.expecting.sessions import replayed, wav_bytes
+from waplay_tools.places import BUILT
+from waplay_tools.random_scripts.kinds import FIX, ONE, TIME
+from waplay_tools.random_scripts.loads import (
+    edited,
+    gain,
+    joined,
+    many_reads_of_the_state,
+    script_with,
+    sounding,
+    suspension,
+)
+
+LONGEST = 2**24  # bytes of a script
+TIMED = ["setValueAtTime", "linearRampToValueAtTime", "setValueCurveAtTime", "cancelScheduledValues", "cancelAndHoldAtTime"]
+FIELDS = {"value": 1, "time": 0, "values": [0, ONE], "duration": 128}
+NEEDED = {"setValue": ["value"], "setValueAtTime": ["value", "time"], "linearRampToValueAtTime": ["value", "time"],
+          "setValueCurveAtTime": ["values", "time", "duration"], "cancelScheduledValues": ["time"],
+          "cancelAndHoldAtTime": ["time"]}
+
+
+def operation(op, node, param, **fields):
+    """A call of an operation on a parameter."""
+    call = {"op": op, "node": node, "param": param, **{name: FIELDS[name] for name in NEEDED.get(op, [])}}
+    return {**call, **({"value": "k-rate"} if op == "setAutomationRate" else {}), **fields}
+
+
+def played(calls, length=512):
+    """The calls on the gain of `g`, through which a constant of 1.0 sounds. The gain is read before and after them."""
+    read = operation("readValue", "g", "gain")
+    return script_with(1, length, sounding("c", ONE) + gain("g", 0, "c") + [joined("g", "destination"), read, *calls, read])
+
+
+def put_in(op, **fields):
+    return operation(op, "g", "gain", **fields)
+
+
+# One script for each function, or several.
+
+
+def every_parameter():
+    nodes = {"c": "createConstantSource", "g": "createGain", "d": "createDelay", "s": "createBufferSource",
+             "w": "createWaveShaper", "p": "createChannelSplitter", "m": "createChannelMerger"}
+    calls = [{"op": op, "as": name} for name, op in nodes.items()]
+    for op in [*EDITS, *LEFT_OUT_EDITS, "readValue"]:
+        for node in [*nodes, "destination", "nobody", ""]:
+            for param in ["offset", "gain", "delayTime", "playbackRate", "detune", "frequency", "Gain", ""]:
+                calls.append(operation(op, node, param))
+    for op in ["connectParam", "disconnectParam"]:
+        for node in [*nodes, "destination", "nobody"]:
+            for param in ["offset", "gain", "delayTime", "playbackRate", "detune", "frequency", ""]:
+                calls.append({"op": op, "from": "c", "to": node, "param": param})
+    return script_with(1, 256, calls)
+
+
+def times():
+    """Times within their range, before now too, and durations. None of them is a fault."""
+    calls = []
+    for time in [-TIME, -1, 0, 1, 127, 128, 511, 512, 2**31, 2**32, TIME - 1, TIME]:
+        for op in TIMED:
+            calls.append(put_in(op, time=time))
+        for duration in [-TIME, -1, 0, 1, 2, TIME - 1, TIME]:
+            calls.append(put_in("setValueCurveAtTime", time=time, duration=duration))
+            calls.append(put_in("cancelScheduledValues", time=max(0, time)))
+    late = [put_in(op, time=time) for op in TIMED for time in [-TIME, -1, 0, 127, 128, 129, TIME]]
+    return played(calls + [suspension(128, *late), suspension(256, *late[::-1])])
+
+
+def faults():
+    """Of each operation with a time one script for each that is none, and of curves for each duration."""
+    scripts = {}
+    wrong = [TIME + 1, -TIME - 1, 2**63, 2**64, -(2**63) - 1, 1.0, 0.5, "0", None, [0], True]
+    for op in TIMED:
+        for i, time in enumerate(wrong):
+            scripts["%s_time_%d" % (op, i)] = played([put_in(op, time=time)])
+    for i, duration in enumerate(wrong):
+        scripts["duration_%d" % i] = played([put_in("setValueCurveAtTime", duration=duration)])
+    for i, values in enumerate([[2**31], [0.5, 2**31], [None], 0, None, {}, "", [[0, 1]], [-(2**31) - 1, 0]]):
+        scripts["values_%d" % i] = played([put_in("setValueCurveAtTime", values=values)])
+    return scripts
+
+
+def points(count):
+    rng = random.Random("points")
+    return [rng.randint(*FIX) for _ in range(count)]
+
+
+def short_curves():
+    calls = []
+    for count in [0, 1, 2, 3]:
+        for duration in [0, 1, 2, 3]:
+            for time in [-1, 0, 100 * count + 10 * duration]:
+                calls.append(put_in("setValueCurveAtTime", values=points(count), time=time, duration=duration))
+    return played(calls)
+
+
+def long_curve(duration, rate="a-rate"):
+    calls = [put_in("setAutomationRate", value=rate),
+             put_in("setValueCurveAtTime", values=points(100000), time=5, duration=duration),
+             put_in("setValueAtTime", time=min(TIME, 5 + duration), value=ONE)]
+    return played(calls, 4096)
+
+
+def curves_in_a_row():
+    """2,000 curves of 5 points over 3 frames each, one behind the other."""
+    return played([put_in("setValueCurveAtTime", values=points(5), time=3 * k, duration=3) for k in range(2000)], 6100)
+
+
+def events(order):
+    """10,000 events of one timeline, sets and ramps by turns, in this order of their times."""
+    rng, times = random.Random(order), [2 * k for k in range(10000)]
+    if order == "backwards":
+        times.reverse()
+    if order == "at_random":
+        rng.shuffle(times)
+    if order == "at_one_time":
+        times = [300] * 10000
+    return [put_in("linearRampToValueAtTime" if k % 3 else "setValueAtTime", time=time, value=rng.randint(-ONE, ONE))
+            for k, time in enumerate(times)]
+
+
+def events_in(order):
+    return played(events(order), 20100)
+
+
+def events_cancelled():
+    """10,000 events, and cancels and holds that take them away from behind, at suspensions too."""
+    calls = events("at_random")
+    for k in range(20000, 10000, -100):
+        calls.append(put_in("cancelScheduledValues" if k % 200 else "cancelAndHoldAtTime", time=k))
+    for time in range(1280, 10000, 1280):
+        calls.append(suspension(time, put_in("readValue"), put_in("cancelAndHoldAtTime", time=20000 - time),
+                                put_in("setValue", value=time), put_in("readValue")))
+    calls.append(suspension(10240, put_in("cancelScheduledValues", time=0), put_in("readValue")))
+    return played(calls, 20100)
+
+
+def events_at_suspensions():
+    """An event before each of 1,000 quanta, and one that lies far behind."""
+    return played([suspension(128 * k, put_in("linearRampToValueAtTime", time=128 * k + 64, value=k * 100),
+                              put_in("setValueAtTime", time=TIME - k)) for k in range(1, 1001)], 128 * 1001)
+
+
+def many_reads():
+    return script_with(1, 128, gain("g", 7) + [{"op": "readValue", "node": "g", "param": "gain"}] * 100000)
+
+
+def reads_of_a_long_timeline():
+    return played(events("at_random") + [put_in("readValue"), {"op": "readState"}] * 50000, 20100)
+
+
+def as_many_timelines(events):
+    """1,000 timelines of so many events, in as few bytes as may be: sets and ramps, of which half go backwards."""
+    calls = [{"op": "createConstantSource", "as": "c"}, {"op": "start", "node": "c"}]
+    for i in range(1000):
+        name = "%x" % i
+        calls += [{"op": "createGain", "as": name, "gain": 0}, joined("c", name), joined(name, "destination")]
+        for k in range(events):
+            op = "linearRampToValueAtTime" if k % 4 == 3 else "setValueAtTime"
+            calls.append(edited(op, name, 9 * k + i, 10 * (k if i % 2 else events - k)))
+    return script_with(1, 2560, calls)
+
+
+def many_timelines_at_once():
+    """1,000 timelines of as many events as a script has room for: values that are set before the first frame."""
+    calls = [{"op": "createConstantSource", "as": "c"}, {"op": "start", "node": "c"}]
+    for i in range(1000):
+        name = "%x" % i
+        calls += [{"op": "createGain", "as": name}, joined("c", name), joined(name, "destination")]
+        calls += [{"op": "setValue", "node": name, "param": "gain", "value": k % 10} for k in range(285)]
+    return script_with(1, 2560, calls)
+
+
+SCRIPTS = {
+    "every_parameter": every_parameter,
+    "times": times,
+    "faults": faults,
+    "short_curves": short_curves,
+    "curve_over_its_points": lambda: long_curve(99999),
+    "curve_over_fewer_frames": lambda: long_curve(1000),
+    "curve_over_one_frame": lambda: long_curve(1),
+    "curve_over_many_frames": lambda: long_curve(TIME),
+    "curve_at_k_rate": lambda: long_curve(3000, "k-rate"),
+    "curves_in_a_row": curves_in_a_row,
+    "events_forwards": lambda: events_in("forwards"),
+    "events_backwards": lambda: events_in("backwards"),
+    "events_at_random": lambda: events_in("at_random"),
+    "events_at_one_time": lambda: events_in("at_one_time"),
+    "events_cancelled": events_cancelled,
+    "events_at_suspensions": events_at_suspensions,
+    "many_reads": many_reads,
+    "many_reads_of_the_state": many_reads_of_the_state,
+    "reads_of_a_long_timeline": reads_of_a_long_timeline,
+    "many_timelines": lambda: as_many_timelines(200),
+    "many_timelines_at_once": many_timelines_at_once,
+    "too_many_timelines": lambda: as_many_timelines(1000),
+}
+
+
+def scripts_of(names):
+    """The scripts of these names, as bytes, by name. Those of several have a number behind it."""
+    for name in names:
+        made = SCRIPTS[name]()
+        several = {name: made} if "version" in made else {name + "_" + part: it for part, it in made.items()}
+        for each, script in several.items():
+            yield each, json.dumps(script, separators=(",", ":")).encode()
+
+
+def expected(data):
+    """The status, the text and the file of a script, or None where there is none."""
+    if len(data) > LONGEST:
+        return 5, b"", None
+    status, text, session = replayed(data)
+    return status, text.encode(), wav_bytes(session) if status == 0 else None
+
+
+def measured(program, data, folder):
+    """What the program gives, with its user time in seconds and its peak memory in MiB."""
+    out, times = os.path.join(folder, "out.wav"), os.path.join(folder, "times")
+    ran = subprocess.run([shutil.which("time"), "-q", "-o", times, "-f", "%U %M", program, out], input=data,
+                         stdout=subprocess.PIPE, timeout=600)
+    file = None
+    if os.path.exists(out):
+        with open(out, "rb") as wav:
+            file = wav.read()
+        os.remove(out)
+    with open(times) as lines:
+        seconds, memory = lines.read().split()[-2:]
+    return (ran.returncode, ran.stdout, file), float(seconds), int(memory) / 1024
+
+
+def compare(program, names):
+    count = wrong = 0
+    with tempfile.TemporaryDirectory() as folder:
+        for name, data in scripts_of(names):
+            found, seconds, memory = measured(program, data, folder)
+            wanted = expected(data)
+            different = [what for what, a, b in zip(("status %d" % found[0], "transcript", "WAV file"), found, wanted) if a != b]
+            print("%s: %.2f s, %.1f MiB, %d bytes, status %d%s" % (
+                name, seconds, memory, len(data), found[0], "".join(", DIFFERS: " + it for it in different)), flush=True)
+            count += 1
+            wrong += bool(different)
+    print("%d scripts, %d differences" % (count, wrong))
+    return 1 if wrong else 0
+
+
+def main():
+    words = argparse.ArgumentParser(usage=__doc__)
+    words.add_argument("names", nargs="*", metavar="NAME")
+    words.add_argument("--program", default=BUILT)
+    words.add_argument("--write", metavar="FOLDER")
+    words = words.parse_args()
+    names, program = words.names or list(SCRIPTS), os.path.abspath(words.program)
+    unknown = [name for name in names if name not in SCRIPTS]
+    if unknown:
+        print("hard_timelines: no script has the name %s" % ascii(unknown[0]), file=sys.stderr)
+        return 2
+    if words.write:
+        os.makedirs(words.write, exist_ok=True)
+        for name, data in scripts_of(names):
+            with open(os.path.join(words.write, name + ".json"), "wb") as file:
+                file.write(data)
+        return 0
+    if not os.access(program, os.X_OK):
+        print("%s is no program: run ./waplay once, which builds it" % program)
+        return 2
+    return compare(program, names)
+
+
+if __name__ == "__main__":
+    sys.exit(main())

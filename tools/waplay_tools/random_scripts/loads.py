@@ -1,0 +1,229 @@
+"""The scripts that speed is measured with."""
+
+import json
+import os
+import struct
+
+from waplay_tools.expecting.reading import OPERATIONS as FIELDS
+from waplay_tools.random_scripts.assets import write_assets
+from waplay_tools.random_scripts.kinds import ONE
+
+
+
+def script_with(channels, length, calls):
+    return {"version": 1, "context": {"channels": channels, "length": length, "rate": 48000},
+            "calls": calls + [{"op": "startRendering"}]}
+
+
+def sounding(name, offset):
+    return [{"op": "createConstantSource", "as": name, "offset": offset}, {"op": "start", "node": name}]
+
+
+def gain(name, value, *sources):
+    return [{"op": "createGain", "as": name, "gain": value}] + [joined(source, name) for source in sources]
+
+
+def joined(source, target):
+    return {"op": "connect", "from": source, "to": target}
+
+
+def pairs_of_constants_and_gains():
+    calls = []
+    for i in range(200):
+        calls += sounding("c%d" % i, 1000 * i) + gain("g%d" % i, ONE // 2 + i, "c%d" % i)
+        calls.append(joined("g%d" % i, "destination"))
+    return script_with(2, 480000, calls)
+
+
+def chain_of_gains():
+    calls = sounding("g0", ONE // 2)
+    for i in range(1, 401):
+        calls += gain("g%d" % i, ONE - 1 if i % 2 else ONE + 1, "g%d" % (i - 1))
+    return script_with(1, 480000, calls + [joined("g400", "destination")])
+
+
+def layers_of_gains():
+    calls = [call for i in range(30) for call in sounding("g0-%d" % i, 100000 * i)]
+    for layer in range(1, 31):
+        for i in range(30):
+            before = ["g%d-%d" % (layer - 1, (i + k) % 30) for k in range(9)]
+            calls += gain("g%d-%d" % (layer, i), ONE // 9, *before)
+    return script_with(1, 48000, calls + [joined("g30-%d" % i, "destination") for i in range(30)])
+
+
+def as_many_nodes_as_there_may_be():
+    calls = sounding("c", ONE)
+    for i in range(1022):
+        calls += gain("g%d" % i, ONE // 1024, "c") + [joined("g%d" % i, "destination")]
+    return script_with(1, 48000, calls)
+
+
+def stereo_gains_into_six_channels():
+    calls = []
+    for i in range(200):
+        calls += sounding("c%d" % i, 500 * i) + gain("g%d" % i, ONE, "c%d" % i)
+        calls.append({"op": "setChannelCountMode", "node": "g%d" % i, "value": "explicit"})
+        calls.append(joined("g%d" % i, "destination"))
+    return script_with(6, 480000, calls)
+
+
+def stereo_mergers_into_six_channels():
+    calls = []
+    for i in range(200):
+        calls += sounding("l%d" % i, 500 * i) + sounding("r%d" % i, -250 * i)
+        calls.append({"op": "createChannelMerger", "as": "m%d" % i, "numberOfInputs": 2})
+        calls += [joined("l%d" % i, "m%d" % i), {**joined("r%d" % i, "m%d" % i), "input": 1}]
+        calls.append(joined("m%d" % i, "destination"))
+    return script_with(6, 480000, calls)
+
+
+def stereo_loops():
+    calls = [{"op": "createBuffer", "as": "b", "channels": 2, "length": 4800, "rate": 48000}]
+    for channel, step in enumerate((700, -900)):
+        samples = [step * (i % 960 - 480) for i in range(4800)]
+        calls.append({"op": "copyToChannel", "buffer": "b", "channel": channel, "samples": samples})
+    for i in range(32):
+        calls.append({"op": "createBufferSource", "as": "s%d" % i, "buffer": "b", "loop": True,
+                      "loopStart": 10 * i, "loopEnd": 4800 - 7 * i})
+        calls += [{"op": "start", "node": "s%d" % i, "offset": 100 * i}, joined("s%d" % i, "destination")]
+    return script_with(2, 480000, calls)
+
+
+def loops_through(length, creation):
+    """The same loops, each through so many nodes of this creation behind one another."""
+    calls = [call for call in stereo_loops()["calls"] if call["op"] not in ("connect", "startRendering")]
+    for i in range(32):
+        row = ["n%d-%d" % (i, k) for k in range(length)]
+        calls += [{**creation, "as": name} for name in row]
+        calls += [joined(*pair) for pair in zip(["s%d" % i, *row], [*row, "destination"])]
+    return script_with(2, 480000, calls)
+
+
+def loops_through_shapers():
+    curve = [ONE * k * (12288 - k * k) // 2**20 for k in range(-64, 65)]  # 3/4 x - 1/4 x^3 of x = k / 64
+    return loops_through(6, {"op": "createWaveShaper", "curve": curve})
+
+
+def loops_through_filters():
+    back = [ONE, -15 * ONE // 8, 15 * ONE // 16]  # it rings for some 30 frames
+    return loops_through(6, {"op": "createIIRFilter", "feedforward": [ONE // 64, ONE // 32, ONE // 64], "feedback": back})
+
+
+def loops_through_long_filters():
+    back = [ONE, *(ONE // (40 + k) for k in range(19))]
+    return loops_through(1, {"op": "createIIRFilter", "feedforward": [ONE // (k + 9) for k in range(20)], "feedback": back})
+
+
+def largest_asset():
+    calls = [{"op": "decodeAudioData", "as": "b", "path": "largest.wav"}, joined("s", "destination")]
+    calls[1:1] = [{"op": "createBufferSource", "as": "s", "buffer": "b"}, {"op": "start", "node": "s"}]
+    return script_with(2, 480000, calls)
+
+
+def largest_wav():
+    """A file of 64 MiB, two channels of 16 bits."""
+    size = 2**26 - 44
+    head = b"WAVEfmt " + struct.pack("<IHHIIHH", 16, 1, 2, 48000, 192000, 4, 16) + b"data" + struct.pack("<I", size)
+    return b"RIFF" + struct.pack("<I", 36 + size) + head + bytes(range(256)) * (size // 256) + bytes(size % 256)
+
+
+def voices_with_ramps():
+    """200 voices, whose numbers are drawn: a constant that starts and stops, and a gain that goes up or down."""
+    state, calls = 0, []
+
+    def draw(most):
+        nonlocal state
+        state = (1103515245 * state + 12345) % 2**31
+        return state // 2**16 % most
+
+    for i in range(200):
+        a, b, d, _ = draw(2048), draw(32768), draw(4096), draw(240)
+        source, fade = "c%d" % i, "g%d" % i
+        calls += [{"op": "createConstantSource", "as": source, "offset": (a - 1024) * 64}, *gain(fade, 0)]
+        calls += [edited("setValueAtTime", fade, 0, 0), edited("linearRampToValueAtTime", fade, 256 * b, 1 + 64 * d)]
+        calls += [joined(source, fade), joined(fade, "destination")]
+        calls += [{"op": "start", "node": source, "when": 128 * (i % 50)},
+                  {"op": "stop", "node": source, "when": 240000 + 128 * i}]
+    return script_with(2, 480000, calls)
+
+
+def edited(op, name, value, time):
+    return {"op": op, "node": name, "param": "gain", "value": value, "time": time}
+
+
+def timelines(count, events):
+    """So many gains of one constant, and in the timeline of each so many events, three sets and a ramp by
+    turns, from the first frame of 9,600 on. A script has no room for many more than 200,000 events."""
+    calls = sounding("c", ONE)
+    for i in range(count):
+        name = "g%d" % i
+        calls += gain(name, 0, "c") + [joined(name, "destination")]
+        for k in range(events):
+            op = "linearRampToValueAtTime" if k % 4 == 3 else "setValueAtTime"
+            calls.append(edited(op, name, 10 * k + i, 9600 * k // events))
+    return script_with(1, 9600, calls)
+
+
+def many_timelines():
+    return timelines(1000, 200)
+
+
+def long_timelines():
+    return timelines(200, 1000)
+
+
+def many_reads_of_the_state():
+    return script_with(1, 128, [{"op": "readState"}] * 100000)
+
+
+def suspension(time, *calls):
+    """A suspension whose list has these calls, and resumes."""
+    return {"op": "suspend", "time": time, "then": [*calls, {"op": "resume"}]}
+
+
+def voices_with_suspensions():
+    """The voices, and a suspension behind each quantum but the last, which sets one of their gains."""
+    script = voices_with_ramps()
+    calls = [suspension(128 * k, {"op": "setValue", "node": "g%d" % (k % 200), "param": "gain", "value": 2**12 * (k % 999)})
+             for k in range(1, 3750)]
+    return {**script, "calls": script["calls"][:-1] + calls + script["calls"][-1:]}
+
+
+def many_suspensions():
+    """A suspension behind each quantum but the last, whose list resumes and does nothing else."""
+    calls = sounding("c", ONE // 2) + [joined("c", "destination")]
+    return script_with(1, 128 * 100001, calls + [suspension(128 * k) for k in range(1, 100001)])
+
+
+def write_loads(folder):
+    """Writes the loads whose operations are read, with their assets."""
+    os.makedirs(folder, exist_ok=True)
+    for name, load in LOADS.items():
+        script = load()
+        if all(call["op"] in FIELDS for call in script["calls"]):
+            assets = {"largest.wav": largest_wav()} if load is largest_asset else {}
+            text = json.dumps(script)
+            if len(text) > 2**24:  # what a script may have
+                text = json.dumps(script, separators=(",", ":"))
+            write_assets(folder, {name + ".json": text.encode(), **assets})
+
+
+LOADS = {
+    "a": pairs_of_constants_and_gains,      # 200 constants into 200 gains, 2 channels, 480,000 frames
+    "b": chain_of_gains,                    # 400 gains one behind the other, 1 channel, 480,000 frames
+    "c": layers_of_gains,                   # 30 layers of 30 gains with 9 connections each, 48,000 frames
+    "d": as_many_nodes_as_there_may_be,     # a constant into 1,022 gains, 1,023 nodes of one channel, 48,000 frames
+    "e": stereo_gains_into_six_channels,    # 200 constants, by gains of two channels into 5.1, 480,000 frames
+    "f": stereo_mergers_into_six_channels,  # 200 mergers of two constants each into 5.1, 480,000 frames
+    "g": stereo_loops,                      # 32 sources of a stereo buffer that loop, 480,000 frames
+    "h": largest_asset,                     # a file of 64 MiB is decoded and played, 480,000 frames
+    "i": voices_with_ramps,                 # 200 constants into 200 gains with a ramp, 2 channels, 480,000 frames
+    "j": many_timelines,                    # 1,000 gains with 200 events each, 9,600 frames
+    "k": long_timelines,                    # 200 gains with 1,000 events each, 9,600 frames
+    "l": many_reads_of_the_state,           # 100,000 calls of readState, 128 frames
+    "m": voices_with_suspensions,           # i with 3,749 suspensions, each of which sets one gain
+    "n": many_suspensions,                  # a constant and 100,000 suspensions, 1 channel, 12,800,128 frames
+    "o": loops_through_shapers,             # g, each loop through 6 shapers with a curve of 129 points
+    "p": loops_through_filters,             # g, each loop through 6 filters of order 2
+    "q": loops_through_long_filters,        # g, each loop through a filter of order 19
+}

@@ -1,0 +1,74 @@
+"""The maker of random scripts, and the script of a seed and a number."""
+
+import random
+
+from waplay_tools.expecting.reading import AHEAD
+from waplay_tools.expecting.reading import OPERATIONS as FIELDS
+from waplay_tools.random_scripts.chances import (
+    DELAY_SHAPES,
+    NEEDED,
+    SHAPES,
+    SPRINKLED,
+    WITH_BUFFERS,
+)
+from waplay_tools.random_scripts.kinds import Assets, Script
+from waplay_tools.random_scripts.limits import Limits
+
+
+class Maker(Limits):
+    """One script in the making."""
+
+    def shape(self) -> str:
+        """The shape of the script; a graph where the program does not read what the drawn one needs."""
+        shapes = SHAPES + DELAY_SHAPES if "createDelay" in self.read_ops else SHAPES
+        shape = self.rng.choices([shape for _, shape in shapes], [often for often, _ in shapes])[0]
+        return shape if self.read_ops.issuperset(NEEDED.get(shape, ())) else "graph"
+
+    def draw_context(self) -> None:
+        """Draws the length, the channels and the rate of the context."""
+        rng = self.rng
+        short = [1, 2, 127, 128, 129, 255, 256, 257]
+        self.length = rng.choice(short) if self.may(0.2) else rng.randint(1, 600)
+        if self.suspends and self.may(0.8):
+            self.length = rng.randint(129, 900)
+        self.channels = rng.choice([1, 1, 2, 2, 4, 6, rng.randint(1, 32), 32])
+        self.rate = rng.choice([8000, 44100, 48000, 96000, rng.randint(8000, 96000)])
+
+    def context(self, shape: str) -> dict[str, int]:
+        """The context of a script of this shape, now and then one that is refused."""
+        rng, channels, rate = self.rng, self.channels, self.rate
+        if shape == "unrendered":
+            channels = rng.choice([0, 1, 2, 3, 32, 33, 2**32 - 1])
+            self.length = rng.choice([0, 1, 2**21, 2**21 + 1, 2**25, 2**25 + 1, 2**32 - 1])
+            rate = rng.choice([0, 7999, 8000, 48000, 96000, 96001, 2**32 - 1])
+        elif self.may(0.02):
+            channels = rng.choice([0, 33, 2**32 - 1])
+        return {"channels": channels, "length": self.length, "rate": rate}
+
+    def script(self) -> Script:
+        """The script."""
+        shape = self.shape()
+        self.draw_context()
+        has_buffers = self.has_buffers and self.may(WITH_BUFFERS.get(shape, 0.5))
+        calls = self.some_buffers() if has_buffers else []
+        made = getattr(self, shape)()
+        made = self.sprinkled(made) if shape in SPRINKLED and self.may(0.3) else made
+        calls += self.suspended(made) if self.suspends else made
+        script = {"version": 1, "context": self.context(shape), "calls": calls}
+        if shape == "faulty":
+            self.spoil(script)
+        return script
+
+
+def script_of(seed: int, number: int, read: list[str]) -> tuple[Script, Assets]:
+    """A script, and its assets. Half of the scripts have no suspensions, and are the same where the program
+    reads none."""
+    if random.Random(f"{seed} {number} suspensions").random() < 0.5:
+        read = [op for op in read if op != "suspend"]
+    maker = Maker(random.Random(f"{seed} {number}"), read)
+    return maker.script(), maker.assets
+
+
+def operations() -> list[str]:
+    """The operations of random scripts: those that the program of today reads."""
+    return [op for op in FIELDS if op not in AHEAD]

@@ -1,0 +1,75 @@
+"""Writes a page about a session: its sound, its waveform, and its transcript beside the script's calls.
+
+    tools/report SCRIPT TRANSCRIPT [WAV] [--against WAV2] > report.html
+
+The page stands alone, and its text needs no JavaScript. WAV is the file that the session wrote, and may be
+left out where it wrote none. With --against the page tells the first and the greatest difference between WAV
+and WAV2. The status is 0, or 2 with a sentence on standard error where the input can't be used: a file that
+can't be read, a transcript that does not belong to the script, or a WAV file that is none.
+"""
+
+import argparse
+import os
+import sys
+
+from waplay_tools.reporting import page, script_reading, transcript_reading, wav_samples
+from waplay_tools.reporting.following import Session
+from waplay_tools.reporting.text import BadInput, visible
+
+
+def sound_of(path, script):
+    """The bytes of the session's WAV file, and its samples."""
+    if path is None:
+        raise BadInput("the session was rendered, so its WAV file is wanted as a third word")
+    data = script_reading.bytes_of(path)
+    sound = wav_samples.sound_of(data, visible(path))
+    for what, found in ("channels", len(sound.channels)), ("length", sound.frames), ("rate", sound.rate):
+        if found != script.context(what):
+            raise BadInput("%s does not belong to the script: its %s is %d, and the context's is %d"
+                           % (visible(path), what, found, script.context(what)))
+    return data, sound
+
+
+def report(words):
+    """The text of the page."""
+    names = visible(words.script), visible(words.transcript)
+    script = script_reading.script_of(script_reading.bytes_of(words.script))
+    lines = transcript_reading.lines_of(script_reading.bytes_of(words.transcript), names[1])
+    session = Session(script, lines, names)
+    if session.end().word != "completed":
+        if words.against:
+            raise BadInput("the session wrote no WAV file that could be held against another one")
+        return page.page(session, (words.script, words.wav))
+    data, sound = sound_of(words.wav, script)
+    against = None
+    if words.against:
+        other = script_reading.bytes_of(words.against)
+        other_sound = wav_samples.sound_of(other, visible(words.against))
+        against = wav_samples.Differences(sound, other_sound), words.against, other
+    return page.page(session, (words.script, words.wav), sound, data, against)
+
+
+def main():
+    words = argparse.ArgumentParser(description=__doc__, formatter_class=argparse.RawDescriptionHelpFormatter)
+    words.add_argument("script", metavar="SCRIPT")
+    words.add_argument("transcript", metavar="TRANSCRIPT")
+    words.add_argument("wav", metavar="WAV", nargs="?")
+    words.add_argument("--against", metavar="WAV2")
+    words = words.parse_args()
+    try:
+        text = report(words)
+    except BadInput as bad:
+        print("report: %s" % bad, file=sys.stderr)
+        return 2
+    try:
+        sys.stdout.buffer.write(text.encode())
+        sys.stdout.flush()
+    except OSError as error:
+        os.dup2(os.open(os.devnull, os.O_WRONLY), 1)
+        print("report: the page can't be written: %s" % error.strerror, file=sys.stderr)
+        return 2
+    return 0
+
+
+if __name__ == "__main__":
+    sys.exit(main())

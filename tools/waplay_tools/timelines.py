@@ -1,0 +1,214 @@
+"""Works out what 20,000 random lists of edits make of a timeline: a second calculation, apart from the
+crates' own.
+
+    python3 tools/timelines.py            the digest of all answers and values, which
+                                          crates/time_tests/src/digests.rt is to give too
+    python3 tools/timelines.py --count    how often each answer was given, and each kind of event was left
+
+It follows the rules of docs/MEANING.md ("The timeline of a parameter") in the plainest way: a timeline is
+a list that is rebuilt by each edit, and each value is found anew among all events. Only the random numbers
+are made as the tests make them. It needs Python 3 and nothing else.
+"""
+
+import collections
+
+from waplay_tools import digests
+from waplay_tools.digests import GREATEST, LEAST, mixed, rounded
+
+FAR = 2**40
+
+
+class Numbers(digests.Random):
+    """Random values, times and durations."""
+
+    def value(self):
+        kind = self.below(4)
+        return LEAST if kind == 0 else GREATEST if kind == 1 else self.below(2001) - 1000
+
+    def time(self):
+        kind = self.below(20)
+        return -1 if kind == 0 else FAR if kind == 1 else self.below(300)
+
+    def duration(self):
+        kind = self.below(20)
+        return 0 if kind == 0 else FAR if kind == 1 else self.below(90)
+
+
+def on_line(start, end, n, frames):
+    return start + rounded((end - start) * n, frames)
+
+
+class Event:
+    def __init__(self, kind, time, value=None, points=None, duration=None):
+        self.kind, self.time, self.value = kind, time, value
+        self.points, self.duration = points, duration
+        self.end = time + duration if kind == "curve" else time
+
+    def runs_at(self, time):
+        return self.kind == "curve" and self.time <= time < self.end
+
+    def at(self, frame):
+        """The value of a curve at a frame from its first on."""
+        last = len(self.points) - 1
+        way = last * (frame - self.time)
+        k = way // self.duration
+        if k >= last:
+            return self.points[last]
+        return on_line(self.points[k], self.points[k + 1], way - k * self.duration, self.duration)
+
+    def left(self):
+        return self.at(self.end) if self.kind == "curve" else self.value
+
+
+class Timeline:
+    def __init__(self, base):
+        self.base = self.slot = base
+        self.events = []
+
+    def value_at(self, frame):
+        before = [e for e in self.events if e.time <= frame]
+        later = [e for e in self.events if e.time > frame]
+        if not before:
+            return self.base
+        event = before[-1]
+        if event.kind == "curve" and frame < event.end:
+            return event.at(frame)
+        held = event.left()
+        if later and later[0].kind == "ramp":
+            ramp = later[0]
+            return on_line(held, ramp.value, frame - event.end, ramp.time - event.end)
+        return held
+
+    def put(self, event):
+        before = [e for e in self.events if e.time <= event.time]
+        later = [e for e in self.events if e.time > event.time]
+        self.events = before + [event] + later
+
+    def in_curve(self, time):
+        for place, event in enumerate(self.events):
+            if event.runs_at(time):
+                return ("InCurve", place)
+        return None
+
+    def set_value(self, now, value, time):
+        if time < 0:
+            return "NegativeTime"
+        time = max(time, now)
+        refusal = self.in_curve(time)
+        if not refusal:
+            self.put(Event("set", time, value))
+        return refusal
+
+    def ramp(self, now, value, time):
+        if time < 0:
+            return "NegativeTime"
+        time = max(time, now)
+        refusal = self.in_curve(time)
+        if not refusal:
+            if not any(e.time <= time for e in self.events):
+                self.put(Event("set", now, self.slot))
+            self.put(Event("ramp", time, value))
+        return refusal
+
+    def curve(self, now, points, time, duration):
+        if len(points) < 2:
+            return "ShortCurve"
+        if time < 0:
+            return "NegativeTime"
+        if duration <= 0:
+            return "BadDuration"
+        time = max(time, now)
+        refusal = self.in_curve(time)
+        if refusal:
+            return refusal
+        for place, event in enumerate(self.events):
+            if time < event.time < time + duration:
+                return ("CurveOver", place)
+        self.put(Event("curve", time, points=points, duration=duration))
+        return None
+
+    def set_now(self, now, value):
+        refusal = self.in_curve(now)
+        if not refusal:
+            self.put(Event("set", now, value))
+            self.slot = value
+        return refusal
+
+    def cancel(self, now, time):
+        if time < 0:
+            return "NegativeTime"
+        time = max(time, now)
+        self.events = [
+            e for e in self.events
+            if e.time < time and not (e.kind == "curve" and e.time <= time <= e.end)
+        ]
+        if not any(e.time <= now for e in self.events):
+            self.base = self.slot
+        return None
+
+    def hold(self, now, time):
+        if time < 0:
+            return "NegativeTime"
+        time = max(time, now)
+        value = self.value_at(time)
+        before = [e for e in self.events if e.time <= time]
+        later = [e for e in self.events if e.time > time]
+        if before and before[-1].kind == "curve" and time < before[-1].end:
+            before[-1].end = time
+        elif later and later[0].kind == "ramp":
+            before.append(Event("ramp", time, value))
+        self.events = before
+        return None
+
+
+def edit(line, random, now):
+    value, time = random.value(), random.time()
+    kind = random.below(9)
+    if kind < 2:
+        return line.set_value(now, value, time)
+    if kind < 4:
+        return line.ramp(now, value, time)
+    if kind < 6:
+        points = [value, random.value(), 7, random.value(), value]
+        count = random.below(6)
+        return line.curve(now, points[:count], time, random.duration())
+    if kind == 6:
+        return line.set_now(now, value)
+    if kind == 7:
+        return line.cancel(now, time)
+    return line.hold(now, time)
+
+
+NUMBERS = {None: 0, "NegativeTime": 1, "BadDuration": 2, "ShortCurve": 3}
+
+
+def answer_number(answer):
+    if isinstance(answer, tuple):
+        return 2 * answer[1] + (4 if answer[0] == "InCurve" else 5)
+    return NUMBERS[answer]
+
+
+def main():
+    random = Numbers(2024)
+    digest = digests.EMPTY
+    counts = collections.Counter()
+    for _ in range(20_000):
+        line = Timeline(random.value())
+        pace = random.below(12)
+        for i in range(random.below(14)):
+            answer = edit(line, random, i * pace)
+            counts[answer[0] if isinstance(answer, tuple) else answer or "Ok"] += 1
+            digest = mixed(digest, answer_number(answer))
+            if random.below(3) == 0:
+                line.slot = random.value()
+        counts.update(e.kind for e in line.events)
+        counts["cut curve"] += sum(e.kind == "curve" and e.end < e.time + e.duration for e in line.events)
+        digest = mixed(mixed(digest, line.base + 2**31), line.slot + 2**31)
+        first = random.below(200)
+        for frame in range(first, first + 200):
+            digest = mixed(digest, line.value_at(frame) + 2**31)
+    digests.tell(digest, counts)
+
+
+if __name__ == "__main__":
+    main()
