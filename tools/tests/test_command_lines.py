@@ -15,6 +15,8 @@ from waplay_tools.command_lines import BAD_OUT, BAD_TEXT, NO_OUT, NOT_TEXT, REPE
 from waplay_tools.cases.case import read_case
 from waplay_tools.cases.words import words_of
 
+LINES = 30000  # how many random ones
+
 PLAIN = command_lines.Reading("o", 24, "up", "render", None)
 
 # Lines with a reading, and how it differs from that of the path `o` alone. Blanks part the words.
@@ -209,7 +211,7 @@ class RandomLines(unittest.TestCase):
         wanted = {"--gen", "--ge", "--g", "-g", "-gen", "---gen", "--GEN", "gen", "--gen=", "--gens", "--generate"}
         wanted |= {"--gen=" + text for text in ["10000", "x", "-0", "+0", "00012", "\u0661\u0662", "0"]}
         seen, spoiled, behind, zeros = set(), 0, 0, 0
-        for number in range(30000):
+        for number in range(LINES):
             words = command_lines.line(3, number)
             seen.update(word.decode(errors="replace") for word in words)
             spoiled += any(word.startswith(b"--gen=") and "\ufffd" in word.decode(errors="replace") for word in words)
@@ -225,7 +227,7 @@ class RandomLines(unittest.TestCase):
                             [command_lines.line(8, number) for number in range(20)])
 
     def test_a_file_can_be_written_at_each_path(self):
-        for number in range(3000):
+        for number in range(LINES // 10):
             for word in command_lines.line(2, number):
                 self.assertTrue(len(word) < 255 and b"/" not in word and b"\0" not in word, word)
                 self.assertNotIn(word, [b".", b".."])

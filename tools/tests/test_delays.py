@@ -5,6 +5,7 @@ a calculation by recursion from one frame to another (meaning.py)."""
 
 import itertools
 import json
+import os
 import random
 import shutil
 import tempfile
@@ -23,7 +24,7 @@ from waplay_tools.expecting import automation, delay, graph, numbers, reading, r
 from waplay_tools.expecting.graph import End
 
 RATE = 16384  # 1,024 is the time of one frame, and 131,072 that of a quantum
-COUNT = 150  # random sessions
+COUNT = int(os.environ.get("DELAY_SESSIONS", "30"))  # random sessions
 
 
 def call(op, **fields):
@@ -172,7 +173,7 @@ class Graphs(unittest.TestCase):
     def test_random_graphs_are_those_of_all_paths(self):
         rng = random.Random("graphs")
         cycles = muted = 0
-        for _ in range(600):
+        for _ in range(4 * COUNT):
             kinds = [rng.choice(["delay", "gain"]) for _ in range(rng.randint(1, 7))]
             nodes = delays_and_others(*kinds)
             parameters = {"delay": "delayTime", "gain": "gain"}
@@ -191,7 +192,7 @@ class Graphs(unittest.TestCase):
                     self.assertTrue(end in found.muted or places[end] < places[it], edges)
             cycles += len(found.in_cycle)
             muted += len(found.muted)
-        self.assertGreater(min(cycles, muted), 300)
+        self.assertGreater(min(cycles, muted), COUNT)
 
 
 class Times(unittest.TestCase):
@@ -240,7 +241,7 @@ class Times(unittest.TestCase):
 
     def test_values_of_many_frames_are_those_of_each(self):
         rng = random.Random("timelines")
-        for _ in range(400):
+        for _ in range(3 * COUNT):
             timeline = automation.Timeline(rng.randint(-99, 99))
             for _ in range(rng.randint(0, 9)):
                 call = {"value": rng.randint(-9999, 9999), "time": rng.randint(0, 300), "duration": rng.randint(1, 90),
@@ -412,7 +413,7 @@ class Meaning(unittest.TestCase):
                 there.add(order[-1])
             return order
 
-        for number, data, folder in self.scripts(60):
+        for number, data, folder in self.scripts(COUNT // 2):
             plain = sessions.replayed(data, folder)
             for _ in range(2):
                 with unittest.mock.patch.object(graph.Graph, "legal_order", legal_order):

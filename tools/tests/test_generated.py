@@ -1,6 +1,7 @@
 """Tests of how a program's loads are compared, and of the second calculation where it is told to check or to give 16 bits."""
 
 import json
+import os
 import struct
 import tempfile
 import unittest
@@ -10,6 +11,9 @@ import fixtures
 from waplay_tools import generated
 from waplay_tools import load_script
 from waplay_tools.expecting import numbers, sessions
+
+# The widths of samples at which a wrong program is looked at; all of them where it is asked for.
+WIDTHS = generated.WIDTHS if "ALL_WIDTHS" in os.environ else (24,)
 
 # A program that generates small scripts, and does with them what is wanted, but for what the test has it do otherwise.
 PROGRAM = """
@@ -96,7 +100,8 @@ class Comparison(unittest.TestCase):
                 ("text += (asked.order == 'down') * is_generated * 'again\\n'", "several texts"),
                 ("text = text.replace('sum 1368356', 'sum 1368357')", "the file can't have"),
                 ("text = text.replace('peak 4994 ', 'peak 4995 ')", "the file can't have")]:
-            number, wrong = self.compared(change, is_whole=False)
+            with unittest.mock.patch.object(generated, "WIDTHS", WIDTHS):
+                number, wrong = self.compared(change, is_whole=False)
             self.assertIn(told, "\n".join(wrong), change)
 
     def test_a_number_that_is_looked_at_whole(self):

@@ -14,6 +14,7 @@ PROFILE = "throw NotSupportedError profile:"
 
 # A program that gives what is worked out, but for what the test has it do otherwise.
 PROGRAM = """
+import sys
 from waplay_tools import hard_timelines
 status, text, file = hard_timelines.expected(sys.stdin.buffer.read())
 %s

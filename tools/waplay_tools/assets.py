@@ -163,25 +163,38 @@ def pick() -> list[list[int]]:
 def saw() -> list[list[int]]:
     """One period of a saw of 24 partials. At the rates 2, 3, 4 it has the notes of a horn."""
     frames = 1604
-    return [[
-        sum(sine(frame * partial * TURN // frames) // partial for partial in range(1, 25)) * 3 // 8
-        for frame in range(frames)
-    ]]
+    return [
+        [
+            sum(sine(frame * partial * TURN // frames) // partial for partial in range(1, 25))
+            * 3
+            // 8
+            for frame in range(frames)
+        ]
+    ]
 
 
 # The partials of a bell: their thousandths of its frequency, heights, and half lives in frames.
-PARTIALS = (500, 5200, 16000), (1000, 6600, 9000), (1200, 5200, 7000), (1500, 2600, 4000), \
-    (2000, 6200, 5000), (3010, 2600, 2400), (4100, 1600, 1200)
+PARTIALS = (
+    (500, 5200, 16000),
+    (1000, 6600, 9000),
+    (1200, 5200, 7000),
+    (1500, 2600, 4000),
+    (2000, 6200, 5000),
+    (3010, 2600, 2400),
+    (4100, 1600, 1200),
+)
 
 
 def bell(hertz: int) -> Callable[[], list[list[int]]]:
     """A bell of this frequency, with the partials of church bells: one at a half, a minor third."""
+
     def make() -> list[list[int]]:
         waves = (
             struck(tone(hertz * part, 44100, 40000), half, height)
             for part, height, half in PARTIALS
         )
         return [mixed(*waves)]
+
     return make
 
 
@@ -212,10 +225,12 @@ def choir() -> list[list[int]]:
     for partial in range(1, 21):
         dark, bright = (max(0, 12 - 2 * abs(partial - at)) for at in (3, 9))
         wave = tone(110_000 * partial, 48000, frames)
-        waves.append([
-            value * (dark * (frames - frame) + bright * frame) // frames // 72
-            for frame, value in enumerate(wave)
-        ])
+        waves.append(
+            [
+                value * (dark * (frames - frame) + bright * frame) // frames // 72
+                for frame, value in enumerate(wave)
+            ]
+        )
     return [mixed(*waves)]
 
 
@@ -244,21 +259,46 @@ def wav_bytes(rate: int, bits: int, channels: list[list[int]]) -> bytes:
     """A file of these samples, which are unsigned in 8 bits."""
     width = bits // 8
     block = width * len(channels)
-    body = b"".join((value + 128 if bits == 8 else value % 2**bits).to_bytes(width, "little")
-                    for frame in zip(*channels) for value in frame)
-    head = struct.pack("<4sI8sIHHIIHH4sI", b"RIFF", 36 + len(body), b"WAVEfmt ", 16, 1,
-                       len(channels), rate, rate * block, block, bits, b"data", len(body))
+    body = b"".join(
+        (value + 128 if bits == 8 else value % 2**bits).to_bytes(width, "little")
+        for frame in zip(*channels)
+        for value in frame
+    )
+    head = struct.pack(
+        "<4sI8sIHHIIHH4sI",
+        b"RIFF",
+        36 + len(body),
+        b"WAVEfmt ",
+        16,
+        1,
+        len(channels),
+        rate,
+        rate * block,
+        block,
+        bits,
+        b"data",
+        len(body),
+    )
     return head + body + b"\0" * (len(body) % 2)
 
 
 def main() -> int:
     """Writes the files, or looks at those that are there."""
-    words = argparse.ArgumentParser(description=__doc__,
-                                    formatter_class=argparse.RawDescriptionHelpFormatter)
-    words.add_argument("--check", action="store_true",
-                       help="write nothing; name each file that is otherwise (status 1 if any)")
-    words.add_argument("--sums", action="store_true",
-                       help="write nothing; print size, frames, greatest sample and sums of each")
+    words = argparse.ArgumentParser(
+        prog="tools/assets",
+        description=__doc__,
+        formatter_class=argparse.RawDescriptionHelpFormatter,
+    )
+    words.add_argument(
+        "--check",
+        action="store_true",
+        help="write nothing; name each file that is otherwise (status 1 if any)",
+    )
+    words.add_argument(
+        "--sums",
+        action="store_true",
+        help="write nothing; print size, frames, greatest sample and sums of each",
+    )
     arguments = words.parse_args()
     wrong = 0
     for name, asset in ASSETS.items():
@@ -273,7 +313,7 @@ def main() -> int:
             path.write_bytes(data)
         elif not path.exists() or path.read_bytes() != data:
             wrong += 1
-            print(f"{path}: other bytes than tools/assets.py makes")
+            print(f"{path}: other bytes than tools/assets makes")
     return 1 if wrong else 0
 
 

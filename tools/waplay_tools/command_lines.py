@@ -1,24 +1,20 @@
 """A second reading of the program's command lines, and random lines to compare it with the program.
 
-A line has a reading where it is UTF-8, gives each option at most once and with a good text, and has one
-word more, OUT. The options are --bits 16|24, --order up|down, --mode render|check and --gen N, where N
-is 1 to 4 decimal digits. The text of an option is the rest of its word after a `=`, or else the next
-word, whatever it is. The word `--` ends the options. OUT is not empty and not `-`.
+A line has a reading where it is UTF-8, gives each option at most once and with a good text, and has
+one word more, OUT. The options are --bits 16|24, --order up|down, --mode render|check and --gen N,
+where N is 1 to 4 decimal digits. The text of an option is the rest of its word after a `=`, or else
+the next word, whatever it is. The word `--` ends the options. OUT is not empty and not `-`.
 
-    python3 tools/command_lines.py --program FILE        runs a program on 1,000 lines
-    python3 tools/command_lines.py --count 5000 --seed 7 --program FILE
-                                                         on so many, of this seed
-    python3 tools/command_lines.py --seed 7 --print 12   the line with the number 12, and its reading
+The program is run in a folder of its own, in which a file out.wav stands, over an input that is no
+script, or one that starts no rendering, or one of one frame. Compared are the status, the text, the
+folder's files to the byte, that nothing is printed on standard error, and how much was read of
+standard input: all of it where the line has a reading without a number, and else nothing. With a
+number the text is the summary of a load (tools/load-script), and the file is the one that the
+program writes for that load's script. What the greatest value and the sum are is looked at by
+tools/generated, and not here.
 
-The program is run in a folder of its own, in which a file out.wav stands, over an input that is no script,
-or one that starts no rendering, or one of one frame. Compared are the status, the text, the folder's files
-to the byte, that nothing is printed on standard error, and how much was read of standard input: all of it
-where the line has a reading without a number, and else nothing. With a number the text is the summary of a
-load (tools/load_script.py), and the file is the one that the program writes for that load's script. What
-the greatest value and the sum are is looked at by tools/generated.py, and not here.
-
-It prints a line for each difference, then how often each answer came up, and last how many lines differ.
-The status is 0 where none does and each answer came up.
+It prints a line for each difference, then how often each answer came up, and last how many lines
+differ. The status is 0 where none does and each answer came up.
 """
 
 import argparse
@@ -44,7 +40,8 @@ RENDERED = "reading with a number, in mode render"
 
 Reading = collections.namedtuple("Reading", "out bits order mode generated")
 
-# Of each option the texts that stand for something, and what they stand for. A number is read apart.
+# Of each option the texts that stand for something, and what they stand for. A number is read
+# apart.
 TEXTS = {
     "bits": {"16": 16, "24": 24},
     "order": {"up": "up", "down": "down"},
@@ -114,8 +111,13 @@ def reading(words):
         raise NoReading(SEVERAL if others else NO_OUT)
     if others[0] in ("", "-"):
         raise NoReading(BAD_OUT)
-    return Reading(others[0], values.get("bits", 24), values.get("order", "up"), values.get("mode", "render"),
-                   values.get("gen"))
+    return Reading(
+        others[0],
+        values.get("bits", 24),
+        values.get("order", "up"),
+        values.get("mode", "render"),
+        values.get("gen"),
+    )
 
 
 def answer(words):
@@ -127,21 +129,117 @@ def answer(words):
     return READ if asked.generated is None else CHECKED if asked.mode == "check" else RENDERED
 
 
-# The lines. No word has a slash, a full stop in front, or more bytes than a file's name may have: OUT
-# may be written.
+# The lines. No word has a slash, a full stop in front, or more bytes than a file's name may have:
+# OUT may be written.
 
 
 GOOD = {"bits": ["16", "24"], "order": ["up", "down"], "mode": ["render", "check"]}
-OUTS = ["out.wav", "out.wav", "o", "0012", "a b", "a=b", "a-", "help", "16", "up", "\u00e9.wav", "\U0001f3b9", "x" * 200]
-DASHED_OUTS = ["--", "--bits=16", "--gen", "--gen=0", "--mode=check", "--help", "-x", "---", "-5", *OUTS]
-TEXTS_NEARBY = ["", "-", "--", "-1", "+1", "016", "8", " 16", "16 ", "1e1", "1.0", "0x10", "Up", "UP", "sideways",
-                "migrate", "check ", "=16", "=", "12345", "00000", "\u0663", "\uff11\uff16", "--order",
-                "--bits=16", "-b"]
-NUMBERS_NEARBY = ["10000", "010000", "99999", "00012", "65536", "4294967296", "18446744073709551616", "9" * 40, "-0", "+0",
-                  "-12", "+9999", "x", "0x1", "12x", "x12", "1e3", "1.0", "1,0", "1_0", "1 2", " 12", "12 ", "\t12", "12\n",
-                  "\u0661\u0662", "\uff11", "\u00b2", "N", "--mode", "--gen"]
-UNKNOWNS = ["--help", "--version", "-h", "-V", "--quiet", "--bits16", "---", "--=16", "-", "-\u00e9", "--\u00e9=1",
-            "-=", "--gen-", "--generate", "--no-bits", "-o"]
+OUTS = [
+    "out.wav",
+    "out.wav",
+    "o",
+    "0012",
+    "a b",
+    "a=b",
+    "a-",
+    "help",
+    "16",
+    "up",
+    "\u00e9.wav",
+    "\U0001f3b9",
+    "x" * 200,
+]
+DASHED_OUTS = [
+    "--",
+    "--bits=16",
+    "--gen",
+    "--gen=0",
+    "--mode=check",
+    "--help",
+    "-x",
+    "---",
+    "-5",
+    *OUTS,
+]
+TEXTS_NEARBY = [
+    "",
+    "-",
+    "--",
+    "-1",
+    "+1",
+    "016",
+    "8",
+    " 16",
+    "16 ",
+    "1e1",
+    "1.0",
+    "0x10",
+    "Up",
+    "UP",
+    "sideways",
+    "migrate",
+    "check ",
+    "=16",
+    "=",
+    "12345",
+    "00000",
+    "\u0663",
+    "\uff11\uff16",
+    "--order",
+    "--bits=16",
+    "-b",
+]
+NUMBERS_NEARBY = [
+    "10000",
+    "010000",
+    "99999",
+    "00012",
+    "65536",
+    "4294967296",
+    "18446744073709551616",
+    "9" * 40,
+    "-0",
+    "+0",
+    "-12",
+    "+9999",
+    "x",
+    "0x1",
+    "12x",
+    "x12",
+    "1e3",
+    "1.0",
+    "1,0",
+    "1_0",
+    "1 2",
+    " 12",
+    "12 ",
+    "\t12",
+    "12\n",
+    "\u0661\u0662",
+    "\uff11",
+    "\u00b2",
+    "N",
+    "--mode",
+    "--gen",
+]
+UNKNOWNS = [
+    "--help",
+    "--version",
+    "-h",
+    "-V",
+    "--quiet",
+    "--bits16",
+    "---",
+    "--=16",
+    "-",
+    "-\u00e9",
+    "--\u00e9=1",
+    "-=",
+    "--gen-",
+    "--generate",
+    "--no-bits",
+    "-o",
+]
 NOT_UTF8 = [b"\xff", b"\xc3", b"\xc0\xaf", b"\xed\xa0\x80", b"\xf4\x90\x80\x80", b"\x80"]
 
 
@@ -163,12 +261,24 @@ def text_for(rng, name):
 
 def misspelled(rng, name):
     """An option that is not spelled in full."""
-    return rng.choice(["--" + name[:-1], "--" + name[:1], "-" + name[:1], "-" + name, "---" + name, "--" + name.upper(),
-                       "--" + name + " ", "--" + name + "s", name])
+    return rng.choice(
+        [
+            "--" + name[:-1],
+            "--" + name[:1],
+            "-" + name[:1],
+            "-" + name,
+            "---" + name,
+            "--" + name.upper(),
+            "--" + name + " ",
+            "--" + name + "s",
+            name,
+        ]
+    )
 
 
 def option_words(rng, name, text):
-    """One use of an option: in one word, in two, or, now and then, misspelled or without its text."""
+    """One use of an option: in one word, in two, or, now and then, misspelled or without its
+    text."""
     option = "--" + name if rng.random() < 0.95 else misspelled(rng, name)
     if rng.random() < 0.02:
         return [option]
@@ -176,7 +286,8 @@ def option_words(rng, name, text):
 
 
 def uses(rng):
-    """Uses of options. With a number the mode is mostly check, since rendering a load takes its time."""
+    """Uses of options. With a number the mode is mostly check, since rendering a load takes its
+    time."""
     names = [name for name in OPTIONS if rng.random() < 0.35]
     if rng.random() < 0.08:
         names.append(rng.choice(names or OPTIONS))
@@ -184,8 +295,18 @@ def uses(rng):
     if is_checked and "mode" not in names:
         names.append("mode")
     rng.shuffle(names)
-    return [option_words(rng, name, "check" if is_checked and name == "mode" and rng.random() < 0.9 else text_for(rng, name))
-            for name in names]
+    return [
+        option_words(
+            rng,
+            name,
+            (
+                "check"
+                if is_checked and name == "mode" and rng.random() < 0.9
+                else text_for(rng, name)
+            ),
+        )
+        for name in names
+    ]
 
 
 def others(rng, names):
@@ -203,20 +324,25 @@ def spoiled(rng, words):
     if some == 0:
         return words[:place] + [rng.choice([b"--", *map(str.encode, UNKNOWNS)])] + words[place:]
     if some == 1 or place == len(words):
-        return words[:place] + words[place + 1:]
+        return words[:place] + words[place + 1 :]
     if some == 2:
-        return words[:place] + words[place:place + 1] * 2 + words[place + 1:]
+        return words[:place] + words[place : place + 1] * 2 + words[place + 1 :]
     if some == 3:
         rng.shuffle(words)
         return words
     word, at = words[place], rng.randint(0, len(words[place]))
-    words[place] = word[:at] + (rng.choice(NOT_UTF8) if some == 4 else rng.choice([b"-", b"=", b" ", b"1"])) + word[at:]
+    words[place] = (
+        word[:at]
+        + (rng.choice(NOT_UTF8) if some == 4 else rng.choice([b"-", b"=", b" ", b"1"]))
+        + word[at:]
+    )
     return words
 
 
 def line(seed, number):
-    """The line of a seed with this number: its words as bytes. Each line is run over one of the inputs."""
-    rng = random.Random("command line %d %d" % (seed, number))
+    """The line of a seed with this number: its words as bytes. Each line is run over one of the
+    inputs."""
+    rng = random.Random(f"command line {seed} {number}")
     parts = uses(rng)
     if rng.random() < 0.3:
         parts += [["--"], others(rng, DASHED_OUTS)]
@@ -231,24 +357,42 @@ def line(seed, number):
 
 
 def input_of(calls):
-    return json.dumps({"version": 1, "context": {"channels": 1, "length": 1, "rate": 48000}, "calls": calls}).encode()
+    return json.dumps(
+        {"version": 1, "context": {"channels": 1, "length": 1, "rate": 48000}, "calls": calls}
+    ).encode()
 
 
-# An input, and where a line reads it, the status, the text, and whether a file is written: one sample, 1.0.
+# An input, and where a line reads it, the status, the text, and whether a file is written: one
+# sample, 1.0.
 Input = collections.namedtuple("Input", "data status text is_rendered")
 INPUTS = [
     Input(input_of([]), 3, b"end idle\n", False),
     Input(input_of([{"op": "start"}]), 4, b"script: 1 node MissingField\n", False),
     Input(b"\xff", 4, b"script: BadJson\n", False),
     Input(json.dumps(load_script.script(0)).encode()[:-1], 4, b"script: BadJson\n", False),
-    Input(input_of([{"op": "createConstantSource", "as": "c"}, load_script.connected("c", "destination"),
-                    {"op": "start", "node": "c"}, {"op": "startRendering"}]),
-          0, b"1 ok\n2 ok\n3 ok\n4 pending\n4 resolved\ncomplete 1\nend completed\n", True),
+    Input(
+        input_of(
+            [
+                {"op": "createConstantSource", "as": "c"},
+                load_script.connected("c", "destination"),
+                {"op": "start", "node": "c"},
+                {"op": "startRendering"},
+            ]
+        ),
+        0,
+        b"1 ok\n2 ok\n3 ok\n4 pending\n4 resolved\ncomplete 1\nend completed\n",
+        True,
+    ),
 ]
 ONE_SAMPLE = {
-    16: bytes.fromhex("524946462600000057415645666d7420100000000100010080bb000000770100020010006461746102000000ff7f"),
-    24: bytes.fromhex("524946462800000057415645666d7420100000000100010080bb0000803202000300180064617461"
-                      "03000000ffff7f00"),
+    16: bytes.fromhex(
+        "524946462600000057415645666d7420100000000100010080bb00000077010002001000"
+        "6461746102000000ff7f"
+    ),
+    24: bytes.fromhex(
+        "524946462800000057415645666d7420100000000100010080bb0000803202000300180064617461"
+        "03000000ffff7f00"
+    ),
 }
 BEFORE = {b"out.wav": b"before\n"}  # the files of the folder before a run
 
@@ -262,11 +406,14 @@ Wanted = collections.namedtuple("Wanted", "status text files bytes_read")
 
 
 def run(program, words, data, folder):
-    """Runs the program over this input in a folder: what it gives, and how many bytes it has read."""
+    """Runs the program over this input in a folder: what it gives, and how many bytes it has
+    read."""
     with tempfile.TemporaryFile(buffering=0) as file:
         file.write(data)
         file.seek(0)
-        ran = subprocess.run([os.fsencode(program), *words], stdin=file, capture_output=True, cwd=folder, timeout=600)
+        ran = subprocess.run(
+            [os.fsencode(program), *words], stdin=file, capture_output=True, cwd=folder, timeout=600
+        )
         return ran, os.lseek(file.fileno(), 0, os.SEEK_CUR)
 
 
@@ -312,31 +459,33 @@ def differences(program, words, input, folder):
     ran, bytes_read = run(program, words, input.data, folder)
     files = files_in(folder)
     if ran.returncode != wanted.status:
-        wrong.append("status %d in place of %d" % (ran.returncode, wanted.status))
+        wrong.append(f"status {ran.returncode} in place of {wanted.status}")
     if not re.fullmatch(wanted.text, ran.stdout):
-        wrong.append("the usage line" if ran.stdout == USAGE else "the text %r" % ran.stdout[:100])
+        wrong.append("the usage line" if ran.stdout == USAGE else f"the text {ran.stdout[:100]!r}")
     if ran.stderr:
-        wrong.append("%r on standard error" % ran.stderr[:100])
+        wrong.append(f"{ran.stderr[:100]!r} on standard error")
     if bytes_read != wanted.bytes_read:
-        wrong.append("%d bytes read in place of %d" % (bytes_read, wanted.bytes_read))
+        wrong.append(f"{bytes_read} bytes read in place of {wanted.bytes_read}")
     names = sorted({*files, *wanted.files})
-    return wrong + ["another file %r" % name for name in names if files.get(name) != wanted.files.get(name)]
+    return wrong + [
+        f"another file {name!r}" for name in names if files.get(name) != wanted.files.get(name)
+    ]
 
 
 def compare(program, seed, count, folder):
     """Runs the program on lines of a seed, tells what differs, and gives the status."""
     wrong, times = 0, collections.Counter()
     for number in range(count):
-        words, input = line(seed, number), random.Random("input %d %d" % (seed, number)).choice(INPUTS)
+        words, input = line(seed, number), random.Random(f"input {seed} {number}").choice(INPUTS)
         times[answer(words)] += 1
         found = differences(program, words, input, folder)
         if found:
             wrong += 1
-            print("line %d: %s: %r" % (number, ", ".join(found), words), flush=True)
+            print(f"line {number}: {', '.join(found)}: {words!r}", flush=True)
     answers = [READ, CHECKED, RENDERED, *REASONS]
     for name in answers:
-        print("%s: %d" % (name, times[name]))
-    print("%d of %d lines differ" % (wrong, count))
+        print(f"{name}: {times[name]}")
+    print(f"{wrong} of {count} lines differ")
     return 1 if wrong or not all(times[name] for name in answers) else 0
 
 
@@ -349,12 +498,22 @@ def show(words):
         print("no reading:", reason)
 
 
-def main():
-    parser = argparse.ArgumentParser(usage=__doc__)
-    parser.add_argument("--count", type=int, default=1000)
-    parser.add_argument("--seed", type=int, default=1)
-    parser.add_argument("--program", metavar="FILE")
-    parser.add_argument("--print", type=int, metavar="NUMBER")
+def main() -> int:
+    """Compares lines, or prints one."""
+    parser = argparse.ArgumentParser(
+        prog="tools/command-lines",
+        description=__doc__,
+        formatter_class=argparse.RawDescriptionHelpFormatter,
+    )
+    parser.add_argument("--count", type=int, default=1000, help="how many lines, 1,000 by default")
+    parser.add_argument("--seed", type=int, default=1, help="the seed of the lines, 1 by default")
+    parser.add_argument("--program", metavar="FILE", help="the program that is run on the lines")
+    parser.add_argument(
+        "--print",
+        type=int,
+        metavar="NUMBER",
+        help="print the line of this number and its reading, and run nothing",
+    )
     given = parser.parse_args()
     if given.print is not None:
         show(line(given.seed, given.print))

@@ -1,14 +1,11 @@
-"""Works out what 5,000 random delays make of random samples: a second calculation, apart from the crates'
-own.
+"""Works out what 5,000 random delays make of random samples: a second calculation, apart from the
+crates' own.
 
-    python3 tools/delays.py            the digest of what their readers give, which
-                                       crates/effect_tests/src/delay_digests.rt is to give too
-    python3 tools/delays.py --count    how often a block could be read, how many of its samples were 0, and
-                                       how many were mixed up
+It follows the rules of docs/PROFILE.md for delays in the plainest way: a delay keeps all that its
+writer wrote since its birth, and each sample is looked up by itself. Only the random numbers are
+made as the tests make them. It needs Python 3 and nothing else.
 
-It follows the rules of docs/PROFILE.md for delays in the plainest way: a delay keeps all that its writer
-wrote since its birth, and each sample is looked up by itself. Only the random numbers are made as the tests
-make them. It needs Python 3 and nothing else.
+The digest is that which crates/effect_tests/src/delay_digests.rt is to give too.
 """
 
 import collections
@@ -16,7 +13,8 @@ import collections
 from waplay_tools import digests
 from waplay_tools.digests import mixed
 
-# Which channel each channel repeats where loudspeakers are mixed up; all other pairs keep their channels.
+# Which channel each channel repeats where loudspeakers are mixed up; all other pairs keep their
+# channels.
 SPEAKERS = {
     (1, 2): (0, 0),
     (1, 4): (0, 0, None, None),
@@ -49,7 +47,8 @@ class Delay:
         return g < 0 or g < written <= g + self.capacity + self.block
 
     def read(self, channels, first, delays, is_discrete, counts):
-        """The samples of each channel in turn, or None where the delay does not keep what is asked for."""
+        """The samples of each channel in turn, or None where the delay does not keep what is asked
+        for."""
         if not all(self.has(first + k, d) for k, d in enumerate(delays)):
             return None
         block = []
@@ -77,7 +76,7 @@ def read(delay, random, digest, first, least, counts):
     delays = delays_of(random, least, delay.capacity)
     is_discrete = random.below(3) == 0
     channels = max(delay.most, 1 + random.below(6))
-    samples = delay.read(channels, first, delays[:delay.block], is_discrete, counts)
+    samples = delay.read(channels, first, delays[: delay.block], is_discrete, counts)
     counts["read" if samples is not None else "not read"] += 1
     if samples is None:
         return mixed(digest, 0)
@@ -105,13 +104,15 @@ def one_delay(random, digest, counts):
     return digest
 
 
-def main():
+def main() -> None:
+    """Prints the digest, or how often each case came up."""
+    is_counted = digests.is_counted("tools/delays", __doc__)
     random = digests.Random(2026)
     digest = digests.EMPTY
     counts = collections.Counter()
     for _ in range(5_000):
         digest = one_delay(random, digest, counts)
-    digests.tell(digest, counts)
+    digests.tell(digest, counts, is_counted)
 
 
 if __name__ == "__main__":

@@ -1,11 +1,12 @@
-"""What the second calculations of tools/timelines.py, tools/filters.py and tools/delays.py share: the random
-numbers and the digest, both made as the tests make them, what they print, and the rounding of
-docs/PROFILE.md."""
+"""What the second calculations of tools/timelines, tools/filters and tools/delays share:
+the random numbers and the digest, both made as the tests make them, what they print, and the
+rounding of docs/PROFILE.md."""
 
-import sys
+import argparse
+import collections
 
 MASK = 2**64 - 1
-LEAST, GREATEST = -2**31, 2**31 - 1
+LEAST, GREATEST = -(2**31), 2**31 - 1
 
 # The digest of nothing.
 EMPTY = 14695981039346656037
@@ -30,9 +31,20 @@ def rounded(num, den):
     return (2 * num + den) // (2 * den)
 
 
-def tell(digest, counts):
-    """Prints the digest, or with --count how often each case came up."""
-    if sys.argv[1:] == ["--count"]:
+def is_counted(name: str, what: str) -> bool:
+    """Whether the command line of the tool of this name has --count."""
+    words = argparse.ArgumentParser(
+        prog=name, description=what, formatter_class=argparse.RawDescriptionHelpFormatter
+    )
+    words.add_argument(
+        "--count", action="store_true", help="print how often each case came up, and not the digest"
+    )
+    return words.parse_args().count
+
+
+def tell(digest: int, counts: collections.Counter, is_counted: bool) -> None:
+    """Prints the digest, or how often each case came up."""
+    if is_counted:
         for name, count in sorted(counts.items(), key=str):
             print(count, name)
     else:

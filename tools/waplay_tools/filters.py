@@ -1,14 +1,11 @@
-"""Works out what 10,000 random IIR filters and as many wave shapers make of random samples: a second
-calculation, apart from the crates' own.
+"""Works out what 10,000 random IIR filters and as many wave shapers make of random samples: a
+second calculation, apart from the crates' own.
 
-    python3 tools/filters.py            the digest of all refusals and outputs, which
-                                        crates/effect_tests/src/causal_digests.rt is to give too
-    python3 tools/filters.py --count    how often each refusal was given, and how many outputs of filters
-                                        were saturated
+It follows the rules of docs/PROFILE.md for the two kinds in the plainest way: a filter keeps all
+frames since its birth, and each sum is taken over all of them. Only the random numbers are made as
+the tests make them. It needs Python 3 and nothing else.
 
-It follows the rules of docs/PROFILE.md for the two kinds in the plainest way: a filter keeps all frames
-since its birth, and each sum is taken over all of them. Only the random numbers are made as the tests make
-them. It needs Python 3 and nothing else.
+The digest is that which crates/effect_tests/src/causal_digests.rt is to give too.
 """
 
 import collections
@@ -124,8 +121,8 @@ REFUSALS = (None, "NotSupportedError", "InvalidStateError")
 def one_filter(random, digest, counts):
     forward, back = random.coefficients(), random.coefficients()
     back[0] = random.divisor(back[0])
-    forward = forward[:random.count()]
-    back = back[:random.count()]
+    forward = forward[: random.count()]
+    back = back[: random.count()]
     refusal = filter_refusal(forward, back)
     counts["filter", refusal] += 1
     digest = mixed(digest, REFUSALS.index(refusal))
@@ -142,14 +139,16 @@ def one_shaper(random, digest, counts):
     return digest if refusal else played(Shaper(curve), random, digest, counts)
 
 
-def main():
+def main() -> None:
+    """Prints the digest, or how often each case came up."""
+    is_counted = digests.is_counted("tools/filters", __doc__)
     random = Samples(2025)
     digest = digests.EMPTY
     counts = collections.Counter()
     for _ in range(10_000):
         digest = one_filter(random, digest, counts)
         digest = one_shaper(random, digest, counts)
-    digests.tell(digest, counts)
+    digests.tell(digest, counts, is_counted)
 
 
 if __name__ == "__main__":

@@ -1,10 +1,10 @@
 """Runs the gate and says what its parts took of the processor, against their budget.
 
-The parts are the proofs of the crates that the program is made of, the must-fail edits with the proofs that
-they begin with, and the proofs of the crates of tests and tools. A part is told by the folder and the words
-of each process below the gate, which is looked at twice a second; what is too short to be seen is the rest.
-What an earlier run on the machine passed is kept, so the figures are those of a whole gate only on a machine
-that has kept nothing.
+The parts are the proofs of the crates that the program is made of, the must-fail edits with the
+proofs that they begin with, and the proofs of the crates of tests and tools. A part is told by the
+folder and the words of each process below the gate, which is looked at twice a second; what is too
+short to be seen is the rest. What an earlier run on the machine passed is kept, so the figures are
+those of a whole gate only on a machine that has kept nothing.
 """
 
 import argparse
@@ -124,7 +124,8 @@ def report(minutes: dict[str, float], budget: dict[str, float]) -> list[str]:
     rows = [(part, minutes[part], budget[part]) for part in minutes]
     rows.append(("all", sum(minutes.values()), budget["all"]))
     return [
-        f"budget: {part}: {took:.1f} of {most:g} minutes of a processor" + (" OVER" if took > most else "")
+        f"budget: {part}: {took:.1f} of {most:g} minutes of a processor"
+        + (" OVER" if took > most else "")
         for part, took, most in rows
     ]
 
@@ -135,13 +136,20 @@ def dearest(processes: list[Process], number: int) -> list[str]:
     for process in processes:
         if process.crate:
             seconds[process.part, process.crate] += process.seconds
-    return [f"    {part} {crate}: {took / 60:.1f}" for (part, crate), took in seconds.most_common(number)]
+    return [
+        f"    {part} {crate}: {took / 60:.1f}"
+        for (part, crate), took in seconds.most_common(number)
+    ]
 
 
 def main() -> int:
     parser = argparse.ArgumentParser(prog="tools/gate-budget", description=__doc__)
-    parser.add_argument("--crates", type=int, default=0, metavar="N", help="also list the N dearest crates by part")
-    parser.add_argument("command", nargs=argparse.REMAINDER, help="the gate's command; rt ci where it is absent")
+    parser.add_argument(
+        "--crates", type=int, default=0, metavar="N", help="also list the N dearest crates by part"
+    )
+    parser.add_argument(
+        "command", nargs=argparse.REMAINDER, help="the gate's command; rt ci where it is absent"
+    )
     asked = parser.parse_args()
     budget = tomllib.loads(BUDGET.read_text(encoding="utf-8"))
     product = crates_below("waplay", (TOP / "crates.txt").read_text(encoding="utf-8"))

@@ -1,18 +1,16 @@
-"""Compares waplay with tools/expected.py on scripts that are hard on parameters and their timelines, and measures it.
+"""Compares waplay with tools/expected.py on scripts that are hard on parameters and their
+timelines, and measures it.
 
-    python3 tools/hard_timelines.py --program FILE          all of them
-    python3 tools/hard_timelines.py --program FILE NAME..   those of these names
-    python3 tools/hard_timelines.py --write FOLDER [NAME..] writes them: FOLDER/NAME.json
+They are: every operation on a parameter, on parameters that none may change and on nodes without
+the parameter; times and durations at the ends of their range and past them; curves of no point, of
+one, and of 100,000, also over fewer frames than they have points; 10,000 events in one timeline,
+put in forwards, backwards, at one time and at random, and taken away by cancels and holds, at
+suspensions too; 1,000 timelines of as many events as a script has room for, and one of 1,000 events
+each, which is too long; and 100,000 reads of a value and of the state.
 
-They are: every operation on a parameter, on parameters that none may change and on nodes without the parameter; times
-and durations at the ends of their range and past them; curves of no point, of one, and of 100,000, also over fewer
-frames than they have points; 10,000 events in one timeline, put in forwards, backwards, at one time and at random, and
-taken away by cancels and holds, at suspensions too; 1,000 timelines of as many events as a script has room for, and one
-of 1,000 events each, which is too long; and 100,000 reads of a value and of the state.
-
-Of each script the status, the transcript and every byte of the file are compared. It prints a line for each with the
-user time and the peak memory of the run, and last how many differ. The status is 0 where none does. It needs Python 3
-and GNU time.
+Of each script the status, the transcript and every byte of the file are compared. It prints a line
+for each with the user time and the peak memory of the run, and last how many differ. The status is
+0 where none does. It needs Python 3 and GNU time.
 """
 
 import argparse
@@ -39,23 +37,44 @@ from waplay_tools.random_scripts.loads import (
 )
 
 LONGEST = 2**24  # bytes of a script
-TIMED = ["setValueAtTime", "linearRampToValueAtTime", "setValueCurveAtTime", "cancelScheduledValues", "cancelAndHoldAtTime"]
+TIMED = [
+    "setValueAtTime",
+    "linearRampToValueAtTime",
+    "setValueCurveAtTime",
+    "cancelScheduledValues",
+    "cancelAndHoldAtTime",
+]
 FIELDS = {"value": 1, "time": 0, "values": [0, ONE], "duration": 128}
-NEEDED = {"setValue": ["value"], "setValueAtTime": ["value", "time"], "linearRampToValueAtTime": ["value", "time"],
-          "setValueCurveAtTime": ["values", "time", "duration"], "cancelScheduledValues": ["time"],
-          "cancelAndHoldAtTime": ["time"]}
+NEEDED = {
+    "setValue": ["value"],
+    "setValueAtTime": ["value", "time"],
+    "linearRampToValueAtTime": ["value", "time"],
+    "setValueCurveAtTime": ["values", "time", "duration"],
+    "cancelScheduledValues": ["time"],
+    "cancelAndHoldAtTime": ["time"],
+}
 
 
 def operation(op, node, param, **fields):
     """A call of an operation on a parameter."""
-    call = {"op": op, "node": node, "param": param, **{name: FIELDS[name] for name in NEEDED.get(op, [])}}
+    call = {
+        "op": op,
+        "node": node,
+        "param": param,
+        **{name: FIELDS[name] for name in NEEDED.get(op, [])},
+    }
     return {**call, **({"value": "k-rate"} if op == "setAutomationRate" else {}), **fields}
 
 
 def played(calls, length=512):
-    """The calls on the gain of `g`, through which a constant of 1.0 sounds. The gain is read before and after them."""
+    """The calls on the gain of `g`, through which a constant of 1.0 sounds. The gain is read before
+    and after them."""
     read = operation("readValue", "g", "gain")
-    return script_with(1, length, sounding("c", ONE) + gain("g", 0, "c") + [joined("g", "destination"), read, *calls, read])
+    return script_with(
+        1,
+        length,
+        sounding("c", ONE) + gain("g", 0, "c") + [joined("g", "destination"), read, *calls, read],
+    )
 
 
 def put_in(op, **fields):
@@ -66,12 +85,28 @@ def put_in(op, **fields):
 
 
 def every_parameter():
-    nodes = {"c": "createConstantSource", "g": "createGain", "d": "createDelay", "s": "createBufferSource",
-             "w": "createWaveShaper", "p": "createChannelSplitter", "m": "createChannelMerger"}
+    nodes = {
+        "c": "createConstantSource",
+        "g": "createGain",
+        "d": "createDelay",
+        "s": "createBufferSource",
+        "w": "createWaveShaper",
+        "p": "createChannelSplitter",
+        "m": "createChannelMerger",
+    }
     calls = [{"op": op, "as": name} for name, op in nodes.items()]
     for op in [*EDITS, *LEFT_OUT_EDITS, "readValue"]:
         for node in [*nodes, "destination", "nobody", ""]:
-            for param in ["offset", "gain", "delayTime", "playbackRate", "detune", "frequency", "Gain", ""]:
+            for param in [
+                "offset",
+                "gain",
+                "delayTime",
+                "playbackRate",
+                "detune",
+                "frequency",
+                "Gain",
+                "",
+            ]:
                 calls.append(operation(op, node, param))
     for op in ["connectParam", "disconnectParam"]:
         for node in [*nodes, "destination", "nobody"]:
@@ -94,16 +129,19 @@ def times():
 
 
 def faults():
-    """Of each operation with a time one script for each that is none, and of curves for each duration."""
+    """Of each operation with a time one script for each that is none, and of curves for each
+    duration."""
     scripts = {}
     wrong = [TIME + 1, -TIME - 1, 2**63, 2**64, -(2**63) - 1, 1.0, 0.5, "0", None, [0], True]
     for op in TIMED:
         for i, time in enumerate(wrong):
-            scripts["%s_time_%d" % (op, i)] = played([put_in(op, time=time)])
+            scripts[f"{op}_time_{i}"] = played([put_in(op, time=time)])
     for i, duration in enumerate(wrong):
-        scripts["duration_%d" % i] = played([put_in("setValueCurveAtTime", duration=duration)])
-    for i, values in enumerate([[2**31], [0.5, 2**31], [None], 0, None, {}, "", [[0, 1]], [-(2**31) - 1, 0]]):
-        scripts["values_%d" % i] = played([put_in("setValueCurveAtTime", values=values)])
+        scripts[f"duration_{i}"] = played([put_in("setValueCurveAtTime", duration=duration)])
+    for i, values in enumerate(
+        [[2**31], [0.5, 2**31], [None], 0, None, {}, "", [[0, 1]], [-(2**31) - 1, 0]]
+    ):
+        scripts[f"values_{i}"] = played([put_in("setValueCurveAtTime", values=values)])
     return scripts
 
 
@@ -117,20 +155,32 @@ def short_curves():
     for count in [0, 1, 2, 3]:
         for duration in [0, 1, 2, 3]:
             for time in [-1, 0, 100 * count + 10 * duration]:
-                calls.append(put_in("setValueCurveAtTime", values=points(count), time=time, duration=duration))
+                calls.append(
+                    put_in(
+                        "setValueCurveAtTime", values=points(count), time=time, duration=duration
+                    )
+                )
     return played(calls)
 
 
 def long_curve(duration, rate="a-rate"):
-    calls = [put_in("setAutomationRate", value=rate),
-             put_in("setValueCurveAtTime", values=points(100000), time=5, duration=duration),
-             put_in("setValueAtTime", time=min(TIME, 5 + duration), value=ONE)]
+    calls = [
+        put_in("setAutomationRate", value=rate),
+        put_in("setValueCurveAtTime", values=points(100000), time=5, duration=duration),
+        put_in("setValueAtTime", time=min(TIME, 5 + duration), value=ONE),
+    ]
     return played(calls, 4096)
 
 
 def curves_in_a_row():
     """2,000 curves of 5 points over 3 frames each, one behind the other."""
-    return played([put_in("setValueCurveAtTime", values=points(5), time=3 * k, duration=3) for k in range(2000)], 6100)
+    return played(
+        [
+            put_in("setValueCurveAtTime", values=points(5), time=3 * k, duration=3)
+            for k in range(2000)
+        ],
+        6100,
+    )
 
 
 def events(order):
@@ -142,8 +192,14 @@ def events(order):
         rng.shuffle(times)
     if order == "at_one_time":
         times = [300] * 10000
-    return [put_in("linearRampToValueAtTime" if k % 3 else "setValueAtTime", time=time, value=rng.randint(-ONE, ONE))
-            for k, time in enumerate(times)]
+    return [
+        put_in(
+            "linearRampToValueAtTime" if k % 3 else "setValueAtTime",
+            time=time,
+            value=rng.randint(-ONE, ONE),
+        )
+        for k, time in enumerate(times)
+    ]
 
 
 def events_in(order):
@@ -156,20 +212,38 @@ def events_cancelled():
     for k in range(20000, 10000, -100):
         calls.append(put_in("cancelScheduledValues" if k % 200 else "cancelAndHoldAtTime", time=k))
     for time in range(1280, 10000, 1280):
-        calls.append(suspension(time, put_in("readValue"), put_in("cancelAndHoldAtTime", time=20000 - time),
-                                put_in("setValue", value=time), put_in("readValue")))
+        calls.append(
+            suspension(
+                time,
+                put_in("readValue"),
+                put_in("cancelAndHoldAtTime", time=20000 - time),
+                put_in("setValue", value=time),
+                put_in("readValue"),
+            )
+        )
     calls.append(suspension(10240, put_in("cancelScheduledValues", time=0), put_in("readValue")))
     return played(calls, 20100)
 
 
 def events_at_suspensions():
     """An event before each of 1,000 quanta, and one that lies far behind."""
-    return played([suspension(128 * k, put_in("linearRampToValueAtTime", time=128 * k + 64, value=k * 100),
-                              put_in("setValueAtTime", time=TIME - k)) for k in range(1, 1001)], 128 * 1001)
+    return played(
+        [
+            suspension(
+                128 * k,
+                put_in("linearRampToValueAtTime", time=128 * k + 64, value=k * 100),
+                put_in("setValueAtTime", time=TIME - k),
+            )
+            for k in range(1, 1001)
+        ],
+        128 * 1001,
+    )
 
 
 def many_reads():
-    return script_with(1, 128, gain("g", 7) + [{"op": "readValue", "node": "g", "param": "gain"}] * 100000)
+    return script_with(
+        1, 128, gain("g", 7) + [{"op": "readValue", "node": "g", "param": "gain"}] * 100000
+    )
 
 
 def reads_of_a_long_timeline():
@@ -177,11 +251,16 @@ def reads_of_a_long_timeline():
 
 
 def as_many_timelines(events):
-    """1,000 timelines of so many events, in as few bytes as may be: sets and ramps, of which half go backwards."""
+    """1,000 timelines of so many events, in as few bytes as may be: sets and ramps, of which half
+    go backwards."""
     calls = [{"op": "createConstantSource", "as": "c"}, {"op": "start", "node": "c"}]
     for i in range(1000):
-        name = "%x" % i
-        calls += [{"op": "createGain", "as": name, "gain": 0}, joined("c", name), joined(name, "destination")]
+        name = f"{i:x}"
+        calls += [
+            {"op": "createGain", "as": name, "gain": 0},
+            joined("c", name),
+            joined(name, "destination"),
+        ]
         for k in range(events):
             op = "linearRampToValueAtTime" if k % 4 == 3 else "setValueAtTime"
             calls.append(edited(op, name, 9 * k + i, 10 * (k if i % 2 else events - k)))
@@ -189,12 +268,15 @@ def as_many_timelines(events):
 
 
 def many_timelines_at_once():
-    """1,000 timelines of as many events as a script has room for: values that are set before the first frame."""
+    """1,000 timelines of as many events as a script has room for: values that are set before the
+    first frame."""
     calls = [{"op": "createConstantSource", "as": "c"}, {"op": "start", "node": "c"}]
     for i in range(1000):
-        name = "%x" % i
+        name = f"{i:x}"
         calls += [{"op": "createGain", "as": name}, joined("c", name), joined(name, "destination")]
-        calls += [{"op": "setValue", "node": name, "param": "gain", "value": k % 10} for k in range(285)]
+        calls += [
+            {"op": "setValue", "node": name, "param": "gain", "value": k % 10} for k in range(285)
+        ]
     return script_with(1, 2560, calls)
 
 
@@ -228,7 +310,11 @@ def scripts_of(names):
     """The scripts of these names, as bytes, by name. Those of several have a number behind it."""
     for name in names:
         made = SCRIPTS[name]()
-        several = {name: made} if "version" in made else {name + "_" + part: it for part, it in made.items()}
+        several = (
+            {name: made}
+            if "version" in made
+            else {name + "_" + part: it for part, it in made.items()}
+        )
         for each, script in several.items():
             yield each, json.dumps(script, separators=(",", ":")).encode()
 
@@ -244,8 +330,12 @@ def expected(data):
 def measured(program, data, folder):
     """What the program gives, with its user time in seconds and its peak memory in MiB."""
     out, times = os.path.join(folder, "out.wav"), os.path.join(folder, "times")
-    ran = subprocess.run([shutil.which("time"), "-q", "-o", times, "-f", "%U %M", program, out], input=data,
-                         stdout=subprocess.PIPE, timeout=600)
+    ran = subprocess.run(
+        [shutil.which("time"), "-q", "-o", times, "-f", "%U %M", program, out],
+        input=data,
+        stdout=subprocess.PIPE,
+        timeout=600,
+    )
     file = None
     if os.path.exists(out):
         with open(out, "rb") as wav:
@@ -262,25 +352,57 @@ def compare(program, names):
         for name, data in scripts_of(names):
             found, seconds, memory = measured(program, data, folder)
             wanted = expected(data)
-            different = [what for what, a, b in zip(("status %d" % found[0], "transcript", "WAV file"), found, wanted) if a != b]
-            print("%s: %.2f s, %.1f MiB, %d bytes, status %d%s" % (
-                name, seconds, memory, len(data), found[0], "".join(", DIFFERS: " + it for it in different)), flush=True)
+            different = [
+                what
+                for what, a, b in zip(
+                    (f"status {found[0]}", "transcript", "WAV file"), found, wanted
+                )
+                if a != b
+            ]
+            print(
+                "%s: %.2f s, %.1f MiB, %d bytes, status %d%s"
+                % (
+                    name,
+                    seconds,
+                    memory,
+                    len(data),
+                    found[0],
+                    "".join(", DIFFERS: " + it for it in different),
+                ),
+                flush=True,
+            )
             count += 1
             wrong += bool(different)
-    print("%d scripts, %d differences" % (count, wrong))
+    print(f"{count} scripts, {wrong} differences")
     return 1 if wrong else 0
 
 
-def main():
-    words = argparse.ArgumentParser(usage=__doc__)
-    words.add_argument("names", nargs="*", metavar="NAME")
-    words.add_argument("--program", default=BUILT)
-    words.add_argument("--write", metavar="FOLDER")
+def main() -> int:
+    """Compares scripts, or writes them."""
+    words = argparse.ArgumentParser(
+        prog="tools/hard-timelines",
+        description=__doc__,
+        formatter_class=argparse.RawDescriptionHelpFormatter,
+    )
+    words.add_argument(
+        "names", nargs="*", metavar="NAME", help="a script; all of them where none is named"
+    )
+    words.add_argument(
+        "--program",
+        default=BUILT,
+        metavar="FILE",
+        help="the program, that which tools/prove has built by default",
+    )
+    words.add_argument(
+        "--write",
+        metavar="FOLDER",
+        help="write the scripts to FOLDER/NAME.json, and compare nothing",
+    )
     words = words.parse_args()
     names, program = words.names or list(SCRIPTS), os.path.abspath(words.program)
     unknown = [name for name in names if name not in SCRIPTS]
     if unknown:
-        print("hard_timelines: no script has the name %s" % ascii(unknown[0]), file=sys.stderr)
+        print(f"hard_timelines: no script has the name {ascii(unknown[0])}", file=sys.stderr)
         return 2
     if words.write:
         os.makedirs(words.write, exist_ok=True)
@@ -289,7 +411,7 @@ def main():
                 file.write(data)
         return 0
     if not os.access(program, os.X_OK):
-        print("%s is no program: run ./waplay once, which builds it" % program)
+        print(f"{program} is no program: run tools/prove once, which builds it")
         return 2
     return compare(program, names)
 

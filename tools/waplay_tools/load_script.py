@@ -1,11 +1,10 @@
-"""Writes a script that is a load: 200 voices of a constant and a gain with a ramp, of which each eighth goes through a
-delay that is fed back. Its numbers are drawn from a number from 0 to 9,999, so that there are as many loads.
+"""Writes a script that is a load: 200 voices of a constant and a gain with a ramp, of which each
+eighth goes through a delay that is fed back. Its numbers are drawn from a number from 0 to 9,999,
+so that there are as many loads.
 
-    python3 tools/load_script.py N > load.json
-    python3 tools/expected.py load.json --summary
-
-The draws are those of a linear congruential generator: of 31 bits of state, the highest 15 are drawn from. With
-every N there are 1,768 calls, and 451 nodes with the destination. It needs Python 3 and nothing else.
+The draws are those of a linear congruential generator: of 31 bits of state, the highest 15 are
+drawn from. With every N there are 1,768 calls, and 451 nodes with the destination. It needs Python
+3 and nothing else.
 """
 
 import argparse
@@ -34,40 +33,65 @@ def connected(source, target):
 
 def echo(i, time):
     """A delay of this voice, which is heard, and fed back by a half."""
-    voice, delay, feedback = "g%d" % i, "d%d" % i, "f%d" % i
-    return [{"op": "createDelay", "as": delay, "delayTime": time}, {"op": "createGain", "as": feedback, "gain": HALF},
-            connected(voice, delay), connected(delay, feedback), connected(feedback, delay), connected(delay, "destination")]
+    voice, delay, feedback = f"g{i}", f"d{i}", f"f{i}"
+    return [
+        {"op": "createDelay", "as": delay, "delayTime": time},
+        {"op": "createGain", "as": feedback, "gain": HALF},
+        connected(voice, delay),
+        connected(delay, feedback),
+        connected(feedback, delay),
+        connected(delay, "destination"),
+    ]
 
 
 def voice(i, draws):
     offset, top, length, time = (draws.draw(count) for count in (2048, 32768, 4096, 240))
-    source, fade = "c%d" % i, "g%d" % i
+    source, fade = f"c{i}", f"g{i}"
     gain = {"node": fade, "param": "gain"}
-    calls = [{"op": "createConstantSource", "as": source, "offset": (offset - 1024) * 64},
-             {"op": "createGain", "as": fade, "gain": 0},
-             {"op": "setValueAtTime", **gain, "value": 0, "time": 0},
-             {"op": "linearRampToValueAtTime", **gain, "value": top * 256, "time": 1 + 64 * length},
-             connected(source, fade)]
+    calls = [
+        {"op": "createConstantSource", "as": source, "offset": (offset - 1024) * 64},
+        {"op": "createGain", "as": fade, "gain": 0},
+        {"op": "setValueAtTime", **gain, "value": 0, "time": 0},
+        {"op": "linearRampToValueAtTime", **gain, "value": top * 256, "time": 1 + 64 * length},
+        connected(source, fade),
+    ]
     calls += echo(i, time * 65536) if i % 8 == 7 else [connected(fade, "destination")]
-    return calls + [{"op": "start", "node": source, "when": 128 * (i % 50)},
-                    {"op": "stop", "node": source, "when": HALFTIME + 128 * i}]
+    return calls + [
+        {"op": "start", "node": source, "when": 128 * (i % 50)},
+        {"op": "stop", "node": source, "when": HALFTIME + 128 * i},
+    ]
 
 
 def script(number):
     """The script of a number."""
     draws = Draws(number)
     calls = [call for i in range(VOICES) for call in voice(i, draws)]
-    cuts = [{"op": "setValue", "node": "g%d" % i, "param": "gain", "value": 0} for i in range(0, VOICES, 5)]
-    calls += [{"op": "suspend", "time": HALFTIME, "then": [*cuts, {"op": "resume"}]}, {"op": "startRendering"}]
-    return {"version": 1, "context": {"channels": 2, "length": LENGTH, "rate": RATE}, "calls": calls}
+    cuts = [
+        {"op": "setValue", "node": f"g{i}", "param": "gain", "value": 0}
+        for i in range(0, VOICES, 5)
+    ]
+    calls += [
+        {"op": "suspend", "time": HALFTIME, "then": [*cuts, {"op": "resume"}]},
+        {"op": "startRendering"},
+    ]
+    return {
+        "version": 1,
+        "context": {"channels": 2, "length": LENGTH, "rate": RATE},
+        "calls": calls,
+    }
 
 
-def main():
-    words = argparse.ArgumentParser(usage=__doc__)
-    words.add_argument("number", type=int)
+def main() -> int:
+    """Prints the script."""
+    words = argparse.ArgumentParser(
+        prog="tools/load-script",
+        description=__doc__,
+        formatter_class=argparse.RawDescriptionHelpFormatter,
+    )
+    words.add_argument("number", type=int, metavar="N", help="the number of the load, 0 to 9999")
     number = words.parse_args().number
     if not 0 <= number <= 9999:
-        print("load_script.py: a number from 0 to 9999 is wanted", file=sys.stderr)
+        print("load-script: a number from 0 to 9999 is wanted", file=sys.stderr)
         return 2
     print(json.dumps(script(number)))
     return 0

@@ -15,9 +15,9 @@ from waplay_tools.expecting.wav_reading import Recording, WavFault, recording_of
 
 ONE = 2**24
 COLUMNS = 400
-WIDTH = 800   # of a strip, in pixels
-HALF = 60     # of its height
-GAP = 24      # between strips, where the text stands
+WIDTH = 800  # of a strip, in pixels
+HALF = 60  # of its height
+GAP = 24  # between strips, where the text stands
 
 
 def columns_of(samples: Sequence[int]) -> Iterator[tuple[int, int]]:
@@ -25,7 +25,7 @@ def columns_of(samples: Sequence[int]) -> Iterator[tuple[int, int]]:
     count = min(COLUMNS, len(samples))
     ends = [column * len(samples) // count for column in range(count + 1)]
     for begin, end in zip(ends, ends[1:]):
-        there = samples[max(0, begin - 1):end]
+        there = samples[max(0, begin - 1) : end]
         yield min(there), max(there)
 
 
@@ -63,14 +63,17 @@ def picture(recording: Recording) -> Iterator[str]:
 
 def main() -> int:
     """Prints the picture of the file that is named."""
-    words = argparse.ArgumentParser(prog="picture.py", description=__doc__,
-                                    formatter_class=argparse.RawDescriptionHelpFormatter)
+    words = argparse.ArgumentParser(
+        prog="tools/picture",
+        description=__doc__,
+        formatter_class=argparse.RawDescriptionHelpFormatter,
+    )
     words.add_argument("wav", type=Path, metavar="WAV", help="the file; the picture is printed")
     path = words.parse_args().wav
     try:
         recording = recording_of(path.read_bytes())
     except (OSError, WavFault) as fault:
-        print(f"picture.py: {path}: {fault}", file=sys.stderr)
+        print(f"picture: {path}: {fault}", file=sys.stderr)
         return 1
     print("\n".join(picture(recording)))
     return 0

@@ -1,11 +1,11 @@
-"""Writes a page about a session: its sound, its waveform, and its transcript beside the script's calls.
+"""Writes a page about a session: its sound, its waveform, and its transcript beside the script's
+calls.
 
-    tools/report SCRIPT TRANSCRIPT [WAV] [--against WAV2] > report.html
-
-The page stands alone, and its text needs no JavaScript. WAV is the file that the session wrote, and may be
-left out where it wrote none. With --against the page tells the first and the greatest difference between WAV
-and WAV2. The status is 0, or 2 with a sentence on standard error where the input can't be used: a file that
-can't be read, a transcript that does not belong to the script, or a WAV file that is none.
+The page stands alone, and its text needs no JavaScript. WAV is the file that the session wrote, and
+may be left out where it wrote none. With --against the page tells the first and the greatest
+difference between WAV and WAV2. The status is 0, or 2 with a sentence on standard error where the
+input can't be used: a file that can't be read, a transcript that does not belong to the script, or
+a WAV file that is none.
 """
 
 import argparse
@@ -23,10 +23,16 @@ def sound_of(path, script):
         raise BadInput("the session was rendered, so its WAV file is wanted as a third word")
     data = script_reading.bytes_of(path)
     sound = wav_samples.sound_of(data, visible(path))
-    for what, found in ("channels", len(sound.channels)), ("length", sound.frames), ("rate", sound.rate):
+    for what, found in (
+        ("channels", len(sound.channels)),
+        ("length", sound.frames),
+        ("rate", sound.rate),
+    ):
         if found != script.context(what):
-            raise BadInput("%s does not belong to the script: its %s is %d, and the context's is %d"
-                           % (visible(path), what, found, script.context(what)))
+            raise BadInput(
+                "%s does not belong to the script: its %s is %d, and the context's is %d"
+                % (visible(path), what, found, script.context(what))
+            )
     return data, sound
 
 
@@ -49,24 +55,33 @@ def report(words):
     return page.page(session, (words.script, words.wav), sound, data, against)
 
 
-def main():
-    words = argparse.ArgumentParser(description=__doc__, formatter_class=argparse.RawDescriptionHelpFormatter)
-    words.add_argument("script", metavar="SCRIPT")
-    words.add_argument("transcript", metavar="TRANSCRIPT")
-    words.add_argument("wav", metavar="WAV", nargs="?")
-    words.add_argument("--against", metavar="WAV2")
+def main() -> int:
+    """Writes the page to standard output."""
+    words = argparse.ArgumentParser(
+        prog="tools/report",
+        description=__doc__,
+        formatter_class=argparse.RawDescriptionHelpFormatter,
+    )
+    words.add_argument("script", metavar="SCRIPT", help="the script")
+    words.add_argument("transcript", metavar="TRANSCRIPT", help="what the program printed for it")
+    words.add_argument(
+        "wav", metavar="WAV", nargs="?", help="the file that the session wrote, if any"
+    )
+    words.add_argument(
+        "--against", metavar="WAV2", help="tell where this other file differs from WAV"
+    )
     words = words.parse_args()
     try:
         text = report(words)
     except BadInput as bad:
-        print("report: %s" % bad, file=sys.stderr)
+        print(f"report: {bad}", file=sys.stderr)
         return 2
     try:
         sys.stdout.buffer.write(text.encode())
         sys.stdout.flush()
     except OSError as error:
         os.dup2(os.open(os.devnull, os.O_WRONLY), 1)
-        print("report: the page can't be written: %s" % error.strerror, file=sys.stderr)
+        print(f"report: the page can't be written: {error.strerror}", file=sys.stderr)
         return 2
     return 0
 

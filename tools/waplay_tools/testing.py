@@ -1,6 +1,6 @@
-"""Runs what tells whether waplay works: the cases on built programs and on the second calculation, and
-the tests of the tools and of the recorder that need no browser. It needs Python 3 and nothing else; what is
-skipped because something is not installed is said."""
+"""Runs what tells whether waplay works: the cases on built programs and on the second calculation,
+and the tests of the tools and of the recorder that need no browser. It needs Python 3 and nothing
+else; what is skipped because something is not installed is said."""
 
 import argparse
 import concurrent.futures
@@ -36,11 +36,19 @@ def environment(program: Path | None) -> dict[str, str]:
 
 
 def run_module(path: Path, program: Path | None) -> tuple[str, int, int, int, str]:
-    """Runs a module of tests: its name, how many passed, failed and were skipped, and what it printed."""
+    """Runs a module of tests: its name, how many passed, failed and were skipped, and what it
+    printed."""
     command = [sys.executable, "-m", "unittest", "-v", path.stem]
     done = subprocess.run(
-        command, cwd=path.parent, env=environment(program), text=True, errors="replace", check=False,
-        stdin=subprocess.DEVNULL, stdout=subprocess.PIPE, stderr=subprocess.STDOUT,
+        command,
+        cwd=path.parent,
+        env=environment(program),
+        text=True,
+        errors="replace",
+        check=False,
+        stdin=subprocess.DEVNULL,
+        stdout=subprocess.PIPE,
+        stderr=subprocess.STDOUT,
     )
     ran = _RAN.search(done.stdout)
     if not ran:
@@ -56,7 +64,9 @@ def run_modules(paths: list[Path], program: Path | None) -> tuple[int, int]:
     """Runs modules of tests side by side, and says what failed or was skipped."""
     passed_by_all = failed_by_all = 0
     with concurrent.futures.ThreadPoolExecutor(os.cpu_count()) as pool:
-        for name, passed, failed, skipped, text in pool.map(run_module, paths, [program] * len(paths)):
+        for name, passed, failed, skipped, text in pool.map(
+            run_module, paths, [program] * len(paths)
+        ):
             print(f"{name}: {passed} passed" + f", {failed} failed" * (failed > 0))
             if failed:
                 print(text)
@@ -70,7 +80,9 @@ def run_cases(programs: list[Path]) -> tuple[int, int]:
     """Runs the cases on these programs, and on the shipped one where there are none."""
     words = [word for program in programs for word in ("--program", str(program))]
     command = [sys.executable, "-m", "waplay_tools.cases", *words]
-    done = subprocess.run(command, env=environment(None), stdout=subprocess.PIPE, text=True, check=False)
+    done = subprocess.run(
+        command, env=environment(None), stdout=subprocess.PIPE, text=True, check=False
+    )
     *lines, last = done.stdout.splitlines() or [""]
     print("\n".join(lines), flush=True)
     told = re.fullmatch(r"(\d+) passed, (\d+) failed", last)
@@ -90,12 +102,20 @@ def run_ruff() -> tuple[int, int]:
 def main() -> int:
     parser = argparse.ArgumentParser(prog="./test", description=__doc__)
     parser.add_argument(
-        "--program", action="append", type=Path, default=[], metavar="FILE",
+        "--program",
+        action="append",
+        type=Path,
+        default=[],
+        metavar="FILE",
         help="test this program; may stand several times; the shipped one where it is absent",
     )
-    parser.add_argument("--browser", action="store_true", help="also run the tests that want a browser")
     parser.add_argument(
-        "--before", default="0 passed, 0 failed", metavar="LINE",
+        "--browser", action="store_true", help="also run the tests that want a browser"
+    )
+    parser.add_argument(
+        "--before",
+        default="0 passed, 0 failed",
+        metavar="LINE",
         help="a last line, 'N passed, M failed', whose numbers are added to those of this run",
     )
     asked = parser.parse_args()

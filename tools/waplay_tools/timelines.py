@@ -1,13 +1,11 @@
-"""Works out what 20,000 random lists of edits make of a timeline: a second calculation, apart from the
-crates' own.
+"""Works out what 20,000 random lists of edits make of a timeline: a second calculation, apart from
+the crates' own.
 
-    python3 tools/timelines.py            the digest of all answers and values, which
-                                          crates/time_tests/src/digests.rt is to give too
-    python3 tools/timelines.py --count    how often each answer was given, and each kind of event was left
+It follows the rules of docs/MEANING.md ("The timeline of a parameter") in the plainest way: a
+timeline is a list that is rebuilt by each edit, and each value is found anew among all events. Only
+the random numbers are made as the tests make them. It needs Python 3 and nothing else.
 
-It follows the rules of docs/MEANING.md ("The timeline of a parameter") in the plainest way: a timeline is
-a list that is rebuilt by each edit, and each value is found anew among all events. Only the random numbers
-are made as the tests make them. It needs Python 3 and nothing else.
+The digest is that which crates/time_tests/src/digests.rt is to give too.
 """
 
 import collections
@@ -139,7 +137,8 @@ class Timeline:
             return "NegativeTime"
         time = max(time, now)
         self.events = [
-            e for e in self.events
+            e
+            for e in self.events
             if e.time < time and not (e.kind == "curve" and e.time <= time <= e.end)
         ]
         if not any(e.time <= now for e in self.events):
@@ -188,7 +187,9 @@ def answer_number(answer):
     return NUMBERS[answer]
 
 
-def main():
+def main() -> None:
+    """Prints the digest, or how often each case came up."""
+    is_counted = digests.is_counted("tools/timelines", __doc__)
     random = Numbers(2024)
     digest = digests.EMPTY
     counts = collections.Counter()
@@ -202,12 +203,14 @@ def main():
             if random.below(3) == 0:
                 line.slot = random.value()
         counts.update(e.kind for e in line.events)
-        counts["cut curve"] += sum(e.kind == "curve" and e.end < e.time + e.duration for e in line.events)
+        counts["cut curve"] += sum(
+            e.kind == "curve" and e.end < e.time + e.duration for e in line.events
+        )
         digest = mixed(mixed(digest, line.base + 2**31), line.slot + 2**31)
         first = random.below(200)
         for frame in range(first, first + 200):
             digest = mixed(digest, line.value_at(frame) + 2**31)
-    digests.tell(digest, counts)
+    digests.tell(digest, counts, is_counted)
 
 
 if __name__ == "__main__":

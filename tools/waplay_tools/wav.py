@@ -26,10 +26,19 @@ def wav_bytes(form: Form, channels: list[list[int]]) -> bytes:
     )
     padding = len(body) % 2
     step = form.channels * width
-    head = struct.pack("<IHHIIHH", 16, 1, form.channels, form.rate, form.rate * step, step, form.bits)
+    head = struct.pack(
+        "<IHHIIHH", 16, 1, form.channels, form.rate, form.rate * step, step, form.bits
+    )
     size = struct.pack("<I", 36 + len(body) + padding)
     return (
-        b"RIFF" + size + b"WAVEfmt " + head + b"data" + struct.pack("<I", len(body)) + body + bytes(padding)
+        b"RIFF"
+        + size
+        + b"WAVEfmt "
+        + head
+        + b"data"
+        + struct.pack("<I", len(body))
+        + body
+        + bytes(padding)
     )
 
 
@@ -49,5 +58,6 @@ def samples_of(data: bytes, form: Form) -> list[int]:
     body = data[44 : 44 + size]
     whole = len(body) - len(body) % (width * form.channels)
     return [
-        int.from_bytes(body[at : at + width], "little", signed=True) for at in range(0, whole, width)
+        int.from_bytes(body[at : at + width], "little", signed=True)
+        for at in range(0, whole, width)
     ]

@@ -1,15 +1,9 @@
-"""Compares what wav_io::decode gives for WAV files with a second calculation, tools/wav_reading.py.
+"""Compares what wav_io::decode gives for WAV files with a second calculation,
 
-The files are made by Python's module wave and, where it is found, by sox: 8, 16, 24 and 32 bits, 1 to
-8 channels, odd sizes, LIST and fact chunks, WAVE_FORMAT_EXTENSIBLE. Others are those with bytes
-changed, left out or put in, chunks moved and ends cut off. Of each file the answer is compared: rate,
-channels, frames and a digest of all samples, or the fault with its place.
-
-    python3 tools/wav_check.py                        20,000 files, with the program that the gate leaves
-                                                      in crates/wav_dump/out
-    python3 tools/wav_check.py --count 500 --seed 3 --program FILE
-                                                      so many files, of this seed, with this program
-    python3 tools/wav_check.py --line FILE..          the answers of the second calculation alone
+The files are made by Python's module wave and, where it is found, by sox: 8, 16, 24 and 32 bits, 1
+to 8 channels, odd sizes, LIST and fact chunks, WAVE_FORMAT_EXTENSIBLE. Others are those with bytes
+changed, left out or put in, chunks moved and ends cut off. Of each file the answer is compared:
+rate, channels, frames and a digest of all samples, or the fault with its place.
 
 It prints a line for each difference, then how often each answer came up, and last how many files
 differ. The status is 0 where none does and each kind of answer came up.
@@ -48,7 +42,7 @@ def line(data):
     for channel in range(recording.channels):
         for frame in range(recording.frames):
             digest = (digest * FACTOR + recording.sample(channel, frame) % 2**32) % 2**64
-    return "%d %d %d %d" % (recording.rate, recording.channels, recording.frames, digest)
+    return f"{recording.rate} {recording.channels} {recording.frames} {digest}"
 
 
 # The files.
@@ -75,22 +69,35 @@ def made_by_wave(rng):
 
 
 def made_by_hand(rng, rate=None):
-    """With other chunks around, with an extension, with sizes that are odd or promise too much. The rate
-    is one of two, where none is given."""
+    """With other chunks around, with an extension, with sizes that are odd or promise too much. The
+    rate is one of two, where none is given."""
     width, channels = rng.choice((1, 2, 3, 4)), rng.randint(1, 8)
     bits, block = 8 * width, width * channels
     rate = rate or rng.choice((44100, 48000))
     fields = struct.pack("<HIIHH", channels, rate, rng.getrandbits(32), block, bits)
     form = rng.choice(("plain", "longer", "extended"))
     if form == "extended":
-        body = b"\xfe\xff" + fields + struct.pack("<HHI", 22, bits, rng.getrandbits(8)) + PCM + rng.randbytes(rng.choice((0, 0, 3)))
+        body = (
+            b"\xfe\xff"
+            + fields
+            + struct.pack("<HHI", 22, bits, rng.getrandbits(8))
+            + PCM
+            + rng.randbytes(rng.choice((0, 0, 3)))
+        )
     else:
-        body = b"\x01\0" + fields + (rng.randbytes(rng.choice((1, 2, 24))) if form == "longer" else b"")
+        body = (
+            b"\x01\0"
+            + fields
+            + (rng.randbytes(rng.choice((1, 2, 24))) if form == "longer" else b"")
+        )
     samples = rng.randbytes(rng.randint(0, 24) * block + rng.choice((0, 0, 1, block // 2)))
 
     def others():
         names = (b"LIST", b"fact", b"bext", b"Data", b"fmt\0")
-        return [chunk(rng.choice(names), rng.randbytes(rng.randint(0, 9))) for _ in range(rng.choice((0, 0, 1, 3)))]
+        return [
+            chunk(rng.choice(names), rng.randbytes(rng.randint(0, 9)))
+            for _ in range(rng.choice((0, 0, 1, 3)))
+        ]
 
     data = chunk(b"data", samples, rng.random() < 0.7)
     if rng.random() < 0.2:
@@ -99,7 +106,11 @@ def made_by_hand(rng, rate=None):
     if rng.random() < 0.1:
         parts.insert(rng.randrange(len(parts) + 1), rng.choice(parts))
     if rng.random() < 0.1:
-        cut = rng.choice((b"fmt ", b"data", b"LIST")) + struct.pack("<I", rng.choice((2**32 - 1, 2000))) + rng.randbytes(5)
+        cut = (
+            rng.choice((b"fmt ", b"data", b"LIST"))
+            + struct.pack("<I", rng.choice((2**32 - 1, 2000)))
+            + rng.randbytes(5)
+        )
         parts.insert(rng.randrange(len(parts) + 1), cut)
     if rng.random() < 0.1:
         rng.shuffle(parts)
@@ -114,10 +125,24 @@ def made_by_sox(folder):
     files = []
     for channels in range(1, 9):
         for bits in (8, 16, 24, 32):
-            path = os.path.join(folder, "%d-%d.wav" % (channels, bits))
+            path = os.path.join(folder, f"{channels}-{bits}.wav")
             encoding = "unsigned-integer" if bits == 8 else "signed-integer"
-            words = [sox, "-n", "-r", "48000", "-c", str(channels), "-b", str(bits), "-e", encoding, path]
-            subprocess.run(words + ["synth", "23s", "whitenoise"], check=True, stderr=subprocess.DEVNULL)
+            words = [
+                sox,
+                "-n",
+                "-r",
+                "48000",
+                "-c",
+                str(channels),
+                "-b",
+                str(bits),
+                "-e",
+                encoding,
+                path,
+            ]
+            subprocess.run(
+                words + ["synth", "23s", "whitenoise"], check=True, stderr=subprocess.DEVNULL
+            )
             with open(path, "rb") as file:
                 files.append(file.read())
     return files
@@ -127,14 +152,20 @@ def mutated(rng, data):
     """The file with one to three changes, most of them near its start, where its fields are."""
     data = bytearray(data)
     for _ in range(rng.randint(1, 3)):
-        place = rng.randrange(len(data) + 1) if rng.random() < 0.3 else rng.randrange(min(90, len(data)) + 1)
+        place = (
+            rng.randrange(len(data) + 1)
+            if rng.random() < 0.3
+            else rng.randrange(min(90, len(data)) + 1)
+        )
         change = rng.choice(("byte", "bit", "small", "cut", "out", "in", "size", "name"))
         if change == "cut":
             del data[place:]
         elif change == "out":
             del data[place : place + rng.randint(1, 9)]
         elif change == "in":
-            data[place:place] = rng.choice((rng.randbytes(rng.randint(1, 9)), chunk(b"junk", rng.randbytes(rng.randint(0, 5)))))
+            data[place:place] = rng.choice(
+                (rng.randbytes(rng.randint(1, 9)), chunk(b"junk", rng.randbytes(rng.randint(0, 5))))
+            )
         elif place < len(data):
             if change == "byte":
                 data[place] = rng.getrandbits(8)
@@ -143,7 +174,9 @@ def mutated(rng, data):
             elif change == "small":
                 data[place] = (data[place] + rng.choice((1, 255))) % 256
             elif change == "size":
-                data[place : place + 4] = struct.pack("<I", rng.choice((0, 1, 15, 16, 39, 40, 2**31, 2**32 - 1, 2**32 - 9)))
+                data[place : place + 4] = struct.pack(
+                    "<I", rng.choice((0, 1, 15, 16, 39, 40, 2**31, 2**32 - 1, 2**32 - 9))
+                )
             else:
                 data[place : place + 4] = rng.choice((b"data", b"fmt ", b"RIFF", b"WAVE", b"LIST"))
     return bytes(data)
@@ -152,10 +185,10 @@ def mutated(rng, data):
 def made(count, seed):
     with tempfile.TemporaryDirectory() as folder:
         sources = made_by_sox(folder)
-    print("files of sox: %d" % len(sources))
+    print(f"files of sox: {len(sources)}")
     files = list(sources)
     while len(files) < count:
-        rng = random.Random("%d %d" % (seed, len(files)))
+        rng = random.Random(f"{seed} {len(files)}")
         data = rng.choice((made_by_wave, made_by_hand, made_by_hand))(rng)
         if sources and rng.random() < 0.1:
             data = rng.choice(sources)
@@ -163,12 +196,13 @@ def made(count, seed):
     return files[:count]
 
 
-def main():
-    parser = argparse.ArgumentParser()
-    parser.add_argument("--count", type=int, default=20000)
-    parser.add_argument("--seed", type=int, default=1)
-    parser.add_argument("--program", default=PROGRAM)
-    parser.add_argument("--line", nargs="+", metavar="FILE")
+def main() -> int:
+    """Compares files, or prints answers."""
+    parser = argparse.ArgumentParser(prog="tools/wav-check", description=__doc__, formatter_class=argparse.RawDescriptionHelpFormatter)
+    parser.add_argument("--count", type=int, default=20000, help="how many files, 20,000 by default")
+    parser.add_argument("--seed", type=int, default=1, help="the seed of the files, 1 by default")
+    parser.add_argument("--program", default=PROGRAM, metavar="FILE", help="the program, that which the gate leaves in crates/wav_dump/out by default")
+    parser.add_argument("--line", nargs="+", metavar="FILE", help="print the answers of the second calculation to these files alone")
     words = parser.parse_args()
     if words.line:
         for path in words.line:
@@ -186,10 +220,10 @@ def main():
         times[want.split("(")[0] if "(" in want else "samples"] += 1
         if answer != want:
             wrong += 1
-            print("file %d: %s in place of %s: %s" % (number, answer, want, data[:96].hex()))
+            print(f"file {number}: {answer} in place of {want}: {data[:96].hex()}")
     for answer in ANSWERS:
-        print("%s: %d" % (answer, times[answer]))
-    print("%d of %d files differ" % (wrong, len(files)))
+        print(f"{answer}: {times[answer]}")
+    print(f"{wrong} of {len(files)} files differ")
     return 1 if wrong or not all(times[answer] for answer in ANSWERS) else 0
 
 

@@ -21,18 +21,25 @@ SECOND = "the second calculation"
 def words() -> argparse.Namespace:
     parser = argparse.ArgumentParser(prog="tools/cases", description=__doc__)
     parser.add_argument(
-        "paths", nargs="*", type=Path, metavar="CASE",
+        "paths",
+        nargs="*",
+        type=Path,
+        metavar="CASE",
         help="a case, an example, or a folder of them; all of them where none is named",
     )
     parser.add_argument(
-        "--program", action="append", type=Path, metavar="FILE",
+        "--program",
+        action="append",
+        type=Path,
+        metavar="FILE",
         help="run this program; may stand several times; the shipped one where it is absent",
     )
     parser.add_argument(
         "--second-alone", action="store_true", help="run the second calculation and no program"
     )
     parser.add_argument(
-        "--changes", action="store_true",
+        "--changes",
+        action="store_true",
         help="change wanted values of each case, one at a time, and say which changes are not told",
     )
     parser.add_argument("--jobs", type=int, default=os.cpu_count(), help="how many run at a time")
@@ -52,7 +59,7 @@ def case_at(path: Path) -> Case:
 
 
 def outcomes_of(case: Case, programs: list[Path]) -> dict[str, Outcome]:
-    """What each performer gives for a case; the second calculation, where it runs it, comes first."""
+    """What each performer gives for a case; first the second calculation, where it runs it."""
     found = {}
     with tempfile.TemporaryDirectory(prefix="waplay-case-") as room:
         if case.only_program is None:
@@ -105,7 +112,10 @@ def main() -> int:
                 passed[name] = passed.get(name, 0) + (not lines)
                 failed += bool(lines)
                 if lines:
-                    print(f"{os.path.relpath(path, TOP)}, {os.path.relpath(name, TOP) if name[0] == '/' else name}:")
+                    print(
+                        f"{os.path.relpath(path, TOP)},"
+                        f" {os.path.relpath(name, TOP) if name[0] == '/' else name}:"
+                    )
                     print("".join(f"    {line}\n" for line in lines), end="")
     for name, number in passed.items():
         print(f"{os.path.relpath(name, TOP) if name[0] == '/' else name}: {number} as wanted")

@@ -17,7 +17,9 @@ def changed(case: Case) -> Iterator[tuple[str, Case]]:
         yield "a line less", dataclasses.replace(case, transcript=case.transcript[:-1])
     if case.samples:
         yield "a sample", dataclasses.replace(case, samples=_with_other_sample(case.samples))
-        yield "a frame more", dataclasses.replace(case, samples=[[*runs, [1, 0, 0]] for runs in case.samples])
+        yield "a frame more", dataclasses.replace(
+            case, samples=[[*runs, [1, 0, 0]] for runs in case.samples]
+        )
     if case.samples_at:
         frame = next(iter(case.samples_at))
         row = [sample ^ 1 for sample in case.samples_at[frame]]

@@ -12,15 +12,18 @@ from waplay_tools.cases.words import words_of
 
 
 def differences(case: Case, found: Outcome, second: Outcome | None) -> list[str]:
-    """What a run gave otherwise than the case wants. Where the case does not tell the whole file, it is
-    also held to that of the second calculation."""
+    """What a run gave otherwise than the case wants. Where the case does not tell the whole file,
+    it is also held to that of the second calculation."""
     told = []
     if found.status != case.status:
         told.append(f"status: wanted {case.status}, found {found.status}")
     told += _of_text(case.text(), found.text.decode(errors="replace"))
     told += _of_file(case, found)
     if second is not None and second is not found and case.samples is None:
-        told += [f"{line} (wanted by the second calculation)" for line in _of_bytes(second.wav, found.wav)]
+        told += [
+            f"{line} (wanted by the second calculation)"
+            for line in _of_bytes(second.wav, found.wav)
+        ]
     return told + found.faults
 
 
@@ -30,7 +33,9 @@ def _of_text(wanted: str, found: str) -> list[str]:
     pairs = itertools.zip_longest(wanted.splitlines(), found.splitlines())
     for number, (one, other) in enumerate(pairs, 1):
         if one != other:
-            return [f"{_place_of(number, one or other)}: wanted {_quoted(one)}, found {_quoted(other)}"]
+            return [
+                f"{_place_of(number, one or other)}: wanted {_quoted(one)}, found {_quoted(other)}"
+            ]
     return ["the last line's end: wanted a line break, or none was wanted"]
 
 
@@ -50,7 +55,11 @@ def _of_file(case: Case, found: Outcome) -> list[str]:
         return _of_frames(case, found.wav)
     if case.wav_sha256 is not None:
         digest = hashlib.sha256(found.wav).hexdigest() if found.wav is not None else "no file"
-        return [] if digest == case.wav_sha256 else [f"digest of the WAV file: wanted {case.wav_sha256}, found {digest}"]
+        return (
+            []
+            if digest == case.wav_sha256
+            else [f"digest of the WAV file: wanted {case.wav_sha256}, found {digest}"]
+        )
     return []
 
 
@@ -88,7 +97,9 @@ def _present(file: bytes | None) -> str:
 
 
 def _of_samples(wanted: list[int], found: list[int], channels: int) -> list[str]:
-    at = [place for place, (one, other) in enumerate(zip(wanted, found, strict=True)) if one != other]
+    at = [
+        place for place, (one, other) in enumerate(zip(wanted, found, strict=True)) if one != other
+    ]
     if not at:
         return []
     frame, channel = divmod(at[0], channels)
@@ -105,7 +116,9 @@ def _of_frames(case: Case, found: bytes | None) -> list[str]:
     samples = wav.samples_of(found, form)
     if len(samples) != (case.frames or 0) * form.channels:
         return [f"WAV file: wanted {case.frames} frames, found {len(samples) // form.channels}"]
-    for frame, wanted in sorted((int(frame), row) for frame, row in (case.samples_at or {}).items()):
+    for frame, wanted in sorted(
+        (int(frame), row) for frame, row in (case.samples_at or {}).items()
+    ):
         row = samples[frame * form.channels : (frame + 1) * form.channels]
         told = _of_samples(wanted, row, form.channels)
         if told:

@@ -8,7 +8,8 @@ from waplay_tools.places import TOP
 
 
 def example_of(path: Path) -> Case:
-    """The case of examples/NAME.json: the transcript is NAME.txt, the file that of the second calculation."""
+    """The case of examples/NAME.json: the transcript is NAME.txt, the file the second
+    calculation's."""
     text = path.read_text(encoding="utf-8")
     lines = path.with_suffix(".txt").read_text(encoding="utf-8").splitlines()
     folder = path.parent.relative_to(TOP)
@@ -19,8 +20,14 @@ def example_of(path: Path) -> Case:
     }
     is_completed = lines[-1] == "end completed"
     return Case(
-        shows=path.stem, source="tools/expected.py", input=text, files=assets,
-        status=0 if is_completed else 3, transcript=lines, is_example=is_completed, path=path,
+        shows=path.stem,
+        source="tools/expected.py",
+        input=text,
+        files=assets,
+        status=0 if is_completed else 3,
+        transcript=lines,
+        is_example=is_completed,
+        path=path,
     )
 
 

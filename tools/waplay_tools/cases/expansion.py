@@ -1,4 +1,4 @@
-"""What a case writes short: runs of numbers, calls that are made again and again, ranges of lines."""
+"""What a case writes short: runs of numbers, calls that are made again, ranges of lines."""
 
 import re
 from typing import Any
@@ -46,7 +46,7 @@ def lines_in(lines: list[str]) -> list[str]:
 
 
 def calls_in(calls: list[Any]) -> list[Any]:
-    """The calls, where {"for": "n", "first": 0, "last": 5, "calls": [..]} stands for six times those.
+    """The calls, where {"for": "n", "first": 0, "last": 5, "calls": [..]} is six times those.
 
     In them "{n}" is the number, and "{n*128+1}" what it comes to, from left to right.
     """
@@ -70,7 +70,11 @@ def _value(value: Any, numbers: dict[str, int]) -> Any:
         if set(value) == {"runs"}:
             return runs_in(value["runs"])
         return {
-            name: _calls(it, numbers) if name == "then" and isinstance(it, list) else _value(it, numbers)
+            name: (
+                _calls(it, numbers)
+                if name == "then" and isinstance(it, list)
+                else _value(it, numbers)
+            )
             for name, it in value.items()
         }
     if isinstance(value, list):
@@ -88,5 +92,7 @@ def _filled(text: str, numbers: dict[str, int]) -> Any:
 def _number(place: re.Match[str], numbers: dict[str, int]) -> int:
     number = numbers[place[1]]
     for sign, other in _STEP.findall(place[2]):
-        number = {"*": number * int(other), "+": number + int(other), "-": number - int(other)}[sign]
+        number = {"*": number * int(other), "+": number + int(other), "-": number - int(other)}[
+            sign
+        ]
     return number

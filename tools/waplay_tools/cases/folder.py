@@ -54,7 +54,9 @@ def _is_so(target: Path, content: Content) -> bool:
     return target.read_bytes() == content
 
 
-def changes_in(folder: Path, files: dict[str, Any], left: dict[str, Any], out: str | None) -> list[str]:
+def changes_in(
+    folder: Path, files: dict[str, Any], left: dict[str, Any], out: str | None
+) -> list[str]:
     """What stands in the folder otherwise than it must. The file `out` is looked at elsewhere."""
     wanted = {path: told for path, told in {**files, **left}.items() if told is not None}
     folders = {str(parent) for path in wanted for parent in Path(path).parents}

@@ -16,7 +16,7 @@ SECONDS = 120  # for one run of a program
 
 @dataclasses.dataclass
 class Outcome:
-    """What a run gave: its status, its text, the WAV file where it left one, and what else is wrong."""
+    """What a run gave: its status, its text, the WAV file if any, and what else is wrong."""
 
     status: int
     text: bytes
@@ -44,7 +44,9 @@ def perform(program: Path, case: Case, folder: Path) -> Outcome:
     if done.stderr:
         faults.append(f"standard error: {done.stderr[:200].decode(errors='replace')!r}")
     has_file = out is not None and (folder / out).is_file()
-    return Outcome(done.returncode, done.stdout, (folder / out).read_bytes() if has_file else None, faults)
+    return Outcome(
+        done.returncode, done.stdout, (folder / out).read_bytes() if has_file else None, faults
+    )
 
 
 def calculate(case: Case, folder: Path) -> Outcome:
@@ -56,4 +58,6 @@ def calculate(case: Case, folder: Path) -> Outcome:
     is_checked = asked.mode == "check"
     status, text, session = replayed(case.input_bytes() or b"", str(folder), is_checked)
     is_rendered = status == 0 and not is_checked
-    return Outcome(status, text.encode(), expected_wav(session, asked.bits) if is_rendered else None)
+    return Outcome(
+        status, text.encode(), expected_wav(session, asked.bits) if is_rendered else None
+    )

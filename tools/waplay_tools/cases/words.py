@@ -30,6 +30,8 @@ def words_of(words: list[str]) -> Words | None:
             told[name] = value
         else:
             outs.append(word)
-    if len(outs) != 1 or any(value not in (_VALUES[name] or (value,)) for name, value in told.items()):
+    if len(outs) != 1 or any(
+        value not in (_VALUES[name] or (value,)) for name, value in told.items()
+    ):
         return None
     return Words(outs[0], int(told.get("bits", "24")), told.get("mode", "render"), "gen" in told)

@@ -1,28 +1,21 @@
 """Works out what waplay gives for a script: a second calculation, apart from the program's.
 
 It follows the rules of docs/PROFILE.md and docs/FORMATS.md in the plainest way, so that its answers
-can be compared with those of the program. It needs Python 3 and nothing else. Assets are the files of
-the folder that it runs in, as they are for the program.
-
-    python3 tools/expected.py SCRIPT               the transcript, the sum of each channel's samples,
-                                                   and the SHA-256 of the WAV file
-    python3 tools/expected.py SCRIPT --wav OUT     the transcript, and the WAV file as OUT where the
-                                                   session completes: so one can listen without the
-                                                   program
-    python3 tools/expected.py SCRIPT --check WAV   no output and status 0 where WAV is the file to the
-                                                   byte, else a line on what differs and status 1
+can be compared with those of the program. It needs Python 3 and nothing else. Assets are the files
+of the folder that it runs in, as they are for the program.
 
 A summary is a line with numbers, and the transcript's last line: how many calls were run, quanta
-rendered, sources ended and calls refused, and of all rendered values, in units of 2^-24, the greatest
-one without its sign and the sum. A session that is only checked has neither of the last two.
+rendered, sources ended and calls refused, and of all rendered values, in units of 2^-24, the
+greatest one without its sign and the sum. A session that is only checked has neither of the last
+two.
 
 The sums are of samples as the WAV file has them: whole numbers of 24 bits, in units of 2^-23, or of
-16 bits, in units of 2^-15. They are not sums of rendered values, which are in units of 2^-24 and are
-rounded for the file.
+16 bits, in units of 2^-15. They are not sums of rendered values, which are in units of 2^-24 and
+are rounded for the file.
 
-The operations are those of docs/FORMATS.md, those that are left out too. Of a script with a fault of
-reading, the transcript is the fault's line. Where an asset cannot be read there is no transcript, and
-nothing is printed. Only a script that is too long is not told.
+The operations are those of docs/FORMATS.md, those that are left out too. Of a script with a fault
+of reading, the transcript is the fault's line. Where an asset cannot be read there is no
+transcript, and nothing is printed. Only a script that is too long is not told.
 
 Its parts are the modules beside this one, each of one subject.
 """
@@ -33,20 +26,37 @@ import os
 import sys
 from pathlib import Path
 
-from waplay_tools.expecting.sessions import replayed, samples_of, summary_of, wav_bytes  # noqa: E402
+from waplay_tools.expecting.sessions import (
+    replayed,
+    samples_of,
+    summary_of,
+    wav_bytes,
+)  # noqa: E402
 
 
 def arguments() -> argparse.Namespace:
     """The words of the command line."""
-    words = argparse.ArgumentParser(prog="expected.py", description=__doc__,
-                                    formatter_class=argparse.RawDescriptionHelpFormatter)
+    words = argparse.ArgumentParser(
+        prog="expected.py",
+        description=__doc__,
+        formatter_class=argparse.RawDescriptionHelpFormatter,
+    )
     words.add_argument("script", type=Path, metavar="SCRIPT", help="the script, a JSON file")
     words.add_argument("--lines", action="store_true", help="print the transcript alone")
     words.add_argument("--summary", action="store_true", help="print a summary in its place")
-    words.add_argument("--mode", choices=["render", "check"], default="render",
-                       help="check: run the session without samples")
-    words.add_argument("--bits", type=int, choices=[16, 24], default=24,
-                       help="the bits of a sample in sums and files, 24 by default")
+    words.add_argument(
+        "--mode",
+        choices=["render", "check"],
+        default="render",
+        help="check: run the session without samples",
+    )
+    words.add_argument(
+        "--bits",
+        type=int,
+        choices=[16, 24],
+        default=24,
+        help="the bits of a sample in sums and files, 24 by default",
+    )
     words.add_argument("--wav", type=Path, metavar="OUT", help="write the WAV file")
     words.add_argument("--check", type=Path, metavar="WAV", help="compare this file with it")
     asked = words.parse_args()
@@ -60,7 +70,8 @@ def differs(path: Path, wav: bytes) -> bool:
     found = path.read_bytes()
     place = len(os.path.commonprefix([found, wav]))
     if found != wav:
-        print(f"{path}: {len(found)} bytes, expected {len(wav)}; the first difference is at byte {place}")
+        sizes = f"{len(found)} bytes, expected {len(wav)}"
+        print(f"{path}: {sizes}; the first difference is at byte {place}")
     return found != wav
 
 

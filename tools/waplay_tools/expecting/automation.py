@@ -1,4 +1,5 @@
-"""The timelines of parameters: their edits, what these are refused with, and the values that they give."""
+"""The timelines of parameters: their edits, what these are refused with, and the values that they
+give."""
 
 import collections
 import itertools
@@ -28,8 +29,8 @@ def has_in_it(event, time):
 
 
 class Timeline:
-    """The events of a parameter in order of time, equal times in order of their calls. Before all of them
-    it has its base. The slot is what a read of its value gives."""
+    """The events of a parameter in order of time, equal times in order of their calls. Before all
+    of them it has its base. The slot is what a read of its value gives."""
 
     def __init__(self, value):
         self.base = self.slot = value
@@ -39,7 +40,8 @@ class Timeline:
     # Values.
 
     def around(self, frame):
-        """The last event that is no later than a frame, and the one after it; None where there is none."""
+        """The last event that is no later than a frame, and the one after it; None where there is
+        none."""
         last = None
         for event in self.events:
             if event.time > frame:
@@ -53,19 +55,30 @@ class Timeline:
 
     def values(self, first, count):
         """The same at so many frames from one on."""
-        places = {event.time for event in self.events} | {event.end for event in self.events if isinstance(event, Curve)}
-        bounds = sorted({first, first + count, *(place for place in places if first < place < first + count)})
-        parts = [self.values_of_part(range(begin, end)) for begin, end in itertools.pairwise(bounds)]
+        places = {event.time for event in self.events} | {
+            event.end for event in self.events if isinstance(event, Curve)
+        }
+        bounds = sorted(
+            {first, first + count, *(place for place in places if first < place < first + count)}
+        )
+        parts = [
+            self.values_of_part(range(begin, end)) for begin, end in itertools.pairwise(bounds)
+        ]
         return list(itertools.chain(*parts))
 
     def values_of_part(self, frames):
-        """The same at these frames. Events and ends of curves lie only at the first of them, or outside."""
+        """The same at these frames. Events and ends of curves lie only at the first of them, or
+        outside."""
         last, following = self.around(frames.start)
         if last is None:
             return [self.base] * len(frames)
         if has_in_it(last, frames.start):
             return [curve_value(last, frame) for frame in frames]
-        start, value = (last.end, curve_value(last, last.end)) if isinstance(last, Curve) else (last.time, last.value)
+        start, value = (
+            (last.end, curve_value(last, last.end))
+            if isinstance(last, Curve)
+            else (last.time, last.value)
+        )
         if isinstance(following, Ramp):
             rise, whole = following.value - value, following.time - start
             return [value + rounded_quotient(rise * (frame - start), whole) for frame in frames]
@@ -74,7 +87,9 @@ class Timeline:
     # Edits. Each is made at the frame `now`, before which nothing can be put.
 
     def put(self, event):
-        self.events = sorted(self.events + [event], key=lambda it: it.time)  # equal times keep their order
+        self.events = sorted(
+            self.events + [event], key=lambda it: it.time
+        )  # equal times keep their order
 
     def time_of(self, call, now):
         if call["time"] < 0:
@@ -116,8 +131,11 @@ class Timeline:
 
     def cancel(self, call, now):
         time = self.time_of(call, now)
-        self.events = [event for event in self.events
-                       if event.time < time and not (isinstance(event, Curve) and event.end >= time)]
+        self.events = [
+            event
+            for event in self.events
+            if event.time < time and not (isinstance(event, Curve) and event.end >= time)
+        ]
         if self.around(now)[0] is None:
             self.base = self.slot
 
@@ -145,4 +163,7 @@ EDITS = {
     "cancelAndHoldAtTime": Timeline.cancel_and_hold,
     "setAutomationRate": Timeline.set_rate,
 }
-LEFT_OUT_EDITS = {"exponentialRampToValueAtTime": "exponential-ramp", "setTargetAtTime": "set-target"}
+LEFT_OUT_EDITS = {
+    "exponentialRampToValueAtTime": "exponential-ramp",
+    "setTargetAtTime": "set-target",
+}

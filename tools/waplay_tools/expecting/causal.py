@@ -14,8 +14,8 @@ def check_oversample(word):
 
 
 class Shaper(Node):
-    """A wave shaper. The points of its curve are spread evenly from -1.0 to 1.0. That one was set stays, also
-    where it was taken away."""
+    """A wave shaper. The points of its curve are spread evenly from -1.0 to 1.0. That one was set
+    stays, also where it was taken away."""
 
     def __init__(self, call):
         super().__init__("shaper", call["as"])
@@ -41,8 +41,9 @@ class Shaper(Node):
 
 
 class Filter(Node):
-    """An IIR filter. Of each channel that it has heard it keeps the inputs and the outputs that its coefficients
-    reach, the newest ones first. A channel that it has not heard yet was 0 from its birth on."""
+    """An IIR filter. Of each channel that it has heard it keeps the inputs and the outputs that its
+    coefficients reach, the newest ones first. A channel that it has not heard yet was 0 from its
+    birth on."""
 
     def __init__(self, call):
         super().__init__("filter", call["as"])
@@ -56,14 +57,17 @@ class Filter(Node):
     def heard(self, x, inputs, outputs):
         """The inputs and the outputs of a channel that hears this next."""
         inputs = (x, *inputs[:-1])
-        total = sum(map(operator.mul, self.forward, inputs)) - sum(map(operator.mul, self.back[1:], outputs))
+        total = sum(map(operator.mul, self.forward, inputs)) - sum(
+            map(operator.mul, self.back[1:], outputs)
+        )
         divisor = self.back[0]
         if divisor < 0:
             total, divisor = -total, -divisor
         return inputs, (saturated(rounded_quotient(total, divisor)), *outputs[:-1])
 
     def filtered(self, blocks):
-        """What it gives that hears these channels in a quantum. Every other channel is heard as 0."""
+        """What it gives that hears these channels in a quantum. Every other channel is heard as
+        0."""
         silent = (0,) * len(self.forward), (0,) * len(self.back)
         given, histories = [], []
         for block, history in itertools.zip_longest(blocks, self.histories):
@@ -74,4 +78,4 @@ class Filter(Node):
             given.append(outputs)
             histories.append(history)
         self.histories = histories
-        return given[:len(blocks)]
+        return given[: len(blocks)]

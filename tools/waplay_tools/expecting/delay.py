@@ -8,8 +8,9 @@ LONGEST = 16 * ONE  # seconds
 
 
 class Delay(Node):
-    """A delay that is born at a frame, which begins a quantum. Of each quantum it keeps what its writer wrote, as
-    far back as its reader may ask, and how many channels the writer had at most since the birth."""
+    """A delay that is born at a frame, which begins a quantum. Of each quantum it keeps what its
+    writer wrote, as far back as its reader may ask, and how many channels the writer had at most
+    since the birth."""
 
     def __init__(self, call, rate, birth):
         longest = call.get("maxDelayTime", ONE)
@@ -30,12 +31,15 @@ class Delay(Node):
         """The writer has these channels in the quantum that begins here."""
         self.written[first] = channels
         self.most[first] = max(self.most_until(first - QUANTUM), len(channels))
-        asked = (first - self.capacity) // QUANTUM  # the first quantum that may be asked for, now and later
+        asked = (
+            first - self.capacity
+        ) // QUANTUM  # the first quantum that may be asked for, now and later
         for kept in self.written, self.most:
             kept.pop((asked - 1) * QUANTUM, None)
 
     def most_until(self, first):
-        """The most channels that the writer had up to the quantum that begins here, and one at least."""
+        """The most channels that the writer had up to the quantum that begins here, and one at
+        least."""
         return self.most[first] if first >= self.birth else 1
 
     def heard_from(self, first, count):
@@ -45,12 +49,14 @@ class Delay(Node):
         return mixed_blocks(self.written[first], count, self.interpretation)
 
     def read(self, first, times, is_in_cycle):
-        """The channels of the reader in the quantum that begins here, with these values of delayTime. In a cycle it
-        reads nothing that is written in the same quantum."""
+        """The channels of the reader in the quantum that begins here, with these values of
+        delayTime. In a cycle it reads nothing that is written in the same quantum."""
         count = self.most_until(first - QUANTUM if is_in_cycle else first)
         least = QUANTUM if is_in_cycle else 0
         places = [frame - max(least, self.frames(time)) for frame, time in enumerate(times, first)]
         heard = {place // QUANTUM: None for place in places}
         for quantum in heard:
             heard[quantum] = self.heard_from(QUANTUM * quantum, count)
-        return [[heard[place // QUANTUM][c][place % QUANTUM] for place in places] for c in range(count)]
+        return [
+            [heard[place // QUANTUM][c][place % QUANTUM] for place in places] for c in range(count)
+        ]

@@ -1,15 +1,17 @@
-"""Graphs: what is in a cycle, what is muted, and in which order the rest can be rendered. All of it is asked by
-what reaches what."""
+"""Graphs: what is in a cycle, what is muted, and in which order the rest can be rendered. All of it
+is asked by what reaches what."""
 
 import collections
 
-# An end of a node. A delay has two: its writer, at which connections to its input end, and its reader, at which
-# those to its parameter end and from which its output leaves. Every other node has one, which is no writer.
+# An end of a node. A delay has two: its writer, at which connections to its input end, and its
+# reader, at which those to its parameter end and from which its output leaves. Every other node has
+# one, which is no writer.
 End = collections.namedtuple("End", "node is_writer")
 
 
 def reached(arrows, start):
-    """What is reached from there by one arrow or more. Of each place the arrows tell where they lead from it."""
+    """What is reached from there by one arrow or more. Of each place the arrows tell where they
+    lead from it."""
     found, to_do = set(), [start]
     while to_do:
         new = arrows[to_do.pop()] - found
@@ -19,8 +21,8 @@ def reached(arrows, start):
 
 
 class Graph:
-    """The nodes and connections of a quantum. A connection is (from, output, to, input), with a parameter's name
-    for an input where it leads to one."""
+    """The nodes and connections of a quantum. A connection is (from, output, to, input), with a
+    parameter's name for an input where it leads to one."""
 
     def __init__(self, nodes, edges):
         self.delays = [number for number, node in enumerate(nodes) if node.kind == "delay"]
@@ -30,15 +32,16 @@ class Graph:
         self.order = self.legal_order()
 
     def delays_in_cycles(self, count, edges):
-        """The delays whose nodes reach themselves by connections, those to parameters among them."""
+        """The delays whose nodes reach themselves by connections, those to parameters among
+        them."""
         following = {number: set() for number in range(count)}
         for source, _, target, _ in edges:
             following[source].add(target)
         return {number for number in self.delays if number in reached(following, number)}
 
     def arrows_of(self, count, edges):
-        """Of each end, the ends that it leads to: by connections, and from the writer of a delay that is in no
-        cycle to its reader."""
+        """Of each end, the ends that it leads to: by connections, and from the writer of a delay
+        that is in no cycle to its reader."""
         arrows = {End(number, False): set() for number in range(count)}
         arrows.update((End(number, True), set()) for number in self.delays)
         for source, _, target, place in edges:

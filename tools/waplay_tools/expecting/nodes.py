@@ -32,15 +32,19 @@ PARAMETERS = {
 
 
 class Node:
-    """A node. The value is the first one of a constant's offset, a gain's gain or a delay's delayTime, the number
-    of a splitter's outputs or of a merger's inputs, and the number of the destination's channels."""
+    """A node. The value is the first one of a constant's offset, a gain's gain or a delay's
+    delayTime, the number of a splitter's outputs or of a merger's inputs, and the number of the
+    destination's channels."""
 
     nominal = FIX  # the range of the values of its parameters
 
     def __init__(self, kind, name, value=None):
         self.kind, self.name = kind, name
-        self.timelines = {parameter: Timeline(value) for parameter, feature in PARAMETERS.get(kind, {}).items()
-                          if feature is None}
+        self.timelines = {
+            parameter: Timeline(value)
+            for parameter, feature in PARAMETERS.get(kind, {}).items()
+            if feature is None
+        }
         self.inputs = {"constant": 0, "buffer source": 0, "merger": value}.get(kind, 1)
         self.outputs = value if kind == "splitter" else 1
         self.count, self.mode, self.interpretation = {
@@ -59,7 +63,9 @@ class Node:
         end = self.end()
         if self.start is None:
             return range(first, first)
-        return range(max(self.start, first), first + QUANTUM if end is None else min(end, first + QUANTUM))
+        return range(
+            max(self.start, first), first + QUANTUM if end is None else min(end, first + QUANTUM)
+        )
 
     def times(self, call):
         """The times of a call that starts or stops it."""
@@ -69,22 +75,22 @@ class Node:
         self.start = frame
 
     def sound(self, first, levels):
-        """The channels of a source in the quantum that begins here, in which its parameters have these values. One
-        that plays in no frame of it has one, which is silent."""
+        """The channels of a source in the quantum that begins here, in which its parameters have
+        these values. One that plays in no frame of it has one, which is silent."""
         played = self.played_from(first)
         if not played:
             return [SILENCE]
-        before, after = SILENCE[:played.start - first], SILENCE[played.stop - first:]
+        before, after = SILENCE[: played.start - first], SILENCE[played.stop - first :]
         return [[*before, *part, *after] for part in self.content(played, first, levels)]
 
     def content(self, played, first, levels):
         """What the channels of a source have in the frames in which it plays."""
-        return [levels["offset"][played.start - first:played.stop - first]]
+        return [levels["offset"][played.start - first : played.stop - first]]
 
 
 class BufferSource(Node):
-    """A source that plays a buffer. Its times are frames of the session, and its offset, its duration
-    and the ends of its loop are frames of the buffer."""
+    """A source that plays a buffer. Its times are frames of the session, and its offset, its
+    duration and the ends of its loop are frames of the buffer."""
 
     def __init__(self, call, buffer):
         super().__init__("buffer source", call["as"])
@@ -120,7 +126,8 @@ class BufferSource(Node):
         return min(self.offset, self.loop()[1] if self.is_looping else self.length())
 
     def played(self):
-        """How many frames it plays, where that has a bound. The duration counts through the loop too."""
+        """How many frames it plays, where that has a bound. The duration counts through the loop
+        too."""
         if self.length() == 0:
             content = 0
         elif self.is_looping:
@@ -142,12 +149,18 @@ class BufferSource(Node):
         begin, (first, last) = self.first(), self.loop()
         places = [begin + (frame - self.start) * self.rate for frame in frames]
         if self.is_looping:
-            return [first + (place - first) % (last - first) if place >= last else place for place in places]
+            return [
+                first + (place - first) % (last - first) if place >= last else place
+                for place in places
+            ]
         return places
 
     def content(self, played, first, levels):
         places = self.positions(played)
-        return [[self.buffer.sample(channel, place) for place in places] for channel in range(self.buffer.channels)]
+        return [
+            [self.buffer.sample(channel, place) for place in places]
+            for channel in range(self.buffer.channels)
+        ]
 
 
 class Buffer:
@@ -168,8 +181,9 @@ class AssetFault(Exception):
 
 
 def asset(folder, path):
-    """The bytes of a file of the folder, so many of them that they tell whether there are too many; None
-    where the system finds no file, and where the path could name one that is not in the folder."""
+    """The bytes of a file of the folder, so many of them that they tell whether there are too many;
+    None where the system finds no file, and where the path could name one that is not in the
+    folder."""
     if path.startswith("/") or ".." in path.split("/") or "\0" in path:
         return None
     try:

@@ -1,4 +1,5 @@
-"""Numbers and mixing, by the rules of docs/PROFILE.md. A block has one value for each frame of a quantum."""
+"""Numbers and mixing, by the rules of docs/PROFILE.md. A block has one value for each frame of a
+quantum."""
 
 import functools
 import math
@@ -18,7 +19,8 @@ def saturated(x):
 
 
 def bounded(block, low, high):
-    """The block, where each value that is out of this range is the end of the range that is next to it."""
+    """The block, where each value that is out of this range is the end of the range that is next to
+    it."""
     if low <= min(block) and max(block) <= high:
         return block
     return [max(low, min(high, x)) for x in block]
@@ -32,15 +34,16 @@ def products(block, levels):
 
 
 def summed(blocks):
-    """The exact sum of blocks, saturated once; silence where there is none. Silent ones add nothing."""
+    """The exact sum of blocks, saturated once; silence where there is none. Silent ones add
+    nothing."""
     blocks = [block for block in blocks if block is not SILENCE] or [SILENCE]
     total = blocks[0] if len(blocks) == 1 else [sum(values) for values in zip(*blocks)]
     return bounded(total, *FIX)
 
 
 def sample_of(value, bits=24):
-    end = 2**(bits - 1)
-    return max(-end, min(end - 1, rounded_quotient(value, 2**(25 - bits))))
+    end = 2 ** (bits - 1)
+    return max(-end, min(end - 1, rounded_quotient(value, 2 ** (25 - bits))))
 
 
 # Mixing. The equations are those of the recommendation's "Channel Up-Mixing and Down-Mixing", for
@@ -48,7 +51,9 @@ def sample_of(value, bits=24):
 # second, times 2^24.
 
 HALF, QUARTER = ONE // 2, ONE // 4
-ROOT_HALF = math.isqrt(2**47)  # the root of 2^47 is 11,863,283.2: this is the nearest whole number
+ROOT_HALF = math.isqrt(
+    2**47
+)  # the root of 2^47 is 11,863,283.2: this is the nearest whole number
 
 EQUATIONS = {
     (1, 2): lambda m: [ONE * m, ONE * m],
@@ -61,14 +66,22 @@ EQUATIONS = {
     (4, 1): lambda l, r, sl, sr: [QUARTER * (l + r + sl + sr)],
     (6, 1): lambda l, r, c, lfe, sl, sr: [ROOT_HALF * (l + r) + ONE * c + HALF * (sl + sr)],
     (4, 2): lambda l, r, sl, sr: [HALF * (l + sl), HALF * (r + sr)],
-    (6, 2): lambda l, r, c, lfe, sl, sr: [ONE * l + ROOT_HALF * (c + sl), ONE * r + ROOT_HALF * (c + sr)],
-    (6, 4): lambda l, r, c, lfe, sl, sr: [ONE * l + ROOT_HALF * c, ONE * r + ROOT_HALF * c, ONE * sl, ONE * sr],
+    (6, 2): lambda l, r, c, lfe, sl, sr: [
+        ONE * l + ROOT_HALF * (c + sl),
+        ONE * r + ROOT_HALF * (c + sr),
+    ],
+    (6, 4): lambda l, r, c, lfe, sl, sr: [
+        ONE * l + ROOT_HALF * c,
+        ONE * r + ROOT_HALF * c,
+        ONE * sl,
+        ONE * sr,
+    ],
 }
 
 
 def mixed(channels, count, interpretation):
-    """Channels mixed to so many. Where there is no equation, each stays in its place: those that are
-    too many are dropped, and those that are missing are 0."""
+    """Channels mixed to so many. Where there is no equation, each stays in its place: those that
+    are too many are dropped, and those that are missing are 0."""
     equation = EQUATIONS.get((len(channels), count))
     if interpretation == "discrete" or equation is None:
         return (channels + [0] * count)[:count]
@@ -77,9 +90,12 @@ def mixed(channels, count, interpretation):
 
 @functools.lru_cache(maxsize=None)
 def moved(several, count, interpretation):
-    """Where mixing so many channels to a count leaves each of them as it is: of each channel that comes of it,
-    which one it is, or None where it is silent. Elsewhere it is None as a whole."""
-    alone = [mixed([ONE if c == one else 0 for c in range(several)], count, interpretation) for one in range(several)]
+    """Where mixing so many channels to a count leaves each of them as it is: of each channel that
+    comes of it, which one it is, or None where it is silent. Elsewhere it is None as a whole."""
+    alone = [
+        mixed([ONE if c == one else 0 for c in range(several)], count, interpretation)
+        for one in range(several)
+    ]
     parts = [[one for one in range(several) if alone[one][c] != 0] for c in range(count)]
     if any(len(part) > 1 or part and alone[part[0]][c] != ONE for c, part in enumerate(parts)):
         return None
@@ -97,4 +113,8 @@ def mixed_blocks(blocks, count, interpretation):
 def computed_count(mode, channel_count, counts):
     """How many channels an input has, whose connections have these counts."""
     greatest = max(counts, default=1)
-    return {"max": greatest, "clamped-max": min(greatest, channel_count), "explicit": channel_count}[mode]
+    return {
+        "max": greatest,
+        "clamped-max": min(greatest, channel_count),
+        "explicit": channel_count,
+    }[mode]

@@ -6,35 +6,63 @@ import re
 from waplay_tools.expecting.numbers import ONE
 
 # The features of the operations that are left out.
-LEFT_OUT = dict(pair.split(":") for pair in """
+LEFT_OUT = dict(
+    pair.split(":")
+    for pair in """
     createOscillator:oscillator createPeriodicWave:periodic-wave createBiquadFilter:biquad
     createStereoPanner:stereo-panner createPanner:panner createDynamicsCompressor:compressor
     createAnalyser:analyser setListener:listener createMediaElementSource:media-element-source
     createMediaStreamSource:media-stream-source createConvolver:convolver
     createMediaStreamTrackSource:media-stream-track-source
     createMediaStreamDestination:media-stream-destination
-    createScriptProcessor:script-processor createAudioWorkletNode:audio-worklet""".split())
+    createScriptProcessor:script-processor createAudioWorkletNode:audio-worklet""".split()
+)
 
 PARAMETER = [("node", "name"), ("param", "name")]
 HELD = ("then", "calls", [])
 
-# The fields of the operations that are read: of each its name, its kind, and its default where it has
-# one. Null is a value of a field whose default is null, and of one whose kind says so.
+# The fields of the operations that are read: of each its name, its kind, and its default where it
+# has one. Null is a value of a field whose default is null, and of one whose kind says so.
 OPERATIONS = {
     "createConstantSource": [("as", "new name"), ("offset", "fix", ONE)],
     "createGain": [("as", "new name"), ("gain", "fix", ONE)],
     "createDelay": [("as", "new name"), ("maxDelayTime", "fix", ONE), ("delayTime", "fix", 0)],
     "createChannelSplitter": [("as", "new name"), ("numberOfOutputs", "count", 6)],
     "createChannelMerger": [("as", "new name"), ("numberOfInputs", "count", 6)],
-    "createWaveShaper": [("as", "new name"), ("curve", "list", None), ("oversample", "none 2x 4x", "none")],
+    "createWaveShaper": [
+        ("as", "new name"),
+        ("curve", "list", None),
+        ("oversample", "none 2x 4x", "none"),
+    ],
     "createIIRFilter": [("as", "new name"), ("feedforward", "list"), ("feedback", "list")],
-    "createBufferSource": [("as", "new name"), ("buffer", "name", None), ("loop", "bool", False), ("loopStart", "time", 0),
-                           ("loopEnd", "time", 0), ("playbackRate", "fix", ONE)],
-    "createBuffer": [("as", "new name"), ("channels", "count"), ("length", "count"), ("rate", "count")],
+    "createBufferSource": [
+        ("as", "new name"),
+        ("buffer", "name", None),
+        ("loop", "bool", False),
+        ("loopStart", "time", 0),
+        ("loopEnd", "time", 0),
+        ("playbackRate", "fix", ONE),
+    ],
+    "createBuffer": [
+        ("as", "new name"),
+        ("channels", "count"),
+        ("length", "count"),
+        ("rate", "count"),
+    ],
     "connect": [("from", "name"), ("output", "count", 0), ("to", "name"), ("input", "count", 0)],
-    "disconnect": [("from", "name"), ("output", "count", None), ("to", "name", None), ("input", "count", None)],
+    "disconnect": [
+        ("from", "name"),
+        ("output", "count", None),
+        ("to", "name", None),
+        ("input", "count", None),
+    ],
     "connectParam": [("from", "name"), ("output", "count", 0), ("to", "name"), ("param", "name")],
-    "disconnectParam": [("from", "name"), ("to", "name"), ("param", "name"), ("output", "count", None)],
+    "disconnectParam": [
+        ("from", "name"),
+        ("to", "name"),
+        ("param", "name"),
+        ("output", "count", None),
+    ],
     "setValue": [*PARAMETER, ("value", "fix")],
     "setValueAtTime": [*PARAMETER, ("value", "fix"), ("time", "time")],
     "linearRampToValueAtTime": [*PARAMETER, ("value", "fix"), ("time", "time")],
@@ -54,8 +82,18 @@ OPERATIONS = {
     "setLoop": [("node", "name"), ("value", "bool")],
     "setLoopStart": [("node", "name"), ("value", "time")],
     "setLoopEnd": [("node", "name"), ("value", "time")],
-    "copyToChannel": [("buffer", "name"), ("channel", "count"), ("samples", "list"), ("at", "count", 0)],
-    "start": [("node", "name"), ("when", "time", 0), ("offset", "time", 0), ("duration", "time", None)],
+    "copyToChannel": [
+        ("buffer", "name"),
+        ("channel", "count"),
+        ("samples", "list"),
+        ("at", "count", 0),
+    ],
+    "start": [
+        ("node", "name"),
+        ("when", "time", 0),
+        ("offset", "time", 0),
+        ("duration", "time", None),
+    ],
     "stop": [("node", "name"), ("when", "time", 0)],
     "suspend": [("time", "time"), HELD],
     "startRendering": [HELD],
@@ -65,10 +103,11 @@ OPERATIONS = {
     "readTime": [],
 }
 
-# The operations of these that the program does not read yet.
-AHEAD = ()
-
-RANGES = {"fix": (-(2**31), 2**31 - 1), "time": (-(2**40), 2**40), "count": (0, 2**32 - 1)}
+RANGES = {
+    "fix": (-(2**31), 2**31 - 1),
+    "time": (-(2**40), 2**40),
+    "count": (0, 2**32 - 1),
+}
 
 
 class Fault(Exception):
@@ -95,7 +134,8 @@ def whole(text):
 
 
 def looked_through(value, room):
-    """The value with objects for members. There is room for so many arrays and objects, one in another."""
+    """The value with objects for members. There is room for so many arrays and objects, one in
+    another."""
     if isinstance(value, list) and room == 0:
         bad_json()
     if isinstance(value, Members):
@@ -109,8 +149,13 @@ def looked_through(value, room):
 
 def json_of(data):
     try:
-        value = json.loads(data.decode(), object_pairs_hook=Members, parse_constant=bad_json,
-                           parse_float=fraction, parse_int=whole)
+        value = json.loads(
+            data.decode(),
+            object_pairs_hook=Members,
+            parse_constant=bad_json,
+            parse_float=fraction,
+            parse_int=whole,
+        )
         return looked_through(value, 127)
     except (ValueError, RecursionError):
         bad_json()
@@ -121,9 +166,19 @@ def cause(value, kind):
     the others is a list of words."""
     if kind in RANGES:
         low, high = RANGES[kind]
-        return "WrongKind" if type(value) is not int else None if low <= value <= high else "OutOfRange"
+        return (
+            "WrongKind"
+            if type(value) is not int
+            else None
+            if low <= value <= high
+            else "OutOfRange"
+        )
     if kind in ("object", "calls", "bool"):
-        return None if isinstance(value, {"object": dict, "calls": list, "bool": bool}[kind]) else "WrongKind"
+        return (
+            None
+            if isinstance(value, {"object": dict, "calls": list, "bool": bool}[kind])
+            else "WrongKind"
+        )
     if kind == "list":
         causes = [cause(it, "fix") for it in value] if isinstance(value, list) else ["WrongKind"]
         return next((wrong for wrong in ("WrongKind", "OutOfRange") if wrong in causes), None)
@@ -146,7 +201,7 @@ def look_at(ordinal, members, field, kind, *default):
     else:
         wrong = cause(members[field], kind.replace(" or null", ""))
     if wrong:
-        raise Fault("%d %s %s" % (ordinal, field, wrong))
+        raise Fault(f"{ordinal} {field} {wrong}")
 
 
 def look_at_calls(calls, first):
@@ -155,17 +210,17 @@ def look_at_calls(calls, first):
         ordinal = first
         first += 1
         if not isinstance(call, dict):
-            raise Fault("%d call WrongKind" % ordinal)
+            raise Fault(f"{ordinal} call WrongKind")
         op = call.get("op")
         if not isinstance(op, str) or op not in OPERATIONS and op not in LEFT_OUT:
-            raise Fault("%d op UnknownOp" % ordinal)
+            raise Fault(f"{ordinal} op UnknownOp")
         fields = OPERATIONS.get(op, [])
         for field in fields:
             look_at(ordinal, call, *field)
         if op == "disconnect" and call.get("input") is not None:
             for field in ("to", "output"):
                 if call.get(field) is None:
-                    raise Fault("%d %s MissingField" % (ordinal, field))
+                    raise Fault(f"{ordinal} {field} MissingField")
         if HELD in fields:
             first = look_at_calls(call.get("then", []), first)
     return first
@@ -188,7 +243,8 @@ def script_of(data):
 
 
 def numbered(calls, first):
-    """The calls of a list with their ordinals and the lists that they hold, and the next ordinal."""
+    """The calls of a list with their ordinals and the lists that they hold, and the next
+    ordinal."""
     done = []
     for call in calls:
         ordinal, held = first, []

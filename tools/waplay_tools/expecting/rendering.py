@@ -1,8 +1,17 @@
-"""Rendering: the values that come to the destination, quantum after quantum, by the rules of docs/PROFILE.md."""
+"""Rendering: the values that come to the destination, quantum after quantum, by the rules of
+docs/PROFILE.md."""
 
 from waplay_tools.expecting.graph import Graph
 from waplay_tools.expecting.nodes import SOURCES
-from waplay_tools.expecting.numbers import QUANTUM, SILENCE, bounded, computed_count, mixed_blocks, products, summed
+from waplay_tools.expecting.numbers import (
+    QUANTUM,
+    SILENCE,
+    bounded,
+    computed_count,
+    mixed_blocks,
+    products,
+    summed,
+)
 
 
 def input_of(node, sources):
@@ -13,14 +22,15 @@ def input_of(node, sources):
 
 
 def computed(nominal, own, sources):
-    """The values of a parameter, which are these without what is connected to it, and are to be in this range."""
+    """The values of a parameter, which are these without what is connected to it, and are to be in
+    this range."""
     added = summed([mixed_blocks(blocks, 1, "speakers")[0] for blocks in sources])
     return bounded([value + more for value, more in zip(own, added)], *nominal)
 
 
 def outputs_of(node, heard, levels):
-    """What each output of a node carries that is no source and remembers nothing, where it hears this on each of
-    its inputs and its parameters have these values."""
+    """What each output of a node carries that is no source and remembers nothing, where it hears
+    this on each of its inputs and its parameters have these values."""
     if node.kind == "gain":
         return [[products(block, levels["gain"]) for block in heard[0]]]
     if node.kind == "shaper":
@@ -33,7 +43,8 @@ def outputs_of(node, heard, levels):
 
 
 class Rendering:
-    """A session's nodes and connections, as they are from one frame to another at which they may change."""
+    """A session's nodes and connections, as they are from one frame to another at which they may
+    change."""
 
     def __init__(self, session):
         self.nodes = session.nodes
@@ -45,12 +56,14 @@ class Rendering:
             places[target][place].append((source, output))
         muted = [self.nodes[end.node] for end in self.graph.muted]
         self.muted_filters = [node for node in muted if node.kind == "filter"]
-        # Of each node its outputs, and of each output the blocks of its channels. A node that is muted is silent.
+        # Of each node its outputs, and of each output the blocks of its channels. A node that is
+        # muted is silent.
         self.carried = [[[SILENCE]] * node.outputs for node in self.nodes]
         self.made = {}
 
     def made_of(self, key, make, *inputs):
-        """What is made of these inputs. It is made once for quanta behind one another in which they are the same."""
+        """What is made of these inputs. It is made once for quanta behind one another in which they
+        are the same."""
         if key not in self.made or self.made[key][0] != inputs:
             self.made[key] = inputs, make(*inputs)
         return self.made[key][1]
@@ -60,11 +73,14 @@ class Rendering:
 
     def heard(self, number):
         """The channels of each input of a node."""
-        return [self.made_of((number, place), input_of, self.nodes[number], self.sources_of(edges))
-                for place, edges in enumerate(self.connected[number])]
+        return [
+            self.made_of((number, place), input_of, self.nodes[number], self.sources_of(edges))
+            for place, edges in enumerate(self.connected[number])
+        ]
 
     def levels(self, number, parameter, first):
-        """The values of a parameter in the quantum that begins here. At k-rate its first one is that of all frames."""
+        """The values of a parameter in the quantum that begins here. At k-rate its first one is
+        that of all frames."""
         node, sources = self.nodes[number], self.sources_of(self.controls[number][parameter])
         timeline = node.timelines[parameter]
         own = timeline.values(first, 1 if timeline.is_k_rate else QUANTUM)
@@ -74,7 +90,9 @@ class Rendering:
     def outputs(self, end, first):
         """What each output of an end carries in the quantum that begins here."""
         node = self.nodes[end.node]
-        levels = {parameter: self.levels(end.node, parameter, first) for parameter in node.timelines}
+        levels = {
+            parameter: self.levels(end.node, parameter, first) for parameter in node.timelines
+        }
         if node.kind in SOURCES:
             return [node.sound(first, levels)]
         if node.kind == "delay":
@@ -85,7 +103,8 @@ class Rendering:
         return self.made_of((end.node, "outputs"), outputs_of, node, heard, levels)
 
     def render(self, end, first):
-        """Renders an end in the quantum that begins here, in which all that leads to it was rendered."""
+        """Renders an end in the quantum that begins here, in which all that leads to it was
+        rendered."""
         if end.is_writer:
             self.nodes[end.node].write(first, self.heard(end.node)[0])
             return

@@ -1,5 +1,5 @@
-"""Sessions: what each call of a script does, and the lines and the file that come of it. The rules are
-those of docs/PROFILE.md and docs/FORMATS.md."""
+"""Sessions: what each call of a script does, and the lines and the file that come of it. The rules
+are those of docs/PROFILE.md and docs/FORMATS.md."""
 
 import functools
 import itertools
@@ -9,7 +9,17 @@ import struct
 from waplay_tools.expecting.automation import EDITS, LEFT_OUT_EDITS
 from waplay_tools.expecting.causal import Filter, Shaper, check_oversample
 from waplay_tools.expecting.delay import Delay
-from waplay_tools.expecting.nodes import ASSET_LIMIT, FIXED, PARAMETERS, SOURCES, AssetFault, Buffer, BufferSource, Node, asset
+from waplay_tools.expecting.nodes import (
+    ASSET_LIMIT,
+    FIXED,
+    PARAMETERS,
+    SOURCES,
+    AssetFault,
+    Buffer,
+    BufferSource,
+    Node,
+    asset,
+)
 from waplay_tools.expecting.numbers import ONE, QUANTUM, sample_of
 from waplay_tools.expecting.reading import LEFT_OUT, Fault, numbered, script_of
 from waplay_tools.expecting.refusals import Refused, profile
@@ -24,7 +34,11 @@ KEPT = 10000  # frames that are kept for those that are like them
 
 
 # The attributes that a call sets.
-ATTRIBUTES = {"setChannelCount": "count", "setChannelCountMode": "mode", "setChannelInterpretation": "interpretation"}
+ATTRIBUTES = {
+    "setChannelCount": "count",
+    "setChannelCountMode": "mode",
+    "setChannelInterpretation": "interpretation",
+}
 
 # The parts of its loop that a call sets of a buffer source.
 LOOPS = {"setLoop": "is_looping", "setLoopStart": "loop_start", "setLoopEnd": "loop_end"}
@@ -42,14 +56,18 @@ class Session:
         self.nodes = [Node("destination", "destination", self.channels)]
         self.buffers = []
         self.names = {"destination": 0}  # of a node its number, and a buffer itself
-        self.edges = set()  # of (from, output, to, input), with a parameter's name for an input where it goes to one
+        self.edges = (
+            set()
+        )  # of (from, output, to, input), with a parameter's name for an input where it goes to one
         self.now, self.state = 0, "suspended"
         self.rendering = None  # the accepted startRendering: its ordinal and its list
         self.suspensions = {}  # those to come, by their frames: of each its ordinal and its list
         self.lines = []
         self.calls_run = 0
         self.values = None  # of each frame those of its channels, when it is through
-        self.peak = self.sum = 0  # of all values that were rendered: the greatest one without its sign, and their sum
+        self.peak = (
+            self.sum
+        ) = 0  # of all values that were rendered: the greatest one without its sign, and their sum
 
     def find(self, name, kinds=tuple(FIXED)):
         number = self.names.get(name)
@@ -92,7 +110,10 @@ class Session:
     def create_delay(self, call):
         delay = Delay(call, self.rate, self.now)
         self.check_node_limit()
-        if sum(node.capacity for node in self.nodes + [delay] if node.kind == "delay") > DELAY_LIMIT:
+        if (
+            sum(node.capacity for node in self.nodes + [delay] if node.kind == "delay")
+            > DELAY_LIMIT
+        ):
             raise profile("delay-limit")
         return self.add_node(delay)
 
@@ -138,7 +159,9 @@ class Session:
         return "ok"
 
     def set_buffer(self, call):
-        node, buffer = self.nodes[self.find(call["node"], SOURCES[1:])], self.find_buffer(call["buffer"])
+        node, buffer = self.nodes[self.find(call["node"], SOURCES[1:])], self.find_buffer(
+            call["buffer"]
+        )
         if buffer and node.was_set:
             raise Refused("InvalidStateError")
         if node.start is not None:
@@ -249,7 +272,7 @@ class Session:
         if call["op"] in LEFT_OUT_EDITS:
             raise profile(LEFT_OUT_EDITS[call["op"]])
         if call["op"] == "readValue":
-            return "value %d" % timeline.slot
+            return f"value {timeline.slot}"
         EDITS[call["op"]](timeline, call, self.now)
         return "ok"
 
@@ -301,11 +324,17 @@ class Session:
         if op in LEFT_OUT:
             raise profile(LEFT_OUT[op])
         return {
-            "createConstantSource": lambda: self.create("constant", call["as"], call.get("offset", ONE)),
+            "createConstantSource": lambda: self.create(
+                "constant", call["as"], call.get("offset", ONE)
+            ),
             "createGain": lambda: self.create("gain", call["as"], call.get("gain", ONE)),
             "createDelay": lambda: self.create_delay(call),
-            "createChannelSplitter": lambda: self.create("splitter", call["as"], call.get("numberOfOutputs", 6)),
-            "createChannelMerger": lambda: self.create("merger", call["as"], call.get("numberOfInputs", 6)),
+            "createChannelSplitter": lambda: self.create(
+                "splitter", call["as"], call.get("numberOfOutputs", 6)
+            ),
+            "createChannelMerger": lambda: self.create(
+                "merger", call["as"], call.get("numberOfInputs", 6)
+            ),
             "createWaveShaper": lambda: self.add_node(Shaper(call)),
             "createIIRFilter": lambda: self.add_node(Filter(call)),
             "createBufferSource": lambda: self.create_source(call),
@@ -328,7 +357,7 @@ class Session:
             "resume": self.resume,
             "decodeAudioData": lambda: self.decode(call),
             "readState": lambda: "state " + self.state,
-            "readTime": lambda: "time %d" % self.now,
+            "readTime": lambda: f"time {self.now}",
         }[op]()
 
     def run(self, calls):
@@ -338,11 +367,11 @@ class Session:
                 text = self.answer(ordinal, call, held)
             except Refused as refused:
                 text = ("rejected " if call["op"] in PROMISES else "throw ") + str(refused)
-            self.lines.append("%d %s" % (ordinal, text))
+            self.lines.append(f"{ordinal} {text}")
 
     def settle(self, ordinal, held):
         """The promise of a call resolves, and the list that the call holds is run."""
-        self.lines.append("%d resolved" % ordinal)
+        self.lines.append(f"{ordinal} resolved")
         self.run(held)
 
     def pass_quantum(self):
@@ -351,11 +380,11 @@ class Session:
         for number, node in enumerate(self.nodes):
             if not node.ended and node.end() is not None and node.end() <= self.now:
                 node.ended = True
-                self.lines.append("ended %d %s" % (number, node.name))
+                self.lines.append(f"ended {number} {node.name}")
 
     def pass_quanta(self, end):
-        """What comes after each quantum up to a frame, before which no call is run. The current values are then
-        those of the last one's first frame."""
+        """What comes after each quantum up to a frame, before which no call is run. The current
+        values are then those of the last one's first frame."""
         while self.now < end:
             self.pass_quantum()
         for node in self.nodes:
@@ -366,7 +395,7 @@ class Session:
         """The values from now on up to a frame."""
         values = []
         for first, blocks in enumerate(Rendering(self).quanta(self.now, end)):
-            frames = list(zip(*blocks))[:end - self.now - QUANTUM * first]
+            frames = list(zip(*blocks))[: end - self.now - QUANTUM * first]
             values += frames
             self.peak = max(self.peak, *map(abs, itertools.chain(*frames)))
             self.sum += sum(itertools.chain(*frames))
@@ -378,10 +407,14 @@ class Session:
         return None if self.values is None else samples_of(self.values, 24)
 
     def replay(self, calls):
-        """The last line. The other lines and the samples stand in the session afterwards. Nothing is changed
-        between two suspensions, so what lies between them is rendered at once."""
-        if not (1 <= self.channels <= 32 and 1 <= self.length <= 2**25
-                and 8000 <= self.rate <= 96000 and self.channels * self.length <= 2**26):
+        """The last line. The other lines and the samples stand in the session afterwards. Nothing
+        is changed between two suspensions, so what lies between them is rendered at once."""
+        if not (
+            1 <= self.channels <= 32
+            and 1 <= self.length <= 2**25
+            and 8000 <= self.rate <= 96000
+            and self.channels * self.length <= 2**26
+        ):
             return "end refused NotSupportedError"
         self.run(calls)
         if self.rendering is None:
@@ -396,10 +429,10 @@ class Session:
                 self.state = "suspended"
                 self.settle(*self.suspensions.pop(self.now))
                 if self.state == "suspended":
-                    return "end stalled %d" % self.now
+                    return f"end stalled {self.now}"
         self.values, self.state = None if self.is_checked else values, "closed"
         self.settle(*self.rendering)
-        self.lines.append("complete %d" % self.length)
+        self.lines.append(f"complete {self.length}")
         return "end completed"
 
 
@@ -420,32 +453,44 @@ def wav_bytes(session, bits=24):
     samples = session.samples if bits == 24 else samples_of(session.values, bits)
     body = b"".join(s.to_bytes(width, "little", signed=True) for row in samples for s in row)
     padding = len(body) % 2
-    return (b"RIFF" + struct.pack("<I", 36 + len(body) + padding) + b"WAVEfmt "
-            + struct.pack("<IHHIIHH", 16, 1, channels, rate, rate * channels * width, channels * width, bits)
-            + b"data" + struct.pack("<I", len(body)) + body + b"\0" * padding)
+    return (
+        b"RIFF"
+        + struct.pack("<I", 36 + len(body) + padding)
+        + b"WAVEfmt "
+        + struct.pack(
+            "<IHHIIHH", 16, 1, channels, rate, rate * channels * width, channels * width, bits
+        )
+        + b"data"
+        + struct.pack("<I", len(body))
+        + body
+        + b"\0" * padding
+    )
 
 
 def summary_of(session):
-    """What is told in place of the lines: how many calls were run, quanta rendered, sources ended and calls refused,
-    and, where it was rendered to its end, what the rendered values come to."""
+    """What is told in place of the lines: how many calls were run, quanta rendered, sources ended
+    and calls refused, and, where it was rendered to its end, what the rendered values come to."""
     words = [line.split() for line in session.lines]
-    numbers = {"calls": session.calls_run, "quanta": session.now // QUANTUM,
-               "ended": sum(first == "ended" for first, *_ in words),
-               "refused": sum(second in ("throw", "rejected") for _, second, *_ in words)}
+    numbers = {
+        "calls": session.calls_run,
+        "quanta": session.now // QUANTUM,
+        "ended": sum(first == "ended" for first, *_ in words),
+        "refused": sum(second in ("throw", "rejected") for _, second, *_ in words),
+    }
     if session.values is not None:
         numbers.update(peak=session.peak, sum=session.sum)
     return " ".join(["summary", *("%s %d" % it for it in numbers.items())])
 
 
 def replayed(data, folder=os.curdir, is_checked=False):
-    """What a script of these bytes gives, whose assets are in the folder: the status, the text, and the
-    session when it is over. Where it is only checked, nothing is rendered."""
+    """What a script of these bytes gives, whose assets are in the folder: the status, the text, and
+    the session when it is over. Where it is only checked, nothing is rendered."""
     try:
         script = script_of(data)
         session = Session(script["context"], folder, is_checked)
         last = session.replay(numbered(script["calls"], 1)[0])
     except Fault as fault:
-        return 4, "script: %s\n" % fault, None
+        return 4, f"script: {fault}\n", None
     except AssetFault:
         return 7, "", None
     return 0 if last == "end completed" else 3, "\n".join(session.lines + [last]) + "\n", session

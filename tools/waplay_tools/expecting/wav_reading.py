@@ -1,8 +1,8 @@
-"""Reads WAV files by the rules of docs/FORMATS.md, "Reading WAV files", in the plainest way: first the
-whole list of chunks, and then the first case that holds.
+"""Reads WAV files by the rules of docs/FORMATS.md, "Reading WAV files", in the plainest way: first
+the whole list of chunks, and then the first case that holds.
 
-tools/expected.py reads assets with it, and tools/wav_check.py compares the program's reading with it. It
-has no code in common with the program.
+tools/expected.py reads assets with it, and tools/wav_check.py compares the program's reading with
+it. It has no code in common with the program.
 """
 
 import functools

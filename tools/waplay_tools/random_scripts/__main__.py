@@ -1,13 +1,13 @@
 """Makes random scripts, and compares what waplay gives for them with the second calculation.
 
 Of each script it compares the exit status, the transcript and every byte of the WAV file. Scripts
-that decode assets have these files beside them: WAV files of every kind, files that are none, files of
-another rate, links, folders, and paths that lead nowhere or out of the folder. About half of the scripts have
-suspensions. A script and its assets hang on the seed and its number, and on which operations are read: what the
-program does not read is in no script, and gets a line.
+that decode assets have these files beside them: WAV files of every kind, files that are none, files
+of another rate, links, folders, and paths that lead nowhere or out of the folder. About half of the
+scripts have suspensions. A script and its assets hang on the seed and its number, and on which
+operations are read: what the program does not read is in no script, and gets a line.
 
-A comparison prints a line for each difference, then how often each answer came up and which of those that can come
-up did not, and last how many scripts differ. The status is 0 where none does.
+A comparison prints a line for each difference, then how often each answer came up and which of
+those that can come up did not, and last how many scripts differ. The status is 0 where none does.
 """
 
 import argparse
@@ -35,31 +35,45 @@ def arguments() -> argparse.Namespace:
     )
     words.add_argument("--seed", type=int, default=1, help="the seed of the scripts, 1 by default")
     words.add_argument("--count", type=int, default=1000, help="how many scripts, 1,000 by default")
-    words.add_argument("--jobs", type=int, default=os.cpu_count(), help="how many processes compare")
     words.add_argument(
-        "--program", type=Path, default=BUILT, metavar="FILE",
-        help="the program, that which ./waplay has built by default",
+        "--jobs", type=int, default=os.cpu_count(), help="how many processes compare"
     )
     words.add_argument(
-        "--print", type=int, metavar="NUMBER",
-        help="print the script of this number; without a program that of one that reads all operations",
+        "--program",
+        type=Path,
+        default=BUILT,
+        metavar="FILE",
+        help="the program, that which tools/prove has built by default",
     )
     words.add_argument(
-        "--shrink", type=int, metavar="NUMBER",
+        "--print",
+        type=int,
+        metavar="NUMBER",
+        help="print the script of this number; without a program as for one that reads all",
+    )
+    words.add_argument(
+        "--shrink",
+        type=int,
+        metavar="NUMBER",
         help="print the script of this number with as few calls as still differ",
     )
     words.add_argument(
-        "--folder", type=Path,
+        "--folder",
+        type=Path,
         help="write the printed script to FOLDER/script.json, and its assets beside it",
     )
     words.add_argument(
-        "--loads", type=Path, metavar="FOLDER",
+        "--loads",
+        type=Path,
+        metavar="FOLDER",
         help="write the scripts that speed is measured with, and their assets",
     )
     words.add_argument(
-        "--measure", type=Path, metavar="FOLDER",
-        help="run the scripts of a folder, and print the least user time of three runs and the peak memory "
-        "of each; it wants GNU time",
+        "--measure",
+        type=Path,
+        metavar="FOLDER",
+        help="run the scripts of a folder, and print the least user time of three runs and "
+        "the peak memory of each; it wants GNU time",
     )
     return words.parse_args()
 

@@ -23,9 +23,12 @@ script: BadJson
 script: MissingField
 script: WrongKind
 script: UnknownOp
-script: OutOfRange""".split("\n")
+script: OutOfRange""".split(
+    "\n"
+)
 
-# Those that come up where assets are read. The last is no answer, but stands for a run that has none.
+# Those that come up where assets are read. The last is no answer, but stands for a run that has
+# none.
 UNREAD = "no transcript, since an asset cannot be read"
 ASSET_ANSWERS = ["decodeAudioData resolved", UNREAD]
 
@@ -48,13 +51,38 @@ REFUSALS = {
     "createChannelMerger": ["IndexSizeError", PROFILE + "node-limit"],
     "createWaveShaper": [PROFILE + "oversample", "InvalidStateError", PROFILE + "node-limit"],
     "createIIRFilter": ["NotSupportedError", "InvalidStateError", PROFILE + "node-limit"],
-    "createDelay": ["NotSupportedError", PROFILE + "long-delay", PROFILE + "node-limit", PROFILE + "delay-limit"],
+    "createDelay": [
+        "NotSupportedError",
+        PROFILE + "long-delay",
+        PROFILE + "node-limit",
+        PROFILE + "delay-limit",
+    ],
     "setCurve": ["TypeError", "InvalidStateError"],
     "setOversample": ["TypeError", PROFILE + "oversample"],
-    "connect": ["TypeError", PROFILE + "destination-output", "IndexSizeError", PROFILE + "connection-limit"],
-    "disconnect": ["TypeError", PROFILE + "destination-output", "IndexSizeError", "InvalidAccessError"],
-    "connectParam": [*OF_PARAMETERS, PROFILE + "destination-output", "IndexSizeError", PROFILE + "connection-limit"],
-    "disconnectParam": [*OF_PARAMETERS, PROFILE + "destination-output", "IndexSizeError", "InvalidAccessError"],
+    "connect": [
+        "TypeError",
+        PROFILE + "destination-output",
+        "IndexSizeError",
+        PROFILE + "connection-limit",
+    ],
+    "disconnect": [
+        "TypeError",
+        PROFILE + "destination-output",
+        "IndexSizeError",
+        "InvalidAccessError",
+    ],
+    "connectParam": [
+        *OF_PARAMETERS,
+        PROFILE + "destination-output",
+        "IndexSizeError",
+        PROFILE + "connection-limit",
+    ],
+    "disconnectParam": [
+        *OF_PARAMETERS,
+        PROFILE + "destination-output",
+        "IndexSizeError",
+        "InvalidAccessError",
+    ],
     "setValue": [*OF_PARAMETERS, "NotSupportedError"],
     "setValueAtTime": [*OF_PARAMETERS, "RangeError", "NotSupportedError"],
     "linearRampToValueAtTime": [*OF_PARAMETERS, "RangeError", "NotSupportedError"],
@@ -69,13 +97,28 @@ REFUSALS = {
     "setChannelInterpretation": ["TypeError", "InvalidStateError"],
     "start": ["TypeError", "InvalidStateError", "RangeError"],
     "stop": ["TypeError", "InvalidStateError", "RangeError"],
-    "createBufferSource": ["TypeError", PROFILE + "playback-rate", PROFILE + "resampling", PROFILE + "node-limit"],
+    "createBufferSource": [
+        "TypeError",
+        PROFILE + "playback-rate",
+        PROFILE + "resampling",
+        PROFILE + "node-limit",
+    ],
     "createBuffer": ["NotSupportedError", PROFILE + "buffer-limit"],
-    "setBuffer": ["TypeError", "InvalidStateError", PROFILE + "late-buffer", PROFILE + "resampling"],
+    "setBuffer": [
+        "TypeError",
+        "InvalidStateError",
+        PROFILE + "late-buffer",
+        PROFILE + "resampling",
+    ],
     **dict.fromkeys(LOOPS, ["TypeError", PROFILE + "loop-change"]),
     "copyToChannel": ["TypeError", "IndexSizeError", PROFILE + "buffer-acquired"],
-    "decodeAudioData": ["NotFoundError", PROFILE + "asset-size", "EncodingError", PROFILE + "resampling",
-                        PROFILE + "buffer-limit"],
+    "decodeAudioData": [
+        "NotFoundError",
+        PROFILE + "asset-size",
+        "EncodingError",
+        PROFILE + "resampling",
+        PROFILE + "buffer-limit",
+    ],
     **dict.fromkeys(("suspend", "startRendering", "resume"), ["InvalidStateError"]),
     **{op: [PROFILE + feature] for op, feature in LEFT_OUT.items()},
 }
@@ -90,8 +133,11 @@ def operations_of(numbered):
 
 
 def answers_of(script, text):
-    """The answers of a transcript as ANSWERS has them, and refusals with their operations before them."""
-    operations = {} if text.startswith("script: ") else operations_of(numbered(script["calls"], 1)[0])
+    """The answers of a transcript as ANSWERS has them, and refusals with their operations before
+    them."""
+    operations = (
+        {} if text.startswith("script: ") else operations_of(numbered(script["calls"], 1)[0])
+    )
     if text == "":
         yield UNREAD
     for line in text.splitlines():
@@ -100,7 +146,9 @@ def answers_of(script, text):
         elif re.match(r"(ended|complete|\d+ time|\d+ value) ", line):
             yield re.sub(r"^(?:\d+ )?(\w+) .*", r"\1", line)
         elif re.match(r"\d+ (throw|rejected) ", line) or (
-                line.endswith(" resolved") and operations[int(line.split()[0])] in ("decodeAudioData", "suspend")):
+            line.endswith(" resolved")
+            and operations[int(line.split()[0])] in ("decodeAudioData", "suspend")
+        ):
             yield operations[int(line.split()[0])] + " " + line.split(" ", 1)[1]
         else:
             yield re.sub(r"^\d+ | \d+$", "", line)

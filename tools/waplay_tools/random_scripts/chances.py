@@ -5,8 +5,8 @@ from typing import Any
 from waplay_tools.expecting.sessions import ATTRIBUTES
 from waplay_tools.random_scripts.kinds import AUTOMATED, BUFFERS, SHAPERS
 
-# How often each operation is called, which method of the maker makes a call of it, with what words behind it, and
-# what the program has to read for it.
+# How often each operation is called, which method of the maker makes a call of it, with what words
+# behind it, and what the program has to read for it.
 OPERATIONS: list[tuple] = [
     (24, "create_node"),
     (30, "connect"),
@@ -84,9 +84,46 @@ DELAY_SHAPES = [
 ]
 
 # What a member is spoiled with: much of it is of a wrong kind or out of range for most fields.
-SPOILED: list[Any] = [None, True, 0, 1, -1, 1.0, 1e2, 2**31, 2**32, 2**40 + 1, 2**63, 2**64, -(2**63) - 1, "", "n1", "x" * 65,
-           "a b", "destination", "\ud800", "max", "k-rate", "Explicit", "discrete", "connect", "createFoo", [], {}, [7], [{}],
-           False, [2**31], [0.5, 2**31], "x" * 256, "\u00e9" * 128, 2**24, "2x", "none", [2**31, 1]]
+SPOILED: list[Any] = [
+    None,
+    True,
+    0,
+    1,
+    -1,
+    1.0,
+    1e2,
+    2**31,
+    2**32,
+    2**40 + 1,
+    2**63,
+    2**64,
+    -(2**63) - 1,
+    "",
+    "n1",
+    "x" * 65,
+    "a b",
+    "destination",
+    "\ud800",
+    "max",
+    "k-rate",
+    "Explicit",
+    "discrete",
+    "connect",
+    "createFoo",
+    [],
+    {},
+    [7],
+    [{}],
+    False,
+    [2**31],
+    [0.5, 2**31],
+    "x" * 256,
+    "\u00e9" * 128,
+    2**24,
+    "2x",
+    "none",
+    [2**31, 1],
+]
 
 # What the program has to read for a shape. Where it does not, a graph is made.
 CHANNELS = ("createChannelSplitter", "createChannelMerger")

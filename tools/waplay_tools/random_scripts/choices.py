@@ -4,7 +4,6 @@ from waplay_tools.expecting.sessions import ATTRIBUTES
 from waplay_tools.random_scripts.kinds import AUTOMATED, BUFFERS, KINDS, Sound
 
 
-
 class Choices:
     """Chances, and the names that a script in the making has."""
 
@@ -15,8 +14,11 @@ class Choices:
         self.has_assets = self.has_buffers and "decodeAudioData" in read
         self.attributes = [op for op in ATTRIBUTES if op in read]  # the operations that set one
         self.automated_by = [op for op in AUTOMATED if op in read]
-        self.kinds = {op: kind for op, kind in KINDS.items()
-                      if op in read and (self.has_buffers or op not in BUFFERS)}
+        self.kinds = {
+            op: kind
+            for op, kind in KINDS.items()
+            if op in read and (self.has_buffers or op not in BUFFERS)
+        }
         self.names = {}  # of a name, its kind, with the inputs and outputs that it was given
         self.assets = {}  # of a path, what stands there (see write_assets)
         self.controls = []  # the connections to parameters that were made
@@ -36,11 +38,13 @@ class Choices:
         if self.names and self.may(0.05):
             return self.rng.choice(list(self.names))
         self.made += 1
-        return "n%d" % self.made + self.rng.choice(["", "", "", "", "-", "_", "x" * (63 - len(str(self.made)))])
+        return f"n{self.made}" + self.rng.choice(
+            ["", "", "", "", "-", "_", "x" * (63 - len(str(self.made)))]
+        )
 
     def name(self, fits=lambda kind: not isinstance(kind, Sound)):
-        """A name of an object whose kind fits, mostly; else any, also of nothing. A node fits, where
-        nothing else is said."""
+        """A name of an object whose kind fits, mostly; else any, also of nothing. A node fits,
+        where nothing else is said."""
         fitting = [name for name, kind in self.names.items() if fits(kind)]
         if fitting and self.may(0.93):
             return self.rng.choice(fitting)

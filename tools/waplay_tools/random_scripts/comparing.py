@@ -25,7 +25,9 @@ def read_by(program: Path, wanted: list[str]) -> list[str]:
     context = {"channels": 1, "length": 1, "rate": 8000}
     for op in wanted:
         script = json.dumps({"version": 1, "context": context, "calls": [{"op": op}]}).encode()
-        ran = subprocess.run([program, os.devnull], input=script, stdout=subprocess.PIPE, check=False)
+        ran = subprocess.run(
+            [program, os.devnull], input=script, stdout=subprocess.PIPE, check=False
+        )
         if ran.stdout != b"script: 1 op UnknownOp\n":
             read.append(op)
     return read

@@ -4,7 +4,6 @@ from waplay_tools.random_scripts.effects import Effects
 from waplay_tools.random_scripts.kinds import KINDS, ONE, Sound
 
 
-
 class Echoes(Effects):
     """Shapes of scripts: delays, mostly in cycles, and what is made around them."""
 
@@ -17,8 +16,8 @@ class Echoes(Effects):
         return calls
 
     def looped(self, name=None):
-        """Connections by which a delay mostly comes into a cycle: with itself, with a gain, of which it may reach the
-        parameter alone, or with any node."""
+        """Connections by which a delay mostly comes into a cycle: with itself, with a gain, of
+        which it may reach the parameter alone, or with any node."""
         name, some = name or self.delay(), self.rng.randint(0, 9)
         if some < 2:
             calls = [self.joined(name, name)]
@@ -36,18 +35,27 @@ class Echoes(Effects):
 
     def unlooped(self):
         """A connection that brings a delay into a cycle is taken away, or all of a delay."""
-        loop = self.rng.choice(self.loops) if self.loops and self.may(0.8) else {"from": self.delay()}
-        return {"op": "disconnect", **{field: loop[field] for field in ("from", "to") if field in loop}}
+        loop = (
+            self.rng.choice(self.loops) if self.loops and self.may(0.8) else {"from": self.delay()}
+        )
+        return {
+            "op": "disconnect",
+            **{field: loop[field] for field in ("from", "to") if field in loop},
+        }
 
     def moving(self, name, sources):
-        """What moves the time of a delay: edits, a source by a gain that makes some frames of it, or any node."""
+        """What moves the time of a delay: edits, a source by a gain that makes some frames of it,
+        or any node."""
         some, calls = self.rng.randint(0, 9), []
         if some < 5:
-            calls = self.timeline(name)[:self.rng.choice([2, 4, 8])]
+            calls = self.timeline(name)[: self.rng.choice([2, 4, 8])]
         elif some < 8:
             calls = [self.create_gain()]
             calls[0]["gain"] = self.seconds(self.rng.choice([1, 10, 128, 400, -40]))
-            calls += [self.joined(self.rng.choice(sources), calls[0]["as"]), self.connect_param(calls[0]["as"], name)]
+            calls += [
+                self.joined(self.rng.choice(sources), calls[0]["as"]),
+                self.connect_param(calls[0]["as"], name),
+            ]
         else:
             calls = [self.connect_param(name if self.may(0.4) else None, name)]
         calls += [self.edit("setAutomationRate", name)] if self.may(0.3) else []
@@ -61,19 +69,44 @@ class Echoes(Effects):
             if self.may(0.8):
                 calls += self.kept_quiet([self.create_constant()])
                 source = calls[-1]["as"]
-                calls += [{**self.joined(source, place), "input": at}, self.call("start", [("node", source)])]
+                calls += [
+                    {**self.joined(source, place), "input": at},
+                    self.call("start", [("node", source)]),
+                ]
         self.loops.append(self.joined(place, name))
         return calls + self.loops[-1:]
 
     def passing(self, name=None):
         """A source of several channels that comes to a delay for some quanta at most."""
-        name, channels, length = name or self.delay(), self.rng.choice([2, 2, 3, 4, 6]), self.rng.randint(1, 200)
+        name, channels, length = (
+            name or self.delay(),
+            self.rng.choice([2, 2, 3, 4, 6]),
+            self.rng.randint(1, 200),
+        )
         buffer, source, player = self.new_name(), self.new_name(), KINDS["createBufferSource"]
         self.names[buffer], self.names[source] = Sound(0, 0, False, channels, length), player
-        calls = [{"op": "createBuffer", "as": buffer, "channels": channels, "length": length, "rate": self.rate}]
-        calls += [{"op": "copyToChannel", "buffer": buffer, "channel": channel,
-                   "samples": [self.rng.randint(-ONE, ONE) for _ in range(length)]} for channel in range(channels)]
-        calls += [{"op": "createBufferSource", "as": source, "buffer": buffer}, self.joined(source, name)]
+        calls = [
+            {
+                "op": "createBuffer",
+                "as": buffer,
+                "channels": channels,
+                "length": length,
+                "rate": self.rate,
+            }
+        ]
+        calls += [
+            {
+                "op": "copyToChannel",
+                "buffer": buffer,
+                "channel": channel,
+                "samples": [self.rng.randint(-ONE, ONE) for _ in range(length)],
+            }
+            for channel in range(channels)
+        ]
+        calls += [
+            {"op": "createBufferSource", "as": source, "buffer": buffer},
+            self.joined(source, name),
+        ]
         when = self.rng.choice([0, self.rng.randint(self.now, max(self.now, self.length))])
         return calls + [{"op": "start", "node": source, "when": when}]
 
@@ -81,32 +114,54 @@ class Echoes(Effects):
         """A splitter behind a delay, so that it is heard how many channels the delay has."""
         call = self.create_splitter()
         outputs = range(min(self.names[call["as"]].outputs, 6))
-        heard = [{**self.joined(call["as"], "destination"), "output": output} for output in outputs if self.may(0.7)]
+        heard = [
+            {**self.joined(call["as"], "destination"), "output": output}
+            for output in outputs
+            if self.may(0.7)
+        ]
         return [call, self.joined(name or self.delay(), call["as"]), *heard]
 
     def for_some_quanta(self, name):
-        """Suspensions between which a delay is in a cycle, is muted by its own time, or has another interpretation."""
+        """Suspensions between which a delay is in a cycle, is muted by its own time, or has another
+        interpretation."""
         frames = [128 * k for k in range(1, 6) if 128 * k < self.length]
         gain = {"op": "createGain", "as": "between", "gain": self.rng.randint(-ONE // 2, ONE)}
         control = {"from": name, "to": name, "param": "delayTime"}
         changes = [
             ([self.joined(name, name)], [{"op": "disconnect", "from": name, "to": name}]),
-            ([gain, self.joined(name, "between"), self.joined("between", name)], [{"op": "disconnect", "from": "between"}]),
-            ([{"op": "connectParam", **control}], [{"op": "disconnectParam", **control}])]
+            (
+                [gain, self.joined(name, "between"), self.joined("between", name)],
+                [{"op": "disconnect", "from": "between"}],
+            ),
+            ([{"op": "connectParam", **control}], [{"op": "disconnectParam", **control}]),
+        ]
         if "setChannelInterpretation" in self.attributes:
-            changes.append([[{"op": "setChannelInterpretation", "node": name, "value": word}]
-                            for word in ("discrete", "speakers")])
+            changes.append(
+                [
+                    [{"op": "setChannelInterpretation", "node": name, "value": word}]
+                    for word in ("discrete", "speakers")
+                ]
+            )
         if len(frames) < 2:
             return []
-        return [{"op": "suspend", "time": frame, "then": [*calls, {"op": "resume"}]}
-                for frame, calls in zip(sorted(self.rng.sample(frames, 2)), self.rng.choice(changes))]
+        return [
+            {"op": "suspend", "time": frame, "then": [*calls, {"op": "resume"}]}
+            for frame, calls in zip(sorted(self.rng.sample(frames, 2)), self.rng.choice(changes))
+        ]
 
     def swaying(self):
-        """A constant source whose values go up and down along a curve, so that each frame has its own, and starts."""
+        """A constant source whose values go up and down along a curve, so that each frame has its
+        own, and starts."""
         calls = self.kept_quiet([self.create_constant()])
         points = [self.rng.randint(-ONE, ONE) for _ in range(self.rng.choice([2, 3, 9, 40]))]
-        curve = {"op": "setValueCurveAtTime", "node": calls[0]["as"], "param": "offset", "values": points,
-                 "time": self.rng.choice([0, 0, 1, 100]), "duration": self.rng.randint(1, 2 * self.length)}
+        curve = {
+            "op": "setValueCurveAtTime",
+            "node": calls[0]["as"],
+            "param": "offset",
+            "values": points,
+            "time": self.rng.choice([0, 0, 1, 100]),
+            "duration": self.rng.randint(1, 2 * self.length),
+        }
         return calls + [curve, self.call("start", [("node", calls[0]["as"])])]
 
     def begun(self, sources):
@@ -123,35 +178,52 @@ class Echoes(Effects):
         return calls
 
     def delayed(self):
-        """Sources, and delays behind one another with a few other nodes between, many of them in cycles and some in
-        cycles without a delay. Numbers of channels grow, and times of delays move."""
+        """Sources, and delays behind one another with a few other nodes between, many of them in
+        cycles and some in cycles without a delay. Numbers of channels grow, and times of delays
+        move."""
         calls = self.kept_quiet([self.create_source() for _ in range(self.rng.randint(1, 4))])
         sources = [call["as"] for call in calls]
         for _ in range(self.rng.randint(1, 5)):
-            make = self.create_delay if self.may(0.6) else self.rng.choice([self.create_gain, self.create_place])
+            make = (
+                self.create_delay
+                if self.may(0.6)
+                else self.rng.choice([self.create_gain, self.create_place])
+            )
             calls += self.kept_quiet([make()])
         places = list(dict.fromkeys(call["as"] for call in calls))
         delays = [name for name in places if self.names[name] is KINDS["createDelay"]]
         calls += self.in_a_row(places)
         if delays:
             swaying = self.swaying()
-            calls += swaying + [self.joined(swaying[0]["as"], delays[0]), self.joined(delays[-1], "destination")]
+            calls += swaying + [
+                self.joined(swaying[0]["as"], delays[0]),
+                self.joined(delays[-1], "destination"),
+            ]
         for name in delays:
-            for make, chance in (self.looped, 0.4), (self.widened, 0.15), (self.passing, 0.25), (self.split, 0.4):
+            for make, chance in (
+                (self.looped, 0.4),
+                (self.widened, 0.15),
+                (self.passing, 0.25),
+                (self.split, 0.4),
+            ):
                 calls += make(name) if self.may(chance) else []
             if "setChannelInterpretation" in self.attributes and self.may(0.25):
                 calls.append({"op": "setChannelInterpretation", "node": name, "value": "discrete"})
             calls += self.moving(name, sources) if self.may(0.5) else []
             calls += self.for_some_quanta(name) if self.suspends and self.may(0.4) else []
-        calls += [self.attribute(op, name) for name in places + ["destination"] for op in self.attributes
-                  if self.may(0.1)]
+        calls += [
+            self.attribute(op, name)
+            for name in places + ["destination"]
+            for op in self.attributes
+            if self.may(0.1)
+        ]
         calls += self.begun(sources)
         calls += [self.any_call() for _ in range(self.rng.choice([0, 0, 0, 3]))]
         return calls + [self.start_rendering()]
 
     def crossed(self):
-        """A splitter whose outputs go through delays into a merger, and from each delay back to a delay, as in echoes
-        that go from side to side."""
+        """A splitter whose outputs go through delays into a merger, and from each delay back to a
+        delay, as in echoes that go from side to side."""
         calls = self.kept_quiet([self.create_source() for _ in range(self.rng.randint(1, 3))])
         sources = [call["as"] for call in calls]
         swaying = self.swaying()

@@ -18,8 +18,8 @@ BUFFERS = {"createBuffer", "copyToChannel", "createBufferSource", "setBuffer", *
 
 
 class Kind(NamedTuple):
-    """A kind of node: how often one is made, and by which method of the maker; how many inputs and outputs it has,
-    whether it starts and stops, and its parameter that calls can change."""
+    """A kind of node: how often one is made, and by which method of the maker; how many inputs and
+    outputs it has, whether it starts and stops, and its parameter that calls can change."""
 
     often: int
     make: str
@@ -43,7 +43,8 @@ KINDS = {
 
 
 class Sound(NamedTuple):
-    """What is kept of a buffer: what a node has, so that a call can take it for one, and its size."""
+    """What is kept of a buffer: what a node has, so that a call can take it for one, and its
+    size."""
 
     inputs: int
     outputs: int

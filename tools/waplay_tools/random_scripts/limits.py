@@ -6,45 +6,79 @@ from waplay_tools.random_scripts.echoes import Echoes
 from waplay_tools.random_scripts.kinds import KINDS, ONE, Sound
 
 
-
 class Limits(Echoes):
     """Shapes of scripts: at the limits of a session, and with faults."""
 
     def lines(self):
-        """Delays of as many frames as there may be in all or nearly so, then more of them, and any calls."""
+        """Delays of as many frames as there may be in all or nearly so, then more of them, and any
+        calls."""
         capacities, calls = 0, []
         while capacities < 2**22:
-            frames = min(self.rng.randint(1, 16 * self.rate), 2**22 - capacities + self.rng.choice([0, 0, 0, 1]))
-            calls.append({**self.create_delay(), "maxDelayTime": min(16 * ONE, self.seconds(frames) + 1)})
+            frames = min(
+                self.rng.randint(1, 16 * self.rate),
+                2**22 - capacities + self.rng.choice([0, 0, 0, 1]),
+            )
+            calls.append(
+                {**self.create_delay(), "maxDelayTime": min(16 * ONE, self.seconds(frames) + 1)}
+            )
             capacities += max(frames, 128)
-        calls += [self.create_delay() for _ in range(10)] + self.kept_quiet([self.create_constant()])
+        calls += [self.create_delay() for _ in range(10)] + self.kept_quiet(
+            [self.create_constant()]
+        )
         self.length = min(self.length, 300)
-        return calls + [self.connect() for _ in range(60)] + [self.any_call() for _ in range(20)] + [self.start_rendering()]
+        return (
+            calls
+            + [self.connect() for _ in range(60)]
+            + [self.any_call() for _ in range(20)]
+            + [self.start_rendering()]
+        )
 
     def store(self):
-        """As many samples in buffers as there may be or nearly so, then more buffers, of assets too."""
-        calls = [{"op": "createBuffer", "as": "most", "channels": 32, "length": 2**22 - self.rng.choice([0, 0, 1, 2]),
-                  "rate": self.rate}]
+        """As many samples in buffers as there may be or nearly so, then more buffers, of assets
+        too."""
+        calls = [
+            {
+                "op": "createBuffer",
+                "as": "most",
+                "channels": 32,
+                "length": 2**22 - self.rng.choice([0, 0, 1, 2]),
+                "rate": self.rate,
+            }
+        ]
         self.names["most"] = Sound(0, 0, False, 32, 1000)
-        calls += [{"op": "createBuffer", "as": "rest", "channels": 32, "length": self.rng.randint(1, 2), "rate": self.rate}
-                  for _ in range(self.rng.randint(0, 3))]
+        calls += [
+            {
+                "op": "createBuffer",
+                "as": "rest",
+                "channels": 32,
+                "length": self.rng.randint(1, 2),
+                "rate": self.rate,
+            }
+            for _ in range(self.rng.randint(0, 3))
+        ]
         makes = [self.create_buffer, self.decode] if self.has_assets else [self.create_buffer]
         calls += [self.rng.choice(makes)() for _ in range(30)]
         return calls + self.played()
 
     def cables(self):
-        """A splitter of 32 outputs into eight mergers of 32 inputs, as many connections as there may be
-        or nearly so, and then any calls."""
+        """A splitter of 32 outputs into eight mergers of 32 inputs, as many connections as there
+        may be or nearly so, and then any calls."""
         calls = [self.create_source() for _ in range(3)]
         calls += [{"op": "start", "node": call["as"]} for call in calls]
-        splitter, *mergers = ["splitter", *("merger%d" % i for i in range(8))]
+        splitter, *mergers = ["splitter", *(f"merger{i}" for i in range(8))]
         self.names[splitter] = KINDS["createChannelSplitter"]._replace(outputs=32)
         self.names.update(dict.fromkeys(mergers, KINDS["createChannelMerger"]._replace(inputs=32)))
         calls.append({"op": "createChannelSplitter", "as": splitter, "numberOfOutputs": 32})
-        calls += [{"op": "createChannelMerger", "as": name, "numberOfInputs": 32} for name in mergers]
+        calls += [
+            {"op": "createChannelMerger", "as": name, "numberOfInputs": 32} for name in mergers
+        ]
         calls += [self.joined(calls[0]["as"], splitter)] * self.rng.randint(0, 1)
-        calls += [{"op": "connect", "from": splitter, "output": output, "to": merger, "input": place}
-                  for output in range(32) for merger in mergers for place in range(32)]
+        calls += [
+            {"op": "connect", "from": splitter, "output": output, "to": merger, "input": place}
+            for output in range(32)
+            for merger in mergers
+            for place in range(32)
+        ]
         self.length = min(self.length, 130)
         calls += [{**self.disconnect(), "from": splitter} for _ in range(self.rng.randint(0, 3))]
         calls.append(self.joined(mergers[0], "destination"))
@@ -61,7 +95,9 @@ class Limits(Echoes):
 
     def tangle(self):
         """More connections than there may be, each source to each gain, and then any calls."""
-        sources, gains = ([make() for _ in range(98)] for make in (self.create_source, self.create_gain))
+        sources, gains = (
+            [make() for _ in range(98)] for make in (self.create_source, self.create_gain)
+        )
         calls = sources + gains
         calls += [{"op": "connect", "from": a["as"], "to": b["as"]} for a in sources for b in gains]
         calls += [{"op": "start", "node": a["as"]} for a in sources]
@@ -71,7 +107,10 @@ class Limits(Echoes):
     def faulty(self):
         """Any calls, in some scripts many that set attributes. One member of the script or more is
         spoiled afterwards."""
-        sets = [self.set_attribute() for _ in range(self.rng.choice([0, 5, 50]) if self.attributes else 0)]
+        sets = [
+            self.set_attribute()
+            for _ in range(self.rng.choice([0, 5, 50]) if self.attributes else 0)
+        ]
         return sets + self.mixed()
 
     def spoil(self, script):

@@ -9,18 +9,25 @@ from waplay_tools.random_scripts.assets import write_assets
 from waplay_tools.random_scripts.kinds import ONE
 
 
-
 def script_with(channels, length, calls):
-    return {"version": 1, "context": {"channels": channels, "length": length, "rate": 48000},
-            "calls": calls + [{"op": "startRendering"}]}
+    return {
+        "version": 1,
+        "context": {"channels": channels, "length": length, "rate": 48000},
+        "calls": calls + [{"op": "startRendering"}],
+    }
 
 
 def sounding(name, offset):
-    return [{"op": "createConstantSource", "as": name, "offset": offset}, {"op": "start", "node": name}]
+    return [
+        {"op": "createConstantSource", "as": name, "offset": offset},
+        {"op": "start", "node": name},
+    ]
 
 
 def gain(name, value, *sources):
-    return [{"op": "createGain", "as": name, "gain": value}] + [joined(source, name) for source in sources]
+    return [{"op": "createGain", "as": name, "gain": value}] + [
+        joined(source, name) for source in sources
+    ]
 
 
 def joined(source, target):
@@ -30,50 +37,50 @@ def joined(source, target):
 def pairs_of_constants_and_gains():
     calls = []
     for i in range(200):
-        calls += sounding("c%d" % i, 1000 * i) + gain("g%d" % i, ONE // 2 + i, "c%d" % i)
-        calls.append(joined("g%d" % i, "destination"))
+        calls += sounding(f"c{i}", 1000 * i) + gain(f"g{i}", ONE // 2 + i, f"c{i}")
+        calls.append(joined(f"g{i}", "destination"))
     return script_with(2, 480000, calls)
 
 
 def chain_of_gains():
     calls = sounding("g0", ONE // 2)
     for i in range(1, 401):
-        calls += gain("g%d" % i, ONE - 1 if i % 2 else ONE + 1, "g%d" % (i - 1))
+        calls += gain(f"g{i}", ONE - 1 if i % 2 else ONE + 1, f"g{i - 1}")
     return script_with(1, 480000, calls + [joined("g400", "destination")])
 
 
 def layers_of_gains():
-    calls = [call for i in range(30) for call in sounding("g0-%d" % i, 100000 * i)]
+    calls = [call for i in range(30) for call in sounding(f"g0-{i}", 100000 * i)]
     for layer in range(1, 31):
         for i in range(30):
-            before = ["g%d-%d" % (layer - 1, (i + k) % 30) for k in range(9)]
-            calls += gain("g%d-%d" % (layer, i), ONE // 9, *before)
-    return script_with(1, 48000, calls + [joined("g30-%d" % i, "destination") for i in range(30)])
+            before = [f"g{layer - 1}-{(i + k) % 30}" for k in range(9)]
+            calls += gain(f"g{layer}-{i}", ONE // 9, *before)
+    return script_with(1, 48000, calls + [joined(f"g30-{i}", "destination") for i in range(30)])
 
 
 def as_many_nodes_as_there_may_be():
     calls = sounding("c", ONE)
     for i in range(1022):
-        calls += gain("g%d" % i, ONE // 1024, "c") + [joined("g%d" % i, "destination")]
+        calls += gain(f"g{i}", ONE // 1024, "c") + [joined(f"g{i}", "destination")]
     return script_with(1, 48000, calls)
 
 
 def stereo_gains_into_six_channels():
     calls = []
     for i in range(200):
-        calls += sounding("c%d" % i, 500 * i) + gain("g%d" % i, ONE, "c%d" % i)
-        calls.append({"op": "setChannelCountMode", "node": "g%d" % i, "value": "explicit"})
-        calls.append(joined("g%d" % i, "destination"))
+        calls += sounding(f"c{i}", 500 * i) + gain(f"g{i}", ONE, f"c{i}")
+        calls.append({"op": "setChannelCountMode", "node": f"g{i}", "value": "explicit"})
+        calls.append(joined(f"g{i}", "destination"))
     return script_with(6, 480000, calls)
 
 
 def stereo_mergers_into_six_channels():
     calls = []
     for i in range(200):
-        calls += sounding("l%d" % i, 500 * i) + sounding("r%d" % i, -250 * i)
-        calls.append({"op": "createChannelMerger", "as": "m%d" % i, "numberOfInputs": 2})
-        calls += [joined("l%d" % i, "m%d" % i), {**joined("r%d" % i, "m%d" % i), "input": 1}]
-        calls.append(joined("m%d" % i, "destination"))
+        calls += sounding(f"l{i}", 500 * i) + sounding(f"r{i}", -250 * i)
+        calls.append({"op": "createChannelMerger", "as": f"m{i}", "numberOfInputs": 2})
+        calls += [joined(f"l{i}", f"m{i}"), {**joined(f"r{i}", f"m{i}"), "input": 1}]
+        calls.append(joined(f"m{i}", "destination"))
     return script_with(6, 480000, calls)
 
 
@@ -83,52 +90,99 @@ def stereo_loops():
         samples = [step * (i % 960 - 480) for i in range(4800)]
         calls.append({"op": "copyToChannel", "buffer": "b", "channel": channel, "samples": samples})
     for i in range(32):
-        calls.append({"op": "createBufferSource", "as": "s%d" % i, "buffer": "b", "loop": True,
-                      "loopStart": 10 * i, "loopEnd": 4800 - 7 * i})
-        calls += [{"op": "start", "node": "s%d" % i, "offset": 100 * i}, joined("s%d" % i, "destination")]
+        calls.append(
+            {
+                "op": "createBufferSource",
+                "as": f"s{i}",
+                "buffer": "b",
+                "loop": True,
+                "loopStart": 10 * i,
+                "loopEnd": 4800 - 7 * i,
+            }
+        )
+        calls += [
+            {"op": "start", "node": f"s{i}", "offset": 100 * i},
+            joined(f"s{i}", "destination"),
+        ]
     return script_with(2, 480000, calls)
 
 
 def loops_through(length, creation):
     """The same loops, each through so many nodes of this creation behind one another."""
-    calls = [call for call in stereo_loops()["calls"] if call["op"] not in ("connect", "startRendering")]
+    calls = [
+        call for call in stereo_loops()["calls"] if call["op"] not in ("connect", "startRendering")
+    ]
     for i in range(32):
-        row = ["n%d-%d" % (i, k) for k in range(length)]
+        row = [f"n{i}-{k}" for k in range(length)]
         calls += [{**creation, "as": name} for name in row]
-        calls += [joined(*pair) for pair in zip(["s%d" % i, *row], [*row, "destination"])]
+        calls += [joined(*pair) for pair in zip([f"s{i}", *row], [*row, "destination"])]
     return script_with(2, 480000, calls)
 
 
 def loops_through_shapers():
-    curve = [ONE * k * (12288 - k * k) // 2**20 for k in range(-64, 65)]  # 3/4 x - 1/4 x^3 of x = k / 64
+    curve = [
+        ONE * k * (12288 - k * k) // 2**20 for k in range(-64, 65)
+    ]  # 3/4 x - 1/4 x^3 of x = k / 64
     return loops_through(6, {"op": "createWaveShaper", "curve": curve})
 
 
 def loops_through_filters():
     back = [ONE, -15 * ONE // 8, 15 * ONE // 16]  # it rings for some 30 frames
-    return loops_through(6, {"op": "createIIRFilter", "feedforward": [ONE // 64, ONE // 32, ONE // 64], "feedback": back})
+    return loops_through(
+        6,
+        {
+            "op": "createIIRFilter",
+            "feedforward": [ONE // 64, ONE // 32, ONE // 64],
+            "feedback": back,
+        },
+    )
 
 
 def loops_through_long_filters():
     back = [ONE, *(ONE // (40 + k) for k in range(19))]
-    return loops_through(1, {"op": "createIIRFilter", "feedforward": [ONE // (k + 9) for k in range(20)], "feedback": back})
+    return loops_through(
+        1,
+        {
+            "op": "createIIRFilter",
+            "feedforward": [ONE // (k + 9) for k in range(20)],
+            "feedback": back,
+        },
+    )
 
 
 def largest_asset():
-    calls = [{"op": "decodeAudioData", "as": "b", "path": "largest.wav"}, joined("s", "destination")]
-    calls[1:1] = [{"op": "createBufferSource", "as": "s", "buffer": "b"}, {"op": "start", "node": "s"}]
+    calls = [
+        {"op": "decodeAudioData", "as": "b", "path": "largest.wav"},
+        joined("s", "destination"),
+    ]
+    calls[1:1] = [
+        {"op": "createBufferSource", "as": "s", "buffer": "b"},
+        {"op": "start", "node": "s"},
+    ]
     return script_with(2, 480000, calls)
 
 
 def largest_wav():
     """A file of 64 MiB, two channels of 16 bits."""
     size = 2**26 - 44
-    head = b"WAVEfmt " + struct.pack("<IHHIIHH", 16, 1, 2, 48000, 192000, 4, 16) + b"data" + struct.pack("<I", size)
-    return b"RIFF" + struct.pack("<I", 36 + size) + head + bytes(range(256)) * (size // 256) + bytes(size % 256)
+    head = (
+        b"WAVEfmt "
+        + struct.pack("<IHHIIHH", 16, 1, 2, 48000, 192000, 4, 16)
+        + b"data"
+        + struct.pack("<I", size)
+    )
+    return (
+        b"RIFF"
+        + struct.pack("<I", 36 + size)
+        + head
+        + bytes(range(256)) * (size // 256)
+        + bytes(size % 256)
+    )
 
 
 def voices_with_ramps():
-    """200 voices, whose numbers are drawn: a constant that starts and stops, and a gain that goes up or down."""
+    """200 voices, whose numbers are drawn: a constant that starts and stops, and a gain that goes
+    up or down."""
     state, calls = 0, []
 
     def draw(most):
@@ -138,12 +192,20 @@ def voices_with_ramps():
 
     for i in range(200):
         a, b, d, _ = draw(2048), draw(32768), draw(4096), draw(240)
-        source, fade = "c%d" % i, "g%d" % i
-        calls += [{"op": "createConstantSource", "as": source, "offset": (a - 1024) * 64}, *gain(fade, 0)]
-        calls += [edited("setValueAtTime", fade, 0, 0), edited("linearRampToValueAtTime", fade, 256 * b, 1 + 64 * d)]
+        source, fade = f"c{i}", f"g{i}"
+        calls += [
+            {"op": "createConstantSource", "as": source, "offset": (a - 1024) * 64},
+            *gain(fade, 0),
+        ]
+        calls += [
+            edited("setValueAtTime", fade, 0, 0),
+            edited("linearRampToValueAtTime", fade, 256 * b, 1 + 64 * d),
+        ]
         calls += [joined(source, fade), joined(fade, "destination")]
-        calls += [{"op": "start", "node": source, "when": 128 * (i % 50)},
-                  {"op": "stop", "node": source, "when": 240000 + 128 * i}]
+        calls += [
+            {"op": "start", "node": source, "when": 128 * (i % 50)},
+            {"op": "stop", "node": source, "when": 240000 + 128 * i},
+        ]
     return script_with(2, 480000, calls)
 
 
@@ -152,11 +214,12 @@ def edited(op, name, value, time):
 
 
 def timelines(count, events):
-    """So many gains of one constant, and in the timeline of each so many events, three sets and a ramp by
-    turns, from the first frame of 9,600 on. A script has no room for many more than 200,000 events."""
+    """So many gains of one constant, and in the timeline of each so many events, three sets and a
+    ramp by turns, from the first frame of 9,600 on. A script has no room for many more than 200,000
+    events."""
     calls = sounding("c", ONE)
     for i in range(count):
-        name = "g%d" % i
+        name = f"g{i}"
         calls += gain(name, 0, "c") + [joined(name, "destination")]
         for k in range(events):
             op = "linearRampToValueAtTime" if k % 4 == 3 else "setValueAtTime"
@@ -182,10 +245,21 @@ def suspension(time, *calls):
 
 
 def voices_with_suspensions():
-    """The voices, and a suspension behind each quantum but the last, which sets one of their gains."""
+    """The voices, and a suspension behind each quantum but the last, which sets one of their
+    gains."""
     script = voices_with_ramps()
-    calls = [suspension(128 * k, {"op": "setValue", "node": "g%d" % (k % 200), "param": "gain", "value": 2**12 * (k % 999)})
-             for k in range(1, 3750)]
+    calls = [
+        suspension(
+            128 * k,
+            {
+                "op": "setValue",
+                "node": f"g{k % 200}",
+                "param": "gain",
+                "value": 2**12 * (k % 999),
+            },
+        )
+        for k in range(1, 3750)
+    ]
     return {**script, "calls": script["calls"][:-1] + calls + script["calls"][-1:]}
 
 
@@ -209,21 +283,21 @@ def write_loads(folder):
 
 
 LOADS = {
-    "a": pairs_of_constants_and_gains,      # 200 constants into 200 gains, 2 channels, 480,000 frames
-    "b": chain_of_gains,                    # 400 gains one behind the other, 1 channel, 480,000 frames
-    "c": layers_of_gains,                   # 30 layers of 30 gains with 9 connections each, 48,000 frames
-    "d": as_many_nodes_as_there_may_be,     # a constant into 1,022 gains, 1,023 nodes of one channel, 48,000 frames
-    "e": stereo_gains_into_six_channels,    # 200 constants, by gains of two channels into 5.1, 480,000 frames
-    "f": stereo_mergers_into_six_channels,  # 200 mergers of two constants each into 5.1, 480,000 frames
-    "g": stereo_loops,                      # 32 sources of a stereo buffer that loop, 480,000 frames
-    "h": largest_asset,                     # a file of 64 MiB is decoded and played, 480,000 frames
-    "i": voices_with_ramps,                 # 200 constants into 200 gains with a ramp, 2 channels, 480,000 frames
-    "j": many_timelines,                    # 1,000 gains with 200 events each, 9,600 frames
-    "k": long_timelines,                    # 200 gains with 1,000 events each, 9,600 frames
-    "l": many_reads_of_the_state,           # 100,000 calls of readState, 128 frames
-    "m": voices_with_suspensions,           # i with 3,749 suspensions, each of which sets one gain
-    "n": many_suspensions,                  # a constant and 100,000 suspensions, 1 channel, 12,800,128 frames
-    "o": loops_through_shapers,             # g, each loop through 6 shapers with a curve of 129 points
-    "p": loops_through_filters,             # g, each loop through 6 filters of order 2
-    "q": loops_through_long_filters,        # g, each loop through a filter of order 19
+    "a": pairs_of_constants_and_gains,  # 200 constants into 200 gains, 2 channels, 480,000 frames
+    "b": chain_of_gains,  # 400 gains one behind the other, 1 channel, 480,000 frames
+    "c": layers_of_gains,  # 30 layers of 30 gains with 9 connections each, 48,000 frames
+    "d": as_many_nodes_as_there_may_be,  # a constant into 1,022 gains, 48,000 frames
+    "e": stereo_gains_into_six_channels,  # 200 constants, by stereo gains into 5.1, 480,000 frames
+    "f": stereo_mergers_into_six_channels,  # 200 mergers of two constants into 5.1, 480,000 frames
+    "g": stereo_loops,  # 32 sources of a stereo buffer that loop, 480,000 frames
+    "h": largest_asset,  # a file of 64 MiB is decoded and played, 480,000 frames
+    "i": voices_with_ramps,  # 200 constants into 200 gains with a ramp, 2 channels, 480,000 frames
+    "j": many_timelines,  # 1,000 gains with 200 events each, 9,600 frames
+    "k": long_timelines,  # 200 gains with 1,000 events each, 9,600 frames
+    "l": many_reads_of_the_state,  # 100,000 calls of readState, 128 frames
+    "m": voices_with_suspensions,  # i with 3,749 suspensions, each of which sets one gain
+    "n": many_suspensions,  # a constant and 100,000 suspensions, 1 channel, 12,800,128 frames
+    "o": loops_through_shapers,  # g, each loop through 6 shapers with a curve of 129 points
+    "p": loops_through_filters,  # g, each loop through 6 filters of order 2
+    "q": loops_through_long_filters,  # g, each loop through a filter of order 19
 }

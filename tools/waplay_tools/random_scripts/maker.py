@@ -2,7 +2,6 @@
 
 import random
 
-from waplay_tools.expecting.reading import AHEAD
 from waplay_tools.expecting.reading import OPERATIONS as FIELDS
 from waplay_tools.random_scripts.chances import (
     DELAY_SHAPES,
@@ -19,7 +18,8 @@ class Maker(Limits):
     """One script in the making."""
 
     def shape(self) -> str:
-        """The shape of the script; a graph where the program does not read what the drawn one needs."""
+        """The shape of the script; a graph where the program does not read what the drawn one
+        needs."""
         shapes = SHAPES + DELAY_SHAPES if "createDelay" in self.read_ops else SHAPES
         shape = self.rng.choices([shape for _, shape in shapes], [often for often, _ in shapes])[0]
         return shape if self.read_ops.issuperset(NEEDED.get(shape, ())) else "graph"
@@ -39,7 +39,9 @@ class Maker(Limits):
         rng, channels, rate = self.rng, self.channels, self.rate
         if shape == "unrendered":
             channels = rng.choice([0, 1, 2, 3, 32, 33, 2**32 - 1])
-            self.length = rng.choice([0, 1, 2**21, 2**21 + 1, 2**25, 2**25 + 1, 2**32 - 1])
+            self.length = rng.choice(
+                [0, 1, 2**21, 2**21 + 1, 2**25, 2**25 + 1, 2**32 - 1]
+            )
             rate = rng.choice([0, 7999, 8000, 48000, 96000, 96001, 2**32 - 1])
         elif self.may(0.02):
             channels = rng.choice([0, 33, 2**32 - 1])
@@ -61,8 +63,8 @@ class Maker(Limits):
 
 
 def script_of(seed: int, number: int, read: list[str]) -> tuple[Script, Assets]:
-    """A script, and its assets. Half of the scripts have no suspensions, and are the same where the program
-    reads none."""
+    """A script, and its assets. Half of the scripts have no suspensions, and are the same where the
+    program reads none."""
     if random.Random(f"{seed} {number} suspensions").random() < 0.5:
         read = [op for op in read if op != "suspend"]
     maker = Maker(random.Random(f"{seed} {number}"), read)
@@ -70,5 +72,5 @@ def script_of(seed: int, number: int, read: list[str]) -> tuple[Script, Assets]:
 
 
 def operations() -> list[str]:
-    """The operations of random scripts: those that the program of today reads."""
-    return [op for op in FIELDS if op not in AHEAD]
+    """The operations of random scripts: those that the second calculation reads."""
+    return list(FIELDS)

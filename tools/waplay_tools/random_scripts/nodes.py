@@ -6,13 +6,15 @@ from waplay_tools.random_scripts.kinds import FIX, KINDS, ONE, Sound
 from waplay_tools.random_scripts.values import Values
 
 
-
 class Nodes(Values):
     """Calls that make nodes, connect them, set their attributes, start and stop them."""
 
     def call(self, op, needed=(), **optional):
         """A call with its needed fields, and some of those that may be absent."""
-        fields = {**dict(needed), **{key: value for key, value in optional.items() if self.may(0.7)}}
+        fields = {
+            **dict(needed),
+            **{key: value for key, value in optional.items() if self.may(0.7)},
+        }
         if self.may(0.01):
             fields["note"] = [None, {"op": "start"}]
         return {"op": op, **fields}
@@ -23,7 +25,8 @@ class Nodes(Values):
         return self.call(op, [("as", name)], **optional)
 
     def create_with(self, op, field, ports):
-        """A node that is told how many inputs or outputs it has, which are 6 where the call does not."""
+        """A node that is told how many inputs or outputs it has, which are 6 where the call does
+        not."""
         call = self.create(op, **{field: self.number()})
         there = call.get(field, 6)
         self.names[call["as"]] = KINDS[op]._replace(**{ports: there if there <= 33 else 0})
@@ -48,18 +51,33 @@ class Nodes(Values):
 
     def create_buffer_source(self):
         sounds = [name for name, kind in self.names.items() if isinstance(kind, Sound)]
-        name = self.rng.choice(sounds) if sounds and self.may(0.9) else None if self.may(0.8) else self.buffer()
+        name = (
+            self.rng.choice(sounds)
+            if sounds and self.may(0.9)
+            else None
+            if self.may(0.8)
+            else self.buffer()
+        )
         length = getattr(self.names.get(name), "length", 3)
-        call = self.create("createBufferSource", buffer=name, loop=self.may(0.6), loopStart=self.loop_point(length),
-                           loopEnd=self.loop_point(length))
+        call = self.create(
+            "createBufferSource",
+            buffer=name,
+            loop=self.may(0.6),
+            loopStart=self.loop_point(length),
+            loopEnd=self.loop_point(length),
+        )
         if self.may(0.1):  # a loop past the buffer's end
             call["loopStart"] = length + self.rng.randint(0, 2)
             call["loopEnd"] = call["loopStart"] + self.rng.randint(1, 9)
         some = self.rng.randint(0, 19)
         if some < 8:
-            call["playbackRate"] = ONE * (self.rng.randint(1, 4) if some < 7 else self.rng.randint(1, 127))
+            call["playbackRate"] = ONE * (
+                self.rng.randint(1, 4) if some < 7 else self.rng.randint(1, 127)
+            )
         elif some < 10:
-            call["playbackRate"] = self.rng.choice([0, -ONE, ONE // 2, ONE + 1, 3 * ONE - 1, *FIX, self.rng.randint(*FIX)])
+            call["playbackRate"] = self.rng.choice(
+                [0, -ONE, ONE // 2, ONE + 1, 3 * ONE - 1, *FIX, self.rng.randint(*FIX)]
+            )
         return call
 
     def create_splitter(self):
@@ -69,14 +87,20 @@ class Nodes(Values):
         return self.create_with("createChannelMerger", "numberOfInputs", "inputs")
 
     def create_shaper(self):
-        return self.create("createWaveShaper", curve=self.bend(),
-                           oversample=self.rng.choice(["none"] * 8 + ["2x", "4x"]))
+        return self.create(
+            "createWaveShaper",
+            curve=self.bend(),
+            oversample=self.rng.choice(["none"] * 8 + ["2x", "4x"]),
+        )
 
     def set_curve(self, name=None):
         return self.call("setCurve", [("node", name or self.shaper()), ("curve", self.bend())])
 
     def set_oversample(self):
-        return self.call("setOversample", [("node", self.shaper()), ("value", self.rng.choice(["none", "none", "2x", "4x"]))])
+        return self.call(
+            "setOversample",
+            [("node", self.shaper()), ("value", self.rng.choice(["none", "none", "2x", "4x"]))],
+        )
 
     def create_filter(self):
         forward, back = self.coefficients()
@@ -84,20 +108,31 @@ class Nodes(Values):
         return {**call, "feedforward": forward, "feedback": back}
 
     def create_delay(self):
-        """A delay: mostly one of some quanta or a second at most; now and then one that there cannot be."""
-        some, call = self.rng.randint(0, 39), self.create("createDelay", delayTime=self.delayed_by())
+        """A delay: mostly one of some quanta or a second at most; now and then one that there
+        cannot be."""
+        some, call = self.rng.randint(0, 39), self.create(
+            "createDelay", delayTime=self.delayed_by()
+        )
         if some < 20:
-            call["maxDelayTime"] = self.seconds(self.rng.randint(1, 500) + self.rng.choice([0, 0.5])) + self.rng.choice([0, 1])
+            call["maxDelayTime"] = self.seconds(
+                self.rng.randint(1, 500) + self.rng.choice([0, 0.5])
+            ) + self.rng.choice([0, 1])
         elif some < 28:
-            call["maxDelayTime"] = self.rng.choice([1, 1, ONE, 2 * ONE, 16 * ONE, self.rng.randint(1, 16 * ONE)])
+            call["maxDelayTime"] = self.rng.choice(
+                [1, 1, ONE, 2 * ONE, 16 * ONE, self.rng.randint(1, 16 * ONE)]
+            )
         elif some < 30:
             call["maxDelayTime"] = self.rng.choice([0, -1, 16 * ONE + 1, *FIX])
         return call
 
     def connect(self):
         source, target = self.name(), self.target()
-        return self.call("connect", [("from", source), ("to", target)],
-                         output=self.index(source, "outputs"), input=self.index(target, "inputs"))
+        return self.call(
+            "connect",
+            [("from", source), ("to", target)],
+            output=self.index(source, "outputs"),
+            input=self.index(target, "inputs"),
+        )
 
     def joined(self, source, target):
         """A connection from any output to any input, nearly always such that are there."""
@@ -110,12 +145,20 @@ class Nodes(Values):
 
     def disconnect(self):
         source, target = self.name(), self.target()
-        if self.controls and self.may(0.4):  # nodes that may have a connection to a parameter between them
+        if self.controls and self.may(
+            0.4
+        ):  # nodes that may have a connection to a parameter between them
             control = self.rng.choice(self.controls)
             source, target = control["from"], control["to"]
         call = {"op": "disconnect", "from": source}
-        values = {"output": self.index(source, "outputs"), "to": target, "input": self.index(target, "inputs")}
-        form = self.rng.choice([[], ["output"], ["to"], ["to", "output"], ["to", "output", "input"]])
+        values = {
+            "output": self.index(source, "outputs"),
+            "to": target,
+            "input": self.index(target, "inputs"),
+        }
+        form = self.rng.choice(
+            [[], ["output"], ["to"], ["to", "output"], ["to", "output", "input"]]
+        )
         for field, value in values.items():
             if field in form:
                 call[field] = value
@@ -125,7 +168,11 @@ class Nodes(Values):
 
     def set_attribute(self):
         some = self.rng.randint(0, 9)
-        name = "destination" if some == 0 else self.name(lambda kind: kind.inputs or some < 3 and kind.outputs)
+        name = (
+            "destination"
+            if some == 0
+            else self.name(lambda kind: kind.inputs or some < 3 and kind.outputs)
+        )
         return self.attribute(self.rng.choice(self.attributes), name)
 
     def attribute(self, op, name):
@@ -142,14 +189,24 @@ class Nodes(Values):
         elif some < 7:
             value = self.rng.choice([1, 2, 4, 6])
         else:
-            value = self.rng.randint(1, 32) if some < 9 else self.rng.choice([0, 1, 32, 33, 2**32 - 1])
+            value = (
+                self.rng.randint(1, 32)
+                if some < 9
+                else self.rng.choice([0, 1, 32, 33, 2**32 - 1])
+            )
         return self.call(op, [("node", name), ("value", value)])
 
     def start(self, name=None):
         """Sources of buffers mostly begin near the start of what they play."""
         offset = self.time() if self.may(0.3) else self.rng.choice([0, 0, 1, 2, self.frames()])
         duration = self.rng.choice([None, None, self.time(), self.frames()])
-        return self.call("start", [("node", name or self.source())], when=self.time(), offset=offset, duration=duration)
+        return self.call(
+            "start",
+            [("node", name or self.source())],
+            when=self.time(),
+            offset=offset,
+            duration=duration,
+        )
 
     def stop(self):
         return self.call("stop", [("node", self.source())], when=self.time())
@@ -180,6 +237,8 @@ class Nodes(Values):
     def held(self):
         """The calls of a list that a call holds."""
         self.depth += 1
-        calls = [self.any_call() for _ in range(0 if self.depth > 3 else self.rng.choice([0, 1, 4, 8]))]
+        calls = [
+            self.any_call() for _ in range(0 if self.depth > 3 else self.rng.choice([0, 1, 4, 8]))
+        ]
         self.depth -= 1
         return calls

@@ -5,12 +5,12 @@ from waplay_tools.random_scripts.kinds import KINDS, TIME
 from waplay_tools.random_scripts.nodes import Nodes
 
 
-
 class Parameters(Nodes):
     """Calls on parameters: edits of their timelines, and connections to them."""
 
     def edit(self, op, name=None, time=None):
-        """A call of this operation on a parameter, that of this node and at this time where they are told."""
+        """A call of this operation on a parameter, that of this node and at this time where they
+        are told."""
         node, parameter = self.parameter(name)
         needed = [("node", node), ("param", parameter)]
         value = self.delayed_by if self.names.get(node) is KINDS["createDelay"] else self.value
@@ -36,25 +36,39 @@ class Parameters(Nodes):
         return self.edit(self.rng.choice(self.automated_by), name)
 
     def timeline(self, name):
-        """Edits of a parameter that are mostly in order of time, so that few are refused, and some that are
-        not. Many have the time of the one before them or where its curve ends, or are a frame apart."""
+        """Edits of a parameter that are mostly in order of time, so that few are refused, and some
+        that are not. Many have the time of the one before them or where its curve ends, or are a
+        frame apart."""
         edits = [self.edit("setAutomationRate", name)] if self.may(0.25) else []
         if self.may(0.15):  # a value that is current and is cancelled
-            edits += [self.edit("setValue", name),
-                      self.edit("cancelScheduledValues", name, self.now + self.rng.choice([0, 0, 1]))]
-        time = self.now + self.rng.choice([0, 0, 0, 1, 120, self.rng.randint(0, self.length - self.now)])
+            edits += [
+                self.edit("setValue", name),
+                self.edit("cancelScheduledValues", name, self.now + self.rng.choice([0, 0, 1])),
+            ]
+        time = self.now + self.rng.choice(
+            [0, 0, 0, 1, 120, self.rng.randint(0, self.length - self.now)]
+        )
         if self.may(0.15):  # an event, and a ramp before it
             after = time + self.rng.randint(1, 200)
-            edits.append(self.edit(self.rng.choice(["setValueAtTime", "setValueCurveAtTime"]), name, after))
+            edits.append(
+                self.edit(self.rng.choice(["setValueAtTime", "setValueCurveAtTime"]), name, after)
+            )
             edits.append(self.edit("linearRampToValueAtTime", name, time))
-        events = ["setValueAtTime", "linearRampToValueAtTime", "linearRampToValueAtTime", "setValueCurveAtTime"]
+        events = [
+            "setValueAtTime",
+            "linearRampToValueAtTime",
+            "linearRampToValueAtTime",
+            "setValueCurveAtTime",
+        ]
         for _ in range(self.rng.choice([1, 2, 4, 4, 8, 20])):
             if self.may(0.2):
                 edits.append(self.any_edit(name))
             edits.append(self.edit(self.rng.choice(events), name, min(TIME, time)))
             time += max(0, edits[-1].get("duration", 0))
             to_quantum = -time % 128 + self.rng.randint(-1, 1)
-            time += self.rng.choice([0, 0, 1, 1, 2, self.rng.randint(1, 40), self.rng.randint(1, 40), to_quantum])
+            time += self.rng.choice(
+                [0, 0, 1, 1, 2, self.rng.randint(1, 40), self.rng.randint(1, 40), to_quantum]
+            )
             time = max(0, time)
         if self.may(0.4):
             ends = ["cancelScheduledValues", "cancelAndHoldAtTime", "cancelAndHoldAtTime"]
@@ -63,16 +77,24 @@ class Parameters(Nodes):
         return edits
 
     def connect_param(self, source=None, name=None):
-        source = source or ("destination" if self.may(0.03) else self.name(lambda kind: kind.outputs))
+        source = source or (
+            "destination" if self.may(0.03) else self.name(lambda kind: kind.outputs)
+        )
         node, parameter = self.parameter(name)
-        call = self.call("connectParam", [("from", source), ("to", node), ("param", parameter)],
-                         output=self.index(source, "outputs", 0.97 if name else 0.9))
+        call = self.call(
+            "connectParam",
+            [("from", source), ("to", node), ("param", parameter)],
+            output=self.index(source, "outputs", 0.97 if name else 0.9),
+        )
         self.controls.append(call)
         return call
 
     def disconnect_param(self):
         there = self.controls and self.may(0.7)
-        call = {**(self.rng.choice(self.controls) if there else self.connect_param()), "op": "disconnectParam"}
+        call = {
+            **(self.rng.choice(self.controls) if there else self.connect_param()),
+            "op": "disconnectParam",
+        }
         if self.may(0.3):
             call["output"] = self.rng.choice([None, 0, 1])
         return call

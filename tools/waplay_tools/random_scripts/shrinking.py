@@ -25,7 +25,8 @@ def list_at(script: Script, number: int) -> list:
 
 
 def shrunk_at(program: Path, script: Script, number: int) -> Script:
-    """The script without calls of one list that no difference hangs on: first many at a time, then fewer."""
+    """The script without calls of one list that no difference hangs on: first many at a time, then
+    fewer."""
     size = len(list_at(script, number))
     while size:
         at = 0

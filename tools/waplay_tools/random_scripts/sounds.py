@@ -9,23 +9,40 @@ from waplay_tools.random_scripts.kinds import Link, Sound
 from waplay_tools.random_scripts.parameters import Parameters
 
 
-
 class Sounds(Parameters):
     """Buffers, and the assets that are decoded into them."""
 
     def create_buffer(self):
         """A buffer. Some are of another rate, and some are such that there cannot be."""
-        channels, length, rate = self.rng.choice([1, 1, 2, 2, 4, 6, self.rng.randint(1, 32)]), self.frames(), self.rate
+        channels, length, rate = (
+            self.rng.choice([1, 1, 2, 2, 4, 6, self.rng.randint(1, 32)]),
+            self.frames(),
+            self.rate,
+        )
         if self.may(0.1):
             rate = self.rng.choice([8000, 44100, 96000])
         if self.may(0.04):
-            channels, length, rate = self.rng.choice([
-                (0, length, rate), (33, length, rate), (2**32 - 1, length, rate), (channels, 0, rate), (channels, length, 0),
-                (channels, length, 7999), (channels, length, 96001), (channels, length, 2**32 - 1),
-                (32, 2**22 + 1, rate), (channels, 2**32 - 1, rate), (1, 2**27 + 1, rate)])
+            channels, length, rate = self.rng.choice(
+                [
+                    (0, length, rate),
+                    (33, length, rate),
+                    (2**32 - 1, length, rate),
+                    (channels, 0, rate),
+                    (channels, length, 0),
+                    (channels, length, 7999),
+                    (channels, length, 96001),
+                    (channels, length, 2**32 - 1),
+                    (32, 2**22 + 1, rate),
+                    (channels, 2**32 - 1, rate),
+                    (1, 2**27 + 1, rate),
+                ]
+            )
         name = self.new_name()
         self.names[name] = Sound(0, 0, False, min(channels, 33), min(length, 1000))
-        return self.call("createBuffer", [("as", name), ("channels", channels), ("length", length), ("rate", rate)])
+        return self.call(
+            "createBuffer",
+            [("as", name), ("channels", channels), ("length", length), ("rate", rate)],
+        )
 
     def copy_to_channel(self, name=None, channel=None):
         name = name or self.buffer()
@@ -35,15 +52,27 @@ class Sounds(Parameters):
             channel = self.rng.randrange(max(1, channels))
             if self.may(0.05):
                 channel = self.rng.choice([0, channels, channels + 1, 2**32 - 1])
-        samples = [self.fix() for _ in range(self.rng.choice([0, 1, 3, length, length, length, length + 2]))]
-        at = self.rng.randint(0, length + 1) if self.may(0.9) else self.rng.choice([0, length, 2**32 - 1])
-        call = self.call("copyToChannel", [("buffer", name), ("channel", channel), ("samples", samples)])
+        samples = [
+            self.fix()
+            for _ in range(self.rng.choice([0, 1, 3, length, length, length, length + 2]))
+        ]
+        at = (
+            self.rng.randint(0, length + 1)
+            if self.may(0.9)
+            else self.rng.choice([0, length, 2**32 - 1])
+        )
+        call = self.call(
+            "copyToChannel", [("buffer", name), ("channel", channel), ("samples", samples)]
+        )
         if self.may(0.3):
             call["at"] = at
         return call
 
     def set_buffer(self):
-        return self.call("setBuffer", [("node", self.player()), ("buffer", None if self.may(0.3) else self.buffer())])
+        return self.call(
+            "setBuffer",
+            [("node", self.player()), ("buffer", None if self.may(0.3) else self.buffer())],
+        )
 
     def set_loop(self):
         op = self.rng.choice(list(LOOPS))
@@ -51,15 +80,19 @@ class Sounds(Parameters):
         return self.call(op, [("node", self.player()), ("value", value)])
 
     def decode(self, is_good=False):
-        """A call that decodes an asset; with this, one of the context's rate that is likely read."""
+        """A call that decodes an asset; with this, one of the context's rate that is likely
+        read."""
         path, name = self.asset(is_good), self.new_name()
         if isinstance(self.assets.get(path), bytes) or self.may(0.1):
             self.names[name] = Sound(0, 0, False, 2, 20)
         return self.call("decodeAudioData", [("as", name), ("path", path)])
 
     def new_path(self):
-        return "%s%d%s" % (self.rng.choice(["a", "a", "sub/a", "sub/sub/a", "\u00e9 ", "..a", "x" * 200]), len(self.assets),
-                           self.rng.choice([".wav", ".wav", "", "..", "."]))
+        return "%s%d%s" % (
+            self.rng.choice(["a", "a", "sub/a", "sub/sub/a", "\u00e9 ", "..a", "x" * 200]),
+            len(self.assets),
+            self.rng.choice([".wav", ".wav", "", "..", "."]),
+        )
 
     def asset(self, is_good=False):
         """A path. Mostly a WAV file stands there, which is made with it or was before."""
@@ -78,13 +111,35 @@ class Sounds(Parameters):
         elif some < 154:
             self.assets[path] = rng.choice([b"", b"RIFF", rng.randbytes(60), self.wav() * 2])
         elif some < 160:  # a link is followed wherever it leads
-            target = rng.choice(files) if self.may(0.7) else rng.choice(["nowhere", "../beside.wav"])
+            target = (
+                rng.choice(files) if self.may(0.7) else rng.choice(["nowhere", "../beside.wav"])
+            )
             self.assets[path] = Link("../" * path.count("/") + target)
         elif some < 195:  # a path that names no file, or could name one outside
             outside = rng.choice(files)
-            return rng.choice(["nowhere.wav", "sub/nowhere.wav", "/dev/zero", "/", "..", "../beside.wav", "./../beside.wav",
-                               "a0.wav/..", "\0", "x" * 255, "sub" * 60, "...", "A0.WAV", "/" + outside, outside + "\0",
-                               "sub/../" + outside, "../" + outside, outside + "/", outside + "/" + outside])
+            return rng.choice(
+                [
+                    "nowhere.wav",
+                    "sub/nowhere.wav",
+                    "/dev/zero",
+                    "/",
+                    "..",
+                    "../beside.wav",
+                    "./../beside.wav",
+                    "a0.wav/..",
+                    "\0",
+                    "x" * 255,
+                    "sub" * 60,
+                    "...",
+                    "A0.WAV",
+                    "/" + outside,
+                    outside + "\0",
+                    "sub/../" + outside,
+                    "../" + outside,
+                    outside + "/",
+                    outside + "/" + outside,
+                ]
+            )
         elif some < 197:
             self.assets[path] = rng.choice([2**26 + 1, 2**26 + 1, 2**26, 2**28])
         else:  # what cannot be read: a folder, and a link to itself
@@ -98,13 +153,22 @@ class Sounds(Parameters):
         rng = self.rng
         if self.may(0.3):
             return wav_check.made_by_hand(rng, self.rate)
-        bits, channels = rng.choice([8, 16, 24, 32]), rng.choice([1, 1, 2, 2, 4, 6, rng.randint(1, 32)])
+        bits, channels = rng.choice([8, 16, 24, 32]), rng.choice(
+            [1, 1, 2, 2, 4, 6, rng.randint(1, 32)]
+        )
         block, low = channels * bits // 8, 2 ** (bits - 1)
         fields = struct.pack("<HHIIHH", 1, channels, self.rate, self.rate * block, block, bits)
-        most = low if self.may(0.3) else low // 16  # mostly quiet, so that sums stay within the range
+        most = (
+            low if self.may(0.3) else low // 16
+        )  # mostly quiet, so that sums stay within the range
         values = [rng.randint(-most, most - 1) for _ in range(channels * self.frames())]
-        samples = [(value + low if bits == 8 else value % 2**bits).to_bytes(bits // 8, "little") for value in values]
-        return wav_check.riff(wav_check.chunk(b"fmt ", fields), wav_check.chunk(b"data", b"".join(samples)))
+        samples = [
+            (value + low if bits == 8 else value % 2**bits).to_bytes(bits // 8, "little")
+            for value in values
+        ]
+        return wav_check.riff(
+            wav_check.chunk(b"fmt ", fields), wav_check.chunk(b"data", b"".join(samples))
+        )
 
     def some_buffers(self):
         """Buffers that sources can play, made and written, or decoded."""
@@ -115,6 +179,9 @@ class Sounds(Parameters):
                 continue
             calls.append(self.create_buffer())
             name = calls[-1]["as"]
-            calls += [self.copy_to_channel(name, channel) for channel in range(min(32, self.names[name].channels))
-                      if self.may(0.9)]
+            calls += [
+                self.copy_to_channel(name, channel)
+                for channel in range(min(32, self.names[name].channels))
+                if self.may(0.9)
+            ]
         return calls

@@ -5,17 +5,27 @@ from waplay_tools.random_scripts.kinds import AUTOMATED, TIME
 from waplay_tools.random_scripts.sounds import Sounds
 
 
-
 class Suspensions(Sounds):
     """Suspensions, and what is changed at them."""
 
     def suspension_time(self):
-        """A time that is rounded up to a frame to come, or now and then one at which there can be no suspension."""
+        """A time that is rounded up to a frame to come, or now and then one at which there can be
+        no suspension."""
         ahead = range(self.now // 128 * 128 + 128, self.length, 128)
         if ahead and self.may(0.8):
-            return self.rng.choice(ahead) - self.rng.choice([0, 0, 0, 1, 127, self.rng.randint(0, 127)])
+            return self.rng.choice(ahead) - self.rng.choice(
+                [0, 0, 0, 1, 127, self.rng.randint(0, 127)]
+            )
         past = self.rng.choice([0, -1, -127, -128, self.now, self.now - 1, self.now - 127, -TIME])
-        late = self.rng.choice([self.length, self.length - 1, self.length + 1, -(-self.length // 128) * 128 - 128, TIME])
+        late = self.rng.choice(
+            [
+                self.length,
+                self.length - 1,
+                self.length + 1,
+                -(-self.length // 128) * 128 - 128,
+                TIME,
+            ]
+        )
         return self.rng.choice([past, late, self.now + 1])
 
     def suspend(self, time=None):
@@ -34,7 +44,9 @@ class Suspensions(Sounds):
             calls += made if isinstance(made, list) else [made]
         self.now, self.depth = before, self.depth - 1
         if self.may(0.97):
-            calls.insert(len(calls) if self.may(0.8) else self.rng.randint(0, len(calls)), {"op": "resume"})
+            calls.insert(
+                len(calls) if self.may(0.8) else self.rng.randint(0, len(calls)), {"op": "resume"}
+            )
         return calls
 
     def heard(self, name):
@@ -59,7 +71,7 @@ class Suspensions(Sounds):
     def moved(self):
         """Edits of a parameter, mostly from now on."""
         edits = self.timeline(self.name(lambda kind: kind.parameter))
-        return edits[:self.rng.choice([1, 2, 4, 8])]
+        return edits[: self.rng.choice([1, 2, 4, 8])]
 
     def sampled(self):
         """Buffers, and a source that plays one."""
@@ -82,8 +94,8 @@ class Suspensions(Sounds):
         return calls
 
     def for_a_while(self, calls, name):
-        """Suspensions that bring a node into a cycle and out of it, or that take something away from it which is
-        connected by these calls, and give it back."""
+        """Suspensions that bring a node into a cycle and out of it, or that take something away
+        from it which is connected by these calls, and give it back."""
         frames = [128 * k for k in range(1, 6) if 128 * k < self.length]
         heard = [call for call in calls if call["op"] == "connect" and call["to"] == name]
         changes = self.joined(name, name), {"op": "disconnect", "from": name, "to": name}
@@ -94,5 +106,7 @@ class Suspensions(Sounds):
                 changes = {"op": "disconnect", "from": back["from"], "to": name}, back
         if len(frames) < 2:
             return []
-        return [{"op": "suspend", "time": frame, "then": [change, {"op": "resume"}]}
-                for frame, change in zip(sorted(self.rng.sample(frames, 2)), changes)]
+        return [
+            {"op": "suspend", "time": frame, "then": [change, {"op": "resume"}]}
+            for frame, change in zip(sorted(self.rng.sample(frames, 2)), changes)
+        ]

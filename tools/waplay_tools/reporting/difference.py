@@ -10,7 +10,8 @@ SIGNS = {"same": " ", "other": "|", "left": "<", "right": ">", "moved": "~"}
 
 
 class Pair:
-    """A line of the first transcript, the line of the second that answers the same, and how they differ."""
+    """A line of the first transcript, the line of the second that answers the same, and how they
+    differ."""
 
     def __init__(self, left, right):
         self.left, self.right = left, right
@@ -25,7 +26,8 @@ class Pair:
 
 
 def _keys(lines):
-    """The lines by what they answer: a call, its promise, the end of a source, or the session's end."""
+    """The lines by what they answer: a call, its promise, the end of a source, or the session's
+    end."""
     keyed, seen = {}, collections.Counter()
     for line in lines:
         if line.kind == "script":
@@ -40,8 +42,8 @@ def _keys(lines):
 
 
 def pairs_of(left, right):
-    """The lines of two transcripts in pairs, in the order of the first; a line that only the second has comes
-    behind the one that it follows there."""
+    """The lines of two transcripts in pairs, in the order of the first; a line that only the second
+    has comes behind the one that it follows there."""
     ones, twos = _keys(left), _keys(right)
     order, behind, last = [None, *ones], collections.defaultdict(list), None
     for key in twos:
@@ -84,8 +86,8 @@ def call_text(call):
     words = [call.op]
     for field, kind, *_ in entries.fields_of(call.op):
         if field in call.members:
-            value = "[%d]" % len(call.held) if kind == "calls" else shown(call.members[field])
-            words.append("%s=%s" % (field, value))
+            value = f"[{len(call.held)}]" if kind == "calls" else shown(call.members[field])
+            words.append(f"{field}={value}")
     return " ".join(words)
 
 
@@ -93,19 +95,25 @@ def _sentence(left, right, names, script):
     """Where two transcripts part."""
     place = parting(left, right)
     lines = [lines[place - 1] if place <= len(lines) else None for lines in (left, right)]
-    told = ["nothing, after %d lines" % len(all_lines) if line is None else visible(line.text)
-            for line, all_lines in zip(lines, (left, right))]
-    parts = ["The transcripts part at line %d." % place,
-             "  %s: %s" % (names[0], told[0]), "  %s: %s" % (names[1], told[1])]
+    told = [
+        f"nothing, after {len(all_lines)} lines" if line is None else visible(line.text)
+        for line, all_lines in zip(lines, (left, right))
+    ]
+    parts = [
+        f"The transcripts part at line {place}.",
+        f"  {names[0]}: {told[0]}",
+        f"  {names[1]}: {told[1]}",
+    ]
     ordinals = sorted({line.ordinal for line in lines if line is not None and line.ordinal})
     for ordinal in ordinals if script else ():
         if ordinal in script.by_ordinal:
-            parts.append("  call %d: %s" % (ordinal, call_text(script.by_ordinal[ordinal])))
+            parts.append(f"  call {ordinal}: {call_text(script.by_ordinal[ordinal])}")
     return "\n".join(parts)
 
 
 def _seen(pairs, context):
-    """The places of the pairs that are shown: those that differ, and so many before and after each."""
+    """The places of the pairs that are shown: those that differ, and so many before and after
+    each."""
     seen = set()
     for at, pair in enumerate(pairs):
         if pair.kind != "same":
@@ -114,23 +122,37 @@ def _seen(pairs, context):
 
 
 def table(pairs, script, context):
-    """The pairs side by side. Of those that are alike so many are shown around each that differs, and all
-    where that is None."""
+    """The pairs side by side. Of those that are alike so many are shown around each that differs,
+    and all where that is None."""
     seen = set(range(len(pairs))) if context is None else _seen(pairs, context)
-    texts = [[visible(line.text) if line else "" for line in (pair.left, pair.right)] for pair in pairs]
+    texts = [
+        [visible(line.text) if line else "" for line in (pair.left, pair.right)] for pair in pairs
+    ]
     widths = [max([1] + [len(texts[at][side]) for at in seen]) for side in (0, 1)]
-    head = "  %-*s | %-*s%s" % (widths[0], "A", widths[1], "B", " | the script's call" if script else "")
+    head = "  %-*s | %-*s%s" % (
+        widths[0],
+        "A",
+        widths[1],
+        "B",
+        " | the script's call" if script else "",
+    )
     rows, before = [head.rstrip()], -1
     for at in sorted(seen):
         if at > before + 1:
-            rows.append("  ... %d alike" % (at - before - 1))
+            rows.append(f"  ... {at - before - 1} alike")
         before = at
         ordinal = pairs[at].line().ordinal
         call = script.by_ordinal.get(ordinal) if script else None
-        row = "%s %-*s | %-*s" % (SIGNS[pairs[at].kind], widths[0], texts[at][0], widths[1], texts[at][1])
-        rows.append((row + (" | %s" % call_text(call) if call else "")).rstrip())
+        row = "%s %-*s | %-*s" % (
+            SIGNS[pairs[at].kind],
+            widths[0],
+            texts[at][0],
+            widths[1],
+            texts[at][1],
+        )
+        rows.append((row + (f" | {call_text(call)}" if call else "")).rstrip())
     if before < len(pairs) - 1:
-        rows.append("  ... %d alike" % (len(pairs) - 1 - before))
+        rows.append(f"  ... {len(pairs) - 1 - before} alike")
     return "\n".join(rows)
 
 
@@ -138,15 +160,26 @@ def differences(left, right, names, script=None, context=3):
     """What is printed of two transcripts that differ."""
     pairs = pairs_of(left, right)
     counts = collections.Counter(pair.kind for pair in pairs)
-    words = [("same", "alike"), ("other", "other in A than in B"), ("left", "only in A"), ("right", "only in B"),
-             ("moved", "at another place in B")]
-    told = ", ".join("%d %s" % (counts[kind], text) for kind, text in words if counts[kind] or kind == "same")
-    return "%s\n\n%s\n\nLines: %s.\n" % (_sentence(left, right, names, script), table(pairs, script, context), told)
+    words = [
+        ("same", "alike"),
+        ("other", "other in A than in B"),
+        ("left", "only in A"),
+        ("right", "only in B"),
+        ("moved", "at another place in B"),
+    ]
+    told = ", ".join(
+        f"{counts[kind]} {text}" for kind, text in words if counts[kind] or kind == "same"
+    )
+    return "%s\n\n%s\n\nLines: %s.\n" % (
+        _sentence(left, right, names, script),
+        table(pairs, script, context),
+        told,
+    )
 
 
 def check(script, lines, names):
-    """Raises BadInput where a line answers no call of the script, or is no answer of its operation. More is not
-    asked for: of two transcripts one may be wrong."""
+    """Raises BadInput where a line answers no call of the script, or is no answer of its operation.
+    More is not asked for: of two transcripts one may be wrong."""
     for line in lines:
         if line.ordinal is None or line.ordinal == 0:
             continue
@@ -156,6 +189,8 @@ def check(script, lines, names):
             is_promise = line.kind == "resolved" and call.op in entries.PENDING
             if line.kind == "script" or line.kind in answers(call.op) or is_promise:
                 continue
-            why = "it is no answer of %s" % shown(call.op)
-        raise BadInput("%s does not belong to %s: line %d is %s, and %s"
-                       % (names[1], names[0], line.place, quoted(line.text), why))
+            why = f"it is no answer of {shown(call.op)}"
+        raise BadInput(
+            "%s does not belong to %s: line %d is %s, and %s"
+            % (names[1], names[0], line.place, quoted(line.text), why)
+        )

@@ -1,15 +1,20 @@
-"""The operations of the script format, version 1: of each its fields, their kinds and their defaults.
+"""The operations of the script format, version 1: of each its fields, their kinds and their
+defaults.
 
-These are all operations of the format, also those that the program does not read yet. A field is its
-name, its kind, and its default where it has one. A kind that is none of KINDS is a list of words. Null is
-a value of a field whose default is null, and of one whose kind ends with "or null".
+These are all operations of the format, also those that the program does not read yet. A field is
+its name, its kind, and its default where it has one. A kind that is none of KINDS is a list of
+words. Null is a value of a field whose default is null, and of one whose kind ends with "or null".
 """
 
 ONE = 2**24
 QUANTUM = 128
 
 # The ranges of the kinds that are whole numbers.
-RANGES = {"fix": (-(2**31), 2**31 - 1), "time": (-(2**40), 2**40), "count": (0, 2**32 - 1)}
+RANGES = {
+    "fix": (-(2**31), 2**31 - 1),
+    "time": (-(2**40), 2**40),
+    "count": (0, 2**32 - 1),
+}
 KINDS = (*RANGES, "bool", "list", "name", "param", "new name", "path", "calls", "object")
 
 PARAMETERS = ("offset", "gain", "delayTime", "playbackRate", "detune")
@@ -29,8 +34,14 @@ CREATIONS = {
     "createChannelMerger": [_NEW, ("numberOfInputs", "count", 6)],
     "createWaveShaper": [_NEW, ("curve", "list", None), ("oversample", "none 2x 4x", "none")],
     "createIIRFilter": [_NEW, ("feedforward", "list"), ("feedback", "list")],
-    "createBufferSource": [_NEW, ("buffer", "name", None), ("loop", "bool", False), ("loopStart", "time", 0),
-                           ("loopEnd", "time", 0), ("playbackRate", "fix", ONE)],
+    "createBufferSource": [
+        _NEW,
+        ("buffer", "name", None),
+        ("loop", "bool", False),
+        ("loopStart", "time", 0),
+        ("loopEnd", "time", 0),
+        ("playbackRate", "fix", ONE),
+    ],
     "createBuffer": [_NEW, ("channels", "count"), ("length", "count"), ("rate", "count")],
 }
 
@@ -49,7 +60,12 @@ NODES = {
 CONNECTIONS = {
     "connect": [("from", "name"), ("output", "count", 0), ("to", "name"), ("input", "count", 0)],
     "connectParam": [("from", "name"), ("output", "count", 0), ("to", "name"), _PARAM],
-    "disconnect": [("from", "name"), ("output", "count", None), ("to", "name", None), ("input", "count", None)],
+    "disconnect": [
+        ("from", "name"),
+        ("output", "count", None),
+        ("to", "name", None),
+        ("input", "count", None),
+    ],
     "disconnectParam": [("from", "name"), ("to", "name"), _PARAM, ("output", "count", None)],
 }
 
@@ -63,7 +79,12 @@ ATTRIBUTES = {
     "setLoop": [_NODE, ("value", "bool")],
     "setLoopStart": [_NODE, ("value", "time")],
     "setLoopEnd": [_NODE, ("value", "time")],
-    "copyToChannel": [("buffer", "name"), ("channel", "count"), ("samples", "list"), ("at", "count", 0)],
+    "copyToChannel": [
+        ("buffer", "name"),
+        ("channel", "count"),
+        ("samples", "list"),
+        ("at", "count", 0),
+    ],
 }
 
 SOURCES = {
@@ -75,7 +96,13 @@ PARAMETER_CALLS = {
     "setValue": [_NODE, _PARAM, ("value", "fix")],
     "setValueAtTime": [_NODE, _PARAM, ("value", "fix"), ("time", "time")],
     "linearRampToValueAtTime": [_NODE, _PARAM, ("value", "fix"), ("time", "time")],
-    "setValueCurveAtTime": [_NODE, _PARAM, ("values", "list"), ("time", "time"), ("duration", "time")],
+    "setValueCurveAtTime": [
+        _NODE,
+        _PARAM,
+        ("values", "list"),
+        ("time", "time"),
+        ("duration", "time"),
+    ],
     "cancelScheduledValues": [_NODE, _PARAM, ("time", "time")],
     "cancelAndHoldAtTime": [_NODE, _PARAM, ("time", "time")],
     "setAutomationRate": [_NODE, _PARAM, ("value", "a-rate k-rate")],
@@ -93,7 +120,8 @@ CONTEXT_CALLS = {
     "readTime": [],
 }
 
-# The operations that are left out of the profile: none of their fields is read. Each has its feature.
+# The operations that are left out of the profile: none of their fields is read. Each has its
+# feature.
 LEFT_OUT = {
     "createOscillator": "oscillator",
     "createPeriodicWave": "periodic-wave",
@@ -112,12 +140,19 @@ LEFT_OUT = {
     "createConvolver": "convolver",
 }
 
-GROUPS = {"creations": CREATIONS, "connections": CONNECTIONS, "attributes": ATTRIBUTES, "sources": SOURCES,
-          "parameters": PARAMETER_CALLS, "contextCalls": CONTEXT_CALLS, "leftOut": {op: [] for op in LEFT_OUT}}
+GROUPS = {
+    "creations": CREATIONS,
+    "connections": CONNECTIONS,
+    "attributes": ATTRIBUTES,
+    "sources": SOURCES,
+    "parameters": PARAMETER_CALLS,
+    "contextCalls": CONTEXT_CALLS,
+    "leftOut": {op: [] for op in LEFT_OUT},
+}
 OPERATIONS = {op: fields for group in GROUPS.values() for op, fields in group.items()}
 
-# The calls that answer with a promise, those whose promise stays pending, and those that answer with a
-# value.
+# The calls that answer with a promise, those whose promise stays pending, and those that answer
+# with a value.
 PROMISES = ("suspend", "startRendering", "resume", "decodeAudioData")
 PENDING = ("suspend", "startRendering")
 READS = {"readValue": "value", "readState": "state", "readTime": "time"}

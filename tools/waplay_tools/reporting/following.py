@@ -1,5 +1,6 @@
-"""Follows a transcript along its script: which call each line answers, when it came, and the marks of the
-time line. It raises BadInput, with a sentence, where the transcript does not belong to the script.
+"""Follows a transcript along its script: which call each line answers, when it came, and the marks
+of the time line. It raises BadInput, with a sentence, where the transcript does not belong to the
+script.
 """
 
 from waplay_tools.reporting import entries
@@ -8,7 +9,8 @@ from waplay_tools.reporting.text import BadInput, as_it_is, counted, grouped, qu
 
 
 class Row:
-    """A line of the transcript beside its call, if it has one. The detail is what is known besides."""
+    """A line of the transcript beside its call, if it has one. The detail is what is known
+    besides."""
 
     def __init__(self, line, call=None, detail=""):
         self.line, self.call, self.detail = line, call, detail
@@ -22,7 +24,8 @@ class Part:
 
 
 class Mark:
-    """A mark of the time line. What it marks lies from its first to its last frame, mostly at one."""
+    """A mark of the time line. What it marks lies from its first to its last frame, mostly at
+    one."""
 
     def __init__(self, kind, low, high, text, told=None):
         self.kind, self.low, self.high, self.text, self.told = kind, low, high, text, told
@@ -46,14 +49,15 @@ class Session:
 
     def _wrong(self, why):
         """Refuses the transcript."""
-        raise BadInput("%s does not belong to %s: %s" % (self.transcript_name, self.script_name, why))
+        raise BadInput(f"{self.transcript_name} does not belong to {self.script_name}: {why}")
 
     def _unfit(self, line):
         """Refuses the transcript for a line that can't come there."""
-        self._wrong("line %d, %s, does not fit there" % (line.place, quoted(line.text)))
+        self._wrong(f"line {line.place}, {quoted(line.text)}, does not fit there")
 
     def _next(self):
-        """The next line. A transcript has a last line, which is refused wherever it comes too early."""
+        """The next line. A transcript has a last line, which is refused wherever it comes too
+        early."""
         line = self.lines[self.at]
         self.at += 1
         return line
@@ -69,7 +73,7 @@ class Session:
     def _follow(self):
         """All lines, by the kind of the first or the last one."""
         first, last = self.lines[0], self.lines[-1]
-        fault = first.text[len("script: "):] if first.kind == "script" else None
+        fault = first.text[len("script: ") :] if first.kind == "script" else None
         if fault != self.script.fault and not self._is_not_built(first):
             self._wrong(_faults_told(fault, self.script.fault))
         if fault is not None:
@@ -84,10 +88,15 @@ class Session:
             self._follow_calls()
 
     def _is_not_built(self, first):
-        """Whether the line is the fault of an operation that the program does not read yet, before any
-        other fault of the script."""
+        """Whether the line is the fault of an operation that the program does not read yet, before
+        any other fault of the script."""
         call = self.script.by_ordinal.get(first.ordinal)
-        if first.kind != "script" or first.word != "UnknownOp" or not call or not entries.fields_of(call.op):
+        if (
+            first.kind != "script"
+            or first.word != "UnknownOp"
+            or not call
+            or not entries.fields_of(call.op)
+        ):
             return False
         own = self.script.fault
         return own is None or own != "BadJson" and int(own.split()[0]) >= first.ordinal
@@ -112,9 +121,12 @@ class Session:
         for ordinal in ordinals:
             line, call = self._next(), self.script.by_ordinal[ordinal]
             if line.ordinal != ordinal:
-                self._wrong("line %d is %s, where call %d is to be answered" % (line.place, quoted(line.text), ordinal))
+                self._wrong(
+                    f"line {line.place} is {quoted(line.text)}, where call {ordinal} is to be"
+                    " answered"
+                )
             if line.kind not in answers(call.op):
-                self._wrong("line %d is %s, and no answer of %s" % (line.place, quoted(line.text), call.op))
+                self._wrong(f"line {line.place} is {quoted(line.text)}, and no answer of {call.op}")
             self.answered.add(ordinal)
             self._add(Row(line, call, self._detail(line, call)))
             if line.kind in ("ok", "resolved"):
@@ -128,13 +140,21 @@ class Session:
         """Of a TypeError, what the names of the call stand for at that moment."""
         if line.exception != "TypeError":
             return ""
-        names = [call.field(field) for field, kind, *_ in entries.fields_of(call.op) if kind.startswith("name")]
-        told = ["%s %s" % (as_it_is(quoted(name)), self.book.what(name)) for name in names if isinstance(name, str)]
+        names = [
+            call.field(field)
+            for field, kind, *_ in entries.fields_of(call.op)
+            if kind.startswith("name")
+        ]
+        told = [
+            f"{as_it_is(quoted(name))} {self.book.what(name)}"
+            for name in names
+            if isinstance(name, str)
+        ]
         return ", ".join(told) + "." if told else ""
 
     def _follow_rendering(self):
-        """One event while rendering, with the list of a promise that resolves. The answer is whether
-        there may be more."""
+        """One event while rendering, with the list of a promise that resolves. The answer is
+        whether there may be more."""
         line = self.lines[self.at]
         due = min(self.suspensions, key=self.suspensions.get, default=None)
         if line.kind == "ended":
@@ -153,52 +173,64 @@ class Session:
         """The end of a source, which has to be there and started."""
         it = self.book.nodes[line.number] if line.number < len(self.book.nodes) else None
         if it is None or it.name != line.word or it.start is None or it.has_ended:
-            self._wrong("line %d is %s, and no such source was started" % (line.place, quoted(line.text)))
+            self._wrong(f"line {line.place} is {quoted(line.text)}, and no such source was started")
         it.has_ended = True
         low, high = it.ends()
-        text = "%s, the %s of call %d" % (quoted(it.name), it.kind, it.call.ordinal)
+        text = f"{quoted(it.name)}, the {it.kind} of call {it.call.ordinal}"
         self.marks.append(Mark("ended", low, high, text, line))
-        self._add(Row(line, None, "%s of call %d." % (it.kind[0].upper() + it.kind[1:], it.call.ordinal)))
+        self._add(Row(line, None, f"{it.kind[0].upper() + it.kind[1:]} of call {it.call.ordinal}."))
 
     def _suspended(self, line):
         """A suspension that is due, with its list."""
         call, self.now = self.script.by_ordinal[line.ordinal], self.suspensions.pop(line.ordinal)
-        self._begin("Suspended at frame %s: the list of call %d" % (grouped(self.now), call.ordinal))
+        self._begin(f"Suspended at frame {grouped(self.now)}: the list of call {call.ordinal}")
         self._add(Row(line, call))
         self._run(call.held)
         is_stalled = self.lines[self.at].word == "stalled"
         if is_stalled and self.lines[self.at].number != self.now:
             self._unfit(self.lines[self.at])
         kind = "stalled" if is_stalled else "suspended"
-        self.marks.append(Mark(kind, self.now, self.now, "by call %d" % call.ordinal, line))
-        self._begin("The end" if is_stalled else "Rendering, from frame %s on" % grouped(self.now))
+        self.marks.append(Mark(kind, self.now, self.now, f"by call {call.ordinal}", line))
+        self._begin("The end" if is_stalled else f"Rendering, from frame {grouped(self.now)} on")
 
     def _finished(self, line):
         """The end of rendering, with the list of startRendering."""
         call, self.now = self.script.by_ordinal[line.ordinal], quantum_end(self.length)
-        self._begin("Rendered to the end, at frame %s: the list of call %d" % (grouped(self.now), call.ordinal))
+        self._begin(
+            f"Rendered to the end, at frame {grouped(self.now)}: the list of call {call.ordinal}"
+        )
         self._add(Row(line, call))
         self._run(call.held)
         self._begin("The end")
         line = self._next()
-        if line.kind != "complete" or line.number != self.length or self.lines[self.at].word != "completed":
+        if (
+            line.kind != "complete"
+            or line.number != self.length
+            or self.lines[self.at].word != "completed"
+        ):
             self._unfit(line)
         self._add(Row(line))
 
     # The marks.
 
     def _settle_marks(self):
-        """Narrows the frames of a mark by those of the marks before and after it: what is told earlier
-        lies in no later quantum. Parts without rows are left out."""
+        """Narrows the frames of a mark by those of the marks before and after it: what is told
+        earlier lies in no later quantum. Parts without rows are left out."""
         self.parts = [part for part in self.parts if part.rows]
         told = 0
         for mark in self.marks:
             told = max(told, quantum_end(mark.low))
-            mark.low = mark.low if mark.low == mark.high else max(mark.low, told - entries.QUANTUM + 1, 0)
+            mark.low = (
+                mark.low if mark.low == mark.high else max(mark.low, told - entries.QUANTUM + 1, 0)
+            )
         told = quantum_end(self.length)
         for mark in reversed(self.marks):
             told = told if mark.high is None else min(told, quantum_end(mark.high))
-            mark.high = told if mark.high is None else mark.high if mark.low == mark.high else min(mark.high, told)
+            mark.high = (
+                told
+                if mark.high is None
+                else mark.high if mark.low == mark.high else min(mark.high, told)
+            )
             mark.low = min(mark.low, mark.high)
 
     def count(self, *kinds):
@@ -223,8 +255,8 @@ def answers(op):
 
 def _faults_told(told, own):
     """In words, that the transcript tells another fault than the script has."""
-    has = "the script has no fault" if own is None else "the script's first fault is %s" % quoted(own)
-    return "%s, and the transcript tells %s" % (has, "none" if told is None else quoted(told))
+    has = "the script has no fault" if own is None else f"the script's first fault is {quoted(own)}"
+    return f"{has}, and the transcript tells {'none' if told is None else quoted(told)}"
 
 
 def summary(session):
@@ -237,7 +269,11 @@ def summary(session):
     if end.word == "idle":
         return "Rendering was not started, so there is no sound."
     refused = session.count("throw", "rejected")
-    told = "%s refused" % counted(refused, "call was", "calls were") if refused else "no call was refused"
+    told = (
+        f"{counted(refused, 'call was', 'calls were')} refused"
+        if refused
+        else "no call was refused"
+    )
     if end.word == "stalled":
-        return "The session stalled at frame %s, so there is no sound; %s." % (grouped(end.number), told)
-    return "The session was rendered to its length; %s." % told
+        return f"The session stalled at frame {grouped(end.number)}, so there is no sound; {told}."
+    return f"The session was rendered to its length; {told}."

@@ -18,7 +18,7 @@ def _own(name):
 
 def _hash(text):
     """The source that a page's policy names for a text of its own."""
-    return "'sha256-%s'" % base64.b64encode(hashlib.sha256(text.encode()).digest()).decode()
+    return f"'sha256-{base64.b64encode(hashlib.sha256(text.encode()).digest()).decode()}'"
 
 
 def _facts(session, sound):
@@ -27,41 +27,54 @@ def _facts(session, sound):
     rate = script.context("rate")
     yield "Script", isolated(session.script_name)
     yield "Transcript", isolated(session.transcript_name)
-    yield "Last line", "<code>%s</code>" % escaped(end.text)
+    yield "Last line", f"<code>{escaped(end.text)}</code>"
     if end.kind == "script":
         yield "Calls", grouped(len(script.calls))
     else:
         length = script.context("length")
         yield "Context", "%s, %s, %s frames a second" % (
-            counted(script.context("channels"), "channel"), counted(length, "frame"), grouped(rate))
+            counted(script.context("channels"), "channel"),
+            counted(length, "frame"),
+            grouped(rate),
+        )
         yield "Duration", seconds(length, rate)
-        yield "Calls", "%s, %s refused" % (grouped(len(script.calls)), grouped(session.count("throw", "rejected")))
+        refused = grouped(session.count("throw", "rejected"))
+        yield "Calls", f"{grouped(len(script.calls))}, {refused} refused"
         yield "Sources that ended", grouped(session.count("ended"))
-        yield "Suspensions", grouped(sum(mark.kind in ("suspended", "stalled") for mark in session.marks))
+        yield "Suspensions", grouped(
+            sum(mark.kind in ("suspended", "stalled") for mark in session.marks)
+        )
     if sound:
         peaks = [max(-min(channel), max(channel)) for channel in sound.channels]
         yield "Samples", "%d bits, greatest absolute value %s, sum %s" % (
-            sound.bits, grouped(max(peaks)), grouped(sum(map(sum, sound.channels))))
+            sound.bits,
+            grouped(max(peaks)),
+            grouped(sum(map(sum, sound.channels))),
+        )
 
 
 def _overview(session, sound):
     """The section of the overview."""
     facts = "".join("<div><dt>%s</dt><dd>%s</dd></div>" % fact for fact in _facts(session, sound))
-    return ('<section aria-labelledby="overview-title"><h2 id="overview-title">Overview</h2>'
-            '<dl class="facts">%s</dl></section>' % facts)
+    return (
+        '<section aria-labelledby="overview-title"><h2 id="overview-title">Overview</h2>'
+        '<dl class="facts">%s</dl></section>' % facts
+    )
 
 
 def _no_sound(session, wav_name):
     """The section in place of the sound, where the session wrote no file."""
     told = "The session wrote no WAV file."
     if wav_name:
-        told += " What is at %s is not of this session, and was not read." % isolated(wav_name)
-    return sound_html.no_sound_html(told, session.marks, session.length, session.script.context("rate"))
+        told += f" What is at {isolated(wav_name)} is not of this session, and was not read."
+    return sound_html.no_sound_html(
+        told, session.marks, session.length, session.script.context("rate")
+    )
 
 
 def page(session, names, sound=None, data=None, against=None):
-    """The page. The names are those of the script and of the WAV file; `against` is the differences from
-    another file, its name and its bytes."""
+    """The page. The names are those of the script and of the WAV file; `against` is the differences
+    from another file, its name and its bytes."""
     style, code = _own("page.css"), _own("page.js")
     is_good = session.end().word == "completed"
     differences, other_name, other = against or (None, None, None)
@@ -73,8 +86,10 @@ def page(session, names, sound=None, data=None, against=None):
         parts = [_no_sound(session, names[1])]
     parts += [calls_html.transcript_html(session), calls_html.not_run_html(session)]
     return _FRAME % {
-        "policy": "default-src 'none'; media-src data:; script-src %s; style-src %s; base-uri 'none'; form-action 'none'"
-                  % (_hash(code), _hash(style)),
+        "policy": (
+            "default-src 'none'; media-src data:; script-src %s; style-src %s; base-uri 'none';"
+            " form-action 'none'" % (_hash(code), _hash(style))
+        ),
         "title": escaped(os.path.basename(names[0])),
         "heading": isolated(os.path.basename(names[0])),
         "style": style,

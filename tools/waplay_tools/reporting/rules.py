@@ -13,19 +13,32 @@ FEATURES = {
     "listener": "The listener, which only panners use, is not part of the profile.",
     "compressor": "Dynamics compressors are not part of the profile.",
     "analyser": "Analysers are not part of the profile.",
-    "media-element-source": "Sources of media elements are not part of the profile: nothing is played from a page.",
-    "media-stream-source": "Sources of media streams are not part of the profile: nothing live is heard.",
-    "media-stream-track-source": "Sources of tracks of media streams are not part of the profile: nothing live is heard.",
+    "media-element-source": (
+        "Sources of media elements are not part of the profile: nothing is played from a page."
+    ),
+    "media-stream-source": (
+        "Sources of media streams are not part of the profile: nothing live is heard."
+    ),
+    "media-stream-track-source": (
+        "Sources of tracks of media streams are not part of the profile: nothing live is heard."
+    ),
     "media-stream-destination": "Destinations that are media streams are not part of the profile.",
     "script-processor": "Nodes that run a page's own code are not part of the profile.",
     "audio-worklet": "Nodes that run a page's own code are not part of the profile.",
     "convolver": "Convolvers are not part of the profile.",
-    "exponential-ramp": "Exponential ramps are not part of the profile; linear ramps and curves are.",
-    "set-target": "Approaching a target exponentially is not part of the profile; linear ramps and curves are.",
+    "exponential-ramp": (
+        "Exponential ramps are not part of the profile; linear ramps and curves are."
+    ),
+    "set-target": (
+        "Approaching a target exponentially is not part of the profile; linear ramps and curves"
+        " are."
+    ),
     "oversample": "A wave shaper does not oversample: `none` is the only word that is accepted.",
     "resampling": "Nothing is resampled: the rate of the buffer or file has to be the context's.",
     "playback-rate": "A playback rate is 1, 2, 3 and so on: a positive multiple of 16777216.",
-    "playback-rate-automation": "The playback rate of a source stays as it was created: no call reads or changes it.",
+    "playback-rate-automation": (
+        "The playback rate of a source stays as it was created: no call reads or changes it."
+    ),
     "detune": "Detuning is not part of the profile: no call reads or changes it.",
     "loop-change": "The loop of a source can't be changed once the source was started.",
     "late-buffer": "The buffer of a source can't be set once the source was started.",
@@ -40,9 +53,16 @@ FEATURES = {
 }
 
 _LISTS = "Each of the two lists has from 1 to 20 items."
-_CURVE = "A curve has 2 points or more, and is set once: taking it away does not make room for another one."
-_IN_CURVE = "The time lies within a curve of values, during which nothing else may set the parameter."
-_SOURCE_TIMES = "A source has no negative `when`, and a buffer source no negative `offset` or `duration`."
+_CURVE = (
+    "A curve has 2 points or more, and is set once: taking it away does not make room for another"
+    " one."
+)
+_IN_CURVE = (
+    "The time lies within a curve of values, during which nothing else may set the parameter."
+)
+_SOURCE_TIMES = (
+    "A source has no negative `when`, and a buffer source no negative `offset` or `duration`."
+)
 
 # The rule of each operation and exception that names no feature.
 _OF_OPERATION = {
@@ -51,50 +71,112 @@ _OF_OPERATION = {
     ("createChannelMerger", "IndexSizeError"): "A merger has from 1 to 32 inputs.",
     ("createWaveShaper", "InvalidStateError"): "A curve has 2 points or more.",
     ("createIIRFilter", "NotSupportedError"): _LISTS,
-    ("createIIRFilter", "InvalidStateError"):
-        "At least one feedforward coefficient differs from 0, and so does the first feedback coefficient.",
-    ("createBuffer", "NotSupportedError"):
-        "A buffer has from 1 to 32 channels, 1 frame or more, and from 8,000 to 96,000 frames a second.",
-    ("connect", "IndexSizeError"): "`output` is the number of an output of `from`, and `input` that of an input of `to`, "
-                                   "both counted from 0: one of them is not there.",
-    ("connectParam", "IndexSizeError"): "`output` is the number of an output of `from`, counted from 0: it is not there.",
-    ("disconnect", "IndexSizeError"): "`output` is the number of an output of `from`, and `input` that of an input of "
-                                      "`to`, both counted from 0: one of them is not there.",
+    (
+        "createIIRFilter",
+        "InvalidStateError",
+    ): (
+        "At least one feedforward coefficient differs from 0, and so does the first feedback"
+        " coefficient."
+    ),
+    (
+        "createBuffer",
+        "NotSupportedError",
+    ): (
+        "A buffer has from 1 to 32 channels, 1 frame or more, and from 8,000 to 96,000 frames a"
+        " second."
+    ),
+    (
+        "connect",
+        "IndexSizeError",
+    ): (
+        "`output` is the number of an output of `from`, and `input` that of an input of `to`, "
+        "both counted from 0: one of them is not there."
+    ),
+    (
+        "connectParam",
+        "IndexSizeError",
+    ): "`output` is the number of an output of `from`, counted from 0: it is not there.",
+    (
+        "disconnect",
+        "IndexSizeError",
+    ): (
+        "`output` is the number of an output of `from`, and `input` that of an input of "
+        "`to`, both counted from 0: one of them is not there."
+    ),
     ("disconnect", "InvalidAccessError"): "There is no connection that the call means.",
-    ("disconnectParam", "IndexSizeError"): "`output` is the number of an output of `from`, counted from 0: it is not there.",
+    (
+        "disconnectParam",
+        "IndexSizeError",
+    ): "`output` is the number of an output of `from`, counted from 0: it is not there.",
     ("disconnectParam", "InvalidAccessError"): "There is no connection that the call means.",
     ("setChannelCount", "NotSupportedError"): "A channelCount is from 1 to 32.",
-    ("setChannelCount", "InvalidStateError"): "The channelCount of this node is fixed, and the value is another one.",
-    ("setChannelCountMode", "InvalidStateError"):
-        "The channelCountMode of this node is fixed, and the value is another one.",
-    ("setChannelInterpretation", "InvalidStateError"):
-        "The channelInterpretation of this node is fixed, and the value is another one.",
+    (
+        "setChannelCount",
+        "InvalidStateError",
+    ): "The channelCount of this node is fixed, and the value is another one.",
+    (
+        "setChannelCountMode",
+        "InvalidStateError",
+    ): "The channelCountMode of this node is fixed, and the value is another one.",
+    (
+        "setChannelInterpretation",
+        "InvalidStateError",
+    ): "The channelInterpretation of this node is fixed, and the value is another one.",
     ("setCurve", "InvalidStateError"): _CURVE,
-    ("setBuffer", "InvalidStateError"):
-        "A buffer is set once, at creation or later: taking it away does not make room for another one.",
-    ("copyToChannel", "IndexSizeError"): "The buffer has no channel with this number; channels are counted from 0.",
+    (
+        "setBuffer",
+        "InvalidStateError",
+    ): (
+        "A buffer is set once, at creation or later: taking it away does not make room for another"
+        " one."
+    ),
+    (
+        "copyToChannel",
+        "IndexSizeError",
+    ): "The buffer has no channel with this number; channels are counted from 0.",
     ("start", "InvalidStateError"): "A source is started once.",
     ("start", "RangeError"): _SOURCE_TIMES,
     ("stop", "InvalidStateError"): "A source can't be stopped before it was started.",
     ("stop", "RangeError"): "A source has no negative `when`.",
-    ("setValue", "NotSupportedError"): "A curve of values is under way, during which nothing else may set the parameter.",
+    (
+        "setValue",
+        "NotSupportedError",
+    ): "A curve of values is under way, during which nothing else may set the parameter.",
     ("setValueAtTime", "RangeError"): "A time is not negative.",
     ("setValueAtTime", "NotSupportedError"): _IN_CURVE,
     ("linearRampToValueAtTime", "RangeError"): "A time is not negative.",
     ("linearRampToValueAtTime", "NotSupportedError"): _IN_CURVE,
     ("setValueCurveAtTime", "InvalidStateError"): "A curve of values has 2 or more of them.",
-    ("setValueCurveAtTime", "RangeError"): "A curve's time is not negative, and its duration is above 0.",
-    ("setValueCurveAtTime", "NotSupportedError"):
-        "A curve of values does not begin within another one, and no event lies between its first frame and its end.",
+    (
+        "setValueCurveAtTime",
+        "RangeError",
+    ): "A curve's time is not negative, and its duration is above 0.",
+    (
+        "setValueCurveAtTime",
+        "NotSupportedError",
+    ): (
+        "A curve of values does not begin within another one, and no event lies between its first"
+        " frame and its end."
+    ),
     ("cancelScheduledValues", "RangeError"): "A time is not negative.",
     ("cancelAndHoldAtTime", "RangeError"): "A time is not negative.",
-    ("suspend", "InvalidStateError"):
-        "A suspension comes at the end of a quantum of 128 frames, rounded up, after the present and before the length; "
-        "one end has one suspension.",
+    (
+        "suspend",
+        "InvalidStateError",
+    ): (
+        "A suspension comes at the end of a quantum of 128 frames, rounded up, after the present"
+        " and before the length; one end has one suspension."
+    ),
     ("startRendering", "InvalidStateError"): "Rendering is started once.",
-    ("resume", "InvalidStateError"): "There is nothing to resume before rendering was started and after it was finished.",
+    (
+        "resume",
+        "InvalidStateError",
+    ): "There is nothing to resume before rendering was started and after it was finished.",
     ("decodeAudioData", "NotFoundError"): "There is no file at this path in the folder of assets.",
-    ("decodeAudioData", "EncodingError"): "The file is no WAV file with PCM samples of 8, 16, 24 or 32 bits.",
+    (
+        "decodeAudioData",
+        "EncodingError",
+    ): "The file is no WAV file with PCM samples of 8, 16, 24 or 32 bits.",
 }
 
 # Where no rule is told apart, as in transcripts of programs with more operations.
@@ -116,9 +198,13 @@ _PARAMETER = "`node` has to stand for a node that has the parameter `param`"
 _NAMES = {
     "createBufferSource": "`buffer` has to stand for a buffer",
     "connect": "`from` and `to` have to stand for nodes",
-    "connectParam": "`from` and `to` have to stand for nodes, and `to` has to have the parameter `param`",
+    "connectParam": (
+        "`from` and `to` have to stand for nodes, and `to` has to have the parameter `param`"
+    ),
     "disconnect": "`from`, and `to` where it is there, have to stand for nodes",
-    "disconnectParam": "`from` and `to` have to stand for nodes, and `to` has to have the parameter `param`",
+    "disconnectParam": (
+        "`from` and `to` have to stand for nodes, and `to` has to have the parameter `param`"
+    ),
     "setCurve": "`node` has to stand for a wave shaper",
     "setOversample": "`node` has to stand for a wave shaper",
     "setBuffer": _BUFFER_SOURCE + ", and `buffer`, where it is not null, for a buffer",
@@ -134,8 +220,10 @@ _NAMES = {
     **dict.fromkeys(entries.PARAMETER_CALLS, _PARAMETER),
 }
 
-CONTEXT = ("A context has from 1 to 32 channels, from 1 to 33,554,432 frames, from 8,000 to 96,000 frames a second, and at "
-           "most 67,108,864 samples.")
+CONTEXT = (
+    "A context has from 1 to 32 channels, from 1 to 33,554,432 frames, from 8,000 to 96,000 frames"
+    " a second, and at most 67,108,864 samples."
+)
 
 
 def rule(op, exception, feature):
@@ -149,24 +237,36 @@ def rule(op, exception, feature):
 
 _KINDS = {
     "bool": "true or false",
-    "list": "an array of whole numbers, each from %s to %s" % tuple(map(grouped, entries.RANGES["fix"])),
+    "list": "an array of whole numbers, each from %s to %s" % tuple(
+        map(grouped, entries.RANGES["fix"])
+    ),
     "name": "a string, the name of an object",
     "param": "a string, the name of a parameter",
     "new name": "a string of 1 to 64 ASCII letters, digits, `_` or `-`, and not `destination`",
     "path": "a string of 1 to 255 bytes",
     "calls": "an array of calls",
     "object": "an object",
-    **{kind: "a whole number from %s to %s" % tuple(map(grouped, ends)) for kind, ends in entries.RANGES.items()},
+    **{
+        kind: "a whole number from %s to %s" % tuple(map(grouped, ends))
+        for kind, ends in entries.RANGES.items()
+    },
 }
 
-_SCRIPT_FIELDS = {"script": "object", "version": "count", "context": "object", "channels": "count", "length": "count",
-                  "rate": "count", "calls": "calls"}
+_SCRIPT_FIELDS = {
+    "script": "object",
+    "version": "count",
+    "context": "object",
+    "channels": "count",
+    "length": "count",
+    "rate": "count",
+    "calls": "calls",
+}
 
 
 def kind_in_words(kind, default):
     """What a field of the kind may be."""
     base = kind.replace(" or null", "")
-    told = _KINDS.get(base) or "one of the words " + ", ".join("`%s`" % word for word in base.split())
+    told = _KINDS.get(base) or "one of the words " + ", ".join(f"`{word}`" for word in base.split())
     return told + (", or null" if default == [None] or kind != base else "")
 
 
@@ -181,28 +281,36 @@ def _field(ordinal, field, op):
 
 
 def fault(line, call, reason):
-    """The fault of a script that a line tells, in words. The reason is that of a text that is no JSON."""
+    """The fault of a script that a line tells, in words. The reason is that of a text that is no
+    JSON."""
     if line.word == "BadJson":
-        return "The script is no JSON text: %s." % reason
+        return f"The script is no JSON text: {reason}."
     if line.word == "UnknownOp":
         if call and isinstance(call.op, str) and call.op in entries.OPERATIONS:
             return "The program that wrote the transcript does not read this operation."
-        told = "has no member `op`" if not call or "op" not in call.members else "has the `op` %s" % as_it_is(shown(call.op))
-        return "The call %s, which is no operation." % told
-    of = "The script" if line.ordinal == 0 else "Call %s" % grouped(line.ordinal)
+        told = (
+            "has no member `op`"
+            if not call or "op" not in call.members
+            else f"has the `op` {as_it_is(shown(call.op))}"
+        )
+        return f"The call {told}, which is no operation."
+    of = "The script" if line.ordinal == 0 else f"Call {grouped(line.ordinal)}"
     wanted = _field(line.ordinal, line.field, call.op if call else None)
     if line.word == "MissingField":
         if call and call.op == "disconnect" and line.field != "from":
-            return "An `input` of `disconnect` needs `to` and `output` beside it: `%s` is missing." % line.field
-        return "%s has no member `%s`, which has to be there: %s." % (of, line.field, wanted)
+            return (
+                f"An `input` of `disconnect` needs `to` and `output` beside it: `{line.field}` is"
+                " missing."
+            )
+        return f"{of} has no member `{line.field}`, which has to be there: {wanted}."
     if line.field == "script":
         return "The script is no object."
     if line.field == "call":
-        return "%s is no object." % of
+        return f"{of} is no object."
     members = call.members if call else {}
-    found = " It is %s." % as_it_is(shown(members[line.field])) if line.field in members else ""
+    found = f" It is {as_it_is(shown(members[line.field]))}." if line.field in members else ""
     told = "is of another kind" if line.word == "WrongKind" else "is out of range"
-    return "`%s` %s: it has to be %s.%s" % (line.field, told, wanted, found)
+    return f"`{line.field}` {told}: it has to be {wanted}.{found}"
 
 
 def meaning(row, script):
@@ -224,5 +332,5 @@ def meaning(row, script):
     if line.kind == "complete":
         return "The complete event, with the context's length in frames."
     if line.kind == "resolved" and call.op in entries.PENDING:
-        return "The promise of call %d." % call.ordinal
+        return f"The promise of call {call.ordinal}."
     return ""

@@ -1,6 +1,7 @@
 """The schema of scripts, made of the table of operations, so that both say the same."""
 
 import json
+from typing import Any
 
 from waplay_tools.reporting import entries, rules
 from waplay_tools.reporting.text import grouped
@@ -14,7 +15,9 @@ DOES = {
     "createChannelMerger": "A node with an input for each channel.",
     "createWaveShaper": "A node that bends each sample by a curve.",
     "createIIRFilter": "A filter with these coefficients.",
-    "createBufferSource": "A source that plays a buffer. Its loop is in frames of the buffer, and its rate is whole.",
+    "createBufferSource": (
+        "A source that plays a buffer. Its loop is in frames of the buffer, and its rate is whole."
+    ),
     "createBuffer": "A silent buffer.",
     "connect": "Connects an output of a node to an input of a node.",
     "connectParam": "Connects an output of a node to a parameter of a node.",
@@ -37,12 +40,19 @@ DOES = {
     "linearRampToValueAtTime": "Leads a parameter in a line to a value at a frame.",
     "setValueCurveAtTime": "Leads a parameter along a curve of values.",
     "cancelScheduledValues": "Takes away what is scheduled from a frame on.",
-    "cancelAndHoldAtTime": "Takes away what is scheduled from a frame on, and holds the value that is reached there.",
+    "cancelAndHoldAtTime": (
+        "Takes away what is scheduled from a frame on, and holds the value that is reached there."
+    ),
     "setAutomationRate": "Sets how often a parameter is computed.",
-    "exponentialRampToValueAtTime": "Is always refused: an exponential ramp is no part of the profile.",
+    "exponentialRampToValueAtTime": (
+        "Is always refused: an exponential ramp is no part of the profile."
+    ),
     "setTargetAtTime": "Is always refused: approaching a target is no part of the profile.",
     "readValue": "Reads the value of a parameter.",
-    "suspend": "Suspends rendering at a frame, rounded up to a multiple of 128; then its list of calls is done.",
+    "suspend": (
+        "Suspends rendering at a frame, rounded up to a multiple of 128; then its list of calls is"
+        " done."
+    ),
     "startRendering": "Starts rendering; its list of calls is done when the length is reached.",
     "resume": "Resumes rendering, from within the list of a suspension.",
     "decodeAudioData": "Reads a WAV file of the folder of assets into a buffer.",
@@ -69,26 +79,39 @@ def _kinds():
         told = "%s A whole number, written without fraction and exponent, from %s to %s."
         told = (told % (_UNITS[kind], grouped(low), grouped(high))).replace("\u2212", "-")
         kinds[kind] = {"description": told, "type": "integer", "minimum": low, "maximum": high}
-    kinds["list"] = {"description": "Values in units of 2^-24.", "type": "array", "items": _ref("fix")}
+    kinds["list"] = {
+        "description": "Values in units of 2^-24.",
+        "type": "array",
+        "items": _ref("fix"),
+    }
     kinds["name"] = {
-        "description": "The name of an object. Whether there is one is asked when the call is done.",
+        "description": (
+            "The name of an object. Whether there is one is asked when the call is done."
+        ),
         "type": "string",
     }
     kinds["newName"] = {
-        "description": "The name that an object is given: 1 to 64 ASCII letters, digits, _ or -, and not destination.",
+        "description": (
+            "The name that an object is given: 1 to 64 ASCII letters, digits, _ or -, and not"
+            " destination."
+        ),
         "type": "string",
         "pattern": entries.NEW_NAME,
         # To some engines the end of the pattern is also before a last line feed.
         "not": {"anyOf": [{"const": "destination"}, {"pattern": "[^A-Za-z0-9_-]"}]},
     }
     kinds["param"] = {
-        "description": "The name of a parameter. Whether the node has it is asked when the call is done.",
+        "description": (
+            "The name of a parameter. Whether the node has it is asked when the call is done."
+        ),
         "type": "string",
         "examples": list(entries.PARAMETERS),
     }
     kinds["path"] = {
-        "description": "The path of a file in the folder of assets: 1 to 255 bytes of UTF-8. A schema counts characters, "
-                       "which may be fewer.",
+        "description": (
+            "The path of a file in the folder of assets: 1 to 255 bytes of UTF-8. A schema counts"
+            " characters, which may be fewer."
+        ),
         "type": "string",
         "minLength": 1,
         "maxLength": 255,
@@ -111,21 +134,25 @@ def _field(kind, default):
     return {**schema, "default": default[0]} if default else schema
 
 
-def _operation(op, is_read):
+def _operation(op):
     """The schema of the calls of one operation."""
     if op in entries.LEFT_OUT:
-        told = "Is always refused, with the feature %s, and none of its fields is read." % entries.LEFT_OUT[op]
+        told = (
+            "Is always refused, with the feature %s, and none of its fields is read."
+            % entries.LEFT_OUT[op]
+        )
     else:
         told = DOES[op]
-    told += "" if is_read else " The program of today does not read it: it is the fault UnknownOp."
     fields = entries.fields_of(op)
     schema = {"description": told, "properties": {"op": {"const": op}}}
     schema["properties"].update((name, _field(kind, default)) for name, kind, *default in fields)
     schema["required"] = ["op"] + [name for name, _, *default in fields if not default]
     if op == "disconnect":
         schema["if"] = {"required": ["input"], "properties": {"input": {"not": {"type": "null"}}}}
-        schema["then"] = {"required": ["to", "output"],
-                          "properties": {"to": {"type": "string"}, "output": {"type": "integer"}}}
+        schema["then"] = {
+            "required": ["to", "output"],
+            "properties": {"to": {"type": "string"}, "output": {"type": "integer"}},
+        }
     return schema
 
 
@@ -134,8 +161,8 @@ def _where(op, name):
     return {"if": {"required": ["op"], "properties": {"op": op}}, "then": _ref(name)}
 
 
-def schema(read):
-    """The schema. The operations that the program of today reads are given."""
+def schema() -> dict[str, Any]:
+    """The schema."""
     operations = list(entries.OPERATIONS)
     call = {
         "description": "A call: its operation and its fields. Further members are ignored.",
@@ -146,30 +173,51 @@ def schema(read):
     }
     groups = {}
     for name, group in entries.GROUPS.items():
-        groups[name] = {"description": "The calls of one of these operations.",
-                        "allOf": [_where({"const": op}, op) for op in group]}
+        groups[name] = {
+            "description": "The calls of one of these operations.",
+            "allOf": [_where({"const": op}, op) for op in group],
+        }
     count = _ref("count")
     context = {
-        "description": rules.CONTEXT + " A context out of these ranges is no fault of the script: the session refuses it.",
+        "description": (
+            rules.CONTEXT
+            + " A context out of these ranges is no fault of the script: the session refuses it."
+        ),
         "type": "object",
         "required": ["channels", "length", "rate"],
-        "properties": {"channels": count, "length": {**count, "description": "Frames."},
-                       "rate": {**count, "description": "Frames a second."}},
+        "properties": {
+            "channels": count,
+            "length": {**count, "description": "Frames."},
+            "rate": {**count, "description": "Frames a second."},
+        },
     }
     return {
         "$schema": "https://json-schema.org/draft/2020-12/schema",
         "$id": "urn:waplay:script:1",
         "title": "A script of waplay, version 1",
-        "description": "A session of the Web Audio API in whole numbers. Further members are ignored everywhere.",
-        "$comment": "Written by tools/makeschema, which has the operations from tools/reporting/entries.py.",
+        "description": (
+            "A session of the Web Audio API in whole numbers. Further members are ignored"
+            " everywhere."
+        ),
+        "$comment": (
+            "Written by tools/makeschema, which has the operations from tools/waplay_tools/reporting/entries.py."
+        ),
         "type": "object",
         "required": ["version", "context", "calls"],
-        "properties": {"version": {"description": "The version of the format.", "type": "integer", "const": 1},
-                       "context": context, "calls": {**_ref("calls"), "description": "The main list of calls."}},
-        "$defs": {**_kinds(), "call": call, **groups, **{op: _operation(op, op in read) for op in operations}},
+        "properties": {
+            "version": {"description": "The version of the format.", "type": "integer", "const": 1},
+            "context": context,
+            "calls": {**_ref("calls"), "description": "The main list of calls."},
+        },
+        "$defs": {
+            **_kinds(),
+            "call": call,
+            **groups,
+            **{op: _operation(op) for op in operations},
+        },
     }
 
 
-def text(read):
+def text() -> str:
     """The schema as the file has it."""
-    return json.dumps(schema(read), indent=2, ensure_ascii=False) + "\n"
+    return json.dumps(schema(), indent=2, ensure_ascii=False) + "\n"

@@ -1,7 +1,8 @@
 """Reads scripts: their calls with ordinals, and their first fault by the rules of docs/FORMATS.md.
 
-Calls are also given of a script with a fault, as far as there are any, so that a fault can be shown where
-it stands. It reads all operations of the format, also those that the program does not read yet.
+Calls are also given of a script with a fault, as far as there are any, so that a fault can be shown
+where it stands. It reads all operations of the format, also those that the program does not read
+yet.
 """
 
 import json
@@ -65,7 +66,8 @@ def _fraction(text):
 
 
 def _whole(text):
-    """A number without fraction and exponent, which is not whole where it is -0 or has more than 64 bits."""
+    """A number without fraction and exponent, which is not whole where it is -0 or has more than 64
+    bits."""
     is_whole = text != "-0" and len(text) <= 20 and -(2**63) <= int(text) < 2**64
     return int(text) if is_whole else _fraction(text)
 
@@ -78,7 +80,7 @@ def _plain(value, room):
             raise ValueError("an escape of a lone surrogate")
     elif isinstance(value, list):
         if room == 0:
-            raise ValueError("arrays and objects nest deeper than %d" % MOST_NESTED)
+            raise ValueError(f"arrays and objects nest deeper than {MOST_NESTED}")
         if isinstance(value, Members):
             return {_plain(key, 0): _plain(item, room - 1) for key, item in value}
         return [_plain(item, room - 1) for item in value]
@@ -88,24 +90,39 @@ def _plain(value, room):
 def json_of(data):
     """The value of JSON bytes. It raises ValueError with a reason where they have none."""
     try:
-        value = json.loads(data.decode(), parse_constant=_no_json, parse_float=_fraction, parse_int=_whole,
-                           object_pairs_hook=Members)
+        value = json.loads(
+            data.decode(),
+            parse_constant=_no_json,
+            parse_float=_fraction,
+            parse_int=_whole,
+            object_pairs_hook=Members,
+        )
         return _plain(value, MOST_NESTED)
     except UnicodeDecodeError as error:
-        raise ValueError("byte %d is not UTF-8" % error.start) from None
+        raise ValueError(f"byte {error.start} is not UTF-8") from None
     except RecursionError:
-        raise ValueError("arrays and objects nest deeper than %d" % MOST_NESTED) from None
+        raise ValueError(f"arrays and objects nest deeper than {MOST_NESTED}") from None
 
 
 def cause(value, kind):
     """What is wrong with a value that is to be of the kind; None where nothing is."""
     if kind in entries.RANGES:
         low, high = entries.RANGES[kind]
-        return "WrongKind" if type(value) is not int else None if low <= value <= high else "OutOfRange"
+        return (
+            "WrongKind"
+            if type(value) is not int
+            else None if low <= value <= high else "OutOfRange"
+        )
     if kind in ("object", "calls", "bool"):
-        return None if isinstance(value, {"object": dict, "calls": list, "bool": bool}[kind]) else "WrongKind"
+        return (
+            None
+            if isinstance(value, {"object": dict, "calls": list, "bool": bool}[kind])
+            else "WrongKind"
+        )
     if kind == "list":
-        causes = [cause(item, "fix") for item in value] if isinstance(value, list) else ["WrongKind"]
+        causes = (
+            [cause(item, "fix") for item in value] if isinstance(value, list) else ["WrongKind"]
+        )
         return next((wrong for wrong in ("WrongKind", "OutOfRange") if wrong in causes), None)
     if not isinstance(value, str):
         return "WrongKind"
@@ -127,21 +144,21 @@ def _check(ordinal, members, field, kind, *default):
     else:
         wrong = cause(members[field], kind.replace(" or null", ""))
     if wrong:
-        raise Fault("%d %s %s" % (ordinal, field, wrong))
+        raise Fault(f"{ordinal} {field} {wrong}")
 
 
 def _check_call(call):
     """Raises the first fault of one call, if it has one."""
     if not isinstance(call.value, dict):
-        raise Fault("%d call WrongKind" % call.ordinal)
+        raise Fault(f"{call.ordinal} call WrongKind")
     if not isinstance(call.op, str) or call.op not in entries.OPERATIONS:
-        raise Fault("%d op UnknownOp" % call.ordinal)
+        raise Fault(f"{call.ordinal} op UnknownOp")
     for field in entries.fields_of(call.op):
         _check(call.ordinal, call.members, *field)
     if call.op == "disconnect" and call.members.get("input") is not None:
         for field in ("to", "output"):
             if call.members.get(field) is None:
-                raise Fault("%d %s MissingField" % (call.ordinal, field))
+                raise Fault(f"{call.ordinal} {field} MissingField")
 
 
 def _check_script(value, calls):
@@ -195,4 +212,4 @@ def bytes_of(path):
             return file.read()
     except (OSError, ValueError) as error:
         reason = getattr(error, "strerror", None) or "no path of a file"
-        raise BadInput("%s can't be read: %s" % (visible(path), reason)) from None
+        raise BadInput(f"{visible(path)} can't be read: {reason}") from None

@@ -1,8 +1,8 @@
 """What names stand for while a transcript is followed, and the frames at which sources end.
 
-A transcript says that a source ended, and not when. The frame follows from the calls that were accepted,
-but for a source of a decoded file that is played to its end: the file's length stands nowhere. Then there
-is a first and a last frame between which it ended.
+A transcript says that a source ended, and not when. The frame follows from the calls that were
+accepted, but for a source of a decoded file that is played to its end: the file's length stands
+nowhere. Then there is a first and a last frame between which it ended.
 """
 
 from waplay_tools.reporting import entries
@@ -14,7 +14,8 @@ def quantum_end(frame):
 
 
 class Thing:
-    """A node or a buffer: its kind in words, its number if it is a node, and the call that made it."""
+    """A node or a buffer: its kind in words, its number if it is a node, and the call that made
+    it."""
 
     def __init__(self, kind, number, call):
         self.kind, self.number, self.call = kind, number, call
@@ -25,21 +26,23 @@ class Thing:
         self.rate = max(1, (call.field("playbackRate") or 0) // entries.ONE) if call else 1
 
     def ends(self):
-        """The first and the last frame at which a started source may end. The last is None where nothing
-        says when it ends; then the first is its start."""
+        """The first and the last frame at which a started source may end. The last is None where
+        nothing says when it ends; then the first is its start."""
         least, most = self._content() if self.kind == "buffer source" else (None, None)
         low, high = self._end(least), self._end(most)
         return self.start if low is None else low, high
 
     def _end(self, content):
-        """The frame at which it ends where it plays so many frames of its buffer, or frames without end."""
+        """The frame at which it ends where it plays so many frames of its buffer, or frames without
+        end."""
         ends = [] if content is None else [self.start + -(-content // self.rate)]
         if self.stop is not None:
             ends.append(max(self.start, self.stop))
         return min(ends, default=None)
 
     def _content(self):
-        """The least and the greatest number of frames of its buffer that it plays; None has no end."""
+        """The least and the greatest number of frames of its buffer that it plays; None has no
+        end."""
         if self.buffer is None:
             return 0, 0
         if self.is_looping:
@@ -66,7 +69,7 @@ class Book:
             return "stands for nothing"
         if it.number == 0:
             return "is the destination"
-        return "is a%s %s" % ("n" if it.kind[0] in "aeiouI" else "", it.kind)
+        return f"is a{'n' if it.kind[0] in 'aeiouI' else ''} {it.kind}"
 
     def apply(self, call, now):
         """What an accepted call changes, made at the frame `now`."""
@@ -74,7 +77,9 @@ class Book:
         if op in entries.NODES:
             it = Thing(entries.NODES[op], len(self.nodes), call)
             if op == "createBufferSource":
-                it.buffer = self.names.get(call.field("buffer"))  # before its own name, which may be the buffer's
+                it.buffer = self.names.get(
+                    call.field("buffer")
+                )  # before its own name, which may be the buffer's
             self.nodes.append(it)
             self.names[it.name] = it
         elif op in ("createBuffer", "decodeAudioData"):

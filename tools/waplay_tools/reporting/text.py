@@ -4,8 +4,8 @@ import html
 import json
 import unicodedata
 
-MANY = 12       # items of a list that are shown whole
-LONG = 200      # letters of a string that are shown whole
+MANY = 12  # items of a list that are shown whole
+LONG = 200  # letters of a string that are shown whole
 
 
 class BadInput(Exception):
@@ -20,8 +20,18 @@ class Written:
 
 
 def is_seen(letter):
-    """Whether a letter shows as itself: no control, no mark of direction, and no other invisible one."""
-    return letter == " " or unicodedata.category(letter) not in ("Cc", "Cf", "Cs", "Co", "Cn", "Zl", "Zp", "Zs")
+    """Whether a letter shows as itself: no control, no mark of direction, and no other invisible
+    one."""
+    return letter == " " or unicodedata.category(letter) not in (
+        "Cc",
+        "Cf",
+        "Cs",
+        "Co",
+        "Cn",
+        "Zl",
+        "Zp",
+        "Zs",
+    )
 
 
 def visible(text):
@@ -32,7 +42,7 @@ def visible(text):
             shown.append(letter)
         else:
             units = letter.encode("utf-16-be", "surrogatepass")
-            shown += ["\\u%02x%02x" % tuple(units[at:at + 2]) for at in range(0, len(units), 2)]
+            shown += ["\\u%02x%02x" % tuple(units[at : at + 2]) for at in range(0, len(units), 2)]
     return "".join(shown)
 
 
@@ -44,17 +54,18 @@ def quoted(text):
 
 
 def shown(value):
-    """A value of a script in one line: JSON, but for long lists, which say how much they leave out."""
+    """A value of a script in one line: JSON, but for long lists, which say how much they leave
+    out."""
     if isinstance(value, Written):
         return value.text if len(value.text) <= 40 else value.text[:40] + "\u2026"
     if isinstance(value, str):
         return quoted(value)
     if isinstance(value, list):
-        some = [shown(item) for item in (value if len(value) <= MANY else value[:MANY - 4])]
+        some = [shown(item) for item in (value if len(value) <= MANY else value[: MANY - 4])]
         more = "" if len(value) <= MANY else ", \u2026 %s more" % grouped(len(value) - (MANY - 4))
-        return "[%s%s]" % (", ".join(some), more)
+        return f"[{', '.join(some)}{more}]"
     if isinstance(value, dict):
-        return "an object of %s" % counted(len(value), "member")
+        return f"an object of {counted(len(value), 'member')}"
     return json.dumps(value)
 
 
@@ -65,7 +76,7 @@ def grouped(number):
 
 def counted(number, what, several=None):
     """So many of a thing."""
-    return "%s %s" % (grouped(number), what if number == 1 else several or what + "s")
+    return f"{grouped(number)} {what if number == 1 else several or what + 's'}"
 
 
 def seconds(frame, rate):
@@ -87,18 +98,21 @@ def escaped(text):
 
 def isolated(text):
     """Text for HTML that someone else chose: its direction does not spread."""
-    return "<bdi>%s</bdi>" % escaped(text)
+    return f"<bdi>{escaped(text)}</bdi>"
 
 
-_BACKQUOTE = "\ue000"  # what stands for a backquote that makes no code; visible text does not have it
+_BACKQUOTE = (  # what stands for a backquote that makes no code; visible text does not have it
+    "\ue000"
+)
 
 
 def as_it_is(text):
-    """Visible text that someone else chose, for a place in a sentence: its backquotes make no code."""
+    """Visible text that someone else chose, for a place in a sentence: its backquotes make no
+    code."""
     return text.replace("`", _BACKQUOTE)
 
 
 def sentence(text):
     """A plain text for HTML, whose parts between backquotes are code."""
     parts = [escaped(part.replace(_BACKQUOTE, "`")) for part in text.split("`")]
-    return "".join("<code>%s</code>" % part if at % 2 else part for at, part in enumerate(parts))
+    return "".join(f"<code>{part}</code>" if at % 2 else part for at, part in enumerate(parts))

@@ -4,27 +4,42 @@ import re
 
 from waplay_tools.reporting.text import BadInput, quoted
 
-EXCEPTIONS = ("NotSupportedError", "InvalidStateError", "InvalidAccessError", "IndexSizeError", "RangeError",
-              "TypeError", "NotFoundError", "EncodingError")
+EXCEPTIONS = (
+    "NotSupportedError",
+    "InvalidStateError",
+    "InvalidAccessError",
+    "IndexSizeError",
+    "RangeError",
+    "TypeError",
+    "NotFoundError",
+    "EncodingError",
+)
 CAUSES = ("MissingField", "WrongKind", "OutOfRange")
 
 _NUMBER = r"(?:0|[1-9]\d{0,19})"
-_EXCEPTION = r"(?P<exception>NotSupportedError(?: profile:(?P<feature>[a-z]+(?:-[a-z]+)*))?|%s)" % "|".join(EXCEPTIONS)
-_FORMS = [re.compile(form) for form in (
-    r"(?P<ordinal>%s) (?P<kind>ok|pending|resolved)" % _NUMBER,
-    r"(?P<ordinal>%s) (?P<kind>throw|rejected) %s" % (_NUMBER, _EXCEPTION),
-    r"(?P<ordinal>%s) (?P<kind>value) (?P<number>-?%s)" % (_NUMBER, _NUMBER),
-    r"(?P<ordinal>%s) (?P<kind>state) (?P<word>suspended|running|closed)" % _NUMBER,
-    r"(?P<ordinal>%s) (?P<kind>time) (?P<number>%s)" % (_NUMBER, _NUMBER),
-    r"(?P<kind>ended) (?P<number>%s) (?P<word>[A-Za-z0-9_-]{1,64})" % _NUMBER,
-    r"(?P<kind>complete) (?P<number>%s)" % _NUMBER,
-    r"(?P<kind>end) (?P<word>completed|idle)",
-    r"(?P<kind>end) (?P<word>stalled) (?P<number>%s)" % _NUMBER,
-    r"(?P<kind>end) (?P<word>refused) %s" % _EXCEPTION,
-    r"(?P<kind>script): (?P<word>BadJson)",
-    r"(?P<kind>script): (?P<ordinal>%s) (?P<field>op) (?P<word>UnknownOp)" % _NUMBER,
-    r"(?P<kind>script): (?P<ordinal>%s) (?P<field>[A-Za-z]{1,32}) (?P<word>%s)" % (_NUMBER, "|".join(CAUSES)),
-)]
+_EXCEPTION = (
+    r"(?P<exception>NotSupportedError(?: profile:(?P<feature>[a-z]+(?:-[a-z]+)*))?|%s)"
+    % "|".join(EXCEPTIONS)
+)
+_FORMS = [
+    re.compile(form)
+    for form in (
+        f"(?P<ordinal>{_NUMBER}) (?P<kind>ok|pending|resolved)",
+        f"(?P<ordinal>{_NUMBER}) (?P<kind>throw|rejected) {_EXCEPTION}",
+        f"(?P<ordinal>{_NUMBER}) (?P<kind>value) (?P<number>-?{_NUMBER})",
+        f"(?P<ordinal>{_NUMBER}) (?P<kind>state) (?P<word>suspended|running|closed)",
+        f"(?P<ordinal>{_NUMBER}) (?P<kind>time) (?P<number>{_NUMBER})",
+        f"(?P<kind>ended) (?P<number>{_NUMBER}) (?P<word>[A-Za-z0-9_-]{{1,64}})",
+        f"(?P<kind>complete) (?P<number>{_NUMBER})",
+        r"(?P<kind>end) (?P<word>completed|idle)",
+        f"(?P<kind>end) (?P<word>stalled) (?P<number>{_NUMBER})",
+        f"(?P<kind>end) (?P<word>refused) {_EXCEPTION}",
+        r"(?P<kind>script): (?P<word>BadJson)",
+        f"(?P<kind>script): (?P<ordinal>{_NUMBER}) (?P<field>op) (?P<word>UnknownOp)",
+        r"(?P<kind>script): (?P<ordinal>%s) (?P<field>[A-Za-z]{1,32}) (?P<word>%s)"
+        % (_NUMBER, "|".join(CAUSES)),
+    )
+]
 
 
 class Line:
@@ -42,33 +57,44 @@ class Line:
 
     def is_refusal(self):
         """Whether the line refuses a call, the context or the script."""
-        return self.kind in ("throw", "rejected", "script") or self.kind == "end" and self.word == "refused"
+        return (
+            self.kind in ("throw", "rejected", "script")
+            or self.kind == "end"
+            and self.word == "refused"
+        )
 
     def answer(self):
         """The line without the ordinal that it begins with."""
-        return self.text if self.ordinal is None or self.kind == "script" else self.text.split(" ", 1)[1]
+        return (
+            self.text
+            if self.ordinal is None or self.kind == "script"
+            else self.text.split(" ", 1)[1]
+        )
 
 
 def lines_of(data, name):
-    """The lines of a transcript's bytes. The name is that of its file, for a sentence on what is wrong."""
+    """The lines of a transcript's bytes. The name is that of its file, for a sentence on what is
+    wrong."""
     try:
         text = data.decode("ascii")
     except UnicodeDecodeError as error:
-        raise BadInput("%s is no transcript: byte %d is not ASCII" % (name, error.start)) from None
+        raise BadInput(f"{name} is no transcript: byte {error.start} is not ASCII") from None
     if not text.endswith("\n"):
-        raise BadInput("%s is no whole transcript: its last line does not end" % name)
+        raise BadInput(f"{name} is no whole transcript: its last line does not end")
     lines = []
     for place, line in enumerate(text[:-1].split("\n"), 1):
         found = next(filter(None, (form.fullmatch(line) for form in _FORMS)), None)
         if not found:
-            raise BadInput("%s is no transcript: line %d is %s" % (name, place, quoted(line)))
+            raise BadInput(f"{name} is no transcript: line {place} is {quoted(line)}")
         lines.append(Line(place, line, found.groupdict()))
     last = lines[-1]
     if last.kind not in ("end", "script"):
-        raise BadInput("%s is no whole transcript: the line `end` is missing" % name)
+        raise BadInput(f"{name} is no whole transcript: the line `end` is missing")
     for line in lines[:-1]:
         if line.kind in ("end", "script"):
-            raise BadInput("%s is no transcript: line %d, %s, is not the last" % (name, line.place, quoted(line.text)))
+            raise BadInput(
+                f"{name} is no transcript: line {line.place}, {quoted(line.text)}, is not the last"
+            )
     if last.kind == "script" and len(lines) > 1:
-        raise BadInput("%s is no transcript: a fault of the script is its only line" % name)
+        raise BadInput(f"{name} is no transcript: a fault of the script is its only line")
     return lines

@@ -1,4 +1,5 @@
-"""The samples of WAV files as rows of whole numbers, their peaks and sums, and how two files differ."""
+"""The samples of WAV files as rows of whole numbers, their peaks and sums, and how two files
+differ."""
 
 import array
 import struct
@@ -20,18 +21,18 @@ FAULTS = {
 
 
 class Sound:
-    """The samples of a file, channel by channel, as the file has them. A sample s of w bits stands for
-    s / 2^(w - 1)."""
+    """The samples of a file, channel by channel, as the file has them. A sample s of w bits stands
+    for s / 2^(w - 1)."""
 
     def __init__(self, recording):
         self.rate, self.bits, self.frames = recording.rate, recording.bits, recording.frames
         self.full = 2 ** (self.bits - 1)  # what stands for 1.0
         samples = _numbers(recording.data, self.bits)
-        self.channels = [samples[at::recording.channels] for at in range(recording.channels)]
+        self.channels = [samples[at :: recording.channels] for at in range(recording.channels)]
 
 
-_SIGNS = bytes(255 if byte >= 128 else 0 for byte in range(256))   # the byte above the uppermost one
-_SHIFTED = bytes(byte ^ 128 for byte in range(256))                 # samples of 8 bits have an offset
+_SIGNS = bytes(255 if byte >= 128 else 0 for byte in range(256))  # the byte above the uppermost one
+_SHIFTED = bytes(byte ^ 128 for byte in range(256))  # samples of 8 bits have an offset
 _TYPES = {8: "b", 16: "h", 24: "i", 32: "i"}
 
 
@@ -52,11 +53,14 @@ def _numbers(data, bits):
 
 
 def sound_of(data, name):
-    """The samples of a WAV file's bytes. The name is that of the file, for a sentence on what is wrong."""
+    """The samples of a WAV file's bytes. The name is that of the file, for a sentence on what is
+    wrong."""
     try:
         return Sound(recording_of(data))
     except WavFault as fault:
-        raise BadInput("%s is no WAV file that can be read: %s" % (name, FAULTS[fault.args[0]].replace("`", ""))) from None
+        raise BadInput(
+            f"{name} is no WAV file that can be read: {FAULTS[fault.args[0]].replace('`', '')}"
+        ) from None
 
 
 def front_of(data):
@@ -66,9 +70,16 @@ def front_of(data):
     block, size = it.channels * width, it.frames * 2 * width
     samples = bytearray(size)
     for at in range(2 * width):
-        samples[at::2 * width] = it.data[at::block]
+        samples[at :: 2 * width] = it.data[at::block]
     head = struct.pack("<HHIIHH", 1, 2, it.rate, it.rate * 2 * width, 2 * width, it.bits)
-    body = b"WAVEfmt " + struct.pack("<I", len(head)) + head + b"data" + struct.pack("<I", size) + samples
+    body = (
+        b"WAVEfmt "
+        + struct.pack("<I", len(head))
+        + head
+        + b"data"
+        + struct.pack("<I", size)
+        + samples
+    )
     return b"RIFF" + struct.pack("<I", len(body)) + body
 
 
@@ -81,8 +92,8 @@ def peak(samples):
 
 
 def spans(samples, columns):
-    """The lowest and the highest sample of each of so many columns, or of each frame where there are
-    fewer frames than columns."""
+    """The lowest and the highest sample of each of so many columns, or of each frame where there
+    are fewer frames than columns."""
     count = min(columns, len(samples))
     edges = [at * len(samples) // count for at in range(count + 1)]
     parts = (samples[first:last] for first, last in zip(edges, edges[1:]))
@@ -90,8 +101,9 @@ def spans(samples, columns):
 
 
 class Differences:
-    """How the second file's samples differ from the first's, in the channels and frames that both have.
-    A difference is the second sample less the first, in units of the finer of the two files."""
+    """How the second file's samples differ from the first's, in the channels and frames that both
+    have. A difference is the second sample less the first, in units of the finer of the two
+    files."""
 
     def __init__(self, first, second):
         self.full = max(first.full, second.full)
@@ -106,7 +118,8 @@ class Differences:
             self._find(first, second)
 
     def _find(self, first, second):
-        """The first and the greatest difference as (frame, channel, sample, other sample, difference)."""
+        """The first and the greatest difference as (frame, channel, sample, other sample,
+        difference)."""
         places, peaks = [], []
         for number, channel in enumerate(self.channels):
             frame = next((at for at, it in enumerate(channel) if it), None)
@@ -117,14 +130,24 @@ class Differences:
 
         def told(frame, number):
             """The difference of a channel at a frame, with both samples."""
-            return (frame, number, first.channels[number][frame], second.channels[number][frame],
-                    self.channels[number][frame])
+            return (
+                frame,
+                number,
+                first.channels[number][frame],
+                second.channels[number][frame],
+                self.channels[number][frame],
+            )
+
         self.first = told(*min(places))
         self.greatest = told(*min(peaks)[1:])
 
 
 def _shapes(first, second):
     """What else differs, in words: pairs of what the first and the second file have."""
-    pairs = [("channels", len(first.channels), len(second.channels)), ("frames", first.frames, second.frames),
-             ("frames a second", first.rate, second.rate), ("bits a sample", first.bits, second.bits)]
+    pairs = [
+        ("channels", len(first.channels), len(second.channels)),
+        ("frames", first.frames, second.frames),
+        ("frames a second", first.rate, second.rate),
+        ("bits a sample", first.bits, second.bits),
+    ]
     return [pair for pair in pairs if pair[1] != pair[2]]

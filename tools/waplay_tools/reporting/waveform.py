@@ -5,7 +5,7 @@ from waplay_tools.reporting.wav_samples import spans
 
 COLUMNS = 800
 HEIGHT = 200  # of the drawing's own units
-REACH = 96    # how far the drawing goes up and down from its middle
+REACH = 96  # how far the drawing goes up and down from its middle
 
 # Of each kind of mark its row on the time line, the drawing of its sign, and its word.
 MARKS = {
@@ -17,15 +17,23 @@ MARKS = {
 }
 
 
-BAND = ('<svg class="lone-sign" width="22" height="14" viewBox="0 -7 22 14" aria-hidden="true">'
-        '<rect class="band ended" x="1" y="-3" width="20" height="6"/></svg>')
+BAND = (
+    '<svg class="lone-sign" width="22" height="14" viewBox="0 -7 22 14" aria-hidden="true">'
+    '<rect class="band ended" x="1" y="-3" width="20" height="6"/></svg>'
+)
 
 
 def scale_of(sounds):
-    """The power of two that the drawing goes up and down to: the least that holds all samples, and 1 of
-    silence."""
-    greatest = max((max(abs(min(channel)), abs(max(channel))) / sound.full
-                    for sound in sounds for channel in sound.channels), default=0)
+    """The power of two that the drawing goes up and down to: the least that holds all samples, and
+    1 of silence."""
+    greatest = max(
+        (
+            max(abs(min(channel)), abs(max(channel))) / sound.full
+            for sound in sounds
+            for channel in sound.channels
+        ),
+        default=0,
+    )
     scale = 1.0
     while scale / 2 >= greatest > 0:
         scale /= 2
@@ -34,36 +42,52 @@ def scale_of(sounds):
 
 def path_of(columns, full):
     """The outline of columns, each of which holds from its lowest to its highest sample."""
+
     def height(value):
         """How far below the upper edge a value stands."""
-        return ("%.1f" % (HEIGHT / 2 - value * REACH / full)).replace(".0", "")
+        return (f"{HEIGHT / 2 - value * REACH / full:.1f}").replace(".0", "")
 
     upper, lower = [height(high) for _, high in columns], [height(low) for low, _ in columns]
-    there = "V".join("%sH%d" % (place, at) for at, place in enumerate(upper, 1))
-    back = "".join("V%sH%d" % (place, len(lower) - at) for at, place in enumerate(reversed(lower), 1))
-    return "M0,%s%sZ" % (there, back)
+    there = "V".join(f"{place}H{at}" for at, place in enumerate(upper, 1))
+    back = "".join(f"V{place}H{len(lower) - at}" for at, place in enumerate(reversed(lower), 1))
+    return f"M0,{there}{back}Z"
 
 
 def lane(samples, full, label, marks, attributes, frames):
-    """The drawing of one channel, whose samples may be fewer than the frames that the width stands for. The label
-    says in words what it shows."""
+    """The drawing of one channel, whose samples may be fewer than the frames that the width stands
+    for. The label says in words what it shows."""
     columns = spans(samples, COLUMNS)
     width = "%.6g" % (len(columns) * frames / len(samples))
-    lines = "".join('<line class="placed %s" data-low="%d" x1="%s" x2="%s" y1="0" y2="100%%"/>'
-                    % (mark.kind, mark.low, place, place) for mark, place in marks)
-    return ('<svg class="lane" role="img" aria-label="%s" width="100%%" height="88">'
-            '<svg class="drawing" %s viewBox="0 0 %s %d" preserveAspectRatio="none" width="100%%" height="100%%">'
-            '<path class="envelope" d="%s"/><path class="zero" d="M0,%dH%s"/></svg>%s</svg>'
-            % (escaped(label), attributes, width, HEIGHT, path_of(columns, full), HEIGHT // 2, width, lines))
+    lines = "".join(
+        '<line class="placed %s" data-low="%d" x1="%s" x2="%s" y1="0" y2="100%%"/>'
+        % (mark.kind, mark.low, place, place)
+        for mark, place in marks
+    )
+    return (
+        '<svg class="lane" role="img" aria-label="%s" width="100%%" height="88"><svg'
+        ' class="drawing" %s viewBox="0 0 %s %d" preserveAspectRatio="none" width="100%%"'
+        ' height="100%%"><path class="envelope" d="%s"/><path class="zero"'
+        ' d="M0,%dH%s"/></svg>%s</svg>'
+        % (
+            escaped(label),
+            attributes,
+            width,
+            HEIGHT,
+            path_of(columns, full),
+            HEIGHT // 2,
+            width,
+            lines,
+        )
+    )
 
 
 def placed(marks, frames):
-    """Marks with where they stand, in percent of the width; of those of a kind and a place the first. A
-    mark past the length stands at the end."""
+    """Marks with where they stand, in percent of the width; of those of a kind and a place the
+    first. A mark past the length stands at the end."""
     found = {}
     for mark in marks:
         if mark.low == mark.high:
-            place = "%.3f%%" % (min(100, 100 * mark.low / frames))
+            place = f"{min(100, 100 * mark.low / frames):.3f}%"
             found.setdefault((mark.kind, place), (mark, place))
     return list(found.values())
 
@@ -78,31 +102,57 @@ def time_line(marks, frames, rate):
         y = 12 + 18 * rows.index(MARKS[mark.kind][0])
         if mark.low != mark.high:
             low, high = (100 * min(frame, frames) / frames for frame in (mark.low, mark.high))
-            drawn.append('<rect class="placed band %s" data-low="%d" data-high="%d" x="%.3f%%" width="%.3f%%" y="%d" '
-                         'height="6"/>' % (mark.kind, mark.low, mark.high, low, high - low, y - 3))
+            drawn.append(
+                '<rect class="placed band %s" data-low="%d" data-high="%d" x="%.3f%%"'
+                ' width="%.3f%%" y="%d" height="6"/>'
+                % (mark.kind, mark.low, mark.high, low, high - low, y - 3)
+            )
     for mark, place in placed(marks, frames):
         y = 12 + 18 * rows.index(MARKS[mark.kind][0])
-        drawn.append('<use class="placed %s" data-low="%d" href="#sign-%s" x="%s" y="%d"/>'
-                     % (mark.kind, mark.low, mark.kind, place, y))
+        drawn.append(
+            '<use class="placed %s" data-low="%d" href="#sign-%s" x="%s" y="%d"/>'
+            % (mark.kind, mark.low, mark.kind, place, y)
+        )
     top = 6 + 18 * len(rows)
-    ticks = "".join('<line class="tick" x1="%d%%" x2="%d%%" y1="%d" y2="%d"/>'
-                    % (at, at, top, top + (8 if at % 50 == 0 else 5)) for at in range(0, 101, 10))
-    texts = "".join('<text class="at-%d" x="%d%%" y="%d">%s</text><text class="at-%d aside" x="%d%%" y="%d">%s</text>'
-                    % (at, at, top + 24, grouped(frames * at // 100), at, at, top + 40, seconds(frames * at // 100, rate))
-                    for at in (0, 50, 100))
-    label = "Time line from frame 0 to %s. The table of events has its marks." % grouped(frames)
-    return ('<svg class="time" role="img" aria-label="%s" width="100%%" height="%d">'
-            '<line class="axis" x1="0" x2="100%%" y1="%d" y2="%d"/>%s%s%s</svg>'
-            % (label, top + 46, top, top, ticks, texts, "".join(drawn)))
+    ticks = "".join(
+        '<line class="tick" x1="%d%%" x2="%d%%" y1="%d" y2="%d"/>'
+        % (at, at, top, top + (8 if at % 50 == 0 else 5))
+        for at in range(0, 101, 10)
+    )
+    texts = "".join(
+        '<text class="at-%d" x="%d%%" y="%d">%s</text><text class="at-%d aside" x="%d%%"'
+        ' y="%d">%s</text>'
+        % (
+            at,
+            at,
+            top + 24,
+            grouped(frames * at // 100),
+            at,
+            at,
+            top + 40,
+            seconds(frames * at // 100, rate),
+        )
+        for at in (0, 50, 100)
+    )
+    label = f"Time line from frame 0 to {grouped(frames)}. The table of events has its marks."
+    return (
+        '<svg class="time" role="img" aria-label="%s" width="100%%" height="%d">'
+        '<line class="axis" x1="0" x2="100%%" y1="%d" y2="%d"/>%s%s%s</svg>'
+        % (label, top + 46, top, top, ticks, texts, "".join(drawn))
+    )
 
 
 def signs():
     """The definitions of the marks' signs, once in a page."""
-    paths = "".join('<path id="sign-%s" d="%s"/>' % (kind, path) for kind, (_, path, _) in MARKS.items())
-    return '<svg class="unseen" width="0" height="0" aria-hidden="true"><defs>%s</defs></svg>' % paths
+    paths = "".join(f'<path id="sign-{kind}" d="{path}"/>' for kind, (_, path, _) in MARKS.items())
+    return (
+        '<svg class="unseen" width="0" height="0" aria-hidden="true"><defs>%s</defs></svg>' % paths
+    )
 
 
 def sign(kind):
     """A mark's sign by itself."""
-    return ('<svg class="lone-sign %s" width="14" height="14" viewBox="-7 -7 14 14" aria-hidden="true">'
-            '<use href="#sign-%s"/></svg>' % (kind, kind))
+    return (
+        '<svg class="lone-sign %s" width="14" height="14" viewBox="-7 -7 14 14" aria-hidden="true">'
+        '<use href="#sign-%s"/></svg>' % (kind, kind)
+    )
