@@ -1,4 +1,4 @@
-"""Compares what wav_io::decode gives for WAV files with a second calculation,
+"""Compares what wav_io::decode gives for WAV files with a second calculation.
 
 The files are made by Python's module wave and, where it is found, by sox: 8, 16, 24 and 32 bits, 1
 to 8 channels, odd sizes, LIST and fact chunks, WAVE_FORMAT_EXTENSIBLE. Others are those with bytes
