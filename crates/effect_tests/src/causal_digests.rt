@@ -96,7 +96,7 @@ fn digest(alloc: Global) -> Result<u64, NoMemory> {
     Ok(digest)
 }
 
-// The number is what tools/filters.py works out by itself.
+// The number is what tools/filters works out by itself.
 #[test]
 fn filters_and_shapers_are_as_a_second_calculation_has_them(rt: HostRuntime) -> Result<(), Fail> {
     assert!(rt; digest(rt.alloc())? == 10_631_824_897_952_427_165);

@@ -92,7 +92,7 @@ fn digest(alloc: Global) -> Result<u64, NoMemory> {
     Ok(digest)
 }
 
-// The number is what tools/delays.py works out by itself.
+// The number is what tools/delays works out by itself.
 #[test]
 fn lines_are_as_a_second_calculation_has_them(rt: HostRuntime) -> Result<(), Fail> {
     assert!(rt; digest(rt.alloc())? == 621_701_345_450_219_990);

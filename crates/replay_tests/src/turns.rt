@@ -1,3 +1,5 @@
+ghost use Rattle.script_ast.specs.Ranges.{IsInRange};
+
 use io_edge::MemFiles;
 use script_ast::{Call, Op};
 use session::{Options, Session, Stop, Turn};
@@ -25,7 +27,9 @@ pub(crate) fn begin(alloc: Global, channels: u32, length: u64) -> Result<Session
 }
 
 // A call of the main list.
-fn call(alloc: Global, session: &mut Session, ordinal: u32, op: Op) -> Result<(), Stop> {
+fn call(alloc: Global, session: &mut Session, ordinal: u32, op: Op) -> Result<(), Stop>
+    requires { IsInRange op }
+{
     let call = Call {
         ordinal,
         holder: 0,

@@ -77,7 +77,7 @@ fn digest(alloc: Global) -> u64 {
     counted_digest::<Brand>(alloc, Blank::new(1))
 }
 
-// The number is what tools/timelines.py works out by itself.
+// The number is what tools/timelines works out by itself.
 #[test]
 fn edits_and_values_are_as_a_second_calculation_has_them(rt: HostRuntime) -> Result<(), Fail> {
     assert!(rt; digest(rt.alloc()) == 12_963_076_549_504_445_183);
