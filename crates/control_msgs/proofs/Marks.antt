@@ -1,5 +1,5 @@
 -- Sources that are marked one after another.
-use Rattle.std.proofs.Common.{◌≡◌, ◌<◌, ◌+◌, ◌++◌, ◌∷◌, [], ℕ, List, length, map, take, drop, Bool, true, false, Some, inl, inr, refl, sym, ◌∙◌, ap, subst, arith}
+use Rattle.std.proofs.Common.{◌≡◌, ◌<◌, ◌+◌, ◌++◌, ◌∷◌, [], ℕ, List, length, map, take, drop, Bool, true, false, Option, None, Some, inl, inr, refl, sym, ◌∙◌, ap, subst, arith}
 use Rattle.std.specs.Prelude.{slice_get, slice_set, slice_index_or, if◌then◌else◌}
 use Rattle.std.proofs.lemmas.List.{get_or_default, set-get_or}
 use Rattle.std.proofs.lemmas.List.Edits.{map_over_more}
@@ -7,13 +7,13 @@ use Rattle.std.proofs.lemmas.Option.{get_or_from_slice_get}
 use Rattle.law_base.specs.Members.{IsIn}
 use Rattle.wa_base.specs.declared.graph_names.NodeId.{NodeId}
 use Rattle.buffer_store.specs.declared.buffers.Buffer.{Buffer}
-use Rattle.node_table.specs.declared.kinds.Kind.{Kind}
-use Rattle.node_table.specs.declared.kinds.Kind.TheVariants as kinds
-use Rattle.node_table.specs.declared.kinds.Kind.TheVariants.{Destination, Constant, Gain, Delay, Splitter, Merger, Shaper, Iir}
+use Rattle.node_table.specs.declared.rows.Plays.{Plays}
+use Rattle.node_table.specs.declared.rows.Plays.TheVariants as played
+use Rattle.node_table.specs.Kinds.{row}
 use Rattle.meaning.specs.declared.world.World.{World}
 use Rattle.meaning.specs.Lists.{Listed}
 use Rattle.meaning.specs.World.{kind_of, plain}
-use Rattle.meaning.specs.Validity.{IsPlayOf, IsValid, play_nodes}
+use Rattle.meaning.specs.Validity.{IsPlay, IsPlayOf, IsValid, play_nodes}
 use Rattle.meaning.proofs.Valid.{valid_of, valid_plain, plain_valid}
 use Rattle.meaning.specs.declared.scheds.Play.{Play}
 use Rattle.control_msgs.specs.Messages.{ends_by, marked}
@@ -56,17 +56,11 @@ marked_nodes now (p ∷ ps) = let here = same_node now p (ends_by now p.sched) r
         by_mark false = refl
 
 -- and what they play
-mark_plays : (store : List Buffer) (kind : Kind) (p : Play) (b : Bool) → IsPlayOf store kind p → IsPlayOf store kind (if b then record p { sched = record p.sched { ended = true } } else p)
-mark_plays store kind p false is = is
-mark_plays store Destination p true is = is
-mark_plays store (Constant offset) p true is = record { content = is.content; buffer = is.buffer }
-mark_plays store (kinds.Buffer rate) p true is = record { content = is.content; plays = is.plays; rate_of = is.rate_of; there = is.there; length_of = is.length_of }
-mark_plays store (Gain gain) p true is = is
-mark_plays store (Delay longest time capacity) p true is = is
-mark_plays store (Splitter ports) p true is = is
-mark_plays store (Merger ports) p true is = is
-mark_plays store (Shaper curve was_set) p true is = is
-mark_plays store (Iir forward back) p true is = is
+mark_plays : (store : List Buffer) (plays : Option Plays) (p : Play) (b : Bool) → IsPlay store plays p → IsPlay store plays (if b then record p { sched = record p.sched { ended = true } } else p)
+mark_plays store plays p false is = is
+mark_plays store None p true is = is
+mark_plays store (Some played.Value) p true is = record { content = is.content; buffer = is.buffer }
+mark_plays store (Some (played.Content rate)) p true is = record { content = is.content; plays = is.plays; rate_of = is.rate_of; there = is.there; length_of = is.length_of }
 
 mark_id : (p : Play) (b : Bool) → (if b then record p { sched = record p.sched { ended = true } } else p).id ≡ p.id
 mark_id p true = refl
@@ -78,7 +72,7 @@ marked_kinds w now [] each p is = absurd is
 marked_kinds w now (q ∷ qs) each p (inl same) =
     let b : Bool = ends_by now q.sched in
     subst (λ (x : Play). IsPlayOf w.store (kind_of w x.id.0) x) (sym same)
-    (subst (λ (id : NodeId). IsPlayOf w.store (kind_of w id.0) (if b then record q { sched = record q.sched { ended = true } } else q)) (sym (mark_id q b)) (mark_plays w.store (kind_of w q.id.0) q b (each q (inl refl))))
+    (subst (λ (id : NodeId). IsPlayOf w.store (kind_of w id.0) (if b then record q { sched = record q.sched { ended = true } } else q)) (sym (mark_id q b)) (mark_plays w.store (row (kind_of w q.id.0)).plays q b (each q (inl refl))))
 marked_kinds w now (q ∷ qs) each p (inr is) = marked_kinds w now qs (λ x h. each x (inr h)) p is
 
 -- a world in which sources are marked is valid

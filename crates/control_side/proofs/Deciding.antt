@@ -180,11 +180,11 @@ unfolding decided_on_shaper
 creates_shaper_for m steady name curve oversample =
     let o : Op = op.CreateWaveShaper name curve oversample in
     let e : Edit = edit.Create (Shaper curve (is_some curve)) in
-    unless_for m steady o (oversample_refusal oversample) (edits m e) (λ fine. edits_for m steady o e (refl, tt, tt) refl)
+    unless_for m steady o (oversample_refusal oversample) (edits m e) (λ fine. edits_for m steady o e (refl, tt) refl)
 
 creates_filter_for : (m : Machine) → IsSteady m → (name : List ℕ) (feedforward feedback : List ℤ) → IsFor m (op.CreateIIRFilter name feedforward feedback) (decided_on_shaper m (op.CreateIIRFilter name feedforward feedback))
 unfolding decided_on_shaper
-creates_filter_for m steady name feedforward feedback = edits_for m steady (op.CreateIIRFilter name feedforward feedback) (edit.Create (Iir feedforward feedback)) (refl, tt, tt) refl
+creates_filter_for m steady name feedforward feedback = edits_for m steady (op.CreateIIRFilter name feedforward feedback) (edit.Create (Iir feedforward feedback)) (refl, tt) refl
 
 sets_oversample_for : (m : Machine) → IsSteady m → (o : Op) (node : Option NodeId) (value : Oversample) → IsFor m o (sets_oversample m node value)
 sets_oversample_for m steady o None value = tt
@@ -209,11 +209,11 @@ decoding_for m name path = tt
 
 pub decided_for : (m : Machine) → IsSteady m → (o : Op) → IsInRange o → IsFor m o (decided m o)
 unfolding decided
-decided_for m steady (op.CreateConstantSource name offset) in_range = edits_for m steady (op.CreateConstantSource name offset) (edit.Create (Constant offset)) (refl, in_range.1, tt) refl
-decided_for m steady (op.CreateGain name gain) in_range = edits_for m steady (op.CreateGain name gain) (edit.Create (Gain gain)) (refl, in_range.1, tt) refl
-decided_for m steady (op.CreateDelay name longest time) in_range = edits_for m steady (op.CreateDelay name longest time) (edit.Create (delay_of m.world.spec longest time)) (refl, (in_range.1, in_range.2), refl) refl
-decided_for m steady (op.CreateChannelSplitter name outputs) in_range = edits_for m steady (op.CreateChannelSplitter name outputs) (edit.Create (Splitter outputs)) (refl, tt, tt) refl
-decided_for m steady (op.CreateChannelMerger name inputs) in_range = edits_for m steady (op.CreateChannelMerger name inputs) (edit.Create (Merger inputs)) (refl, tt, tt) refl
+decided_for m steady (op.CreateConstantSource name offset) in_range = edits_for m steady (op.CreateConstantSource name offset) (edit.Create (Constant offset)) (refl, tt) refl
+decided_for m steady (op.CreateGain name gain) in_range = edits_for m steady (op.CreateGain name gain) (edit.Create (Gain gain)) (refl, tt) refl
+decided_for m steady (op.CreateDelay name longest time) in_range = edits_for m steady (op.CreateDelay name longest time) (edit.Create (delay_of m.world.spec longest time)) (refl, refl) refl
+decided_for m steady (op.CreateChannelSplitter name outputs) in_range = edits_for m steady (op.CreateChannelSplitter name outputs) (edit.Create (Splitter outputs)) (refl, tt) refl
+decided_for m steady (op.CreateChannelMerger name inputs) in_range = edits_for m steady (op.CreateChannelMerger name inputs) (edit.Create (Merger inputs)) (refl, tt) refl
 decided_for m steady (op.CreateBufferSource name buffer looping loop_start loop_end rate) in_range =
     with_buffer_for m steady (op.CreateBufferSource name buffer looping loop_start loop_end rate) buffer (λ b. edit.CreateBufferSource (rate_of rate) b (record { on = looping; first = loop_start; end = loop_end }))
     (λ b there. (there, refl))

@@ -1,6 +1,7 @@
 -- The parameters that names stand for are there.
 use Rattle.std.proofs.Common.{ℕ, List, ◌≡◌, ◌<◌, length, Bool, true, false, None, Some, refl, sym, ◌∙◌, ap, subst}
-use Rattle.std.specs.Prelude.{Option, option_map, is_some, unwrap_or, if◌then◌else◌, ◌==◌}
+use Rattle.std.specs.Option.{option_map_or}
+use Rattle.std.specs.Prelude.{Option, option_map, is_some, unwrap_or, if◌then◌else◌, ◌==◌, ◌&&◌}
 use Rattle.wa_base.specs.declared.exceptions.Exc.TheVariants.{NotSupported}
 use Rattle.wa_base.specs.declared.features.Feature.{Feature}
 use Rattle.wa_base.specs.declared.features.Feature.TheVariants.{DestinationOutput}
@@ -8,30 +9,27 @@ use Rattle.wa_base.specs.declared.graph_names.NodeId.{NodeId}
 use Rattle.wa_base.specs.declared.graph_names.ParamId.{ParamId}
 use Rattle.wa_base.specs.declared.graph_names.ParamName.{ParamName}
 use Rattle.law_base.specs.Members.{IsIn}
-use Rattle.node_table.specs.Kinds.{param_base}
+use Rattle.node_table.specs.declared.rows.ParamRow.{ParamRow}
+use Rattle.node_table.specs.Kinds.{row, param_name}
+use Rattle.conn_graph.specs.Edges.{same_name}
+use Rattle.meaning.proofs.FirstItems.{same_name_is}
 use Rattle.node_table.specs.declared.kinds.Kind.{Kind}
-use Rattle.node_table.specs.declared.kinds.Kind.TheVariants as kind
 use Rattle.meaning.specs.World.{kind_of, param_id}
 use Rattle.meaning.specs.Validity.{param_ids}
 use Rattle.control_side.specs.Machine.{Machine}
-use Rattle.control_side.specs.Params.{left_out, has_param, param_named, param_of_kind, param_at, name_refusal, lead_refusal}
+use Rattle.control_side.specs.Params.{left_out, plays_buffer, has_param, param_named, param_of_kind, param_at, name_refusal, lead_refusal}
 use Rattle.control_side.specs.Steady.{IsSteady}
 
--- what is not left out is a parameter with a value
-pub kept_base : (k : Kind) (name : ParamName) → has_param k name ≡ true → name_refusal name ≡ None → is_some (param_base k name) ≡ true
-kept_base kind.Destination name has kept = has
-kept_base (kind.Constant offset) name has kept = has
-kept_base (kind.Buffer rate) name has kept = by_feature (left_out name) has kept
+-- what is not left out is the parameter that can be automated
+pub kept_name : (k : Kind) (name : ParamName) → has_param k name ≡ true → name_refusal name ≡ None → param_name k ≡ Some name
+kept_name k name has kept = by_param (row k).param (plays_buffer (row k).plays) (left_out name) has kept
   where
-    by_feature : (f : Option Feature) → is_some f ≡ true → option_map (λ x. NotSupported (Some x)) f ≡ None → is_some (param_base (kind.Buffer rate) name) ≡ true
-    by_feature None some kept = absurd cc
-    by_feature (Some feature) some kept = absurd cc
-kept_base (kind.Gain gain) name has kept = has
-kept_base (kind.Delay longest time capacity) name has kept = has
-kept_base (kind.Splitter ports) name has kept = has
-kept_base (kind.Merger ports) name has kept = has
-kept_base (kind.Shaper curve was_set) name has kept = has
-kept_base (kind.Iir forward back) name has kept = has
+    by_param : (p : Option ParamRow) (buffer : Bool) (f : Option Feature) → option_map_or (λ (x : ParamRow). same_name x.name name) p (buffer && is_some f) ≡ true → option_map (λ x. NotSupported (Some x)) f ≡ None
+        → option_map (λ (x : ParamRow). x.name) p ≡ Some name
+    by_param (Some p) buffer f has kept = ap Some (same_name_is p.name name has)
+    by_param None false f has kept = absurd cc
+    by_param None true None has kept = absurd cc
+    by_param None true (Some feature) has kept = absurd cc
 
 -- a parameter that is found is one that the kind has
 record Found (k : Kind) (node : ℕ) (id : ParamId) : Type 0 where
@@ -56,7 +54,7 @@ pub param_there : (m : Machine) → IsSteady m → (node : Option NodeId) (word 
 param_there m steady None word low id is kept = absurd cc
 param_there m steady (Some n) word low id is kept =
     let found = found_of (kind_of m.world n.0) n.0 (param_named word) id is in
-    subst (λ (i : ParamId). IsIn i (param_ids m.world)) (sym found.is) ((steady.valid.params.each n.0 id.name (low n refl)).1 (kept_base (kind_of m.world n.0) id.name found.has kept))
+    subst (λ (i : ParamId). IsIn i (param_ids m.world)) (sym found.is) ((steady.valid.params.each n.0 id.name (low n refl)).1 (kept_name (kind_of m.world n.0) id.name found.has kept))
 
 pub param_low : (m : Machine) (node : Option NodeId) (word : List ℕ) → ((n : NodeId) → node ≡ Some n → n.0 < length m.world.nodes) → (id : ParamId)
     → param_at m node word ≡ Some id → id.node.0 < length m.world.nodes

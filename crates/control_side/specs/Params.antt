@@ -1,5 +1,6 @@
 -- The parameters that names stand for, and what the operations on them come to.
-use Rattle.std.specs.Prelude.{ℕ, List, [], ◌∷◌, ◌==◌, Bool, if◌then◌else◌, bytes_eq, find, is_some, Option, Some, None, option_map}
+use Rattle.std.specs.Option.{option_map_or}
+use Rattle.std.specs.Prelude.{ℕ, List, [], ◌∷◌, ◌==◌, ◌&&◌, Bool, true, false, if◌then◌else◌, bytes_eq, find, is_some, Option, Some, None, option_map}
 use Rattle.wa_base.specs.GraphNames.{param_word}
 use Rattle.wa_base.specs.declared.exceptions.Exc.{Exc}
 use Rattle.wa_base.specs.declared.exceptions.Exc.TheVariants.{NotSupported, WrongType}
@@ -9,9 +10,11 @@ use Rattle.wa_base.specs.declared.graph_names.NodeId.{NodeId}
 use Rattle.wa_base.specs.declared.graph_names.ParamId.{ParamId}
 use Rattle.wa_base.specs.declared.graph_names.ParamName.{ParamName}
 use Rattle.wa_base.specs.declared.graph_names.ParamName.TheVariants.{Offset, Gain, DelayTime, PlaybackRate, Detune}
-use Rattle.node_table.specs.Kinds.{param_base}
+use Rattle.node_table.specs.Kinds.{row}
 use Rattle.node_table.specs.declared.kinds.Kind.{Kind}
-use Rattle.node_table.specs.declared.kinds.Kind.TheVariants as kind
+use Rattle.node_table.specs.declared.rows.Plays.{Plays}
+use Rattle.node_table.specs.declared.rows.Plays.TheVariants as plays
+use Rattle.conn_graph.specs.Edges.{same_name}
 use Rattle.conn_graph.specs.declared.edges.Edge.{Edge}
 use Rattle.conn_graph.specs.declared.edges.Form.{Form}
 use Rattle.conn_graph.specs.declared.edges.Form.TheVariants as form
@@ -36,10 +39,14 @@ left_out PlaybackRate = Some feature.PlaybackRateAutomation
 left_out Detune = Some feature.Detune
 left_out other = None
 
+abbrev pub plays_buffer : Option Plays → Bool
+plays_buffer None = false
+plays_buffer (Some plays.Value) = false
+plays_buffer (Some (plays.Content rate)) = true
+
 -- whether a kind has a parameter: those of a buffer source are left out
 abbrev pub has_param : Kind → ParamName → Bool
-has_param (kind.Buffer rate) name = is_some (left_out name)
-has_param other name = is_some (param_base other name)
+has_param kind name = option_map_or (λ p. same_name p.name name) (row kind).param (plays_buffer (row kind).plays && is_some (left_out name))
 
 abbrev pub param_names : List ParamName
 param_names = Offset ∷ Gain ∷ DelayTime ∷ PlaybackRate ∷ Detune ∷ []

@@ -12,7 +12,7 @@ use crate::control::Control;
 use crate::decide::{Decided, refused};
 use conn_graph::{Edge, Form, Target};
 use meaning::{Edit, ParamEdit};
-use node_table::Kind;
+use node_table::{Kind, Plays};
 use script_ast::Op;
 use transcript::Answer;
 use wa_base::{Exc, Feature, Name, NoMemory, NodeId, ParamId, ParamName, Samples};
@@ -214,9 +214,10 @@ impl Control {
 fn has_param(kind: &Kind, name: ParamName) -> bool
     ensures { result ≡ spec.has_param kind.now name }
 {
-    match kind {
-        Kind::Buffer { .. } => left_out(name).is_some(),
-        _ => kind.param_base(name).is_some(),
+    let row = kind.row();
+    match row.param {
+        Some(param) => param.name == name,
+        None => matches!(row.plays, Some(Plays::Content(_))) && left_out(name).is_some(),
     }
 }
 

@@ -94,7 +94,11 @@ fn param_of(world: &World, node: u32, name: ParamName) -> Option<ParamId>
     ensures { IfSome result (λ id. IsIn id (param_ids world.now)) }
 {
     let node = NodeId(node);
-    if node.0 < world.nodes.len() && world.nodes.kind(node).param_base(name).is_some() {
+    if node.0 >= world.nodes.len() {
+        return None;
+    }
+    let param = world.nodes.kind(node).row().param?;
+    if param.name == name {
         Some(ParamId { node, name })
     } else {
         None

@@ -8,7 +8,9 @@ use Rattle.delay_line.specs.Delays.{Writer}
 use Rattle.delay_line.specs.Lines.{Line, Keeps}
 use Rattle.delay_line.specs.Spans.{delay_at}
 use Rattle.node_table.specs.declared.kinds.Kind.{Kind}
-use Rattle.node_table.specs.declared.kinds.Kind.TheVariants.{Delay}
+use Rattle.node_table.specs.declared.rows.Keeps.{Keeps as NodeKeeps}
+use Rattle.node_table.specs.declared.rows.Keeps.TheVariants.{Nothing, Heard, Written}
+use Rattle.node_table.specs.Kinds.{row}
 use Rattle.meaning.specs.Lists.{since}
 
 -- What contracts see of a node's delay: when the node was born, before which frame its writer has written, the most channels that it had in a quantum, and the line that keeps it.
@@ -84,7 +86,11 @@ abbrev pub read_back : ℕ → Writer → Interp → ℕ → ℕ → ℕ → ℕ
 read_back born writer interp channels f d c =
     if nat_lt f (born + d) then pos 0 else mix interp (writer.counts ((f - d) / 128)) channels (writer.frames (f - d)) c
 
--- the delay with which a node is created, if it is one
+-- the delay with which a node is created, if it keeps what it writes
+abbrev pub delay_for : NodeKeeps → ℕ → Option DelayView
+delay_for (Written frames) born = Some (record { birth = born; time = born; most = 1; line = record { capacity = frames; block = 128; blocks = 0; counts = []; channels = [] } })
+delay_for Heard born = None
+delay_for Nothing born = None
+
 abbrev pub first_delay : Kind → ℕ → Option DelayView
-first_delay (Delay longest time capacity) born = Some (record { birth = born; time = born; most = 1; line = record { capacity = capacity; block = 128; blocks = 0; counts = []; channels = [] } })
-first_delay other born = None
+first_delay kind born = delay_for (row kind).keeps born

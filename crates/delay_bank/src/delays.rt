@@ -9,7 +9,7 @@ ghost use Rattle.delay_bank.specs.Banks.{delay_at, AreNew, AreSame, Writes as Ba
 
 use crate::delay::{NodeDelay, Reading, silence};
 use meaning::World;
-use node_table::Kind;
+use node_table::Keeps;
 use std::alloc::Global;
 use std::marker::Model;
 use wa_base::{Fix, NoMemory, NodeId};
@@ -141,12 +141,12 @@ fn delay_of(alloc: Global, world: &World, node: NodeId) -> Result<Option<NodeDel
     requires node { node.0 < length world.now.nodes }
     ensures { IfOk result (λ delay. delay ≡ first_delay (kind_of world.now node.0) (node_at world.now node.0).attrs.birth) }
 {
-    match world.nodes.kind(node) {
-        Kind::Delay { capacity, .. } => {
+    match world.nodes.kind(node).row().keeps {
+        Keeps::Written(frames) => {
             let birth = world.nodes.attrs(node).birth;
-            Ok(Some(NodeDelay::new(alloc, birth, *capacity)?))
+            Ok(Some(NodeDelay::new(alloc, birth, frames)?))
         }
-        _ => Ok(None),
+        Keeps::Nothing | Keeps::Heard => Ok(None),
     }
 }
 

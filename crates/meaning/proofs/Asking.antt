@@ -1,16 +1,15 @@
 -- What the reader of a delay asks for.
-use Rattle.std.proofs.Common.{ℕ, zero, suc, ℤ, pos, negsuc, ◌≡◌, ◌<◌, ◌≤◌, ◌≤ℤ◌, ◌*ℤ◌, ◌+◌, ◌-◌, ◌*◌, ◌/◌, ◌==◌, ◌⊎◌, inl, inr, length, List, Bool, true, false, refl, sym, ◌∙◌, ap, arith, subst}
-use Rattle.std.specs.Prelude.{if◌then◌else◌, nat_lt, max, min, unsigned_abs}
+use Rattle.std.proofs.Common.{ℕ, zero, suc, ℤ, pos, negsuc, ◌≡◌, ◌<◌, ◌≤◌, ◌≤ℤ◌, ◌+◌, ◌-◌, ◌*◌, ◌/◌, ◌==◌, ◌⊎◌, inl, inr, length, List, Bool, true, false, refl, sym, ◌∙◌, ap, arith, subst}
+use Rattle.std.specs.Prelude.{if◌then◌else◌, nat_lt, max, min, unsigned_abs, ◌&&◌}
 use Rattle.std.proofs.lemmas.Bool.Decides.{nat_tests}
 use Rattle.std.proofs.lemmas.Int.{ints}
 use Rattle.wa_base.specs.Numbers.{rnd}
-use Rattle.wa_base.specs.declared.graph_names.End.{End}
 use Rattle.wa_base.specs.declared.graph_names.ParamName.TheVariants as param
 use Rattle.law_base.specs.Members.{IsIn}
 use Rattle.channel_mix.specs.Counts.{greatest}
 use Rattle.param_events.proofs.Rounding.{rnd_order}
 use Rattle.node_table.specs.Delays.{frames_of, delay_capacity}
-use Rattle.node_table.specs.Kinds.{is_delay_kind, capacity_of}
+use Rattle.node_table.specs.Kinds.{row, is_delay_kind, capacity_of}
 use Rattle.node_table.specs.declared.kinds.Kind.{Kind}
 use Rattle.node_table.specs.declared.kinds.Kind.TheVariants.{Delay}
 use Rattle.node_table.proofs.Lasting.{IsDelay, the_delay}
@@ -20,7 +19,7 @@ use Rattle.meaning.specs.declared.world.World.{World}
 use Rattle.meaning.specs.Lists.{since}
 use Rattle.meaning.specs.World.{node_at, kind_of, param_id, up_to, nominal}
 use Rattle.meaning.specs.Validity.{IsJoined}
-use Rattle.meaning.specs.Counts.{Counts, world_in, input_channels, seen_counts, reader_channels, count_by_kind, count_rule, count, counts_before}
+use Rattle.meaning.specs.Counts.{world_in, seen_counts, reader_channels, output_channels, count_by_kind, count_rule, count, counts_before}
 use Rattle.meaning.specs.Values.{Frame, computed_value, delay_frames, world_at, frame, frames_before}
 use Rattle.meaning.specs.Worlds.{HasCapacity, IsRegular}
 use Rattle.meaning.specs.Laws.{IsAsked}
@@ -117,11 +116,10 @@ module _ (q : ℕ) (some : 0 < q) (tape : List World) (f : ℕ) (joined : IsJoin
   reader_count : (n : ℕ) → is_delay_kind (kind_of w n) ≡ true → muted w.graph.value (reader_of n) ≡ false → count q tape j (reader_of n) ≡ reader_channels q w j (counts_before q tape j) (count q tape j) n
   unfolding count_rule
   reader_count n delay heard =
-      let d = the_delay (kind_of w n) delay in
       let there : IsIn (reader_of n) (ends w.graph.value) = has_end w.graph.value n (delay_below w.graph.value n (joined.delays n ∙ delay)) in
       sym (count_gives q tape j joined (counts_before q tape j) (λ i k is low high. refl) (count q tape j) (reader_of n) there (λ e in_e a. refl))
       ∙ ap (λ b. if b then 1 else count_by_kind q w j (counts_before q tape j) (count q tape j) (kind_of w n) (reader_of n)) heard
-      ∙ ap (λ k. count_by_kind q w j (counts_before q tape j) (count q tape j) k (reader_of n)) d.is
+      ∙ ap (λ b. if b && true then reader_channels q w j (counts_before q tape j) (count q tape j) n else output_channels q w j (count q tape j) (row (kind_of w n)).channels n) delay
 
   pub asked_count : (n d : ℕ) → is_delay_kind (kind_of w n) ≡ true → muted w.graph.value (reader_of n) ≡ false → (in_cycle w.graph.value n ≡ true → q ≤ d) → (node_at w n).attrs.birth + d ≤ f
       → count q tape ((f - d) / q) (writer_of n) ≤ count q tape j (reader_of n)

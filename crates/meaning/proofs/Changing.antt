@@ -14,7 +14,7 @@ use Rattle.wa_base.specs.declared.memory.NoMemory.{NoMemory}
 use Rattle.wa_base.specs.declared.exceptions.Exc.TheVariants.{NotSupported}
 use Rattle.wa_base.specs.declared.features.Feature.TheVariants.{DestinationOutput}
 use Rattle.law_base.specs.Members.{AreDistinct}
-use Rattle.node_table.specs.Kinds.{is_destination, range_refusal, IsInEntry, lasting}
+use Rattle.node_table.specs.Kinds.{is_destination, range_refusal, lasting}
 use Rattle.node_table.specs.Nodes.{creation_refusal, node_of, node_with_curve, curve_refusal, changed_at, refusal_at}
 use Rattle.node_table.proofs.NodeLists.{second_none}
 use Rattle.node_table.proofs.Setting.{length-changed}
@@ -65,10 +65,10 @@ pub grows_same : (now : ℕ) (w : World) → Grows now w w
 grows_same now w = grows_still now w w (λ v. v) refl (omega arith) refl
 
 -- one node more
-pub grows_created : (w : World) (kind : Kind) (play : Option Play) → IsNewPlay w kind play → (now : ℕ) → is_destination kind ≡ false → IsInEntry kind → HasCapacity (quantum_of w.spec) w.spec kind → creation_refusal w.nodes kind ≡ None
+pub grows_created : (w : World) (kind : Kind) (play : Option Play) → IsNewPlay w kind play → (now : ℕ) → is_destination kind ≡ false → HasCapacity (quantum_of w.spec) w.spec kind → creation_refusal w.nodes kind ≡ None
     → Grows now w (created w kind play now)
-grows_created w kind play new now other entry capacity accepted = record {
-  valid = λ valid. created_valid w kind play new now valid other entry accepted;
+grows_created w kind play new now other capacity accepted = record {
+  valid = λ valid. created_valid w kind play new now valid other accepted;
   spec = refl;
   buffers = omega arith;
   stays = λ i l.
@@ -117,9 +117,9 @@ unrefused from w e accepted = by_test (from == 0) accepted
     by_test false is = is
 
 pub edited_grows : (w : World) (now : ℕ) (e : Edit) → IsNamed w e → refusal w now e ≡ None → IsValid w → Grows now w (edited w now e)
-edited_grows w now (edit.Create kind) named accepted valid = grows_created w kind (new_play (length w.nodes) kind) (new_play_is w kind) now named.0 named.1 named.2 accepted
+edited_grows w now (edit.Create kind) named accepted valid = grows_created w kind (new_play (length w.nodes) kind) (new_play_is w kind) now named.0 named.1 accepted
 edited_grows w now (edit.CreateBufferSource rate buffer points) named accepted valid =
-    grows_created w (Buffer rate) (Some (new_source (length w.nodes) rate buffer points)) (new_source_is w rate buffer points named) now refl tt tt
+    grows_created w (Buffer rate) (Some (new_source (length w.nodes) rate buffer points)) (new_source_is w rate buffer points named) now refl tt
     (second_none (resampling_refusal w buffer) _ (second_none (range_refusal (Buffer rate)) _ accepted))
 edited_grows w now (edit.Connect edge) named accepted valid =
     grows_still now w _ (λ v. connected_valid w edge v named.0 named.1 (unrefused edge.from.0 w edge accepted)) refl (omega arith) refl

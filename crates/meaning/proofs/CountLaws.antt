@@ -1,6 +1,6 @@
 -- Counts see only along arrows, and so settle.
 use Rattle.std.proofs.Common.{ℕ, suc, ◌≡◌, ◌<◌, ◌≤◌, ◌+◌, ◌-◌, ◌/◌, ◌⊎◌, inl, inr, length, List, Bool, true, false, refl, sym, ◌∙◌, ap, subst, arith}
-use Rattle.std.specs.Prelude.{if◌then◌else◌, nat_lt, ◌==◌}
+use Rattle.std.specs.Prelude.{if◌then◌else◌, nat_lt, ◌==◌, ◌&&◌, not}
 use Rattle.std.proofs.lemmas.Bool.Decides.{nat_tests}
 use Rattle.wa_base.specs.declared.graph_names.End.{End}
 use Rattle.law_base.specs.Members.{IsIn}
@@ -11,16 +11,17 @@ use mathlib.Core.Path.{fun_ext}
 use Rattle.law_base.proofs.HeightLaws.{settled}
 use Rattle.law_base.proofs.SchemeLaws.{before_is, before_none, moment-zero, moment-suc}
 use Rattle.channel_mix.specs.Counts.{greatest}
-use Rattle.node_table.specs.Kinds.{is_delay_kind}
+use Rattle.node_table.specs.Kinds.{row, is_delay_kind}
 use Rattle.node_table.specs.declared.kinds.Kind.{Kind}
-use Rattle.node_table.specs.declared.kinds.Kind.TheVariants.{Destination, Constant, Buffer, Gain, Delay, Splitter, Merger, Shaper, Iir}
-use Rattle.conn_graph.specs.Ends.{writer_of, ends, is_delay, in_cycle, arrow, height, muted}
+use Rattle.node_table.specs.declared.rows.Channels.{Channels}
+use Rattle.node_table.specs.declared.rows.Channels.TheVariants.{Always, OfInput, OfBuffer}
+use Rattle.conn_graph.specs.Ends.{writer_of, input_end, ends, in_cycle, arrow, height, muted}
 use Rattle.conn_graph.proofs.EndLaws.{has_writer, writer_arrow}
 use Rattle.meaning.specs.declared.world.World.{World}
 use Rattle.meaning.specs.Lists.{since}
 use Rattle.meaning.specs.World.{node_at, kind_of}
 use Rattle.meaning.specs.Validity.{IsJoined}
-use Rattle.meaning.specs.Counts.{world_in, Counts, input_channels, seen_counts, reader_channels, count_by_kind, count_rule, count_scheme, count_at, count, counts_before}
+use Rattle.meaning.specs.Counts.{world_in, Counts, seen_counts, reader_channels, output_channels, count_by_kind, count_rule, count_scheme, count_at, count, counts_before}
 use Rattle.meaning.proofs.Seeing.{AgreeFor, plain_end, writer_end, reader_end, same_channels, same_since}
 
 -- the writers of the delays had as many channels in the quanta from their births on up to quantum j
@@ -58,24 +59,24 @@ reader_like q w j past past' s t n is before now = by_cycle (in_cycle w.graph.va
     ]))
 
 module _ (q : ℕ) (w : World) (joined : IsJoined w) (j : ℕ) (past past' : ℕ → Counts) (before : SameBefore q w j past past') where
+  channels_like : (e : End) (s t : Counts) → e ≡ input_end w.graph.value e.node.0 → AgreeFor w e s t → (c : Channels) → output_channels q w j s c e.node.0 ≡ output_channels q w j t c e.node.0
+  channels_like e s t own agree (Always n) = refl
+  channels_like e s t own agree OfInput = same_channels w joined s t e own agree 0
+  channels_like e s t own agree OfBuffer = refl
+
   by_kind : (e : End) (s t : Counts) → IsIn e (ends w.graph.value) → AgreeFor w e s t → (k : Kind) → kind_of w e.node.0 ≡ k
       → count_by_kind q w j past s k e ≡ count_by_kind q w j past' t k e
-  by_kind e s t h agree Destination is = same_channels w joined s t e (plain_end w joined e h (ap is_delay_kind is)) agree 0
-  by_kind e s t h agree (Constant offset) is = refl
-  by_kind e s t h agree (Buffer rate) is = refl
-  by_kind e s t h agree (Gain gain) is = same_channels w joined s t e (plain_end w joined e h (ap is_delay_kind is)) agree 0
-  by_kind e s t h agree (Delay longest time capacity) is = by_end e.writer refl
+  by_kind e s t h agree k is = by_end (is_delay_kind k) e.writer (ap is_delay_kind is) refl
     where
-      by_end : (b : Bool) → e.writer ≡ b → (if b then input_channels w s e.node.0 0 else reader_channels q w j past s e.node.0) ≡ (if b then input_channels w t e.node.0 0 else reader_channels q w j past' t e.node.0)
-      by_end true writer = same_channels w joined s t e (writer_end w joined e (ap is_delay_kind is) writer) agree 0
-      by_end false reader =
-          let delay : is_delay w.graph.value e.node.0 ≡ true = joined.delays e.node.0 ∙ ap is_delay_kind is in
-          reader_like q w j past past' s t e.node.0 (ap is_delay_kind is) before (λ none.
-          agree (writer_of e.node.0) (has_writer w.graph.value e.node.0 delay) (subst (λ x. arrow w.graph.value (writer_of e.node.0) x ≡ true) (sym (reader_end e reader)) (writer_arrow w.graph.value e.node.0 delay none)))
-  by_kind e s t h agree (Splitter ports) is = refl
-  by_kind e s t h agree (Merger ports) is = refl
-  by_kind e s t h agree (Shaper curve was_set) is = same_channels w joined s t e (plain_end w joined e h (ap is_delay_kind is)) agree 0
-  by_kind e s t h agree (Iir forward back) is = same_channels w joined s t e (plain_end w joined e h (ap is_delay_kind is)) agree 0
+      by_end : (d b : Bool) → is_delay_kind (kind_of w e.node.0) ≡ d → e.writer ≡ b
+          → (if d && not b then reader_channels q w j past s e.node.0 else output_channels q w j s (row k).channels e.node.0)
+          ≡ (if d && not b then reader_channels q w j past' t e.node.0 else output_channels q w j t (row k).channels e.node.0)
+      by_end false b plain at = channels_like e s t (plain_end w joined e h plain) agree (row k).channels
+      by_end true true delay writer = channels_like e s t (writer_end w joined e delay writer) agree (row k).channels
+      by_end true false delay reader =
+          reader_like q w j past past' s t e.node.0 delay before (λ none.
+          agree (writer_of e.node.0) (has_writer w.graph.value e.node.0 (joined.delays e.node.0 ∙ delay))
+          (subst (λ x. arrow w.graph.value (writer_of e.node.0) x ≡ true) (sym (reader_end e reader)) (writer_arrow w.graph.value e.node.0 (joined.delays e.node.0 ∙ delay) none)))
 
   pub count_sees : (e : End) (s t : Counts) → IsIn e (ends w.graph.value) → AgreeFor w e s t → count_rule q w j past s e ≡ count_rule q w j past' t e
   unfolding count_rule
@@ -110,15 +111,14 @@ unfolding count_rule
 count_rule_alike q w j past past' before = fun_ext (λ now. fun_ext (λ e. ap (λ n. if muted w.graph.value e then 1 else n) (by_kind now e (kind_of w e.node.0) refl)))
   where
     by_kind : (now : Counts) (e : End) (k : Kind) → kind_of w e.node.0 ≡ k → count_by_kind q w j past now k e ≡ count_by_kind q w j past' now k e
-    by_kind now e Destination is = refl
-    by_kind now e (Constant offset) is = refl
-    by_kind now e (Buffer rate) is = refl
-    by_kind now e (Gain gain) is = refl
-    by_kind now e (Delay longest time capacity) is = ap (λ n. if e.writer then input_channels w now e.node.0 0 else n) (reader_like q w j past past' now now e.node.0 (ap is_delay_kind is) before (λ none. refl))
-    by_kind now e (Splitter ports) is = refl
-    by_kind now e (Merger ports) is = refl
-    by_kind now e (Shaper curve was_set) is = refl
-    by_kind now e (Iir forward back) is = refl
+    by_kind now e k is = by_end (is_delay_kind k) e.writer (ap is_delay_kind is)
+      where
+        by_end : (d b : Bool) → is_delay_kind (kind_of w e.node.0) ≡ d
+            → (if d && not b then reader_channels q w j past now e.node.0 else output_channels q w j now (row k).channels e.node.0)
+            ≡ (if d && not b then reader_channels q w j past' now e.node.0 else output_channels q w j now (row k).channels e.node.0)
+        by_end false b plain = refl
+        by_end true true delay = refl
+        by_end true false delay = reader_like q w j past past' now now e.node.0 delay before (λ none. refl)
 
 -- the counts' own past is the counts before
 pub counts_before_are : (q : ℕ) (tape : List World) (j : ℕ) → before (count_scheme q) (world_in tape) j ≡ counts_before q tape j

@@ -1,20 +1,19 @@
 -- A world stays valid when a node is created.
-use Rattle.std.proofs.Common.{ℕ, ◌≡◌, ◌+◌, ◌<◌, length, List, [], ◌∷◌, ◌++◌, map, slice_index_or, ℤ, true, false, Option, Some, None, inl, inr, refl, sym, ◌∙◌, ap, arith, subst, length-append}
-use Rattle.std.specs.Prelude.{◌↔◌, IsSome, is_some}
+use Rattle.std.proofs.Common.{ℕ, ◌≡◌, ◌+◌, ◌<◌, length, List, [], ◌∷◌, ◌++◌, map, slice_index_or, true, false, Option, Some, None, inl, inr, refl, sym, ◌∙◌, ap, arith, subst, length-append}
+use Rattle.std.specs.Prelude.{◌↔◌, is_some, option_map, unwrap_or}
 use Rattle.std.specs.List.Sorted.{IsStrictlyIncreasing}
 use Rattle.std.proofs.lemmas.Bool.{cases_lt}
-use Rattle.std.proofs.lemmas.List.{append-nil, get_or_past, get_or_append_left, length-map, map-append}
+use Rattle.std.proofs.lemmas.List.{append-nil, get_or_append_left, length-map, map-append}
 use Rattle.std.proofs.Math.Seq.{get_or-append_seam}
 use Rattle.wa_base.specs.declared.graph_names.ParamId.{ParamId}
 use Rattle.wa_base.specs.declared.graph_names.ParamName.{ParamName}
-use Rattle.wa_base.specs.declared.graph_names.ParamName.TheVariants as param
 use Rattle.law_base.specs.Members.{IsIn, AreDistinct}
 use Rattle.law_base.proofs.Members.{IsIn-append, IsIn-append_first, IsIn-append_second}
 use Rattle.param_events.specs.Timeline.{IsTimeline}
-use Rattle.node_table.specs.Kinds.{is_destination, is_delay_kind, param_base, IsInEntry}
+use Rattle.node_table.specs.Kinds.{row, is_destination, param_name}
+use Rattle.node_table.specs.declared.rows.ParamRow.{ParamRow}
 use Rattle.node_table.specs.Nodes.{creation_refusal, node_of}
 use Rattle.node_table.specs.declared.kinds.Kind.{Kind}
-use Rattle.node_table.specs.declared.kinds.Kind.TheVariants.{Destination, Constant, Buffer, Gain, Delay, Splitter, Merger, Shaper, Iir}
 use Rattle.node_table.specs.declared.nodes.Node.{Node}
 use Rattle.node_table.proofs.NodeLists.{room_left, ports_of_accepted, created_node, capacities_with, kept_with}
 use Rattle.conn_graph.proofs.Graphs.{IsGraph-with_node}
@@ -23,7 +22,7 @@ use Rattle.meaning.specs.declared.params.Param.{Param}
 use Rattle.meaning.specs.declared.scheds.Play.{Play}
 use Rattle.meaning.specs.World.{no_node, is_source, param_id}
 use Rattle.meaning.specs.Validity.{IsValid, IsPlayOf, HasNodes, HasParams, HasScheds, ports_of, param_ids, param_nodes, play_nodes}
-use Rattle.meaning.specs.Changes.{param_of, new_params, plays_of, created}
+use Rattle.meaning.specs.Changes.{new_params, plays_of, created}
 use Rattle.meaning.proofs.FirstItems.{node}
 use Rattle.meaning.proofs.ParamOrder.{rising_more, node_low}
 
@@ -51,53 +50,31 @@ distinct_more (x ∷ xs) y once new = (
 )
 
 -- the identities of the parameters of a new node
-abbrev new_ids : ℕ → Option (ParamName × ℤ) → List ParamId
+abbrev new_ids : ℕ → Option ParamRow → List ParamId
 new_ids node p = map (λ (x : Param). x.id) (new_params node p)
 
-new_id_node : (node : ℕ) (p : Option (ParamName × ℤ)) (id : ParamId) → IsIn id (new_ids node p) → id.node.0 ≡ node
+new_id_node : (node : ℕ) (p : Option ParamRow) (id : ParamId) → IsIn id (new_ids node p) → id.node.0 ≡ node
 new_id_node node None id is = absurd is
 new_id_node node (Some p) id (inl same) = ap (λ (x : ParamId). x.node.0) same
 new_id_node node (Some p) id (inr none) = absurd none
 
-new_id_name : (node : ℕ) (name other : ParamName) (value : ℤ) → IsIn (param_id node other) (new_ids node (Some (name, value))) → other ≡ name
-new_id_name node name other value (inl same) = ap (λ (x : ParamId). x.name) same
-new_id_name node name other value (inr none) = absurd none
+new_id_name : (node : ℕ) (p : ParamRow) (name : ParamName) → IsIn (param_id node name) (new_ids node (Some p)) → name ≡ p.name
+new_id_name node p name (inl same) = ap (λ (x : ParamId). x.name) same
+new_id_name node p name (inr none) = absurd none
 
-none_there : IsSome (let o : Option ℤ = None in o) → ⊥
-none_there h = cc
+-- a new node has the parameter of its kind
+new_each : (node : ℕ) (p : Option ParamRow) (name : ParamName) → IsIn (param_id node name) (new_ids node p) ↔ (option_map (λ (x : ParamRow). x.name) p ≡ Some name)
+new_each node None name = ((λ h. absurd h), (λ h. absurd cc))
+new_each node (Some p) name = ((λ h. ap Some (sym (new_id_name node p name h))), (λ h. let same : p.name ≡ name = ap (λ (o : Option ParamName). unwrap_or o name) h in inl (ap (param_id node) (sym same))))
 
--- a new node has the parameters of its kind
-new_each : (node : ℕ) (kind : Kind) (name : ParamName) → IsIn (param_id node name) (new_ids node (param_of kind)) ↔ IsSome (param_base kind name)
-new_each node Destination name = ((λ h. absurd h), (λ h. absurd (none_there h)))
-new_each node (Constant offset) param.Offset = ((λ h. refl), (λ h. inl refl))
-new_each node (Constant offset) param.Gain = ((λ h. let e = new_id_name node param.Offset param.Gain offset h in absurd cc), (λ h. absurd (none_there h)))
-new_each node (Constant offset) param.DelayTime = ((λ h. let e = new_id_name node param.Offset param.DelayTime offset h in absurd cc), (λ h. absurd (none_there h)))
-new_each node (Constant offset) param.PlaybackRate = ((λ h. let e = new_id_name node param.Offset param.PlaybackRate offset h in absurd cc), (λ h. absurd (none_there h)))
-new_each node (Constant offset) param.Detune = ((λ h. let e = new_id_name node param.Offset param.Detune offset h in absurd cc), (λ h. absurd (none_there h)))
-new_each node (Gain gain) param.Offset = ((λ h. let e = new_id_name node param.Gain param.Offset gain h in absurd cc), (λ h. absurd (none_there h)))
-new_each node (Gain gain) param.Gain = ((λ h. refl), (λ h. inl refl))
-new_each node (Gain gain) param.DelayTime = ((λ h. let e = new_id_name node param.Gain param.DelayTime gain h in absurd cc), (λ h. absurd (none_there h)))
-new_each node (Gain gain) param.PlaybackRate = ((λ h. let e = new_id_name node param.Gain param.PlaybackRate gain h in absurd cc), (λ h. absurd (none_there h)))
-new_each node (Gain gain) param.Detune = ((λ h. let e = new_id_name node param.Gain param.Detune gain h in absurd cc), (λ h. absurd (none_there h)))
-new_each node (Delay longest time capacity) param.Offset = ((λ h. let e = new_id_name node param.DelayTime param.Offset time h in absurd cc), (λ h. absurd (none_there h)))
-new_each node (Delay longest time capacity) param.Gain = ((λ h. let e = new_id_name node param.DelayTime param.Gain time h in absurd cc), (λ h. absurd (none_there h)))
-new_each node (Delay longest time capacity) param.DelayTime = ((λ h. refl), (λ h. inl refl))
-new_each node (Delay longest time capacity) param.PlaybackRate = ((λ h. let e = new_id_name node param.DelayTime param.PlaybackRate time h in absurd cc), (λ h. absurd (none_there h)))
-new_each node (Delay longest time capacity) param.Detune = ((λ h. let e = new_id_name node param.DelayTime param.Detune time h in absurd cc), (λ h. absurd (none_there h)))
-new_each node (Buffer rate) name = ((λ h. absurd h), (λ h. absurd (none_there h)))
-new_each node (Splitter ports) name = ((λ h. absurd h), (λ h. absurd (none_there h)))
-new_each node (Merger ports) name = ((λ h. absurd h), (λ h. absurd (none_there h)))
-new_each node (Shaper curve was_set) name = ((λ h. absurd h), (λ h. absurd (none_there h)))
-new_each node (Iir forward back) name = ((λ h. absurd h), (λ h. absurd (none_there h)))
-
-new_line : (node : ℕ) (p : Option (ParamName × ℤ)) (x : Param) → IsIn x (new_params node p) → IsTimeline x.line.events
+new_line : (node : ℕ) (p : Option ParamRow) (x : Param) → IsIn x (new_params node p) → IsTimeline x.line.events
 new_line node None x is = absurd is
 new_line node (Some p) x (inl same) = subst (λ (y : Param). IsTimeline y.line.events) (sym same) (record { begun = tt; ordered = tt })
 new_line node (Some p) x (inr none) = absurd none
 
-nodes_in_order : (count : ℕ) (nodes : List ℕ) (p : Option (ParamName × ℤ)) → IsStrictlyIncreasing nodes → ((i : ℕ) → IsIn i nodes → i < count) → IsStrictlyIncreasing (nodes ++ map node (new_params count p))
+nodes_in_order : (count : ℕ) (nodes : List ℕ) (p : Option ParamRow) → IsStrictlyIncreasing nodes → ((i : ℕ) → IsIn i nodes → i < count) → IsStrictlyIncreasing (nodes ++ map node (new_params count p))
 nodes_in_order count nodes None up low = rw (append-nil nodes) up
-nodes_in_order count nodes (Some (name, value)) up low = rising_more nodes count up low
+nodes_in_order count nodes (Some p) up low = rising_more nodes count up low
 
 -- the node of its schedule
 abbrev new_numbers : Option Play → List ℕ
@@ -136,7 +113,7 @@ pub record IsNewPlay (w : World) (kind : Kind) (play : Option Play) : Type 0 whe
   pub sources : is_some play ≡ is_source kind
   pub fits : (p : Play) → play ≡ Some p → IsPlayOf w.store kind p
 
-module _ (w : World) (kind : Kind) (play : Option Play) (new : IsNewPlay w kind play) (now : ℕ) (valid : IsValid w) (other : is_destination kind ≡ false) (entry : IsInEntry kind)
+module _ (w : World) (kind : Kind) (play : Option Play) (new : IsNewPlay w kind play) (now : ℕ) (valid : IsValid w) (other : is_destination kind ≡ false)
     (accepted : creation_refusal w.nodes kind ≡ None) where
   abbrev count : ℕ
   count = length w.nodes
@@ -160,26 +137,26 @@ module _ (w : World) (kind : Kind) (play : Option Play) (new : IsNewPlay w kind 
   created_nodes = record {
     some = let l = valid.nodes.some in omega (arith, long);
     few = omega (arith, long, few);
-    kept = let kept = kept_with w.nodes kind valid.nodes.kept accepted in omega (arith, capacities_with w.nodes kind now);
+    kept = let kept = kept_with w.nodes kind accepted in omega (arith, capacities_with w.nodes kind now);
     first = rw (kept 0 valid.nodes.some) valid.nodes.first;
     others = λ i low high. elim (place_of w.nodes (node_of kind now) i high) [
       | there l ↦ rw (kept i l) (valid.nodes.others i low l)
-      | newest is ↦ rw (last i is) (created_node kind now other entry (ports_of_accepted w.nodes kind accepted))
+      | newest is ↦ rw (last i is) (created_node kind now other (ports_of_accepted w.nodes kind accepted))
     ];
   }
 
-  ids : param_ids (created w kind play now) ≡ param_ids w ++ new_ids count (param_of kind)
-  ids = map-append (λ (x : Param). x.id) w.params.items (new_params count (param_of kind))
+  ids : param_ids (created w kind play now) ≡ param_ids w ++ new_ids count (row kind).param
+  ids = map-append (λ (x : Param). x.id) w.params.items (new_params count (row kind).param)
 
-  nodes : param_nodes (created w kind play now) ≡ param_nodes w ++ map node (new_params count (param_of kind))
-  nodes = map-append node w.params.items (new_params count (param_of kind))
+  nodes : param_nodes (created w kind play now) ≡ param_nodes w ++ map node (new_params count (row kind).param)
+  nodes = map-append node w.params.items (new_params count (row kind).param)
 
-  created_each : (i : ℕ) (name : ParamName) → Place w.nodes i → IsIn (param_id i name) (param_ids w ++ new_ids count (param_of kind)) ↔ IsSome (param_base (slice_index_or more i no_node).kind name)
+  created_each : (i : ℕ) (name : ParamName) → Place w.nodes i → IsIn (param_id i name) (param_ids w ++ new_ids count (row kind).param) ↔ (param_name (slice_index_or more i no_node).kind ≡ Some name)
   created_each i name (there l) =
       rw (kept i l) (
         (λ h. elim (IsIn-append (param_ids w) _ _ h) [
           | inl k ↦ (valid.params.each i name l).0 k
-          | inr k ↦ let e = new_id_node count (param_of kind) (param_id i name) k in absurd (omega arith)
+          | inr k ↦ let e = new_id_node count (row kind).param (param_id i name) k in absurd (omega arith)
         ]),
         (λ h. IsIn-append_first _ _ _ ((valid.params.each i name l).1 h)),
       )
@@ -187,9 +164,9 @@ module _ (w : World) (kind : Kind) (play : Option Play) (new : IsNewPlay w kind 
       rw (last i is) (
         (λ h. elim (IsIn-append (param_ids w) _ _ h) [
           | inl k ↦ let l = valid.params.there (param_id i name) k in absurd (omega arith)
-          | inr k ↦ (new_each count kind name).0 (subst (λ j. IsIn (param_id j name) (new_ids count (param_of kind))) is k)
+          | inr k ↦ (new_each count (row kind).param name).0 (subst (λ j. IsIn (param_id j name) (new_ids count (row kind).param)) is k)
         ]),
-        (λ h. IsIn-append_second _ _ _ (subst (λ j. IsIn (param_id j name) (new_ids count (param_of kind))) (sym is) ((new_each count kind name).1 h))),
+        (λ h. IsIn-append_second _ _ _ (subst (λ j. IsIn (param_id j name) (new_ids count (row kind).param)) (sym is) ((new_each count (row kind).param name).1 h))),
       )
 
   created_params : HasParams (created w kind play now)
@@ -197,10 +174,10 @@ module _ (w : World) (kind : Kind) (play : Option Play) (new : IsNewPlay w kind 
     each = λ i name below. rw ids (created_each i name (place_of w.nodes (node_of kind now) i below));
     there = λ id is. elim (IsIn-append (param_ids w) _ _ (subst (λ xs. IsIn id xs) ids is)) [
       | inl k ↦ let l = valid.params.there id k in omega (arith, long)
-      | inr k ↦ let e = new_id_node count (param_of kind) id k in omega (arith, long)
+      | inr k ↦ let e = new_id_node count (row kind).param id k in omega (arith, long)
     ];
-    order = rw nodes (nodes_in_order count (param_nodes w) (param_of kind) valid.params.order (λ i h. node_low w.params.items count i valid.params.there h));
-    lines = λ p is. elim (IsIn-append w.params.items _ p is) [ inl k ↦ valid.params.lines p k | inr k ↦ new_line count (param_of kind) p k ];
+    order = rw nodes (nodes_in_order count (param_nodes w) (row kind).param valid.params.order (λ i h. node_low w.params.items count i valid.params.there h));
+    lines = λ p is. elim (IsIn-append w.params.items _ p is) [ inl k ↦ valid.params.lines p k | inr k ↦ new_line count (row kind).param p k ];
     targets = λ e id is leads. rw ids (IsIn-append_first _ _ _ (valid.params.targets e id is leads));
   }
 

@@ -36,7 +36,7 @@ module _ {X K : Type 0} (key : X → K) (test : X → Bool) (k : K) (means : (x 
       let first = first_is xs i d distinct l t in
       ap (λ n. cond (nat_lt n (length xs)) (Some n) None) first ∙ ap (λ b. cond b (Some i) None) (let inside : nat_lt i (length xs) ≡ true = grind (arith, nat_tests) in inside)
 
-same_name_is : (a b : ParamName) → same_name a b ≡ true → a ≡ b
+pub same_name_is : (a b : ParamName) → same_name a b ≡ true → a ≡ b
 same_name_is a b h = grind arith
 
 pub same_param_is : (a b : ParamId) → same_param a b ≡ true → a ≡ b

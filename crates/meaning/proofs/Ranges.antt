@@ -3,7 +3,7 @@ use Rattle.std.proofs.Common.{ℕ, zero, suc, ◌+◌, ◌-◌, ◌*◌, ◌/◌
 use Rattle.std.proofs.lemmas.Bool.Decides.{nat_tests}
 use Rattle.std.proofs.lemmas.Int.{ints}
 use Rattle.std.proofs.lemmas.List.Elements.{All-head, All-tail, All-nil}
-use Rattle.std.specs.Prelude.{if◌then◌else◌, nat_lt, nat_le, slice_get}
+use Rattle.std.specs.Prelude.{if◌then◌else◌, nat_lt, nat_le, slice_get, IfSome}
 use Rattle.std.specs.Option.{option_map_or}
 use Rattle.wa_base.specs.Numbers.{IsFix, sat}
 use Rattle.wa_base.specs.declared.graph_names.BufId.{BufId}
@@ -21,7 +21,11 @@ use Rattle.sched_source.specs.declared.content.Content.{Content}
 use Rattle.sched_source.specs.Playback.{position}
 use Rattle.sched_source.specs.Schedule.{plays_at, sample_at}
 use Rattle.channel_mix.specs.Mixing.{mix}
-use Rattle.node_table.specs.Kinds.{is_delay_kind, IsInEntry}
+use Rattle.node_table.specs.declared.rows.ParamRow.{ParamRow}
+use Rattle.node_table.specs.declared.rows.Range.{Range}
+use Rattle.node_table.specs.declared.rows.Range.TheVariants.{Any, UpTo}
+use Rattle.node_table.specs.Kinds.{row, is_delay_kind, IsInLimits}
+use Rattle.node_table.proofs.NodeLists.{IsRange, is_row}
 use Rattle.node_table.specs.declared.kinds.Kind.{Kind}
 use Rattle.node_table.specs.declared.kinds.Kind.TheVariants as kinds
 use Rattle.node_table.specs.declared.kinds.Kind.TheVariants.{Destination, Constant, Gain, Delay, Splitter, Merger, Shaper, Iir}
@@ -29,7 +33,7 @@ use Rattle.node_table.specs.declared.nodes.Node.{Node}
 use Rattle.conn_graph.specs.Ends.{writer_of, reader_of, height, muted}
 use Rattle.meaning.specs.declared.world.World.{World}
 use Rattle.meaning.specs.declared.scheds.Play.{Play}
-use Rattle.meaning.specs.World.{node_at, kind_of, param_id, up_to, nominal, sounds_at, find_play, samples_in, played_at}
+use Rattle.meaning.specs.World.{node_at, kind_of, param_id, up_to, in_range, nominal, sounds_at, find_play, samples_in, played_at}
 use Rattle.meaning.specs.Validity.{IsValid}
 use Rattle.meaning.specs.Counts.{world_in, input_channels, count}
 use Rattle.meaning.specs.Laws.{HasFixes, HasFixPoints}
@@ -37,7 +41,7 @@ use Rattle.meaning.specs.Values.{Frame, Values, no_frame, seen, input_value, fra
 use Rattle.meaning.proofs.Asking.{asked_count, delay_long}
 use Rattle.meaning.proofs.Joined.{joined_in}
 use Rattle.meaning.proofs.MixedUp.{mix_fix}
-use Rattle.meaning.proofs.NodeKinds.{entry_there}
+use Rattle.meaning.proofs.NodeKinds.{limits_there}
 use Rattle.meaning.proofs.Seeing.{reader_end}
 use Rattle.meaning.proofs.ValueLaws.{value_suc}
 
@@ -61,20 +65,20 @@ up_to_fix (pos most) (pos x) is = omega (arith, ints)
 up_to_fix (pos most) (negsuc x) is = zero_fix
 up_to_fix (negsuc most) x is = zero_fix
 
-nominal_fix : (kind : Kind) (x : ℤ) → IsInEntry kind → IsFix (nominal kind x)
-nominal_fix Destination x entry = sat_fix x
-nominal_fix (Constant offset) x entry = sat_fix x
-nominal_fix (kinds.Buffer rate) x entry = sat_fix x
-nominal_fix (Gain gain) x entry = sat_fix x
-nominal_fix (Delay longest time capacity) x entry = up_to_fix longest x entry.0
-nominal_fix (Splitter ports) x entry = sat_fix x
-nominal_fix (Merger ports) x entry = sat_fix x
-nominal_fix (Shaper curve was_set) x entry = sat_fix x
-nominal_fix (Iir forward back) x entry = sat_fix x
+nominal_fix : (kind : Kind) (x : ℤ) → IsInLimits kind → IsFix (nominal kind x)
+nominal_fix kind x fine = by_param (row kind).param (is_row kind fine).range
+  where
+    by_range : (range : Range) → IsRange range → IsFix (in_range range x)
+    by_range Any is = sat_fix x
+    by_range (UpTo most) is = up_to_fix most x is
 
-computed_fix : (q f : ℕ) (past : ℕ → Frame) (here : Frame) (id : ParamId) → IsInEntry (kind_of here.world id.node.0) → IsFix (computed_value q f past here id)
+    by_param : (param : Option ParamRow) → IfSome param (λ p. IsRange p.range) → IsFix (option_map_or (λ p. in_range p.range x) param (pos 0))
+    by_param None is = zero_fix
+    by_param (Some p) is = by_range p.range is
+
+computed_fix : (q f : ℕ) (past : ℕ → Frame) (here : Frame) (id : ParamId) → IsInLimits (kind_of here.world id.node.0) → IsFix (computed_value q f past here id)
 unfolding computed_value
-computed_fix q f past here id entry = nominal_fix (kind_of here.world id.node.0) _ entry
+computed_fix q f past here id fine = nominal_fix (kind_of here.world id.node.0) _ fine
 
 -- ---- the points of curves, and the samples of buffers
 
@@ -168,33 +172,33 @@ delayed_fix q f past here n c asked = by_birth (nat_lt f (node.attrs.birth + d))
         let there = asked (grind (arith, nat_tests)) in
         mix_fix (x.values (writer_of n) 0) there.1 node.attrs.interp (x.counts (writer_of n)) (here.counts (reader_of n)) c there.0
 
-kind_fix : (q f : ℕ) (past : ℕ → Frame) (here : Frame) → HasFixes here.world → (kind : Kind) → HasFixPoints kind → (e : End) → IsInEntry (kind_of here.world e.node.0)
+kind_fix : (q f : ℕ) (past : ℕ → Frame) (here : Frame) → HasFixes here.world → (kind : Kind) → HasFixPoints kind → (e : End) → IsInLimits (kind_of here.world e.node.0)
     → (is_delay_kind kind ≡ true → e.writer ≡ false → AsksFixes q f past here e.node.0) → (o c : ℕ) → IsFix (value_by_kind q f past here kind e o c)
-kind_fix q f past here fixes Destination points e entry asks o c = input_fix here e.node.0 0 c
-kind_fix q f past here fixes (Constant offset) points e entry asks o c = either_fix (sounds_at here.world e.node.0 f) _ (pos 0) (computed_fix q f past here (param_id e.node.0 param.Offset) entry) zero_fix
-kind_fix q f past here fixes (kinds.Buffer rate) points e entry asks o c = played_fix here.world e.node.0 c f fixes
-kind_fix q f past here fixes (Gain gain) points e entry asks o c = sat_fix _
-kind_fix q f past here fixes (Delay longest time capacity) points e entry asks o c = by_end e.writer refl
+kind_fix q f past here fixes Destination points e fine asks o c = input_fix here e.node.0 0 c
+kind_fix q f past here fixes (Constant offset) points e fine asks o c = either_fix (sounds_at here.world e.node.0 f) _ (pos 0) (computed_fix q f past here (param_id e.node.0 param.Offset) fine) zero_fix
+kind_fix q f past here fixes (kinds.Buffer rate) points e fine asks o c = played_fix here.world e.node.0 c f fixes
+kind_fix q f past here fixes (Gain gain) points e fine asks o c = sat_fix _
+kind_fix q f past here fixes (Delay longest time capacity) points e fine asks o c = by_end e.writer refl
   where
     by_end : (b : Bool) → e.writer ≡ b → IsFix (if b then input_value here e.node.0 0 c else delayed q f past here e.node.0 c)
     by_end true writer = input_fix here e.node.0 0 c
     by_end false reader = delayed_fix q f past here e.node.0 c (asks refl reader)
-kind_fix q f past here fixes (Splitter ports) points e entry asks o c = input_fix here e.node.0 0 o
-kind_fix q f past here fixes (Merger ports) points e entry asks o c = input_fix here e.node.0 c 0
-kind_fix q f past here fixes (Iir forward back) points e entry asks o c = filter_fix forward back (frames_heard f past here e.node.0 c)
-kind_fix q f past here fixes (Shaper None was_set) points e entry asks o c = input_fix here e.node.0 0 c
-kind_fix q f past here fixes (Shaper (Some curve) was_set) points e entry asks o c = curve_fix curve (input_value here e.node.0 0 c +ℤ pos 16777216) (all_at curve points)
+kind_fix q f past here fixes (Splitter ports) points e fine asks o c = input_fix here e.node.0 0 o
+kind_fix q f past here fixes (Merger ports) points e fine asks o c = input_fix here e.node.0 c 0
+kind_fix q f past here fixes (Iir forward back) points e fine asks o c = filter_fix forward back (frames_heard f past here e.node.0 c)
+kind_fix q f past here fixes (Shaper None was_set) points e fine asks o c = input_fix here e.node.0 0 c
+kind_fix q f past here fixes (Shaper (Some curve) was_set) points e fine asks o c = curve_fix curve (input_value here e.node.0 0 c +ℤ pos 16777216) (all_at curve points)
 
-equation_fix : (q f : ℕ) (past : ℕ → Frame) (here : Frame) → HasFixes here.world → (e : End) → IsInEntry (kind_of here.world e.node.0)
+equation_fix : (q f : ℕ) (past : ℕ → Frame) (here : Frame) → HasFixes here.world → (e : End) → IsInLimits (kind_of here.world e.node.0)
     → (is_delay_kind (kind_of here.world e.node.0) ≡ true → e.writer ≡ false → muted here.world.graph.value e ≡ false → AsksFixes q f past here e.node.0) → (o c : ℕ) → IsFix (equation q f past here e o c)
 unfolding equation
-equation_fix q f past here fixes e entry asks o c = by_muted (muted here.world.graph.value e) refl
+equation_fix q f past here fixes e fine asks o c = by_muted (muted here.world.graph.value e) refl
   where
     by_muted : (b : Bool) → muted here.world.graph.value e ≡ b → IsFix (if b then pos 0 else if has_channel here.world here.counts e o c then value_by_kind q f past here (kind_of here.world e.node.0) e o c else pos 0)
     by_muted true silent = zero_fix
     by_muted false heard =
         either_fix (has_channel here.world here.counts e o c) _ (pos 0)
-        (kind_fix q f past here fixes (kind_of here.world e.node.0) (fixes.points e.node.0) e entry (λ delay reader. asks delay reader heard) o c) zero_fix
+        (kind_fix q f past here fixes (kind_of here.world e.node.0) (fixes.points e.node.0) e fine (λ delay reader. asks delay reader heard) o c) zero_fix
 
 -- so are those of every world of a tape, and of the one past its end
 fixes_in : (tape : List World) (j : ℕ) → All HasFixes tape → HasFixes (world_in tape j)
@@ -202,11 +206,11 @@ fixes_in [] j all = record { samples = All-nil IsSampled; points = λ i. tt }
 fixes_in (w ∷ ws) zero all = let fixes = All-head HasFixes w ws all in record { samples = fixes.samples; points = fixes.points }
 fixes_in (w ∷ ws) (suc j) all = fixes_in ws j (All-tail HasFixes w ws all)
 
--- what its nodes were created with is in the ranges of their kinds
-entries_in : (tape : List World) (j : ℕ) → All IsValid tape → (i : ℕ) → IsInEntry (kind_of (world_in tape j) i)
-entries_in [] j all i = tt
-entries_in (w ∷ ws) zero all i = entry_there w (All-head IsValid w ws all) i
-entries_in (w ∷ ws) (suc j) all i = entries_in ws j (All-tail IsValid w ws all) i
+-- what its nodes were created with is not refused
+limits_in : (tape : List World) (j : ℕ) → All IsValid tape → (i : ℕ) → IsInLimits (kind_of (world_in tape j) i)
+limits_in [] j all i = refl
+limits_in (w ∷ ws) zero all i = limits_there w (All-head IsValid w ws all) i
+limits_in (w ∷ ws) (suc j) all i = limits_in ws j (All-tail IsValid w ws all) i
 
 module _ (q : ℕ) (some : 0 < q) (tape : List World) (valid : All IsValid tape) (fixes : All HasFixes tape) where
   abbrev AreFixes : ℕ → Values → Type 0
@@ -243,7 +247,7 @@ module _ (q : ℕ) (some : 0 < q) (tape : List World) (valid : All IsValid tape)
   height_fix f earlier zero e o c = subst (λ (v : Values). IsFix (v e o c)) (sym (moment-zero (value_scheme q) (known_at q tape) f)) zero_fix
   height_fix f earlier (suc h) e o c =
       subst (λ (v : Values). IsFix (v e o c)) (sym (value_suc q tape f h))
-      (equation_fix q f (frames_before q tape f) (frame_at q tape f h) (fixes_in tape (f / q) fixes) e (entries_in tape (f / q) valid e.node.0)
+      (equation_fix q f (frames_before q tape f) (frame_at q tape f h) (fixes_in tape (f / q) fixes) e (limits_in tape (f / q) valid e.node.0)
       (λ delay reader heard. asks_fixes f h earlier (height_fix f earlier h) e.node.0 delay (subst (λ x. muted (world_at q tape f).graph.value x ≡ false) (reader_end e reader) heard)) o c)
 
   full_fix : (f : ℕ) → ((g : ℕ) → g < f → AreFixes g (value q tape g)) → AreFixes f (value q tape f)

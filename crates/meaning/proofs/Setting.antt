@@ -1,15 +1,14 @@
 -- A world stays valid when an attribute of a node is set.
-use Rattle.std.proofs.Common.{ℕ, ℤ, zero, suc, ◌≡◌, ◌<◌, length, List, [], ◌∷◌, map, slice_index_or, true, Option, None, refl, sym, ◌∙◌, ap, subst}
-use Rattle.std.specs.Prelude.{◌↔◌, IsSome}
+use Rattle.std.proofs.Common.{ℕ, ℤ, zero, suc, ◌≡◌, ◌<◌, length, List, [], ◌∷◌, map, slice_index_or, true, Option, None, refl, sym, ◌∙◌, ap, subst, Some}
+use Rattle.std.specs.Prelude.{◌↔◌}
 use Rattle.wa_base.specs.declared.exceptions.Exc.{Exc}
 use Rattle.wa_base.specs.declared.graph_names.Mode.{Mode}
 use Rattle.wa_base.specs.declared.graph_names.Interp.{Interp}
 use Rattle.law_base.specs.Members.{IsIn}
-use Rattle.node_table.specs.Kinds.{inputs, outputs, is_delay_kind, capacity_of, param_base, lasting, with_curve}
+use Rattle.node_table.specs.Kinds.{inputs, outputs, is_delay_kind, capacity_of, param_name, lasting}
 use Rattle.node_table.specs.Nodes.{IsCreated, with_count, with_mode, with_interp, count_refusal, mode_refusal, interp_refusal, node_with_curve, curve_refusal, changed_at, refusal_at}
 use Rattle.node_table.specs.declared.kinds.Kind.{Kind}
-use Rattle.node_table.specs.declared.kinds.Kind.TheVariants.{Destination, Constant, Buffer, Gain, Delay, Splitter, Merger, Shaper, Iir}
-use Rattle.node_table.proofs.Lasting.{same_by_lasting, holds_by_lasting}
+use Rattle.node_table.proofs.Lasting.{same_by_lasting, holds_by_lasting, with_curve_lasts}
 use Rattle.node_table.proofs.Shaping.{keeps_curve}
 use Rattle.node_table.specs.declared.nodes.Node.{Node}
 use Rattle.node_table.proofs.Setting.{count_free, mode_kept, keeps_count, keeps_mode, keeps_interp, length-changed, capacities-changed}
@@ -73,7 +72,7 @@ set_valid w node refusal change keeps fine valid = record {
   graph = valid.graph;
   ports = valid.ports ∙ sym (map_same ports_of change (ports_same change keeps.kind) node w.nodes);
   params = record {
-    each = λ i name below. subst (λ base. IsIn (param_id i name) (param_ids w) ↔ IsSome base) (sym (same_by_lasting (λ k. param_base k name) (λ curve was_set. refl) _ _ (kinds i))) (valid.params.each i name (rw same at below));
+    each = λ i name below. subst (λ own. IsIn (param_id i name) (param_ids w) ↔ (own ≡ Some name)) (sym (same_by_lasting param_name (λ curve was_set. refl) _ _ (kinds i))) (valid.params.each i name (rw same at below));
     there = λ id is. rw same (valid.params.there id is);
     order = valid.params.order;
     lines = valid.params.lines;
@@ -128,17 +127,6 @@ node_keeps_attribute (attribute.Mode mode) = node_keeps_mode mode
 node_keeps_attribute (attribute.Interp interp) = node_keeps_interp interp
 
 -- ---- the curve of a shaper
-
-with_curve_lasts : (curve : Option (List ℤ)) (kind : Kind) → lasting (with_curve curve kind) ≡ lasting kind
-with_curve_lasts curve Destination = refl
-with_curve_lasts curve (Constant offset) = refl
-with_curve_lasts curve (Buffer rate) = refl
-with_curve_lasts curve (Gain gain) = refl
-with_curve_lasts curve (Delay longest time capacity) = refl
-with_curve_lasts curve (Splitter ports) = refl
-with_curve_lasts curve (Merger ports) = refl
-with_curve_lasts curve (Iir forward back) = refl
-with_curve_lasts curve (Shaper old was_set) = refl
 
 pub node_keeps_curve : (curve : Option (List ℤ)) → KeepsNode (curve_refusal curve) (node_with_curve curve)
 node_keeps_curve curve = record {

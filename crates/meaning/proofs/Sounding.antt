@@ -1,5 +1,5 @@
 -- What of a world can be heard does not hang on the current value slots of its parameters.
-use Rattle.std.proofs.Common.{ℕ, zero, suc, ℤ, pos, ◌≡◌, length, List, [], ◌∷◌, map, cond, not, Bool, false, Option, None, Some, slice_index_or, inl, inr, refl, sym, ◌∙◌, ap, subst}
+use Rattle.std.proofs.Common.{ℕ, zero, suc, pos, ◌≡◌, length, List, [], ◌∷◌, map, cond, not, Bool, false, Option, None, Some, inl, inr, refl, sym, ◌∙◌, ap, subst}
 use Rattle.std.specs.Prelude.{◌+◌, nat_lt, slice_get, option_and_then, option_map}
 use Rattle.std.specs.List.{position, position_or_len}
 use Rattle.std.specs.Option.{option_map_or}

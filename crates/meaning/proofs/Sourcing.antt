@@ -18,13 +18,16 @@ use Rattle.sched_source.specs.declared.content.Loop.{Loop}
 use Rattle.sched_source.specs.Playback.{unstarted, begun, absolute}
 use Rattle.sched_source.specs.Schedule.{Schedule, constant, buffer}
 use Rattle.node_table.specs.declared.kinds.Kind.{Kind}
-use Rattle.node_table.specs.declared.kinds.Kind.TheVariants.{Destination, Constant, Buffer, Gain, Delay, Splitter, Merger, Shaper, Iir}
+use Rattle.node_table.specs.declared.kinds.Kind.TheVariants.{Buffer}
+use Rattle.node_table.specs.declared.rows.Plays.{Plays}
+use Rattle.node_table.specs.declared.rows.Plays.TheVariants as played
+use Rattle.node_table.specs.Kinds.{row}
 use Rattle.meaning.specs.declared.scheds.Play.{Play}
 use Rattle.meaning.specs.declared.sources.SourceEdit.{SourceEdit}
 use Rattle.meaning.specs.declared.sources.SourceEdit.TheVariants as edit
 use Rattle.meaning.specs.declared.world.World.{World}
-use Rattle.meaning.specs.World.{kind_of, first_sched, no_loop, not_started, find_play, frames_in}
-use Rattle.meaning.specs.Validity.{IsValid, IsPlayOf, IsConstantPlay, IsBufferPlay}
+use Rattle.meaning.specs.World.{kind_of, sched_of, first_sched, no_loop, not_started, find_play, frames_in}
+use Rattle.meaning.specs.Validity.{IsValid, IsPlay, IsConstantPlay, IsBufferPlay}
 use Rattle.meaning.specs.Plays.{new_source, play_edited, frozen_in, acquires, acquired, with_part}
 use Rattle.meaning.specs.Sources.{with_store, source_edited, source_refusal, IsBufferOf, IsNamedBy}
 use Rattle.meaning.specs.Changes.{new_play}
@@ -46,24 +49,18 @@ same_some : (node : ℕ) (sched : Option Schedule) → is_some (option_map (not_
 same_some node None = refl
 same_some node (Some sched) = refl
 
-new_fits : (store : List AudioBuffer) (node : ℕ) (kind : Kind) (p : Play) → new_play node kind ≡ Some p → IsPlayOf store kind p
-new_fits store node Destination p is = absurd cc
-new_fits store node (Constant offset) p is = by_some IsConstantPlay (not_started node constant) p is (record { content = refl; buffer = refl })
-new_fits store node (Buffer rate) p is =
+new_fits : (store : List AudioBuffer) (node : ℕ) (plays : Option Plays) (p : Play) → option_map (not_started node) (option_map sched_of plays) ≡ Some p → IsPlay store plays p
+new_fits store node None p is = absurd cc
+new_fits store node (Some played.Value) p is = by_some IsConstantPlay (not_started node constant) p is (record { content = refl; buffer = refl })
+new_fits store node (Some (played.Content rate)) p is =
     by_some (IsBufferPlay store rate) (not_started node (buffer rate no_loop)) p is
     (record { content = unstarted rate no_loop; plays = refl; rate_of = refl; there = tt; length_of = λ none. let never : false ≡ true = none in absurd cc })
-new_fits store node (Gain gain) p is = absurd cc
-new_fits store node (Delay longest time capacity) p is = absurd cc
-new_fits store node (Splitter ports) p is = absurd cc
-new_fits store node (Merger ports) p is = absurd cc
-new_fits store node (Shaper curve was_set) p is = absurd cc
-new_fits store node (Iir forward back) p is = absurd cc
 
 pub new_play_is : (w : World) (kind : Kind) → IsNewPlay w kind (new_play (length w.nodes) kind)
 new_play_is w kind = record {
   own = own_play (length w.nodes) (first_sched kind);
   sources = same_some (length w.nodes) (first_sched kind);
-  fits = new_fits w.store (length w.nodes) kind;
+  fits = new_fits w.store (length w.nodes) (row kind).plays;
 }
 
 pub new_source_is : (w : World) (rate : ℕ) (source : Option BufId) (points : Loop) → IsBufferOf w.store source
@@ -90,26 +87,20 @@ same_frames : (old new : List AudioBuffer) → KeepsFrames old new → (source :
 same_frames old new keeps None there = refl
 same_frames old new keeps (Some b) there = keeps.frames b.0 there
 
-kept_play : (old new : List AudioBuffer) → KeepsFrames old new → (kind : Kind) (p : Play) → IsPlayOf old kind p → IsPlayOf new kind p
-kept_play old new keeps Destination p is = is
-kept_play old new keeps (Constant offset) p is = is
-kept_play old new keeps (Buffer rate) p is = record {
+kept_play : (old new : List AudioBuffer) → KeepsFrames old new → (plays : Option Plays) (p : Play) → IsPlay old plays p → IsPlay new plays p
+kept_play old new keeps None p is = is
+kept_play old new keeps (Some played.Value) p is = is
+kept_play old new keeps (Some (played.Content rate)) p is = record {
   content = is.content;
   plays = is.plays;
   rate_of = is.rate_of;
   there = there_too old new keeps p.buffer is.there;
   length_of = λ begun. is.length_of begun ∙ sym (same_frames old new keeps p.buffer is.there);
 }
-kept_play old new keeps (Gain gain) p is = is
-kept_play old new keeps (Delay longest time capacity) p is = is
-kept_play old new keeps (Splitter ports) p is = is
-kept_play old new keeps (Merger ports) p is = is
-kept_play old new keeps (Shaper curve was_set) p is = is
-kept_play old new keeps (Iir forward back) p is = is
 
 pub with_store_valid : (w : World) (store : List AudioBuffer) → KeepsFrames w.store store → AreBuffers store → IsValid w → IsValid (with_store w store)
 with_store_valid w store keeps are valid =
-    valid_of w (with_store w store) refl refl refl refl refl (λ p is. kept_play w.store store keeps (kind_of w p.id.0) p (valid.scheds.kinds p is)) are valid
+    valid_of w (with_store w store) refl refl refl refl refl (λ p is. kept_play w.store store keeps (row (kind_of w p.id.0)).plays p (valid.scheds.kinds p is)) are valid
 
 -- a store with one buffer more, or one changed that keeps its frames
 pub keeps_more : (old : List AudioBuffer) (b : AudioBuffer) → KeepsFrames old (old ++ b ∷ [])
@@ -145,19 +136,13 @@ keeps_all : (old : List AudioBuffer) → KeepsFrames old old
 keeps_all old = record { long = omega arith; frames = λ i l. refl }
 
 -- the buffer of a source is in the store
-play_buffer : (store : List AudioBuffer) (kind : Kind) (p : Play) → IsPlayOf store kind p → IsBufferOf store p.buffer
-play_buffer store Destination p is = absurd is
-play_buffer store (Constant offset) p is = rw is.buffer tt
-play_buffer store (Buffer rate) p is = is.there
-play_buffer store (Gain gain) p is = absurd is
-play_buffer store (Delay longest time capacity) p is = absurd is
-play_buffer store (Splitter ports) p is = absurd is
-play_buffer store (Merger ports) p is = absurd is
-play_buffer store (Shaper curve was_set) p is = absurd is
-play_buffer store (Iir forward back) p is = absurd is
+play_buffer : (store : List AudioBuffer) (plays : Option Plays) (p : Play) → IsPlay store plays p → IsBufferOf store p.buffer
+play_buffer store None p is = absurd is
+play_buffer store (Some played.Value) p is = rw is.buffer tt
+play_buffer store (Some (played.Content rate)) p is = is.there
 
 pub found_buffer : (w : World) → IsValid w → (i : ℕ) (p : Play) → slice_get w.scheds.items i ≡ Some p → IsBufferOf w.store p.buffer
-found_buffer w valid i p is = play_buffer w.store (kind_of w p.id.0) p (valid.scheds.kinds p (found_is_in w.scheds.items i p is))
+found_buffer w valid i p is = play_buffer w.store (row (kind_of w p.id.0)).plays p (valid.scheds.kinds p (found_is_in w.scheds.items i p is))
 
 -- and so is the one that it acquires
 pub acquires_there : (store : List AudioBuffer) (e : SourceEdit) (p : Play) (b : BufId) → IsBufferOf store p.buffer → acquires e p ≡ Some b → b.0 < length store
@@ -244,17 +229,11 @@ module _ (w : World) (store : List AudioBuffer) (keeps : KeepsFrames w.store sto
     length_of = is.length_of;
   }
 
-  edit_stays : (e : SourceEdit) (kind : Kind) (p : Play) → IsNamedBy w.store e → source_refusal w e (Some p) ≡ None → IsPlayOf w.store kind p → IsPlayOf store kind p
-      → IsPlayOf store kind (play_edited (frames_in w.store p.buffer) now e p)
-  edit_stays e Destination p named fine old is = absurd is
-  edit_stays e (Constant offset) p named fine old is = constant_stays e (frames_in w.store p.buffer) p fine is
-  edit_stays e (Buffer rate) p named fine old is = source_stays e rate p named fine old.there is
-  edit_stays e (Gain gain) p named fine old is = absurd is
-  edit_stays e (Delay longest time capacity) p named fine old is = absurd is
-  edit_stays e (Splitter ports) p named fine old is = absurd is
-  edit_stays e (Merger ports) p named fine old is = absurd is
-  edit_stays e (Shaper curve was_set) p named fine old is = absurd is
-  edit_stays e (Iir forward back) p named fine old is = absurd is
+  edit_stays : (e : SourceEdit) (plays : Option Plays) (p : Play) → IsNamedBy w.store e → source_refusal w e (Some p) ≡ None → IsPlay w.store plays p → IsPlay store plays p
+      → IsPlay store plays (play_edited (frames_in w.store p.buffer) now e p)
+  edit_stays e None p named fine old is = absurd is
+  edit_stays e (Some played.Value) p named fine old is = constant_stays e (frames_in w.store p.buffer) p fine is
+  edit_stays e (Some (played.Content rate)) p named fine old is = source_stays e rate p named fine old.there is
 
 frozen_keeps : (store : List AudioBuffer) (source : Option BufId) → KeepsFrames store (frozen_in store source)
 frozen_keeps store None = keeps_all store
@@ -279,5 +258,5 @@ source_edited_valid w now node e named fine valid =
     with_play_valid (with_store w store) node (λ p. play_edited (frames_in w.store p.buffer) now e p) (λ p. edited_id (frames_in w.store p.buffer) now e p)
     (λ p is at own.
     let fine_here : source_refusal w e (Some p) ≡ None = subst (λ (o : Option Play). source_refusal w e o ≡ None) (ap (find_play w.scheds.items) (sym at) ∙ found_in w valid p is) fine in
-    edit_stays w store keeps now e (kind_of w p.id.0) p named fine_here (valid.scheds.kinds p is) own)
+    edit_stays w store keeps now e (row (kind_of w p.id.0)).plays p named fine_here (valid.scheds.kinds p is) own)
     (with_store_valid w store keeps (acquired_are w.store e (find_play w.scheds.items node) valid.store) valid)

@@ -5,13 +5,13 @@ use Rattle.wa_base.specs.declared.exceptions.Exc.{Exc}
 use Rattle.wa_base.specs.declared.exceptions.Exc.TheVariants.{NotSupported}
 use Rattle.wa_base.specs.declared.features.Feature.TheVariants.{DestinationOutput}
 use Rattle.wa_base.specs.declared.graph_names.ParamName.{ParamName}
-use Rattle.wa_base.specs.declared.graph_names.ParamName.TheVariants as param
 use Rattle.wa_base.specs.declared.graph_names.Rate.TheVariants.{A}
 use Rattle.law_base.specs.Members.{IsIn}
-use Rattle.node_table.specs.Kinds.{is_destination, IsInEntry}
+use Rattle.node_table.specs.Kinds.{row, is_destination}
 use Rattle.node_table.specs.Nodes.{creation_refusal, node_of, with_count, with_mode, with_interp, count_refusal, mode_refusal, interp_refusal, node_with_curve, curve_refusal, changed_at, refusal_at}
 use Rattle.node_table.specs.declared.kinds.Kind.{Kind}
-use Rattle.node_table.specs.declared.kinds.Kind.TheVariants.{Destination, Constant, Buffer, Gain, Delay, Splitter, Merger, Shaper, Iir}
+use Rattle.node_table.specs.declared.kinds.Kind.TheVariants.{Buffer}
+use Rattle.node_table.specs.declared.rows.ParamRow.{ParamRow}
 use Rattle.node_table.specs.declared.nodes.Node.{Node}
 use Rattle.conn_graph.specs.Edges.{form_node}
 use Rattle.conn_graph.specs.Graph.{Connections, with_node, connect_refusal, connected, disconnect_refusal, disconnected}
@@ -39,21 +39,10 @@ use Rattle.meaning.specs.Worlds.{Stays, HasCapacity}
 abbrev pub new_param : ℕ → ParamName → ℤ → Param
 new_param node name value = record { id = param_id node name; line = record { base = value; slot = value; events = [] }; rate = A }
 
--- the parameter that a kind has, and its creation value
-abbrev pub param_of : Kind → Option (ParamName × ℤ)
-param_of Destination = None
-param_of (Constant offset) = Some (param.Offset, offset)
-param_of (Buffer rate) = None
-param_of (Gain gain) = Some (param.Gain, gain)
-param_of (Delay longest time capacity) = Some (param.DelayTime, time)
-param_of (Splitter ports) = None
-param_of (Merger ports) = None
-param_of (Shaper curve was_set) = None
-param_of (Iir forward back) = None
-
-abbrev pub new_params : ℕ → Option (ParamName × ℤ) → List Param
+-- the parameter that a kind has, if it has one
+abbrev pub new_params : ℕ → Option ParamRow → List Param
 new_params node None = []
-new_params node (Some (name, value)) = new_param node name value ∷ []
+new_params node (Some param) = new_param node param.name param.value ∷ []
 
 -- the schedule of a new node, if it is a source
 abbrev pub new_play : ℕ → Kind → Option Play
@@ -68,7 +57,7 @@ abbrev pub created : World → Kind → Option Play → ℕ → World
 created w kind play now = record w {
   nodes = w.nodes ++ node_of kind now ∷ [];
   graph = bare (with_node w.graph.value (ports_of (node_of kind now)));
-  params = listed (w.params.items ++ new_params (length w.nodes) (param_of kind));
+  params = listed (w.params.items ++ new_params (length w.nodes) (row kind).param);
   scheds = listed (w.scheds.items ++ plays_of play);
 }
 
@@ -145,9 +134,9 @@ abbrev pub IsTarget : World → Target → Type 0
 IsTarget w (Input node input) = node.0 < length w.nodes
 IsTarget w (to_param id) = IsIn id (param_ids w)
 
--- what an edit names is there, and a node that it creates is no destination, in its kind's ranges
+-- what an edit names is there, and a node that it creates is no destination
 abbrev pub IsNamed : World → Edit → Type 0
-IsNamed w (edit.Create kind) = (is_destination kind ≡ false) × IsInEntry kind × HasCapacity (quantum_of w.spec) w.spec kind
+IsNamed w (edit.Create kind) = (is_destination kind ≡ false) × HasCapacity (quantum_of w.spec) w.spec kind
 IsNamed w (edit.CreateBufferSource rate buffer points) = IsBufferOf w.store buffer
 IsNamed w (edit.Connect edge) = (edge.from.0 < length w.nodes) × IsTarget w edge.to
 IsNamed w (edit.Disconnect from form) = (from.0 < length w.nodes) × IfSome (form_node form) (λ node. node < length w.nodes)

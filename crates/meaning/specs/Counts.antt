@@ -1,10 +1,12 @@
 -- How many channels each end has in each quantum.
-use Rattle.std.specs.Prelude.{ℕ, ◌+◌, ◌-◌, ◌*◌, ◌/◌, ◌==◌, List, map, slice_index_or, nat_lt, if◌then◌else◌}
+use Rattle.std.specs.Prelude.{ℕ, ◌+◌, ◌-◌, ◌*◌, ◌/◌, ◌==◌, ◌&&◌, not, List, map, slice_index_or, nat_lt, if◌then◌else◌}
 use Rattle.wa_base.specs.declared.graph_names.End.{End}
 use Rattle.law_base.specs.Heights.{Scheme, at_moment}
 use Rattle.channel_mix.specs.Counts.{greatest, input_count}
 use Rattle.node_table.specs.declared.kinds.Kind.{Kind}
-use Rattle.node_table.specs.declared.kinds.Kind.TheVariants.{Destination, Constant, Buffer, Gain, Delay, Splitter, Merger, Shaper, Iir}
+use Rattle.node_table.specs.declared.rows.Channels.{Channels}
+use Rattle.node_table.specs.declared.rows.Channels.TheVariants.{Always, OfInput, OfBuffer}
+use Rattle.node_table.specs.Kinds.{row, is_delay_kind}
 use Rattle.conn_graph.specs.Graph.{edges_to_input}
 use Rattle.conn_graph.specs.Ends.{writer_of, reader_of, in_cycle, height, muted}
 use Rattle.meaning.specs.declared.world.World.{World}
@@ -33,17 +35,17 @@ reader_channels q w j past now n =
     let end = if in_cycle w.graph.value n then j else j + 1 in
     greatest (since (λ k. seen_counts j past now k (writer_of n)) birth (end - birth))
 
--- by the kind of an end's node, in quantum j of q frames, from the counts of the quanta before and of this one
+-- how many channels the outputs of a node have in quantum j of q frames, by its row
+abbrev pub output_channels : ℕ → World → ℕ → Counts → Channels → ℕ → ℕ
+output_channels q w j now (Always channels) n = channels
+output_channels q w j now OfInput n = input_channels w now n 0
+output_channels q w j now OfBuffer n = played_channels w n q (q * j)
+
+-- by the kind of an end's node, from the counts of the quanta before and of this one: the reader of a delay gives what its writer had
 abbrev pub count_by_kind : ℕ → World → ℕ → (ℕ → Counts) → Counts → Kind → End → ℕ
-count_by_kind q w j past now Destination e = input_channels w now e.node.0 0
-count_by_kind q w j past now (Constant offset) e = 1
-count_by_kind q w j past now (Buffer rate) e = played_channels w e.node.0 q (q * j)
-count_by_kind q w j past now (Gain gain) e = input_channels w now e.node.0 0
-count_by_kind q w j past now (Delay longest time capacity) e = if e.writer then input_channels w now e.node.0 0 else reader_channels q w j past now e.node.0
-count_by_kind q w j past now (Splitter outputs) e = 1
-count_by_kind q w j past now (Merger inputs) e = inputs
-count_by_kind q w j past now (Shaper curve was_set) e = input_channels w now e.node.0 0
-count_by_kind q w j past now (Iir forward back) e = input_channels w now e.node.0 0
+count_by_kind q w j past now kind e =
+    if is_delay_kind kind && not e.writer then reader_channels q w j past now e.node.0
+    else output_channels q w j now (row kind).channels e.node.0
 
 -- the counts one height up; a muted end has one channel
 unfoldable pub count_rule : ℕ → World → ℕ → (ℕ → Counts) → Counts → Counts

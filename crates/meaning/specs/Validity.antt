@@ -1,5 +1,5 @@
 -- What holds of every world of a session.
-use Rattle.std.specs.Prelude.{ℕ, ◌≡◌, ◌↔◌, ◌<◌, ◌≤◌, List, length, map, None, Some, IsSome, IfSome, true}
+use Rattle.std.specs.Prelude.{ℕ, ◌≡◌, ◌↔◌, ◌<◌, ◌≤◌, List, length, map, Option, None, Some, IsSome, IfSome, true}
 use Rattle.std.specs.List.Sorted.{IsStrictlyIncreasing}
 use Rattle.wa_base.specs.Contexts.{IsSupported}
 use Rattle.wa_base.specs.declared.contexts.ContextSpec.{ContextSpec}
@@ -11,10 +11,12 @@ use Rattle.param_events.specs.Timeline.{IsTimeline}
 use Rattle.sched_source.specs.declared.content.Content.{Content}
 use Rattle.buffer_store.specs.declared.buffers.Buffer.{Buffer as AudioBuffer}
 use Rattle.buffer_store.specs.Buffers.{AreBuffers}
-use Rattle.node_table.specs.Kinds.{inputs, outputs, is_delay_kind, param_base}
+use Rattle.node_table.specs.Kinds.{row, inputs, outputs, is_delay_kind, param_name}
 use Rattle.node_table.specs.Nodes.{capacities, IsCreated}
 use Rattle.node_table.specs.declared.kinds.Kind.{Kind}
-use Rattle.node_table.specs.declared.kinds.Kind.TheVariants.{Destination, Constant, Buffer, Gain, Delay, Splitter, Merger, Shaper, Iir}
+use Rattle.node_table.specs.declared.kinds.Kind.TheVariants.{Destination}
+use Rattle.node_table.specs.declared.rows.Plays.{Plays}
+use Rattle.node_table.specs.declared.rows.Plays.TheVariants as plays
 use Rattle.node_table.specs.declared.nodes.Node.{Node}
 use Rattle.conn_graph.specs.declared.edges.Edge.{Edge}
 use Rattle.conn_graph.specs.declared.edges.Ports.{Ports}
@@ -51,7 +53,7 @@ param_nodes w = map (λ (p : Param). p.id.node.0) w.params.items
 
 -- Each parameter that a node's kind has stands in the list, and nothing else. They stand in order of their nodes, of which each has one at most. What a connection leads to stands there.
 pub record HasParams (w : World) : Type 0 where
-  pub each : (i : ℕ) (name : ParamName) → i < length w.nodes → IsIn (param_id i name) (param_ids w) ↔ IsSome (param_base (kind_of w i) name)
+  pub each : (i : ℕ) (name : ParamName) → i < length w.nodes → IsIn (param_id i name) (param_ids w) ↔ (param_name (kind_of w i) ≡ Some name)
   pub there : (id : ParamId) → IsIn id (param_ids w) → id.node.0 < length w.nodes
   pub order : IsStrictlyIncreasing (param_nodes w)
   pub lines : (p : Param) → IsIn p w.params.items → IsTimeline p.line.events
@@ -73,17 +75,14 @@ pub record IsBufferPlay (store : List AudioBuffer) (rate : ℕ) (play : Play) : 
   pub there : IfSome play.buffer (λ b. b.0 < length store)
   pub length_of : IsSome play.sched.start → content.length ≡ frames_in store play.buffer
 
--- a schedule is one of a node's kind
+-- a schedule is one of what a node plays, if it plays anything
+abbrev pub IsPlay : List AudioBuffer → Option Plays → Play → Type 0
+IsPlay store None play = ⊥
+IsPlay store (Some plays.Value) play = IsConstantPlay play
+IsPlay store (Some (plays.Content rate)) play = IsBufferPlay store rate play
+
 abbrev pub IsPlayOf : List AudioBuffer → Kind → Play → Type 0
-IsPlayOf store Destination play = ⊥
-IsPlayOf store (Constant offset) play = IsConstantPlay play
-IsPlayOf store (Buffer rate) play = IsBufferPlay store rate play
-IsPlayOf store (Gain gain) play = ⊥
-IsPlayOf store (Delay longest time capacity) play = ⊥
-IsPlayOf store (Splitter ports) play = ⊥
-IsPlayOf store (Merger ports) play = ⊥
-IsPlayOf store (Shaper curve was_set) play = ⊥
-IsPlayOf store (Iir forward back) play = ⊥
+IsPlayOf store kind play = IsPlay store (row kind).plays play
 
 -- each source has a schedule of its kind, once, and no other node has one
 pub record HasScheds (w : World) : Type 0 where

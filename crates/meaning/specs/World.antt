@@ -1,5 +1,5 @@
 -- What is in force in one render quantum.
-use Rattle.std.specs.Prelude.{ℕ, ℤ, pos, List, [], map, slice_index_or, Bool, true, false, ◌==◌, if◌then◌else◌, slice_get, option_and_then, min, Option, None, Some, is_some}
+use Rattle.std.specs.Prelude.{ℕ, ℤ, pos, List, [], map, slice_index_or, Bool, true, false, ◌==◌, if◌then◌else◌, slice_get, option_and_then, option_map, min, Option, None, is_some}
 use Rattle.std.specs.List.{position}
 use Rattle.std.specs.Option.{option_map_or}
 use Rattle.wa_base.specs.Numbers.{sat}
@@ -16,7 +16,12 @@ use Rattle.sched_source.specs.Schedule.{Schedule, plays_at, plays_in, played, co
 use Rattle.buffer_store.specs.declared.buffers.Buffer.{Buffer as AudioBuffer}
 use Rattle.buffer_store.specs.Buffers.{channel_of}
 use Rattle.node_table.specs.declared.kinds.Kind.{Kind}
-use Rattle.node_table.specs.declared.kinds.Kind.TheVariants.{Destination, Constant, Buffer, Gain, Delay, Splitter, Merger, Shaper, Iir}
+use Rattle.node_table.specs.declared.kinds.Kind.TheVariants.{Destination}
+use Rattle.node_table.specs.declared.rows.Plays.{Plays}
+use Rattle.node_table.specs.declared.rows.Plays.TheVariants.{Value, Content}
+use Rattle.node_table.specs.declared.rows.Range.{Range}
+use Rattle.node_table.specs.declared.rows.Range.TheVariants.{Any, UpTo}
+use Rattle.node_table.specs.Kinds.{row}
 use Rattle.node_table.specs.declared.nodes.Node.{Node}
 use Rattle.conn_graph.specs.Edges.{same_param}
 use Rattle.conn_graph.specs.Graph.{Connections, no_connections}
@@ -102,34 +107,27 @@ abbrev pub up_to : ℤ → ℤ → ℤ
 up_to (pos most) (pos x) = pos (min x most)
 up_to most x = pos 0
 
--- a value clamped to the nominal range of the parameter that a kind has: that of delayTime goes from 0 up to maxDelayTime
+-- a value in a nominal range
+abbrev pub in_range : Range → ℤ → ℤ
+in_range Any x = sat x
+in_range (UpTo most) x = up_to most x
+
+-- a value clamped to the nominal range of the parameter that a kind has
 abbrev pub nominal : Kind → ℤ → ℤ
-nominal Destination x = sat x
-nominal (Constant offset) x = sat x
-nominal (Buffer rate) x = sat x
-nominal (Gain gain) x = sat x
-nominal (Delay longest time capacity) x = up_to longest x
-nominal (Splitter ports) x = sat x
-nominal (Merger ports) x = sat x
-nominal (Shaper curve was_set) x = sat x
-nominal (Iir forward back) x = sat x
+nominal kind x = option_map_or (λ p. in_range p.range x) (row kind).param (pos 0)
 
 -- ---- its schedules
 
 abbrev pub no_loop : Loop
 no_loop = record { on = false; first = pos 0; end = pos 0 }
 
--- the schedule with which a source is created
+-- the schedule with which a source is created, by what it plays
+abbrev pub sched_of : Plays → Schedule
+sched_of Value = constant
+sched_of (Content rate) = buffer rate no_loop
+
 abbrev pub first_sched : Kind → Option Schedule
-first_sched Destination = None
-first_sched (Constant offset) = Some constant
-first_sched (Buffer rate) = Some (buffer rate no_loop)
-first_sched (Gain gain) = None
-first_sched (Delay longest time capacity) = None
-first_sched (Splitter ports) = None
-first_sched (Merger ports) = None
-first_sched (Shaper curve was_set) = None
-first_sched (Iir forward back) = None
+first_sched kind = option_map sched_of (row kind).plays
 
 -- what has a schedule is a source
 abbrev pub is_source : Kind → Bool

@@ -10,10 +10,10 @@ ghost use Rattle.meaning.specs.World.{plain, first_sched as first_sched_of};
 use crate::params::{Param, Params};
 use crate::scheds::{Play, Scheds};
 use crate::world::World;
-use node_table::Kind;
+use node_table::{Kind, ParamRow, Plays};
 use param_events::Timeline;
 use sched_source::{Loop, Sched};
-use wa_base::{BufId, Fix, NoMemory, NodeId, ParamId, ParamName, Rate};
+use wa_base::{BufId, NoMemory, NodeId, ParamId, Rate};
 
 // A buffer source is created without a loop.
 const NO_LOOP: Loop = Loop {
@@ -69,33 +69,15 @@ impl World {
         self.graph.reserve()?;
         self.params.reserve()?;
         self.scheds.reserve()?;
-        let (inputs, outputs) = (kind.inputs(), kind.outputs());
-        let is_delay = kind.is_delay();
-        let param = param_of(&kind);
+        let row = kind.row();
         // A kind that is accepted is refused only for want of memory.
         let Ok(node) = self.nodes.create(kind, now) else {
             return Err(NoMemory);
         };
-        self.graph.add_node(inputs, outputs, is_delay)?;
-        push_param(&mut self.params, node, param)?;
+        self.graph
+            .add_node(row.inputs, row.outputs, row.keeps.is_written())?;
+        push_param(&mut self.params, node, row.param)?;
         push_play(&mut self.scheds, play)
-    }
-}
-
-// The parameter that a kind has, and its creation value.
-fn param_of(kind: &Kind) -> Option<(ParamName, Fix)>
-    ensures { result ≡ changes.param_of kind.now }
-{
-    match kind {
-        Kind::Destination
-        | Kind::Buffer { .. }
-        | Kind::Splitter { .. }
-        | Kind::Merger { .. }
-        | Kind::Shaper { .. }
-        | Kind::Iir { .. } => None,
-        Kind::Constant { offset } => Some((ParamName::Offset, *offset)),
-        Kind::Gain { gain } => Some((ParamName::Gain, *gain)),
-        Kind::Delay { time, .. } => Some((ParamName::DelayTime, *time)),
     }
 }
 
@@ -104,32 +86,24 @@ fn first_sched(kind: &Kind) -> Option<Sched>
     requires { IsInLimits kind.now }
     ensures { result ≡ first_sched_of kind.now }
 {
-    match kind {
-        Kind::Constant { .. } => Some(Sched::constant()),
-        Kind::Buffer { rate } => Some(Sched::buffer(*rate, NO_LOOP)),
-        Kind::Destination
-        | Kind::Gain { .. }
-        | Kind::Delay { .. }
-        | Kind::Splitter { .. }
-        | Kind::Merger { .. }
-        | Kind::Shaper { .. }
-        | Kind::Iir { .. } => None,
+    match kind.row().plays? {
+        Plays::Value => Some(Sched::constant()),
+        Plays::Content(rate) => Some(Sched::buffer(rate, NO_LOOP)),
     }
 }
 
 // Appends the parameter of a new node, where it has one.
-fn push_param(
-    params: &mut Params,
-    node: NodeId,
-    param: Option<(ParamName, Fix)>,
-) -> Result<(), NoMemory>
+fn push_param(params: &mut Params, node: NodeId, param: Option<ParamRow>) -> Result<(), NoMemory>
     ensures ok { OnOk result (params.new.items ≡ params.old.items ++ changes.new_params node.0 param) }
     ensures reserved { 0 < params.old.room → IsOk result }
 {
-    if let Some((name, value)) = param {
-        let line = Timeline::new(params.alloc(), value);
+    if let Some(param) = param {
+        let line = Timeline::new(params.alloc(), param.value);
         params.push(Param {
-            id: ParamId { node, name },
+            id: ParamId {
+                node,
+                name: param.name,
+            },
             line,
             rate: Rate::A,
         })?;

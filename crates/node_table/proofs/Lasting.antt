@@ -2,12 +2,17 @@
 use Rattle.std.proofs.Common.{◌≡◌, ℕ, ℤ, Bool, true, false, Option, None, List, ◌⊎◌, inl, inr, refl, sym, ◌∙◌, ap, subst}
 use Rattle.node_table.specs.declared.kinds.Kind.{Kind}
 use Rattle.node_table.specs.declared.kinds.Kind.TheVariants.{Destination, Constant, Buffer, Gain, Delay, Splitter, Merger, Shaper, Iir}
-use Rattle.node_table.specs.Kinds.{is_delay_kind, lasting}
+use Rattle.node_table.specs.Kinds.{is_delay_kind, lasting, with_curve}
 
-record IsShaper (kind : Kind) : Type 0 where
-  curve : Option (List ℤ)
-  was_set : Bool
-  is : kind ≡ Shaper curve was_set
+pub record IsShaper (kind : Kind) : Type 0 where
+  pub curve : Option (List ℤ)
+  pub was_set : Bool
+  pub is : kind ≡ Shaper curve was_set
+
+-- another kind lasts as it is, and no curve is set
+pub record IsOther (kind : Kind) : Type 0 where
+  pub same : lasting kind ≡ kind
+  pub uncurved : (curve : Option (List ℤ)) → with_curve curve kind ≡ kind
 
 -- what a delay was created with
 pub record IsDelay (kind : Kind) : Type 0 where
@@ -28,21 +33,28 @@ the_delay (Shaper curve was_set) is = absurd cc
 the_delay (Iir forward back) is = absurd cc
 
 -- all of a kind lasts, but for a shaper's curve
-lasts : (kind : Kind) → (lasting kind ≡ kind) ⊎ IsShaper kind
-lasts Destination = inl refl
-lasts (Constant offset) = inl refl
-lasts (Buffer rate) = inl refl
-lasts (Gain gain) = inl refl
-lasts (Delay longest time capacity) = inl refl
-lasts (Splitter ports) = inl refl
-lasts (Merger ports) = inl refl
-lasts (Iir forward back) = inl refl
+pub lasts : (kind : Kind) → IsOther kind ⊎ IsShaper kind
+lasts Destination = inl (record { same = refl; uncurved = λ curve. refl })
+lasts (Constant offset) = inl (record { same = refl; uncurved = λ curve. refl })
+lasts (Buffer rate) = inl (record { same = refl; uncurved = λ curve. refl })
+lasts (Gain gain) = inl (record { same = refl; uncurved = λ curve. refl })
+lasts (Delay longest time capacity) = inl (record { same = refl; uncurved = λ curve. refl })
+lasts (Splitter ports) = inl (record { same = refl; uncurved = λ curve. refl })
+lasts (Merger ports) = inl (record { same = refl; uncurved = λ curve. refl })
+lasts (Iir forward back) = inl (record { same = refl; uncurved = λ curve. refl })
 lasts (Shaper curve was_set) = inr (record { curve = curve; was_set = was_set; is = refl })
+
+-- setting a curve changes nothing that lasts
+pub with_curve_lasts : (curve : Option (List ℤ)) (kind : Kind) → lasting (with_curve curve kind) ≡ lasting kind
+with_curve_lasts curve kind = elim (lasts kind) [
+  | inl other ↦ ap lasting (other.uncurved curve)
+  | inr shaper ↦ rw shaper.is refl
+]
 
 -- a filter lasts as it is
 pub lasting_filter : (kind : Kind) (forward back : List ℤ) → lasting kind ≡ Iir forward back → kind ≡ Iir forward back
 lasting_filter kind forward back is = elim (lasts kind) [
-  | inl same ↦ sym same ∙ is
+  | inl other ↦ sym other.same ∙ is
   | inr shaper ↦ let other : lasting (Shaper shaper.curve shaper.was_set) ≡ Iir forward back = subst (λ k. lasting k ≡ Iir forward back) shaper.is is in absurd cc
 ]
 
@@ -50,7 +62,7 @@ lasting_filter kind forward back is = elim (lasts kind) [
 module _ {A : Type 0} (f : Kind → A) (shapers : (curve : Option (List ℤ)) (was_set : Bool) → f (Shaper None false) ≡ f (Shaper curve was_set)) where
   of_lasting : (kind : Kind) → f (lasting kind) ≡ f kind
   of_lasting kind = elim (lasts kind) [
-    | inl same ↦ ap f same
+    | inl other ↦ ap f other.same
     | inr shaper ↦ ap (λ k. f (lasting k)) shaper.is ∙ shapers shaper.curve shaper.was_set ∙ sym (ap f shaper.is)
   ]
 
@@ -62,13 +74,13 @@ module _ {A : Type 0} (f : Kind → A) (shapers : (curve : Option (List ℤ)) (w
 module _ (P : Kind → Type 0) (shapers : (curve curve' : Option (List ℤ)) (was_set was_set' : Bool) → P (Shaper curve was_set) → P (Shaper curve' was_set')) where
   to_lasting : (kind : Kind) → P kind → P (lasting kind)
   to_lasting kind holds = elim (lasts kind) [
-    | inl same ↦ subst P (sym same) holds
+    | inl other ↦ subst P (sym other.same) holds
     | inr shaper ↦ subst (λ k. P (lasting k)) (sym shaper.is) (shapers shaper.curve None shaper.was_set false (subst P shaper.is holds))
   ]
 
   from_lasting : (kind : Kind) → P (lasting kind) → P kind
   from_lasting kind holds = elim (lasts kind) [
-    | inl same ↦ subst P same holds
+    | inl other ↦ subst P other.same holds
     | inr shaper ↦ subst P (sym shaper.is) (shapers None shaper.curve false shaper.was_set (subst (λ k. P (lasting k)) shaper.is holds))
   ]
 

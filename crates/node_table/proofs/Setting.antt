@@ -10,7 +10,7 @@ use Rattle.wa_base.specs.declared.graph_names.Mode.TheVariants.{Max, ClampedMax,
 use Rattle.wa_base.specs.declared.graph_names.Interp.{Interp}
 use Rattle.wa_base.specs.declared.graph_names.Interp.TheVariants.{Speakers, Discrete}
 use Rattle.node_table.specs.declared.nodes.Node.{Node}
-use Rattle.node_table.specs.Kinds.{capacity_of, same_mode, same_interp, fixed_count, fixed_mode, fixed_interp}
+use Rattle.node_table.specs.Kinds.{row, capacity_of, same_mode, same_interp}
 use Rattle.node_table.proofs.NodeLists.{capacities-cons}
 use Rattle.node_table.specs.Nodes.{with_count, with_mode, with_interp, fixed_refusal, count_refusal, mode_refusal, interp_refusal, changed_at, refusal_at, capacities, AreNodes, IsFirst, IsCreated}
 
@@ -100,16 +100,16 @@ same_interp_is Discrete Speakers is = absurd cc
 pub record CountIsFree (count : ℕ) (n : Node) : Type 0 where
   pub low : 1 ≤ count
   pub high : count ≤ 32
-  pub kept : fixed_count n.kind ≡ true → count ≡ n.attrs.count
+  pub kept : (row n.kind).fixed.count ≡ true → count ≡ n.attrs.count
 
 pub count_free : (count : ℕ) (n : Node) → count_refusal count n ≡ None → CountIsFree count n
 count_free count n fine = by_range (nat_le 1 count && nat_le count 32) refl fine
   where
-    by_range : (b : Bool) → (nat_le 1 count && nat_le count 32) ≡ b → (if not b then Some (NotSupported None) else fixed_refusal (fixed_count n.kind) (n.attrs.count == count)) ≡ None → CountIsFree count n
+    by_range : (b : Bool) → (nat_le 1 count && nat_le count 32) ≡ b → (if not b then Some (NotSupported None) else fixed_refusal (row n.kind).fixed.count (n.attrs.count == count)) ≡ None → CountIsFree count n
     by_range true is h = record {
       low = grind (arith, nat_tests);
       high = grind (arith, nat_tests);
-      kept = λ fixed. let same = kept_if_fixed (fixed_count n.kind) (n.attrs.count == count) h fixed in grind (arith, nat_tests);
+      kept = λ fixed. let same = kept_if_fixed (row n.kind).fixed.count (n.attrs.count == count) h fixed in grind (arith, nat_tests);
     }
     by_range false is h = absurd cc
 
@@ -123,7 +123,6 @@ keeps_count count = record {
       let free = count_free count n fine in
       record {
         kind = is.kind;
-        entry = is.entry;
         limits = is.limits;
         count_low = free.low;
         count_high = free.high;
@@ -131,8 +130,8 @@ keeps_count count = record {
       };
 }
 
-pub mode_kept : (mode : Mode) (n : Node) → mode_refusal mode n ≡ None → fixed_mode n.kind ≡ true → n.attrs.mode ≡ mode
-mode_kept mode n fine fixed = same_mode_is n.attrs.mode mode (kept_if_fixed (fixed_mode n.kind) (same_mode n.attrs.mode mode) fine fixed)
+pub mode_kept : (mode : Mode) (n : Node) → mode_refusal mode n ≡ None → (row n.kind).fixed.mode ≡ true → n.attrs.mode ≡ mode
+mode_kept mode n fine fixed = same_mode_is n.attrs.mode mode (kept_if_fixed (row n.kind).fixed.mode (same_mode n.attrs.mode mode) fine fixed)
 
 pub keeps_mode : (mode : Mode) → Keeps (mode_refusal mode) (with_mode mode)
 keeps_mode mode = record {
@@ -142,7 +141,6 @@ keeps_mode mode = record {
       record { kind = is.kind; count_low = is.count_low; count_high = is.count_high; mode = sym same ∙ is.mode; birth = is.birth };
   created = λ n fine is. record {
     kind = is.kind;
-    entry = is.entry;
     limits = is.limits;
     count_low = is.count_low;
     count_high = is.count_high;
@@ -160,14 +158,13 @@ keeps_interp interp = record {
   first = λ n fine is. record { kind = is.kind; count_low = is.count_low; count_high = is.count_high; mode = is.mode; birth = is.birth };
   created = λ n fine is. record {
     kind = is.kind;
-    entry = is.entry;
     limits = is.limits;
     count_low = is.count_low;
     count_high = is.count_high;
     fixed = record {
       count = is.fixed.count;
       mode = is.fixed.mode;
-      interp = λ fixed. sym (same_interp_is n.attrs.interp interp (kept_if_fixed (fixed_interp n.kind) (same_interp n.attrs.interp interp) fine fixed)) ∙ is.fixed.interp fixed;
+      interp = λ fixed. sym (same_interp_is n.attrs.interp interp (kept_if_fixed (row n.kind).fixed.interp (same_interp n.attrs.interp interp) fine fixed)) ∙ is.fixed.interp fixed;
     };
   };
 }

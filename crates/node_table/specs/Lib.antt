@@ -1,3 +1,4 @@
 pub mod Delays
 pub mod Kinds
 pub mod Nodes
+pub mod Rows

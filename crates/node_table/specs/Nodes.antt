@@ -11,10 +11,10 @@ use Rattle.wa_base.specs.declared.graph_names.Mode.TheVariants.{Explicit}
 use Rattle.wa_base.specs.declared.graph_names.Interp.{Interp}
 use Rattle.wa_base.specs.declared.graph_names.Interp.TheVariants.{Speakers}
 use Rattle.node_table.specs.declared.kinds.Kind.{Kind}
-use Rattle.node_table.specs.declared.kinds.Kind.TheVariants.{Destination, Delay}
+use Rattle.node_table.specs.declared.kinds.Kind.TheVariants.{Destination}
 use Rattle.node_table.specs.declared.nodes.Attrs.{Attrs}
 use Rattle.node_table.specs.declared.nodes.Node.{Node}
-use Rattle.node_table.specs.Kinds.{is_destination, first_count, first_mode, first_interp, fixed_count, fixed_mode, fixed_interp, same_mode, same_interp, IsInEntry, capacity_of, range_refusal, IsInLimits, with_curve, set_curve_refusal}
+use Rattle.node_table.specs.Kinds.{row, is_destination, same_mode, same_interp, capacity_of, range_refusal, IsInLimits, with_curve, set_curve_refusal}
 
 -- the destination of a context
 abbrev pub destination_of : ContextSpec → Node
@@ -22,7 +22,7 @@ destination_of spec = record { kind = Destination; attrs = record { count = spec
 
 -- the attributes with which a node of a kind is created at a frame
 abbrev pub first_attrs : Kind → ℕ → Attrs
-first_attrs kind birth = record { count = first_count kind; mode = first_mode kind; interp = first_interp kind; birth = birth }
+first_attrs kind birth = record { count = (row kind).count; mode = (row kind).mode; interp = (row kind).interp; birth = birth }
 
 -- a node that is created at a frame
 abbrev pub node_of : Kind → ℕ → Node
@@ -41,8 +41,7 @@ capacities nodes = sum_by (λ node. capacity_of node.kind) nodes
 
 -- they keep at most 4,194,304
 abbrev pub delay_limit_refusal : List Node → Kind → Option Exc
-delay_limit_refusal nodes (Delay longest time capacity) = if nat_le (capacities nodes + capacity) 4194304 then None else Some (NotSupported (Some DelayLimit))
-delay_limit_refusal nodes other = None
+delay_limit_refusal nodes kind = if nat_le (capacities nodes + capacity_of kind) 4194304 then None else Some (NotSupported (Some DelayLimit))
 
 -- the exception with which the creation of a node is refused, if it is: what it would be created with comes first, and then the limits of the graph
 abbrev pub creation_refusal : List Node → Kind → Option Exc
@@ -75,13 +74,13 @@ fixed_refusal is_fixed is_same = if is_fixed && not is_same then Some InvalidSta
 -- why a channelCount is refused: it is not from 1 to 32, or that of the node is fixed
 abbrev pub count_refusal : ℕ → Node → Option Exc
 count_refusal count node =
-    if not (nat_le 1 count && nat_le count 32) then Some (NotSupported None) else fixed_refusal (fixed_count node.kind) (node.attrs.count == count)
+    if not (nat_le 1 count && nat_le count 32) then Some (NotSupported None) else fixed_refusal (row node.kind).fixed.count (node.attrs.count == count)
 
 abbrev pub mode_refusal : Mode → Node → Option Exc
-mode_refusal mode node = fixed_refusal (fixed_mode node.kind) (same_mode node.attrs.mode mode)
+mode_refusal mode node = fixed_refusal (row node.kind).fixed.mode (same_mode node.attrs.mode mode)
 
 abbrev pub interp_refusal : Interp → Node → Option Exc
-interp_refusal interp node = fixed_refusal (fixed_interp node.kind) (same_interp node.attrs.interp interp)
+interp_refusal interp node = fixed_refusal (row node.kind).fixed.interp (same_interp node.attrs.interp interp)
 
 -- a shaper with another curve, and why it is refused
 abbrev pub node_with_curve : Option (List ℤ) → Node → Node
@@ -104,9 +103,9 @@ refusal_at nodes node others = option_and_then others (slice_get nodes node)
 
 -- a node has these attributes, as far as those of its kind are fixed
 pub record KeepsFixed (first : Attrs) (node : Node) : Type 0 where
-  pub count : fixed_count node.kind ≡ true → node.attrs.count ≡ first.count
-  pub mode : fixed_mode node.kind ≡ true → node.attrs.mode ≡ first.mode
-  pub interp : fixed_interp node.kind ≡ true → node.attrs.interp ≡ first.interp
+  pub count : (row node.kind).fixed.count ≡ true → node.attrs.count ≡ first.count
+  pub mode : (row node.kind).fixed.mode ≡ true → node.attrs.mode ≡ first.mode
+  pub interp : (row node.kind).fixed.interp ≡ true → node.attrs.interp ≡ first.interp
 
 -- the destination of some context
 pub record IsFirst (node : Node) : Type 0 where
@@ -116,10 +115,9 @@ pub record IsFirst (node : Node) : Type 0 where
   pub mode : node.attrs.mode ≡ Explicit
   pub birth : node.attrs.birth ≡ 0
 
--- a node that was created: what it was created with is in range, it has 1 to 32 ports where it was told how many, and what is fixed is as it was then
+-- a node that was created: what it was created with is not refused, and what is fixed is as it was then
 pub record IsCreated (node : Node) : Type 0 where
   pub kind : is_destination node.kind ≡ false
-  pub entry : IsInEntry node.kind
   pub limits : IsInLimits node.kind
   pub count_low : 1 ≤ node.attrs.count
   pub count_high : node.attrs.count ≤ 32

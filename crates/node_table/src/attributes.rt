@@ -34,7 +34,7 @@ impl Nodes {
         if count == 0 || count > MAX_CHANNELS {
             return Some(Exc::NotSupported(None));
         }
-        fixed_refusal(kind.has_fixed_count(), attrs.count == count)
+        fixed_refusal(kind.row().fixed.count, attrs.count == count)
     }
 
     /// Sets channelCountMode. It is refused with InvalidStateError where another mode would take the
@@ -58,7 +58,7 @@ impl Nodes {
         ensures { result ≡ table.refusal_at self.now node.0 (table.mode_refusal mode) }
     {
         let Node { kind, attrs } = self.node(node);
-        fixed_refusal(kind.has_fixed_mode(), attrs.mode == mode)
+        fixed_refusal(kind.row().fixed.mode, attrs.mode == mode)
     }
 
     /// Sets channelInterpretation. It is refused with InvalidStateError where another interpretation
@@ -82,7 +82,7 @@ impl Nodes {
         ensures { result ≡ table.refusal_at self.now node.0 (table.interp_refusal interp) }
     {
         let Node { kind, attrs } = self.node(node);
-        fixed_refusal(kind.has_fixed_interp(), attrs.interp == interp)
+        fixed_refusal(kind.row().fixed.interp, attrs.interp == interp)
     }
 }
 

@@ -1,8 +1,10 @@
 ghost use Rattle.std.specs.Prelude.{◌≡◌, IfOk, option_copied};
 ghost use Rattle.node_table.specs.Kinds as spec;
+ghost use Rattle.node_table.specs.Rows as rows;
 
+use crate::rows::{Channels, Fixed, Keeps, ParamRow, Plays, Range, Row};
 use causal_core::{curve_refusal, filter_refusal};
-use wa_base::{Exc, Feature, Fix, NoMemory, ParamName, Samples};
+use wa_base::{Exc, Feature, Fix, Interp, Mode, NoMemory, ParamName, Samples};
 
 /// What a node is, with what it was created with.
 #[derive(Drop)]
@@ -67,95 +69,82 @@ const MAX_PORTS: u32 = 32;
 
 const MAX_DELAY_TIME: Fix = 16 << 24;
 
+// What of a node that is told how many ports it has cannot be set.
+const FIXED_MIXING: Fixed = Fixed {
+    count: true,
+    mode: true,
+    interp: false,
+};
+
+const ALL_FIXED: Fixed = Fixed {
+    count: true,
+    mode: true,
+    interp: true,
+};
+
 impl Kind {
-    /// The number of inputs (numberOfInputs).
-    pub fn inputs(&self) -> u32
-        ensures { result ≡ spec.inputs self.now }
+    /// What the kind has: its row in the table of nodes.
+    pub fn row(&self) -> Row
+        ensures { result ≡ spec.row self.now }
     {
         match self {
-            Kind::Destination
-            | Kind::Gain { .. }
-            | Kind::Delay { .. }
-            | Kind::Splitter { .. }
-            | Kind::Shaper { .. }
-            | Kind::Iir { .. } => 1,
-            Kind::Constant { .. } | Kind::Buffer { .. } => 0,
-            Kind::Merger { inputs } => *inputs,
-        }
-    }
-
-    /// The number of outputs (numberOfOutputs). The destination has one, although the profile lets
-    /// no connection leave it.
-    pub fn outputs(&self) -> u32
-        ensures { result ≡ spec.outputs self.now }
-    {
-        match self {
-            Kind::Splitter { outputs } => *outputs,
-            _ => 1,
-        }
-    }
-
-    /// Whether the node is a delay (DelayNode).
-    pub fn is_delay(&self) -> bool
-        ensures { result ≡ spec.is_delay_kind self.now }
-    {
-        matches!(self, Kind::Delay { .. })
-    }
-
-    // How many frames it keeps of what it wrote.
-    pub(crate) fn capacity(&self) -> u64
-        ensures { result ≡ spec.capacity_of self.now }
-    {
-        match self {
-            Kind::Delay { capacity, .. } => *capacity,
-            _ => 0,
-        }
-    }
-
-    /// Whether the channelCount of a node stays what it was at its creation.
-    pub fn has_fixed_count(&self) -> bool
-        ensures { result ≡ spec.fixed_count self.now }
-    {
-        match self {
-            Kind::Destination | Kind::Splitter { .. } | Kind::Merger { .. } => true,
-            Kind::Constant { .. }
-            | Kind::Buffer { .. }
-            | Kind::Gain { .. }
-            | Kind::Delay { .. }
-            | Kind::Shaper { .. }
-            | Kind::Iir { .. } => false,
-        }
-    }
-
-    /// Whether the channelCountMode of a node stays what it was at its creation.
-    pub fn has_fixed_mode(&self) -> bool
-        ensures { result ≡ spec.fixed_mode self.now }
-    {
-        match self {
-            Kind::Destination | Kind::Splitter { .. } | Kind::Merger { .. } => true,
-            Kind::Constant { .. }
-            | Kind::Buffer { .. }
-            | Kind::Gain { .. }
-            | Kind::Delay { .. }
-            | Kind::Shaper { .. }
-            | Kind::Iir { .. } => false,
-        }
-    }
-
-    /// Whether the channelInterpretation of a node stays what it was at its creation.
-    pub fn has_fixed_interp(&self) -> bool
-        ensures { result ≡ spec.fixed_interp self.now }
-    {
-        match self {
-            Kind::Splitter { .. } => true,
-            Kind::Destination
-            | Kind::Constant { .. }
-            | Kind::Buffer { .. }
-            | Kind::Gain { .. }
-            | Kind::Delay { .. }
-            | Kind::Merger { .. }
-            | Kind::Shaper { .. }
-            | Kind::Iir { .. } => false,
+            Kind::Destination => Row {
+                mode: Mode::Explicit,
+                fixed: FIXED_MIXING,
+                ..Row::EFFECT
+            },
+            Kind::Constant { offset } => Row {
+                inputs: 0,
+                channels: Channels::Always(1),
+                param: any_value(ParamName::Offset, *offset),
+                plays: Some(Plays::Value),
+                ..Row::EFFECT
+            },
+            Kind::Buffer { rate } => Row {
+                inputs: 0,
+                channels: Channels::OfBuffer,
+                plays: Some(Plays::Content(*rate)),
+                ..Row::EFFECT
+            },
+            Kind::Gain { gain } => Row {
+                param: any_value(ParamName::Gain, *gain),
+                ..Row::EFFECT
+            },
+            Kind::Delay {
+                longest,
+                time,
+                capacity,
+            } => Row {
+                param: Some(ParamRow {
+                    name: ParamName::DelayTime,
+                    value: *time,
+                    range: Range::UpTo(*longest),
+                }),
+                keeps: Keeps::Written(*capacity),
+                ..Row::EFFECT
+            },
+            Kind::Splitter { outputs } => Row {
+                outputs: *outputs,
+                channels: Channels::Always(1),
+                count: *outputs,
+                mode: Mode::Explicit,
+                interp: Interp::Discrete,
+                fixed: ALL_FIXED,
+                ..Row::EFFECT
+            },
+            Kind::Merger { inputs } => Row {
+                inputs: *inputs,
+                channels: Channels::Always(*inputs),
+                count: 1,
+                mode: Mode::Explicit,
+                fixed: FIXED_MIXING,
+                ..Row::EFFECT
+            },
+            Kind::Shaper { .. } => Row::EFFECT,
+            Kind::Iir { .. } => Row {
+                keeps: Keeps::Heard,
+                ..Row::EFFECT
+            },
         }
     }
 
@@ -173,39 +162,6 @@ impl Kind {
             }
             Kind::Shaper { curve, .. } => curve_refusal(points_of(curve), false),
             Kind::Iir { forward, back } => filter_refusal(forward.as_slice(), back.as_slice()),
-        }
-    }
-
-    /// The value that a parameter was created with, or `None` where the kind has no such parameter
-    /// that can be automated.
-    pub fn param_base(&self, name: ParamName) -> Option<Fix>
-        ensures { result ≡ spec.param_base self.now name }
-    {
-        match (self, name) {
-            (Kind::Constant { offset }, ParamName::Offset) => Some(*offset),
-            (Kind::Gain { gain }, ParamName::Gain) => Some(*gain),
-            (Kind::Delay { time, .. }, ParamName::DelayTime) => Some(*time),
-            _ => None,
-        }
-    }
-
-    // The types of its entries keep them in their ranges.
-    pub(crate) fn keeps_its_ranges(&self)
-        ensures { spec.IsInEntry self.now }
-    {
-        match self {
-            Kind::Destination
-            | Kind::Buffer { .. }
-            | Kind::Splitter { .. }
-            | Kind::Merger { .. }
-            | Kind::Shaper { .. }
-            | Kind::Iir { .. } => {}
-            Kind::Constant { offset: entry } | Kind::Gain { gain: entry } => {
-                let _value = *entry;
-            }
-            Kind::Delay { longest, time, .. } => {
-                let (_longest, _time) = (*longest, *time);
-            }
         }
     }
 
@@ -263,6 +219,17 @@ impl Kind {
             _ => Some(Exc::WrongType),
         }
     }
+}
+
+// A parameter whose value may be any, as it is created.
+fn any_value(name: ParamName, value: Fix) -> Option<ParamRow>
+    ensures { result ≡ rows.any_value name value }
+{
+    Some(ParamRow {
+        name,
+        value,
+        range: Range::Any,
+    })
 }
 
 // The points of a curve, if there is one.

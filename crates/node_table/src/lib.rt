@@ -7,7 +7,9 @@ mod curves;
 mod delays;
 mod kinds;
 mod nodes;
+mod rows;
 
 pub use delays::{delay_capacity, frames_of};
 pub use kinds::Kind;
 pub use nodes::{Attrs, Node, Nodes};
+pub use rows::{Channels, Fixed, Keeps, ParamRow, Plays, Range, Row};

@@ -30,21 +30,11 @@ impl Attrs {
     fn first(kind: &Kind, birth: u64) -> Attrs
         ensures { result ≡ table.first_attrs kind.now birth }
     {
-        let (count, mode, interp) = match kind {
-            Kind::Destination => (2, Mode::Explicit, Interp::Speakers),
-            Kind::Constant { .. }
-            | Kind::Buffer { .. }
-            | Kind::Gain { .. }
-            | Kind::Delay { .. }
-            | Kind::Shaper { .. }
-            | Kind::Iir { .. } => (2, Mode::Max, Interp::Speakers),
-            Kind::Splitter { outputs } => (*outputs, Mode::Explicit, Interp::Discrete),
-            Kind::Merger { .. } => (1, Mode::Explicit, Interp::Speakers),
-        };
+        let row = kind.row();
         Attrs {
-            count,
-            mode,
-            interp,
+            count: row.count,
+            mode: row.mode,
+            interp: row.interp,
             birth,
         }
     }
@@ -153,9 +143,8 @@ impl Nodes {
         if let Some(exc) = self.creation_refusal(&kind) {
             return Err(Refusal::Exc(exc));
         }
-        kind.keeps_its_ranges();
         let id = NodeId(self.nodes.len() as u32);
-        let capacity = kind.capacity();
+        let capacity = kind.row().keeps.frames();
         self.nodes
             .push(Node::created(kind, birth))
             .map_err(NoMemory::from)?;
@@ -180,11 +169,10 @@ impl Nodes {
     fn delay_limit_refusal(&self, kind: &Kind) -> Option<Exc>
         ensures { result ≡ table.delay_limit_refusal self.now kind.now }
     {
-        match kind {
-            Kind::Delay { capacity, .. } if *capacity > MAX_DELAY_FRAMES - self.delay_frames => {
-                Some(Exc::NotSupported(Some(Feature::DelayLimit)))
-            }
-            _ => None,
+        if kind.row().keeps.frames() > MAX_DELAY_FRAMES - self.delay_frames {
+            Some(Exc::NotSupported(Some(Feature::DelayLimit)))
+        } else {
+            None
         }
     }
 

@@ -14,13 +14,12 @@ use Rattle.buffer_store.specs.Buffers.{channel_of, channel_at, IsBuffer, AreBuff
 use Rattle.sched_source.specs.declared.content.Content.{Content}
 use Rattle.sched_source.specs.Schedule.{Schedule, plays_at, plays_in, sample_at, played}
 use Rattle.sched_source.proofs.Spans.{plays_in_not_started}
-use Rattle.node_table.specs.declared.kinds.Kind.{Kind}
-use Rattle.node_table.specs.declared.kinds.Kind.TheVariants as kinds
-use Rattle.node_table.specs.declared.kinds.Kind.TheVariants.{Destination, Constant, Gain, Delay, Splitter, Merger, Shaper, Iir}
+use Rattle.node_table.specs.declared.rows.Plays.{Plays}
+use Rattle.node_table.specs.declared.rows.Plays.TheVariants as played
 use Rattle.meaning.specs.declared.scheds.Play.{Play}
 use Rattle.meaning.specs.declared.world.World.{World}
 use Rattle.meaning.specs.World.{find_play, frames_in, channels_in, samples_in, played_at, played_channels}
-use Rattle.meaning.specs.Validity.{IsPlayOf}
+use Rattle.meaning.specs.Validity.{IsPlay}
 use Rattle.meaning.specs.Sources.{IsBufferOf}
 use Rattle.quantum_blocks.specs.Heard.{SourceView, IsHeard, heard_of, heard_source}
 
@@ -110,20 +109,14 @@ heard_started sched first sounds = by_start sched.start refl
     by_start (Some start) is = refl
 
 -- its buffer is there, with the frames over which it was started
-pub heard_is : (store : List Buffer) (kind : Kind) (p : Play) (b : BufId) → IsPlayOf store kind p → AreBuffers store → IsSome p.sched.start → p.buffer ≡ Some b → IsHeard p.sched store b
-heard_is store Destination p b is are begun own = absurd is
-heard_is store (Constant offset) p b is are begun own = absurd (let none = sym is.buffer ∙ own in cc)
-heard_is store (kinds.Buffer rate) p b is are begun own = record {
+pub heard_is : (store : List Buffer) (plays : Option Plays) (p : Play) (b : BufId) → IsPlay store plays p → AreBuffers store → IsSome p.sched.start → p.buffer ≡ Some b → IsHeard p.sched store b
+heard_is store None p b is are begun own = absurd is
+heard_is store (Some played.Value) p b is are begun own = absurd (let none = sym is.buffer ∙ own in cc)
+heard_is store (Some (played.Content rate)) p b is are begun own = record {
   buffers_are = are;
   there = subst (λ o. IsBufferOf store o) own is.there;
   length_of = subst (λ o. IfSome o (λ (x : Content). x.length ≡ frames_in store (Some b))) (sym is.plays) (is.length_of begun ∙ ap (frames_in store) own);
 }
-heard_is store (Gain gain) p b is are begun own = absurd is
-heard_is store (Delay longest time capacity) p b is are begun own = absurd is
-heard_is store (Splitter ports) p b is are begun own = absurd is
-heard_is store (Merger ports) p b is are begun own = absurd is
-heard_is store (Shaper curve was_set) p b is are begun own = absurd is
-heard_is store (Iir forward back) p b is are begun own = absurd is
 
 -- a channel of a buffer has the buffer's frames
 channel_frames : (b : Buffer) (channel : ℕ) → IsBuffer b → channel < b.shape.channels → length (channel_of b channel) ≡ b.shape.frames

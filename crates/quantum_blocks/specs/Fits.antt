@@ -1,8 +1,9 @@
 -- What there is room for in a quantum: channels and lanes of each end.
-use Rattle.std.specs.Prelude.{ℕ, ◌≡◌, ◌<◌, ◌≤◌, ◌*◌, ◌+◌, ◌/◌, List, length, slice_index_or, true}
+use Rattle.std.specs.Prelude.{ℕ, ◌≡◌, ◌<◌, ◌≤◌, ◌*◌, ◌+◌, ◌/◌, List, length, slice_index_or}
 use Rattle.wa_base.specs.declared.graph_names.End.{End}
 use Rattle.law_base.specs.Members.{IsIn}
-use Rattle.node_table.specs.Kinds.{outputs, is_mono}
+use Rattle.node_table.specs.declared.rows.Channels.TheVariants.{Always}
+use Rattle.node_table.specs.Kinds.{row, outputs}
 use Rattle.conn_graph.specs.declared.edges.Edge.{Edge}
 use Rattle.conn_graph.specs.Ends.{reader_of, ends}
 use Rattle.meaning.specs.declared.world.World.{World}
@@ -15,7 +16,7 @@ pub record AreInRange (w : World) (counts : List ℕ) : Type 0 where
   pub low : (k : ℕ) → k < length counts → 1 ≤ slice_index_or counts k 1
   pub high : (k : ℕ) → k < length counts → slice_index_or counts k 1 ≤ 32
   pub lanes : (k : ℕ) → k < length counts → outputs (kind_of w (k / 2)) * slice_index_or counts k 1 ≤ 32
-  pub mono : (k : ℕ) → k < length counts → is_mono (kind_of w (k / 2)) ≡ true → slice_index_or counts k 1 ≡ 1
+  pub mono : (k : ℕ) → k < length counts → (row (kind_of w (k / 2))).channels ≡ Always 1 → slice_index_or counts k 1 ≡ 1
 
 -- each end has its channels, once for each output of its node
 pub record AreFit (w : World) (counts : List ℕ) (blocks : List BlockView) : Type 0 where

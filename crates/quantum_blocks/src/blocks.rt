@@ -35,7 +35,7 @@ fn fit_each(blocks: &mut [Block], world: &World, counts: &[u32]) -> Result<(), N
     ensures { OnOk result (AreFit world.now counts.now blocks.new) }
 {
     for (i, block) in blocks.iter_mut().enumerate() {
-        let outputs = world.nodes.kind(NodeId(i as u32 / 2)).outputs();
+        let outputs = world.nodes.kind(NodeId(i as u32 / 2)).row().outputs;
         block.fit(outputs as usize * counts[i] as usize)?;
     }
     Ok(())

@@ -87,7 +87,7 @@ impl Site<'_> {
         ensures count { result ≡ outputs_of (kind_of self.now.world self.now.end.node.0) }
         ensures ports { IsInLimits (kind_of self.now.world self.now.end.node.0) }
     {
-        self.world.nodes.kind(self.end.node).outputs()
+        self.world.nodes.kind(self.end.node).row().outputs
     }
 
     /// The least number of frames that a delay lasts: in a cycle those of a quantum.

@@ -1,6 +1,6 @@
 -- The levels of the parameters are their intrinsic values.
 use Rattle.std.proofs.Common.{ℕ, pos, ◌≡◌, ◌<◌, ◌≤◌, ◌+◌, ◌⊎◌, length, List, [], ◌∷◌, map, true, false, Some, inl, inr, refl, sym, ◌∙◌, ap, arith, subst}
-use Rattle.std.specs.Prelude.{if◌then◌else◌, ◌==◌, ◌&&◌, is_some}
+use Rattle.std.specs.Prelude.{if◌then◌else◌, ◌==◌, ◌&&◌}
 use Rattle.std.specs.Option.{option_map_or}
 use Rattle.std.proofs.lemmas.List.{get_or_past}
 use Rattle.std.proofs.lemmas.Bool.Decides.{nat_tests}
@@ -13,7 +13,7 @@ use Rattle.conn_graph.specs.Edges.{same_name, same_param}
 use Rattle.param_events.specs.Values.{value_at}
 use Rattle.meaning.specs.declared.params.Param.{Param}
 use Rattle.meaning.specs.declared.world.World.{World}
-use Rattle.node_table.specs.Kinds.{param_base}
+use Rattle.node_table.specs.Kinds.{param_name}
 use Rattle.meaning.specs.World.{sounding, kind_of, param_id, find_param, intrinsic_value, is_k, is_k_rate}
 use Rattle.meaning.specs.Validity.{IsValid, param_ids}
 use Rattle.meaning.proofs.Automating.{found_param}
@@ -32,7 +32,7 @@ pub of_nodes : (w : World) → IsValid w → AreOfNodes (length w.nodes) w.param
 of_nodes w valid = record { order = valid.params.order; there = λ p is. valid.params.there p.id (id_in w.params.items p is) }
 
 -- the parameter that a node's kind has is there
-pub has_param : (w : World) → IsValid w → (node : ℕ) (name : ParamName) → node < length w.nodes → is_some (param_base (kind_of w node) name) ≡ true → IsIn (param_id node name) (param_ids w)
+pub has_param : (w : World) → IsValid w → (node : ℕ) (name : ParamName) → node < length w.nodes → param_name (kind_of w node) ≡ Some name → IsIn (param_id node name) (param_ids w)
 has_param w valid node name low some = (valid.params.each node name low).1 some
 
 -- what has an identity

@@ -6,7 +6,8 @@ use Rattle.std.proofs.lemmas.List.{get_or-set_same, get_or-set_other, length-set
 use Rattle.std.proofs.lemmas.Bool.Decides.{nat_tests}
 use Rattle.wa_base.specs.declared.graph_names.End.{End}
 use Rattle.law_base.specs.Members.{IsIn}
-use Rattle.node_table.specs.Kinds.{outputs, is_mono}
+use Rattle.node_table.specs.declared.rows.Channels.TheVariants.{Always}
+use Rattle.node_table.specs.Kinds.{row, outputs}
 use Rattle.conn_graph.specs.Ends.{same_end, ends}
 use Rattle.conn_graph.specs.Orders.{IsLegalAfter, IsLegalOrder}
 use Rattle.conn_graph.proofs.EndLaws.{same_end_is}
@@ -101,7 +102,7 @@ module _ (w : World) (valid : IsValid w) (delays : DelayBank) (first : ℕ) (ord
         by_test false t = let apart : k ≡ slot x → ⊥ = λ e. grind (arith, nat_tests) in
             subst (P k) (sym (get_or-set_other counts (slot x) k v 1 apart)) (each k (subst (λ n. k < n) (length-set counts (slot x) v) l))
 
-    pub counting_goes_on : 1 ≤ v → v ≤ 32 → outputs (kind_of w x.node.0) * v ≤ 32 → (is_mono (kind_of w x.node.0) ≡ true → v ≡ 1) → Counting w delays first order (i + 1) (slice_set counts (slot x) v)
+    pub counting_goes_on : 1 ≤ v → v ≤ 32 → outputs (kind_of w x.node.0) * v ≤ 32 → ((row (kind_of w x.node.0)).channels ≡ Always 1 → v ≡ 1) → Counting w delays first order (i + 1) (slice_set counts (slot x) v)
     counting_goes_on low high lanes mono = record {
       done = x ∷ c.done;
       legal = next.4;
@@ -110,7 +111,7 @@ module _ (w : World) (valid : IsValid w) (delays : DelayBank) (first : ℕ) (ord
         low = each_still (λ k n. 1 ≤ n) low c.range.low;
         high = each_still (λ k n. n ≤ 32) high c.range.high;
         lanes = each_still (λ k n. outputs (kind_of w (k / 2)) * n ≤ 32) (subst (λ k. outputs (kind_of w k) * v ≤ 32) (sym (slot-half x)) lanes) c.range.lanes;
-        mono = each_still (λ k n. is_mono (kind_of w (k / 2)) ≡ true → n ≡ 1) (subst (λ k. is_mono (kind_of w k) ≡ true → v ≡ 1) (sym (slot-half x)) mono) c.range.mono;
+        mono = each_still (λ k n. (row (kind_of w (k / 2))).channels ≡ Always 1 → n ≡ 1) (subst (λ k. (row (kind_of w k)).channels ≡ Always 1 → v ≡ 1) (sym (slot-half x)) mono) c.range.mono;
       };
       known = counted_more;
     }

@@ -1,5 +1,6 @@
 -- The level of a parameter, from what its connections carry.
-use Rattle.std.proofs.Common.{ℕ, ℤ, pos, negsuc, ◌≡◌, ◌+◌, ◌-◌, ◌*◌, ◌/◌, ◌<◌, ◌+ℤ◌, List, [], ◌∷◌, map, filter, Bool, true, false, cond, ◌||◌, refl, sym, ◌∙◌, ap, arith}
+use Rattle.std.specs.Option.{option_map_or}
+use Rattle.std.proofs.Common.{ℕ, ℤ, pos, negsuc, ◌≡◌, ◌+◌, ◌-◌, ◌*◌, ◌/◌, ◌<◌, ◌+ℤ◌, List, [], ◌∷◌, map, filter, Bool, true, false, cond, ◌||◌, refl, sym, ◌∙◌, ap, arith, Some}
 use Rattle.std.specs.Prelude.{if◌then◌else◌, nat_lt, ◌==◌}
 use Rattle.std.proofs.Math.Nat.{mul_comm}
 use Rattle.std.proofs.lemmas.Nat.{div-mul-add}
@@ -10,14 +11,15 @@ use Rattle.wa_base.specs.Numbers.{sat, IsFix}
 use Rattle.wa_base.specs.declared.graph_names.Interp.TheVariants.{Speakers}
 use Rattle.wa_base.specs.declared.graph_names.ParamId.{ParamId}
 use Rattle.channel_mix.specs.Mixing.{total}
-use Rattle.node_table.specs.declared.kinds.Kind.{Kind}
-use Rattle.node_table.specs.declared.kinds.Kind.TheVariants.{Destination, Constant, Buffer, Gain, Delay, Splitter, Merger, Shaper, Iir}
 use Rattle.conn_graph.specs.declared.edges.Edge.{Edge}
 use Rattle.conn_graph.specs.declared.edges.Target.{Target}
 use Rattle.conn_graph.specs.declared.edges.Target.TheVariants.{Param}
 use Rattle.conn_graph.specs.Graph.{edges_to_param}
+use Rattle.node_table.specs.declared.rows.ParamRow.{ParamRow}
+use Rattle.node_table.specs.declared.rows.Range.TheVariants.{Any, UpTo}
+use Rattle.node_table.specs.Kinds.{row}
 use Rattle.meaning.specs.declared.world.World.{World}
-use Rattle.meaning.specs.World.{kind_of, intrinsic_value, is_k_rate, up_to, nominal}
+use Rattle.meaning.specs.World.{kind_of, intrinsic_value, is_k_rate, up_to, in_range}
 use Rattle.meaning.specs.Values.{Frame, seen, part, mixed_sum, computed_value}
 use Rattle.meaning.specs.Blocks.{with_drafts, drafted}
 use Rattle.quantum_blocks.specs.Blocks.{BlockView, counts_in, drafts_of, frame_of}
@@ -127,18 +129,6 @@ module _ (w : World) (blocks : List BlockView) (counts : List ℕ) (before : ℕ
 
 -- ---- in its nominal range it is the computed value
 
--- that of the parameters of all nodes but delays is that of a Fix
-nominal_is : (kind : Kind) (x : ℤ) → ((longest time : ℤ) (capacity : ℕ) → kind ≡ Delay longest time capacity → ⊥) → sat x ≡ nominal kind x
-nominal_is Destination x other = refl
-nominal_is (Constant offset) x other = refl
-nominal_is (Buffer rate) x other = refl
-nominal_is (Gain gain) x other = refl
-nominal_is (Delay longest time capacity) x other = absurd (other longest time capacity refl)
-nominal_is (Splitter ports) x other = refl
-nominal_is (Merger ports) x other = refl
-nominal_is (Shaper curve was_set) x other = refl
-nominal_is (Iir forward back) x other = refl
-
 -- where a delay's ends, saturating changes nothing
 up_to_of_sat : (longest x : ℤ) → IsFix longest → up_to longest (sat x) ≡ up_to longest x
 up_to_of_sat (pos most) (pos x) is = let high = is.1 in ap pos (omega (arith, ints))
@@ -151,12 +141,16 @@ module _ (f : ℕ) (past : ℕ → Frame) (here : Frame) (id : ParamId) where
       let g = if is_k_rate here.world id then 128 * (f / 128) else f in
       intrinsic_value here.world id g +ℤ mixed_sum (seen f past here g) Speakers 1 0 (edges_to_param here.world.graph.value id)
 
-  pub computed_is : (kind : Kind) → kind_of here.world id.node.0 ≡ kind → ((longest time : ℤ) (capacity : ℕ) → kind ≡ Delay longest time capacity → ⊥)
-      → unclamped_value 128 f past here id ≡ computed_value 128 f past here id
-  unfolding unclamped_value computed_value
-  computed_is kind is other = nominal_is kind reached other ∙ ap (λ k. nominal k reached) (sym is)
+  -- by the row of its node
+  nominal_is : (p : ParamRow) → (row (kind_of here.world id.node.0)).param ≡ Some p → in_range p.range reached ≡ computed_value 128 f past here id
+  unfolding computed_value
+  nominal_is p is = sym (ap (λ o. option_map_or (λ (p : ParamRow). in_range p.range reached) o (pos 0)) is)
 
-  pub delay_is : (longest time : ℤ) (capacity : ℕ) → kind_of here.world id.node.0 ≡ Delay longest time capacity → IsFix longest
-      → up_to longest (unclamped_value 128 f past here id) ≡ computed_value 128 f past here id
-  unfolding unclamped_value computed_value
-  delay_is longest time capacity is fix = up_to_of_sat longest reached fix ∙ ap (λ k. nominal k reached) (sym is)
+  pub computed_is : (p : ParamRow) → (row (kind_of here.world id.node.0)).param ≡ Some p → p.range ≡ Any → unclamped_value 128 f past here id ≡ computed_value 128 f past here id
+  unfolding unclamped_value
+  computed_is p is any = sym (ap (λ r. in_range r reached) any) ∙ nominal_is p is
+
+  pub limited_is : (p : ParamRow) → (row (kind_of here.world id.node.0)).param ≡ Some p → (most : ℤ) → p.range ≡ UpTo most → IsFix most
+      → up_to most (unclamped_value 128 f past here id) ≡ computed_value 128 f past here id
+  unfolding unclamped_value
+  limited_is p is most limited fix = up_to_of_sat most reached fix ∙ sym (ap (λ r. in_range r reached) limited) ∙ nominal_is p is

@@ -2,7 +2,8 @@
 use Rattle.std.proofs.Common.{ℕ, ℤ, ◌≡◌, ◌+◌, ◌*◌, ◌<◌, ◌≤◌, length, List, slice_index_or, slice_set, true, false, Some, refl, sym, ◌∙◌, ap, arith, subst}
 use Rattle.std.proofs.lemmas.List.{get_or_default}
 use Rattle.wa_base.specs.declared.graph_names.End.{End}
-use Rattle.node_table.specs.Kinds.{outputs, is_mono, is_delay_kind}
+use Rattle.node_table.specs.declared.rows.Channels.TheVariants.{Always}
+use Rattle.node_table.specs.Kinds.{row, outputs, is_delay_kind}
 use Rattle.node_table.specs.Nodes.{kind_at}
 use Rattle.node_table.specs.declared.kinds.Kind.{Kind}
 use Rattle.meaning.proofs.NodeKinds.{kind_is}
@@ -42,8 +43,8 @@ module _ (s : SiteView) (site : IsSite s.world s.end s.into s.counts s.levels s.
   pub own_within : k < length old
   own_within = subst (λ j. j < length old) (sym here) slot_within
 
-  pub mono_own : is_mono (kind_of s.world s.end.node.0) ≡ true → counts_in s.counts s.end ≡ 1
-  mono_own is = site.range.mono (slot s.end) (site_slot s.world s.end s.into s.counts s.levels s.first site) (subst (λ n. is_mono (kind_of s.world n) ≡ true) (sym (slot-half s.end)) is)
+  pub mono_own : (row (kind_of s.world s.end.node.0)).channels ≡ Always 1 → counts_in s.counts s.end ≡ 1
+  mono_own is = site.range.mono (slot s.end) (site_slot s.world s.end s.into s.counts s.levels s.first site) (subst (λ n. (row (kind_of s.world n)).channels ≡ Always 1) (sym (slot-half s.end)) is)
 
   -- the block has so many lanes in all
   module _ (all : ℕ) (are : outputs (kind_of s.world s.end.node.0) * counts_in s.counts s.end ≡ all) where

@@ -1,7 +1,7 @@
 ghost use Rattle.std.specs.Prelude.{[], ◌∷◌, true, ◌≡◌, ◌≤◌, ◌<◌, ◌+◌, ◌*◌, ◌^◌, ◌+ℤ◌, ℕ, ℤ, pos, List, Some, length, slice_index_or, max, IsSome, IfSome};
 ghost use Rattle.wa_base.specs.Numbers.{sat as saturated};
 ghost use Rattle.meaning.specs.World.{sounding, kind_of, param_id};
-ghost use Rattle.node_table.specs.Kinds.{param_base};
+ghost use Rattle.node_table.specs.Kinds.{param_name};
 ghost use Rattle.node_table.specs.Delays.{frames_of as whole_frames};
 ghost use Rattle.meaning.specs.Counts.{input_channels};
 ghost use Rattle.meaning.specs.Values.{Frame as a_frame, input_value, computed_value};
@@ -21,7 +21,7 @@ ghost use Rattle.quantum_render.specs.Renders.{past_of, here_of};
 use conn_graph::{Edge, Target};
 use delay_bank::Delays;
 use filter_bank::Filters;
-use node_table::Kind;
+use node_table::Range;
 use quantum_blocks::{
     Block, CHANNELS, Held, Inlet, QUANTUM, Site, Sums, reader, slot, span_all, span_each,
 };
@@ -109,22 +109,24 @@ impl Bench {
     // Takes the computed values of the parameter that the kind of the end's node has.
     pub(crate) fn take_levels(&mut self, blocks: &[Block], site: &Site, name: ParamName)
         requires fit { AreFit site.now.world site.now.counts blocks.now }
-        requires there { IsSome (param_base (kind_of site.now.world site.now.end.node.0) name) }
+        requires there { param_name (kind_of site.now.world site.now.end.node.0) ≡ Some name }
         ensures heard { self.new.heard ≡ self.old.heard }
         ensures levels { (before : ℕ → a_frame) (m : ℕ) → m < 128 →
             at self.new.levels 0 m ≡ computed_value 128 (site.now.first + m) (past_of site.now blocks.now before) (here_of site.now blocks.now m) (param_id site.now.end.node.0 name) }
     {
         self.take_sums(blocks, site, name);
-        match site.world.nodes.kind(site.end.node) {
-            Kind::Delay { longest, .. } => self.levels.up_to(*longest),
-            _ => {}
+        if let Some(param) = site.world.nodes.kind(site.end.node).row().param {
+            match param.range {
+                Range::Any => {}
+                Range::UpTo(most) => self.levels.up_to(most),
+            }
         }
     }
 
     // Takes the values of a parameter before they are clamped to its nominal range.
     fn take_sums(&mut self, blocks: &[Block], site: &Site, name: ParamName)
         requires fit { AreFit site.now.world site.now.counts blocks.now }
-        requires there { IsSome (param_base (kind_of site.now.world site.now.end.node.0) name) }
+        requires there { param_name (kind_of site.now.world site.now.end.node.0) ≡ Some name }
         ensures heard { self.new.heard ≡ self.old.heard }
         ensures levels { (before : ℕ → a_frame) (m : ℕ) → m < 128 →
             at self.new.levels 0 m ≡ unclamped_value 128 (site.now.first + m) (past_of site.now blocks.now before) (here_of site.now blocks.now m) (param_id site.now.end.node.0 name) }

@@ -1,15 +1,15 @@
 ghost use Rattle.std.specs.Prelude.{ℤ, ◌≡◌, ◌≤◌, ◌<◌, ◌*◌, ◌^◌, ℕ, List, length, map, filter, slice_index_or, max, if◌then◌else◌, All, true};
 ghost use Rattle.channel_mix.specs.Counts.{greatest as greatest_of};
 ghost use Rattle.law_base.specs.Members.{IsIn};
-ghost use Rattle.node_table.specs.Kinds.{outputs, is_mono};
-ghost use Rattle.node_table.specs.declared.kinds.Kind.TheVariants.{Delay};
+ghost use Rattle.node_table.specs.declared.rows.Channels.TheVariants.{Always};
+ghost use Rattle.node_table.specs.Kinds.{row as row_of, outputs, is_delay_kind};
 ghost use Rattle.wa_base.specs.declared.graph_names.End.{End as an_end};
 ghost use Rattle.conn_graph.specs.declared.edges.Edge.{Edge as an_edge};
 ghost use Rattle.conn_graph.specs.Ends.{ends, reader_of};
 ghost use Rattle.meaning.specs.declared.world.World.{World as a_world};
 ghost use Rattle.meaning.specs.World.{sounding, kind_of, played_channels};
 ghost use Rattle.meaning.specs.Validity.{IsValid};
-ghost use Rattle.meaning.specs.Counts.{Counts as some_counts, input_channels, count_by_kind};
+ghost use Rattle.meaning.specs.Counts.{Counts as some_counts, input_channels, reader_channels, count_by_kind};
 ghost use Rattle.quantum_blocks.specs.Blocks.{slot as slot_of, counts_in};
 ghost use Rattle.quantum_blocks.specs.Connections.{into as leads_into, leads_to};
 ghost use Rattle.quantum_blocks.specs.Fits.{AreInRange};
@@ -20,7 +20,7 @@ use channel_mix::count;
 use conn_graph::{Edge, Target};
 use delay_bank::Delays;
 use meaning::World;
-use node_table::Kind;
+use node_table::Channels;
 use quantum_blocks::{near_of, reader, slot, sounding, writer};
 use wa_base::{End, Items, NodeId};
 
@@ -65,42 +65,38 @@ fn count_of(counts: &[u32], census: Census<'_>, end: End, into: &[Edge]) -> u32
     ensures value { (j : ℕ) (earlier : ℕ → some_counts) → census.entry.first ≡ 128 * j → AreMost census.entry.delays.now census.entry.world.now j earlier → result ≡ count_by_kind 128 (sounding census.entry.world.now) j earlier (counts_in counts.now) (kind_of census.entry.world.now end.node.0) end }
     ensures range { (1 ≤ result) × (result ≤ 32) }
     ensures lanes { outputs (kind_of census.entry.world.now end.node.0) * result ≤ 32 }
-    ensures mono { is_mono (kind_of census.entry.world.now end.node.0) ≡ true → result ≡ 1 }
+    ensures mono { (row_of (kind_of census.entry.world.now end.node.0)).channels ≡ Always 1 → result ≡ 1 }
 {
-    match census.world.nodes.kind(end.node) {
-        Kind::Constant { .. } | Kind::Splitter { .. } => 1,
-        Kind::Buffer { .. } => {
+    let row = census.world.nodes.kind(end.node).row();
+    if row.keeps.is_written() && !end.writer {
+        return reader_count(counts, census, end.node);
+    }
+    match row.channels {
+        Channels::Always(channels) => channels,
+        Channels::OfInput => input_count(counts, census.world, end.node, into),
+        Channels::OfBuffer => {
             let near = near_of(census.near, end.node);
             played_count(census.world, end.node, near, census.first)
-        }
-        Kind::Merger { inputs } => *inputs,
-        Kind::Delay { .. } => delay_count(counts, census, end, into),
-        Kind::Destination | Kind::Gain { .. } | Kind::Shaper { .. } | Kind::Iir { .. } => {
-            input_count(counts, census.world, end.node, into)
         }
     }
 }
 
-// Of a delay the writer has the channels of its input, and the reader the most that the writer had: in a
-// cycle before this quantum, and else in it too.
-fn delay_count(counts: &[u32], census: Census<'_>, end: End, into: &[Edge]) -> u32
+// The reader of a delay has the most channels that the writer had: in a cycle before this quantum, and
+// else in it too.
+fn reader_count(counts: &[u32], census: Census<'_>, node: NodeId) -> u32
     requires valid { IsValid census.world.now }
     requires range { AreInRange census.world.now counts.now }
-    requires there { IsIn end (ends census.world.now.graph.value) }
-    requires kind { (longest : ℤ) × (time : ℤ) × (capacity : ℕ) × (kind_of census.world.now end.node.0 ≡ Delay longest time capacity) }
-    requires into { into.now ≡ leads_into census.world.now.graph.value end.node.0 }
+    requires node { node.0 < length census.world.now.nodes }
+    requires delay { is_delay_kind (kind_of census.world.now node.0) ≡ true }
     requires cycles { AreCycles census.world.now.graph.value census.cycles.now }
-    ensures value { (j : ℕ) (earlier : ℕ → some_counts) (longest time : ℤ) (capacity : ℕ) → kind_of census.entry.world.now end.node.0 ≡ Delay longest time capacity → AreMost census.entry.delays.now census.entry.world.now j earlier → result ≡ count_by_kind 128 (sounding census.entry.world.now) j earlier (counts_in counts.now) (Delay longest time capacity) end }
+    ensures value { (j : ℕ) (earlier : ℕ → some_counts) → AreMost census.entry.delays.now census.entry.world.now j earlier → result ≡ reader_channels 128 (sounding census.entry.world.now) j earlier (counts_in counts.now) node.0 }
     ensures range { (1 ≤ result) × (result ≤ 32) }
 {
-    if end.writer {
-        return input_count(counts, census.world, end.node, into);
-    }
-    let most = census.delays.most(end.node);
-    if census.cycles[end.node.0 as usize] {
+    let most = census.delays.most(node);
+    if census.cycles[node.0 as usize] {
         most
     } else {
-        greater(most, counts[slot(writer(end.node))])
+        greater(most, counts[slot(writer(node))])
     }
 }
 

@@ -1,16 +1,16 @@
-use Rattle.std.proofs.Common.{◌≡◌, ◌<◌, length, Bool, true, None, Some, sym, ◌∙◌, ap, subst}
-use Rattle.std.specs.Prelude.{Option, if◌then◌else◌, option_map, is_some}
+use Rattle.std.proofs.Common.{◌<◌, length, Bool, None, Some, sym, ◌∙◌, ap, subst}
+use Rattle.std.specs.Prelude.{Option, if◌then◌else◌, option_map}
 use Rattle.wa_base.specs.declared.graph_names.NodeId.{NodeId}
 use Rattle.wa_base.specs.declared.graph_names.ParamName.{ParamName}
 use Rattle.law_base.specs.Members.{IsIn}
-use Rattle.node_table.specs.Kinds.{param_base}
+use Rattle.node_table.specs.Kinds.{param_name}
 use Rattle.node_table.specs.declared.kinds.Kind.{Kind}
 use Rattle.meaning.specs.declared.world.World.{World}
 use Rattle.meaning.specs.World.{kind_of, param_id}
 use Rattle.meaning.specs.Validity.{param_ids}
 use Rattle.meaning.proofs.NodeKinds.{kind_is}
 use Rattle.control_side.specs.Params.{has_param, param_of_kind, param_at}
-use Rattle.control_side.proofs.Parameters.{kept_base}
+use Rattle.control_side.proofs.Parameters.{kept_name}
 use Rattle.control_side.proofs.control.Control.param_at.Goals as goal
 
 pub returns-then-has_param-clause-there : goal.returns-then-has_param-clause-there
@@ -21,7 +21,7 @@ returns-then-has_param-clause-there c kept =
     let kind = kind_is w n c.kind.result.now low c.kind.ensures.value in
     subst (λ (x : World). IsIn (param_id n c.in_ok-name.name) (param_ids x)) c.world.ensures.world
     ((c.world.ensures.valid.params.each n c.in_ok-name.name low).1
-    (subst (λ (k : Kind). is_some (param_base k c.in_ok-name.name) ≡ true) (sym kind) (kept_base c.kind.result.now c.in_ok-name.name (sym c.has_param.ensures ∙ c.if-has_param.true) kept)))
+    (ap param_name kind ∙ kept_name c.kind.result.now c.in_ok-name.name (sym c.has_param.ensures ∙ c.if-has_param.true) kept))
 
 pub returns-else-has_param-clause-param : goal.returns-else-has_param-clause-param
 returns-else-has_param-clause-param c =

@@ -1,4 +1,5 @@
-use Rattle.std.proofs.Common.{◌≡◌, ◌≤◌, length, Some, ap, sym, ◌∙◌, subst}
+use Rattle.std.proofs.Common.{◌≡◌, ◌≤◌, length, Some, ap, sym, ◌∙◌, subst, false}
+use Rattle.node_table.proofs.NodeLists.{curve_allowed}
 use Rattle.node_table.specs.Kinds.{is_delay_kind, IsInLimits}
 use Rattle.node_table.specs.Nodes.{kind_at}
 use Rattle.meaning.specs.World.{kind_of}
@@ -68,7 +69,7 @@ render_shaper-requires-clause-curve c =
     let kind = site_kind c.args.site.now (site_is c.args.site.now _ _ _ _ _ _ c.site.invariant.0 c.site.view_is) c.kind.result.now
     (subst (λ (x : SiteView). kind_at x.world.nodes x.end.node.0 ≡ Some c.kind.result.now) c.site.view_is c.kind.ensures.value) ∙ c.in-Shaper.is in
     let site = site_is c.args.site.now _ _ _ _ _ _ c.site.invariant.0 c.site.view_is in
-    subst IsInLimits kind (limits_there c.args.site.now.world site.valid c.args.site.now.end.node.0)
+    curve_allowed _ false (subst IsInLimits kind (limits_there c.args.site.now.world site.valid c.args.site.now.end.node.0))
 
 pub returns-in-Shaper-clause-renders : goal.returns-in-Shaper-clause-renders
 returns-in-Shaper-clause-renders c =

@@ -1,13 +1,11 @@
 use Rattle.std.proofs.Common.{pos, ◌≡◌, ◌+◌, ◌<◌, ◌≤◌, ◌*◌, slice_index_or, sym, ◌∙◌, ap, arith, subst}
 use Rattle.std.specs.Prelude.{if◌then◌else◌}
-use Rattle.node_table.specs.Kinds.{outputs, is_mono}
+use Rattle.node_table.specs.Kinds.{row, outputs}
 use Rattle.meaning.specs.World.{sounds_at}
 use Rattle.quantum_blocks.specs.Blocks.{BlockView, at, slot, room_of}
 use Rattle.quantum_render.specs.Benches.{BenchView}
 use Rattle.quantum_blocks.specs.Sites.{SiteView}
-use Rattle.std.specs.Prelude.{is_some}
-use Rattle.wa_base.specs.declared.graph_names.ParamName.TheVariants.{Offset}
-use Rattle.node_table.specs.Kinds.{param_base}
+use Rattle.node_table.specs.Kinds.{param_name}
 use Rattle.quantum_render.proofs.Rendering.{site_is, own_within, own_room, mono_own, writes_own, renders_own}
 use Rattle.quantum_render.proofs.bench.Bench.render_constant.Goals as goal
 
@@ -20,7 +18,7 @@ pub copy-requires : goal.copy-requires
 copy-requires c =
     let site = site_is c.args.site.now _ _ _ _ _ _ c.site.invariant.0 c.site.view_is in
     let here = c.slot.ensures ∙ ap (λ (x : SiteView). slot x.end) c.site.view_is in
-    subst (λ n. n * 128 ≤ room_of (slice_index_or c.args.blocks.now c.slot.result c.index-blocks-slot.result)) (mono_own c.args.site.now site c.args.blocks.now c.requires.fit c.slot.result here (ap is_mono c.requires.kind.1) ∙ sym c.sound.ensures.lanes)
+    subst (λ n. n * 128 ≤ room_of (slice_index_or c.args.blocks.now c.slot.result c.index-blocks-slot.result)) (mono_own c.args.site.now site c.args.blocks.now c.requires.fit c.slot.result here (ap (λ k. (row k).channels) c.requires.kind.1) ∙ sym c.sound.ensures.lanes)
     (own_room c.args.site.now site c.args.blocks.now c.requires.fit c.slot.result here (ap outputs c.requires.kind.1) c.index-blocks-slot.result)
 
 pub returns-clause-writes : goal.returns-clause-writes
@@ -28,7 +26,7 @@ returns-clause-writes c =
     let site = site_is c.args.site.now _ _ _ _ _ _ c.site.invariant.0 c.site.view_is in
     let here = c.slot.ensures ∙ ap (λ (x : SiteView). slot x.end) c.site.view_is in
     writes_own c.args.site.now site c.args.blocks.now c.requires.fit c.slot.result here (ap outputs c.requires.kind.1) c.copy.new.self
-    (c.copy.ensures.lanes ∙ c.sound.ensures.lanes ∙ sym (mono_own c.args.site.now site c.args.blocks.now c.requires.fit c.slot.result here (ap is_mono c.requires.kind.1)))
+    (c.copy.ensures.lanes ∙ c.sound.ensures.lanes ∙ sym (mono_own c.args.site.now site c.args.blocks.now c.requires.fit c.slot.result here (ap (λ k. (row k).channels) c.requires.kind.1)))
 
 pub returns-clause-renders : goal.returns-clause-renders
 returns-clause-renders c offset j earlier begins counted before =
@@ -48,4 +46,4 @@ returns-clause-renders c offset j earlier begins counted before =
     (ap (λ (b : BlockView). at b 0 m) levels ∙ c.take_levels.ensures.levels before m now))
 
 pub take_levels-requires-clause-there : goal.take_levels-requires-clause-there
-take_levels-requires-clause-there c = ap (λ k. is_some (param_base k Offset)) c.requires.kind.1
+take_levels-requires-clause-there c = ap param_name c.requires.kind.1

@@ -4,9 +4,7 @@ use Rattle.node_table.specs.Kinds.{outputs}
 use Rattle.quantum_blocks.specs.Blocks.{BlockView, at, slot, counts_in, room_of}
 use Rattle.quantum_render.specs.Benches.{BenchView}
 use Rattle.quantum_blocks.specs.Sites.{SiteView}
-use Rattle.std.specs.Prelude.{is_some}
-use Rattle.wa_base.specs.declared.graph_names.ParamName.TheVariants.{Gain}
-use Rattle.node_table.specs.Kinds.{param_base}
+use Rattle.node_table.specs.Kinds.{param_name}
 use Rattle.quantum_render.proofs.Rendering.{site_is, own_within, own_room, writes_own, renders_own}
 use Rattle.quantum_render.proofs.bench.Bench.render_gain.Goals as goal
 
@@ -46,4 +44,4 @@ returns-clause-renders c gain j earlier begins counted before =
     (ap (λ (b : BlockView). at b 0 m) levels ∙ c.take_levels.ensures.levels before m now))
 
 pub take_levels-requires-clause-there : goal.take_levels-requires-clause-there
-take_levels-requires-clause-there c = ap (λ k. is_some (param_base k Gain)) c.requires.kind.1
+take_levels-requires-clause-there c = ap param_name c.requires.kind.1

@@ -1,9 +1,9 @@
 use Rattle.std.proofs.Common.{ℕ, ◌≡◌, ◌+◌, ◌<◌, List, Bool, true, false, Some, slice_index_or, refl, sym, ◌∙◌, ap, arith, subst}
-use Rattle.std.specs.Prelude.{is_some, if◌then◌else◌, max}
+use Rattle.std.specs.Prelude.{if◌then◌else◌, max}
 use Rattle.wa_base.specs.declared.graph_names.ParamName.TheVariants.{DelayTime}
 use Rattle.delay_line.specs.Spans.{delay_at as frames_back}
 use Rattle.node_table.specs.Delays.{frames_of}
-use Rattle.node_table.specs.Kinds.{outputs, param_base, is_delay_kind}
+use Rattle.node_table.specs.Kinds.{outputs, param_name, is_delay_kind}
 use Rattle.conn_graph.specs.Ends.{in_cycle}
 use Rattle.meaning.specs.World.{node_at, kind_of, param_id}
 use Rattle.meaning.specs.Values.{Frame, computed_value, delay_frames}
@@ -26,7 +26,7 @@ bounds-blocks-slot c =
     own_within c.args.site.now site c.args.blocks.now c.requires.fit c.slot.result (c.slot.ensures ∙ ap (λ (x : SiteView). slot x.end) c.site.view_is)
 
 pub take_levels-requires-clause-there : goal.take_levels-requires-clause-there
-take_levels-requires-clause-there c = ap (λ k. is_some (param_base k DelayTime)) c.requires.kind.3
+take_levels-requires-clause-there c = ap param_name c.requires.kind.3
 
 -- the place has as many lanes as the reader has channels
 lanes : (s : SiteView) → IsSite s.world s.end s.into s.counts s.levels s.first → (old : List BlockView) → AreFit s.world s.counts old → (k : ℕ) → k ≡ slot s.end → outputs (kind_of s.world s.end.node.0) ≡ 1 → (d : BlockView)

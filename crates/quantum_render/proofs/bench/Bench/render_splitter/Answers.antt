@@ -1,5 +1,6 @@
 use Rattle.std.proofs.Common.{◌≡◌, ◌+◌, ◌<◌, ◌≤◌, ◌*◌, slice_index_or, slice_set, sym, ◌∙◌, ap, ap₂, arith, subst}
-use Rattle.node_table.specs.Kinds.{outputs, is_mono, IsInLimits}
+use Rattle.node_table.proofs.NodeLists.{ports_allowed}
+use Rattle.node_table.specs.Kinds.{row, outputs, IsInLimits}
 use Rattle.meaning.specs.World.{kind_of}
 use Rattle.quantum_blocks.specs.Blocks.{BlockView, at, slot, block_of, counts_in, room_of}
 use Rattle.quantum_render.specs.Benches.{BenchView}
@@ -11,13 +12,13 @@ use Rattle.quantum_render.proofs.bench.Bench.render_splitter.Goals as goal
 
 pub take_input-requires-clause-low : goal.take_input-requires-clause-low
 take_input-requires-clause-low c =
-    let ports = subst IsInLimits c.requires.kind.1 c.outputs.ensures.ports in
+    let ports = ports_allowed _ (subst IsInLimits c.requires.kind.1 c.outputs.ensures.ports) in
     let are : c.outputs.result ≡ c.requires.kind.0 = c.outputs.ensures.count ∙ ap outputs c.requires.kind.1 in
     rw are ports.0
 
 pub take_input-requires-clause-high : goal.take_input-requires-clause-high
 take_input-requires-clause-high c =
-    let ports = subst IsInLimits c.requires.kind.1 c.outputs.ensures.ports in
+    let ports = ports_allowed _ (subst IsInLimits c.requires.kind.1 c.outputs.ensures.ports) in
     let are : c.outputs.result ≡ c.requires.kind.0 = c.outputs.ensures.count ∙ ap outputs c.requires.kind.1 in
     rw are ports.1
 
@@ -32,7 +33,7 @@ copy-requires c =
     let site = site_is s _ _ _ _ _ _ c.site.invariant.0 c.site.view_is in
     let here = c.slot.ensures ∙ ap (λ (x : SiteView). slot x.end) c.site.view_is in
     let heard : c.self.inside.heard ≡ c.take_input.new.self.heard = ap (λ (b : BenchView). b.heard) c.self.view_is in
-    let mono = mono_own s site c.args.blocks.now c.requires.fit c.slot.result here (ap is_mono c.requires.kind.1) in
+    let mono = mono_own s site c.args.blocks.now c.requires.fit c.slot.result here (ap (λ k. (row k).channels) c.requires.kind.1) in
     let all : outputs (kind_of s.world s.end.node.0) * counts_in s.counts s.end ≡ c.outputs.result = ap₂ (λ m n. m * n) (sym c.outputs.ensures.count) mono ∙ omega arith in
     subst (λ n. n * 128 ≤ room_of (slice_index_or c.args.blocks.now c.slot.result c.index-blocks-slot.result)) (sym (ap (λ (b : BlockView). b.lanes) heard ∙ c.take_input.ensures.lanes))
     (all_room s site c.args.blocks.now c.requires.fit c.slot.result here c.outputs.result all c.index-blocks-slot.result)
@@ -43,7 +44,7 @@ returns-clause-writes c =
     let site = site_is s _ _ _ _ _ _ c.site.invariant.0 c.site.view_is in
     let here = c.slot.ensures ∙ ap (λ (x : SiteView). slot x.end) c.site.view_is in
     let heard : c.self.inside.heard ≡ c.take_input.new.self.heard = ap (λ (b : BenchView). b.heard) c.self.view_is in
-    let mono = mono_own s site c.args.blocks.now c.requires.fit c.slot.result here (ap is_mono c.requires.kind.1) in
+    let mono = mono_own s site c.args.blocks.now c.requires.fit c.slot.result here (ap (λ k. (row k).channels) c.requires.kind.1) in
     let all : outputs (kind_of s.world s.end.node.0) * counts_in s.counts s.end ≡ c.outputs.result = ap₂ (λ m n. m * n) (sym c.outputs.ensures.count) mono ∙ omega arith in
     writes_all s site c.args.blocks.now c.requires.fit c.slot.result here c.outputs.result all c.copy.new.self
     (c.copy.ensures.lanes ∙ ap (λ (b : BlockView). b.lanes) heard ∙ c.take_input.ensures.lanes)

@@ -1,5 +1,5 @@
 use Rattle.std.proofs.Common.{List, ℤ, pos, ◌≡◌, ◌+◌, ◌*◌, ◌<◌, ◌≤◌, length, Bool, true, Some, slice_index_or, inl, inr, sym, ◌∙◌, ap, arith, subst}
-use Rattle.std.specs.Prelude.{if◌then◌else◌, nat_lt}
+use Rattle.std.specs.Prelude.{if◌then◌else◌, nat_lt, not}
 use Rattle.std.proofs.lemmas.Bool.Decides.{nat_tests}
 use Rattle.node_table.specs.Kinds.{outputs}
 use Rattle.delay_bank.specs.Kept.{room_of as delay_room}
@@ -61,7 +61,7 @@ returns-clause-renders c longest time capacity j earlier begins counted before =
     let heard : c.self.inside.heard ≡ c.take_input.new.self.heard = ap (λ (b : BenchView). b.heard) c.self.view_is ∙ c.write_heard.ensures.heard in
     let channels : c.channels.result ≡ counts_in s.counts s.end = c.channels.ensures.count in
     let lanes : c.self.inside.heard.lanes ≡ c.channels.result = ap (λ (b : BlockView). b.lanes) heard ∙ c.take_input.ensures.lanes in
-    let own = counted ∙ ap (λ b. if b then input_channels (sounding s.world) (counts_in s.counts) s.end.node.0 0 else reader_channels 128 (sounding s.world) j earlier (counts_in s.counts) s.end.node.0) c.requires.writer in
+    let own = counted ∙ ap (λ b. if not b then reader_channels 128 (sounding s.world) j earlier (counts_in s.counts) s.end.node.0 else input_channels (sounding s.world) (counts_in s.counts) s.end.node.0 0) c.requires.writer in
     renders_own s site c.args.blocks.now c.requires.fit c.slot.result (c.slot.ensures ∙ ap (λ (x : SiteView). slot x.end) c.site.view_is) (ap outputs c.requires.kind.3) c.copy.new.self _
     (λ channel m low now.
     let low' : channel < c.channels.result = subst (λ n. channel < n) (sym channels) low in

@@ -1,11 +1,11 @@
-use Rattle.std.proofs.Common.{ℕ, ℤ, ◌≡◌, ◌<◌, ◌+◌, ◌+ℤ◌, slice_index_or, map, filter, Bool, true, false, refl, sym, ◌∙◌, ap, arith, subst}
+use Rattle.std.proofs.Common.{ℕ, ℤ, ◌≡◌, ◌<◌, ◌+◌, ◌+ℤ◌, slice_index_or, map, filter, Bool, true, false, refl, sym, ◌∙◌, ap, arith, subst, Some}
 use Rattle.std.proofs.Math.IntN.{+ℤ_idr}
 use Rattle.std.proofs.lemmas.List.{get_or_default}
 use Rattle.wa_base.specs.Numbers.{sat}
 use Rattle.wa_base.specs.declared.graph_names.ParamId.{ParamId}
 use Rattle.wa_base.specs.declared.graph_names.ParamName.{ParamName}
 use Rattle.meaning.specs.declared.world.World.{World}
-use Rattle.std.specs.Prelude.{if◌then◌else◌, is_some}
+use Rattle.std.specs.Prelude.{if◌then◌else◌}
 use Rattle.wa_base.specs.declared.graph_names.Interp.TheVariants.{Speakers}
 use Rattle.channel_mix.specs.Mixing.{total}
 use Rattle.conn_graph.specs.declared.edges.Target.TheVariants.{Param}
@@ -19,7 +19,7 @@ use Rattle.quantum_blocks.specs.Blocks.{frame_of}
 use Rattle.quantum_blocks.specs.Connections.{leads_to}
 use Rattle.quantum_blocks.specs.Sums.{sum_at}
 use Rattle.quantum_blocks.specs.Sites.{SiteView, IsSite}
-use Rattle.node_table.specs.Kinds.{param_base}
+use Rattle.node_table.specs.Kinds.{param_name}
 use Rattle.quantum_blocks.proofs.Sources.{end_low}
 use Rattle.quantum_render.proofs.Automated.{has_param, has_room, level_within, rate_is, intrinsic_is}
 use Rattle.quantum_render.proofs.InputLaws.{sat_of_fix}
@@ -28,7 +28,7 @@ use Rattle.quantum_render.proofs.Rendering.{site_is}
 use Rattle.quantum_render.proofs.bench.Bench.take_sums.Goals as goal
 
 -- the parameter that the kind has is there
-is_there : (s : SiteView) → IsSite s.world s.end s.into s.counts s.levels s.first → (name : ParamName) → is_some (param_base (kind_of s.world s.end.node.0) name) ≡ true → IsIn (param_id s.end.node.0 name) (param_ids s.world)
+is_there : (s : SiteView) → IsSite s.world s.end s.into s.counts s.levels s.first → (name : ParamName) → param_name (kind_of s.world s.end.node.0) ≡ Some name → IsIn (param_id s.end.node.0 name) (param_ids s.world)
 is_there s site name some = has_param s.world site.valid s.end.node.0 name (end_low s.world site.valid s.end site.there) some
 
 pub bounds-site-inside-site-inside : goal.bounds-site-inside-site-inside

@@ -1,16 +1,15 @@
 -- What nodes of each kind have, and what they are created with, as the definitions compute it.
-use Rattle.std.specs.Prelude.{neg_ℤ, is_some}
+use Rattle.std.specs.Prelude.{neg_ℤ, is_some, option_map}
 use Rattle.std.proofs.Common.{ℤ, pos, ◌≡◌, List, [], ◌∷◌, None, Some, map, true, false, refl}
 use Rattle.wa_base.specs.declared.contexts.ContextSpec.{ContextSpec}
 use Rattle.wa_base.specs.declared.exceptions.Exc.TheVariants.{NotSupported, InvalidState, IndexSize, WrongType}
 use Rattle.wa_base.specs.declared.features.Feature.TheVariants.{PlaybackRate, LongDelay, DelayLimit}
 use Rattle.wa_base.specs.declared.graph_names.Interp.TheVariants.{Speakers, Discrete}
 use Rattle.wa_base.specs.declared.graph_names.Mode.TheVariants.{Max, Explicit}
-use Rattle.wa_base.specs.declared.graph_names.ParamName.{ParamName}
 use Rattle.wa_base.specs.declared.graph_names.ParamName.TheVariants as param
 use Rattle.node_table.specs.declared.kinds.Kind.{Kind}
 use Rattle.node_table.specs.declared.kinds.Kind.TheVariants.{Destination, Constant, Buffer, Gain, Delay, Splitter, Merger, Shaper, Iir}
-use Rattle.node_table.specs.Kinds.{is_destination, fixed_count, fixed_mode, fixed_interp, inputs, outputs, is_delay_kind, param_base, lasting, remembers, with_curve, set_curve_refusal}
+use Rattle.node_table.specs.Kinds.{row, is_destination, inputs, outputs, is_delay_kind, param_name, lasting, remembers, with_curve, set_curve_refusal}
 use Rattle.node_table.specs.Nodes.{destination_of, node_of, creation_refusal, count_refusal, kind_at, attrs_at}
 
 abbrev kinds : List Kind
@@ -30,17 +29,11 @@ is_delay_kind-kinds : map is_delay_kind kinds ≡ false ∷ false ∷ false ∷ 
 is_delay_kind-kinds = refl
 
 -- the parameters of each kind, with the values that they are created with
-abbrev names : List ParamName
-names = param.Offset ∷ param.Gain ∷ param.DelayTime ∷ param.PlaybackRate ∷ param.Detune ∷ []
+names-kinds : map param_name kinds ≡ None ∷ Some param.Offset ∷ None ∷ Some param.Gain ∷ Some param.DelayTime ∷ None ∷ None ∷ None ∷ None ∷ []
+names-kinds = refl
 
-param_base-destination : map (param_base Destination) names ≡ None ∷ None ∷ None ∷ None ∷ None ∷ []
-param_base-destination = refl
-
-param_base-constant : map (param_base (Constant (pos 5))) names ≡ Some (pos 5) ∷ None ∷ None ∷ None ∷ None ∷ []
-param_base-constant = refl
-
-param_base-gain : map (param_base (Gain (pos 7))) names ≡ None ∷ Some (pos 7) ∷ None ∷ None ∷ None ∷ []
-param_base-gain = refl
+values-kinds : map (λ kind. option_map (λ p. p.value) (row kind).param) kinds ≡ None ∷ Some (pos 5) ∷ None ∷ Some (pos 7) ∷ Some (pos 9) ∷ None ∷ None ∷ None ∷ None ∷ []
+values-kinds = refl
 
 -- the attributes of the destination of a context with six channels, and of a node that is created at frame 1,280
 abbrev context : ContextSpec
@@ -57,13 +50,13 @@ attrs-created : map (attrs_at (destination_of context ∷ node_of (Gain (pos 7))
 attrs-created = refl
 
 -- a source and a gain may get another count and another mode; of the destination, a splitter and a merger both are fixed, and of a splitter the interpretation too
-fixed : map fixed_count kinds ≡ true ∷ false ∷ false ∷ false ∷ false ∷ true ∷ true ∷ false ∷ false ∷ []
+fixed : map (λ kind. (row kind).fixed.count) kinds ≡ true ∷ false ∷ false ∷ false ∷ false ∷ true ∷ true ∷ false ∷ false ∷ []
 fixed = refl
 
-fixed_modes : map fixed_mode kinds ≡ true ∷ false ∷ false ∷ false ∷ false ∷ true ∷ true ∷ false ∷ false ∷ []
+fixed_modes : map (λ kind. (row kind).fixed.mode) kinds ≡ true ∷ false ∷ false ∷ false ∷ false ∷ true ∷ true ∷ false ∷ false ∷ []
 fixed_modes = refl
 
-fixed_interps : map fixed_interp kinds ≡ false ∷ false ∷ false ∷ false ∷ false ∷ true ∷ false ∷ false ∷ false ∷ []
+fixed_interps : map (λ kind. (row kind).fixed.interp) kinds ≡ false ∷ false ∷ false ∷ false ∷ false ∷ true ∷ false ∷ false ∷ false ∷ []
 fixed_interps = refl
 
 kind-created : map (kind_at (destination_of context ∷ node_of (Gain (pos 7)) 1280 ∷ [])) (1 ∷ 2 ∷ []) ≡ Some (Gain (pos 7)) ∷ None ∷ []
@@ -82,10 +75,6 @@ refused-ports = refl
 -- a rate of 0 is refused; no other is
 refused-rates : map (creation_refusal (destination_of context ∷ [])) (Buffer 0 ∷ Buffer 1 ∷ Buffer 127 ∷ []) ≡ Some (NotSupported (Some PlaybackRate)) ∷ None ∷ None ∷ []
 refused-rates = refl
-
--- a buffer source has no parameter that can be automated
-param_base-buffer : map (param_base (Buffer 2)) names ≡ None ∷ None ∷ None ∷ None ∷ None ∷ []
-param_base-buffer = refl
 
 -- of a splitter with three outputs the count 3 may be set, and no other; 0 and 33 are no counts at all
 refused-counts : map (λ count. count_refusal count (node_of (Splitter 3) 0)) (3 ∷ 2 ∷ 0 ∷ 33 ∷ []) ≡ None ∷ Some InvalidState ∷ Some (NotSupported None) ∷ Some (NotSupported None) ∷ []
@@ -129,10 +118,6 @@ remembering : map remembers kinds ≡ false ∷ false ∷ false ∷ false ∷ fa
 remembering = refl
 
 -- ---- delays
-
--- a delay has one parameter
-param_base-delay : map (param_base (Delay (pos 16777216) (pos 9) 48000)) names ≡ None ∷ None ∷ Some (pos 9) ∷ None ∷ None ∷ []
-param_base-delay = refl
 
 -- A longest delay of 0 or less is refused, and one above 16 seconds by its feature; whether the value of delayTime is longer, or below 0, is no matter.
 refused-delays : map (λ longest. creation_refusal (destination_of context ∷ []) (Delay longest (pos 536870912) 128)) (pos 0 ∷ neg_ℤ (pos 1) ∷ pos 1 ∷ pos 268435456 ∷ pos 268435457 ∷ [])
