@@ -4,14 +4,13 @@ import json
 import os
 import random
 import shlex
-import struct
 import subprocess
 import sys
 
-
-from waplay_tools.expecting import sessions
 from waplay_tools.cases.case import read_case
+from waplay_tools.expecting import sessions
 from waplay_tools.places import CASES, EXAMPLES, TOP
+from waplay_tools.wav import Form, wav_bytes
 
 TOOLS = TOP / "tools"
 
@@ -34,13 +33,8 @@ HOSTILE_NAMES = [
 
 def wav(channels, rate=48000, bits=24):
     """The bytes of a WAV file with these channels of samples."""
-    width = bits // 8
-    rows = b"".join((sample + (128 if bits == 8 else 0)).to_bytes(width, "little", signed=bits != 8)
-                    for row in zip(*channels) for sample in row)
-    block = len(channels) * width
-    head = struct.pack("<IHHIIHH", 16, 1, len(channels), rate, rate * block, block, bits)
-    body = b"WAVEfmt " + head + b"data" + struct.pack("<I", len(rows)) + rows + b"\0" * (len(rows) % 2)
-    return b"RIFF" + struct.pack("<I", len(body)) + body
+    stored = [[sample + (128 if bits == 8 else 0) for sample in samples] for samples in channels]
+    return wav_bytes(Form(len(channels), rate, bits), stored)
 
 
 def script(calls, channels=1, length=128, rate=48000):

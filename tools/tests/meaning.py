@@ -16,8 +16,8 @@ QUANTUM = 128
 class World:
     """The nodes and connections that are in force in a quantum. An end is a number and whether it is a writer."""
 
-    def __init__(self, session):
-        self.nodes, self.edges = copy.deepcopy(session.nodes), sorted(session.edges, key=repr)
+    def __init__(self, nodes, edges):
+        self.nodes, self.edges = copy.deepcopy(nodes), sorted(edges, key=repr)
         numbers = range(len(self.nodes))
         self.delays = {number for number in numbers if self.nodes[number].kind == "delay"}
         paths = closure(numbers, {(source, target) for source, _, target, _ in self.edges})
@@ -194,9 +194,9 @@ def taped():
     rendering = sessions.Rendering
 
     class Taping(rendering):
-        def __init__(self, session):
-            super().__init__(session)
-            self.world = World(session)
+        def __init__(self, nodes, edges):
+            super().__init__(nodes, edges)
+            self.world = World(nodes, edges)
 
         def quanta(self, begin, end):
             for blocks in super().quanta(begin, end):

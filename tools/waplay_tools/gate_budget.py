@@ -70,10 +70,13 @@ class Watch(threading.Thread):
         self.processes: dict[tuple[int, int], Process] = {}
 
     def run(self) -> None:
+        """Looks twice a second, from the thread's start on."""
         while not self.is_over.wait(0.5):
             self.look()
 
     def look(self) -> None:
+        """Notes what each process below has taken so far. What one took last is kept when it is
+        gone."""
         parents, took = {}, {}
         for entry in os.scandir("/proc"):
             if entry.name.isdigit():
@@ -143,6 +146,7 @@ def dearest(processes: list[Process], number: int) -> list[str]:
 
 
 def main() -> int:
+    """Runs the gate, and prints a line for each part with its budget."""
     parser = argparse.ArgumentParser(prog="tools/gate-budget", description=__doc__)
     parser.add_argument(
         "--crates", type=int, default=0, metavar="N", help="also list the N dearest crates by part"

@@ -100,6 +100,8 @@ def run_ruff() -> tuple[int, int]:
 
 
 def main() -> int:
+    """Runs all that the command line asks for. The last line has the counts, and the status is 0
+    where nothing failed."""
     parser = argparse.ArgumentParser(prog="./test", description=__doc__)
     parser.add_argument(
         "--program",

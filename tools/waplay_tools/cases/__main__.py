@@ -19,6 +19,7 @@ SECOND = "the second calculation"
 
 
 def words() -> argparse.Namespace:
+    """The words of the command line."""
     parser = argparse.ArgumentParser(prog="tools/cases", description=__doc__)
     parser.add_argument(
         "paths",
@@ -55,6 +56,8 @@ def files_in(paths: list[Path]) -> list[Path]:
 
 
 def case_at(path: Path) -> Case:
+    """The case of a file, or the example that stands for one. It raises CaseFault where the file is
+    neither."""
     return example_of(path) if path.parent == EXAMPLES else read_case(path)
 
 
@@ -96,6 +99,8 @@ def changes_untold(path: Path, programs: list[Path]) -> dict[str, list[str]]:
 
 
 def main() -> int:
+    """Runs what the command line names, tells what is otherwise than wanted, and gives the
+    status."""
     asked = words()
     programs = [] if asked.second_alone else [it.resolve() for it in asked.program or [SHIPPED]]
     for program in programs:

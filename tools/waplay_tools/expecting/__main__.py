@@ -26,12 +26,7 @@ import os
 import sys
 from pathlib import Path
 
-from waplay_tools.expecting.sessions import (
-    replayed,
-    samples_of,
-    summary_of,
-    wav_bytes,
-)  # noqa: E402
+from waplay_tools.expecting.sessions import replayed, samples_of, summary_of, wav_bytes
 
 
 def arguments() -> argparse.Namespace:

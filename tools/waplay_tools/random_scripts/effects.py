@@ -1,13 +1,13 @@
 """Shapes of scripts: parameters that move, wave shapers and filters."""
 
 from waplay_tools.random_scripts.graphs import Graphs
-from waplay_tools.random_scripts.kinds import FIX, KINDS, ONE
+from waplay_tools.random_scripts.kinds import FIX, KINDS, ONE, Calls
 
 
 class Effects(Graphs):
     """Shapes of scripts: parameters that move, wave shapers and filters."""
 
-    def automated(self):
+    def automated(self) -> Calls:
         """Sources and gains behind one another, whose parameters have timelines and hear other
         nodes, some of them at k-rate and some in cycles. In some the last gain brings the whole
         range of values into the file. The list of startRendering reads the values and goes on with
@@ -52,9 +52,8 @@ class Effects(Graphs):
             a, b = self.rng.randrange(len(places)), self.rng.randrange(len(controlled))
             if places[a] not in controlled[b:] or self.may(backward):
                 calls.append(self.connect_param(places[a], controlled[b]))
-        if self.may(
-            0.3
-        ):  # several channels at parameters, of nodes that take their inputs as discrete
+        # Several channels at parameters, of nodes that take their inputs as discrete.
+        if self.may(0.3):
             sides = [self.create_constant() for _ in range(self.rng.randint(2, 6))]
             calls += (
                 sides
@@ -130,7 +129,7 @@ class Effects(Graphs):
             return calls
         return calls + [{"op": "startRendering", "then": held}]
 
-    def bent(self):
+    def bent(self) -> Calls:
         """Sources that mostly move, and shapers behind one another with a few other nodes between,
         some of them in cycles. What comes to a shaper is mostly up to 2.0. Some curves are set
         before the connections and some behind them, and some are taken away."""
@@ -179,7 +178,7 @@ class Effects(Graphs):
         calls += [self.stop() for _ in range(self.rng.choice([0, 0, 1]))]
         return calls + [self.start_rendering()]
 
-    def filtered(self):
+    def filtered(self) -> Calls:
         """Sources that are mostly short or move, and filters behind one another with a few other
         nodes between, some of them in cycles. Sources of several channels start and end, so that
         channels come and go."""

@@ -1,5 +1,6 @@
 """What scripts are made of: ranges of values, the kinds of nodes, buffers and assets."""
 
+from collections.abc import Callable
 from typing import Any, NamedTuple
 
 from waplay_tools.expecting.automation import EDITS, LEFT_OUT_EDITS
@@ -52,6 +53,10 @@ class Sound(NamedTuple):
     channels: int
     length: int
     parameter: str | None = None
+
+
+Named = Kind | Sound  # what a name of a script may stand for
+Fits = Callable[[Named], Any]  # whether it is what a call wants, by the truth of the answer
 
 
 class Link(NamedTuple):

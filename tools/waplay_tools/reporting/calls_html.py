@@ -1,6 +1,8 @@
 """The transcript beside the script's calls, as tables of HTML."""
 
 from waplay_tools.reporting import entries, rules
+from waplay_tools.reporting.following import Row, Session
+from waplay_tools.reporting.script_reading import Call
 from waplay_tools.reporting.text import LONG, counted, escaped, grouped, isolated, sentence, shown
 
 # Of each class of rows its sign. The word that goes with it is in the row's own text.
@@ -29,7 +31,7 @@ _CLASSES = {
 }
 
 
-def class_of(row):
+def class_of(row: Row) -> str:
     """The class of a row: what its colour and its sign tell."""
     return "refused" if row.line.is_refusal() else _CLASSES[row.line.kind]
 
@@ -60,7 +62,7 @@ def _operation(call):
     return escaped(call.op) if is_known else "op " + isolated(shown(call.op))
 
 
-def call_html(call):
+def call_html(call: Call) -> str:
     """A call in one paragraph: its operation, the fields that it has, the list that it holds, and
     the members that nothing reads."""
     if not isinstance(call.value, dict):
@@ -160,7 +162,7 @@ _LEGEND = [
 ]
 
 
-def transcript_html(session):
+def transcript_html(session: Session) -> str:
     """The section of the transcript."""
     legend = "".join(
         '<li class="%s"><span class="sign" aria-hidden="true">%s</span> %s</li>'
@@ -194,7 +196,7 @@ def transcript_html(session):
     )
 
 
-def not_run_html(session):
+def not_run_html(session: Session) -> str:
     """The section of the calls that were not run; nothing where there are none."""
     if not session.not_run:
         return ""

@@ -4,7 +4,9 @@ import collections
 
 from waplay_tools.reporting import entries
 from waplay_tools.reporting.following import answers
+from waplay_tools.reporting.script_reading import Call, Script
 from waplay_tools.reporting.text import BadInput, quoted, shown, visible
+from waplay_tools.reporting.transcript_reading import Line
 
 SIGNS = {"same": " ", "other": "|", "left": "<", "right": ">", "moved": "~"}
 
@@ -13,14 +15,14 @@ class Pair:
     """A line of the first transcript, the line of the second that answers the same, and how they
     differ."""
 
-    def __init__(self, left, right):
+    def __init__(self, left: Line | None, right: Line | None) -> None:
         self.left, self.right = left, right
         if left is None or right is None:
             self.kind = "right" if left is None else "left"
         else:
             self.kind = "same" if left.text == right.text else "other"
 
-    def line(self):
+    def line(self) -> Line:
         """The line that is there, the first one's where both are."""
         return self.left or self.right
 
@@ -41,7 +43,7 @@ def _keys(lines):
     return keyed
 
 
-def pairs_of(left, right):
+def pairs_of(left: list[Line], right: list[Line]) -> list[Pair]:
     """The lines of two transcripts in pairs, in the order of the first; a line that only the second
     has comes behind the one that it follows there."""
     ones, twos = _keys(left), _keys(right)
@@ -71,7 +73,7 @@ def _find_moved(pairs):
         latest = max(latest, pair.right.place)
 
 
-def parting(left, right):
+def parting(left: list[Line], right: list[Line]) -> int | None:
     """The place of the first lines that differ, counted from 1; None where there is none."""
     for place, (one, two) in enumerate(zip(left, right), 1):
         if one.text != two.text:
@@ -79,7 +81,7 @@ def parting(left, right):
     return None if len(left) == len(right) else min(len(left), len(right)) + 1
 
 
-def call_text(call):
+def call_text(call: Call) -> str:
     """A call in one line: its operation, its fields, and of its list how long it is."""
     if not isinstance(call.op, str) or call.op not in entries.OPERATIONS:
         return shown(call.value)
@@ -121,7 +123,7 @@ def _seen(pairs, context):
     return seen
 
 
-def table(pairs, script, context):
+def table(pairs: list[Pair], script: Script | None, context: int | None) -> str:
     """The pairs side by side. Of those that are alike so many are shown around each that differs,
     and all where that is None."""
     seen = set(range(len(pairs))) if context is None else _seen(pairs, context)
@@ -156,7 +158,13 @@ def table(pairs, script, context):
     return "\n".join(rows)
 
 
-def differences(left, right, names, script=None, context=3):
+def differences(
+    left: list[Line],
+    right: list[Line],
+    names: tuple[str, str],
+    script: Script | None = None,
+    context: int | None = 3,
+) -> str:
     """What is printed of two transcripts that differ."""
     pairs = pairs_of(left, right)
     counts = collections.Counter(pair.kind for pair in pairs)
@@ -177,7 +185,7 @@ def differences(left, right, names, script=None, context=3):
     )
 
 
-def check(script, lines, names):
+def check(script: Script, lines: list[Line], names: tuple[str, str]) -> None:
     """Raises BadInput where a line answers no call of the script, or is no answer of its operation.
     More is not asked for: of two transcripts one may be wrong."""
     for line in lines:

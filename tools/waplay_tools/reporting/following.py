@@ -4,42 +4,50 @@ script.
 """
 
 from waplay_tools.reporting import entries
+from waplay_tools.reporting.script_reading import Call, Script
 from waplay_tools.reporting.sources import Book, quantum_end
 from waplay_tools.reporting.text import BadInput, as_it_is, counted, grouped, quoted
+from waplay_tools.reporting.transcript_reading import Line
 
 
 class Row:
     """A line of the transcript beside its call, if it has one. The detail is what is known
     besides."""
 
-    def __init__(self, line, call=None, detail=""):
+    def __init__(self, line: Line, call: Call | None = None, detail: str = "") -> None:
         self.line, self.call, self.detail = line, call, detail
 
 
 class Part:
     """Rows that came one after the other: the title of their list or of what was rendered."""
 
-    def __init__(self, title):
-        self.title, self.rows = title, []
+    def __init__(self, title: str) -> None:
+        self.title = title
+        self.rows: list[Row] = []
 
 
 class Mark:
     """A mark of the time line. What it marks lies from its first to its last frame, mostly at
     one."""
 
-    def __init__(self, kind, low, high, text, told=None):
+    def __init__(
+        self, kind: str, low: int, high: int | None, text: str, told: Line | None = None
+    ) -> None:
         self.kind, self.low, self.high, self.text, self.told = kind, low, high, text, told
 
 
 class Session:
     """A transcript along its script: its parts, its marks, and the calls that were never run."""
 
-    def __init__(self, script, lines, names):
+    def __init__(self, script: Script, lines: list[Line], names: tuple[str, str]) -> None:
         self.script, self.lines = script, lines
         self.script_name, self.transcript_name = names
-        self.parts, self.marks, self.answered = [], [], set()
+        self.parts: list[Part] = []
+        self.marks: list[Mark] = []
+        self.answered: set[int] = set()
         self.book, self.now, self.at = Book(), 0, 0
-        self.rendering, self.suspensions = None, {}
+        self.rendering: int | None = None
+        self.suspensions: dict[int, int] = {}  # of ordinals, the frames at which they are due
         self.length = script.context("length")
         self._follow()
         self._settle_marks()
@@ -233,16 +241,16 @@ class Session:
             )
             mark.low = min(mark.low, mark.high)
 
-    def count(self, *kinds):
+    def count(self, *kinds: str) -> int:
         """How many lines have one of these kinds."""
         return sum(line.kind in kinds for line in self.lines)
 
-    def end(self):
+    def end(self) -> Line:
         """The last line."""
         return self.lines[-1]
 
 
-def answers(op):
+def answers(op: str) -> tuple[str, ...]:
     """The kinds of lines that a call of the operation may get in its list."""
     if op in entries.LEFT_OUT:
         return ("throw",)
@@ -259,7 +267,7 @@ def _faults_told(told, own):
     return f"{has}, and the transcript tells {'none' if told is None else quoted(told)}"
 
 
-def summary(session):
+def summary(session: Session) -> str:
     """One sentence on what became of the session."""
     end = session.end()
     if end.kind == "script":

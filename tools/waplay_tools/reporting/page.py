@@ -5,7 +5,9 @@ import hashlib
 import os
 
 from waplay_tools.reporting import calls_html, following, sound_html
+from waplay_tools.reporting.following import Session
 from waplay_tools.reporting.text import counted, escaped, grouped, isolated, seconds
+from waplay_tools.reporting.wav_samples import Differences, Sound
 
 HERE = os.path.dirname(os.path.abspath(__file__))
 
@@ -72,7 +74,13 @@ def _no_sound(session, wav_name):
     )
 
 
-def page(session, names, sound=None, data=None, against=None):
+def page(
+    session: Session,
+    names: tuple[str, str | None],
+    sound: Sound | None = None,
+    data: bytes = b"",
+    against: tuple[Differences, str, bytes] | None = None,
+) -> str:
     """The page. The names are those of the script and of the WAV file; `against` is the differences
     from another file, its name and its bytes."""
     style, code = _own("page.css"), _own("page.js")

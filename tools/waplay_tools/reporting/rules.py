@@ -1,7 +1,12 @@
 """The rules by which calls are refused, and the faults of scripts, in words."""
 
+from typing import Any
+
 from waplay_tools.reporting import entries
+from waplay_tools.reporting.following import Row
+from waplay_tools.reporting.script_reading import Call, Script
 from waplay_tools.reporting.text import as_it_is, grouped, shown
+from waplay_tools.reporting.transcript_reading import Line
 
 # The rule of each feature, where it does not hang on the operation.
 FEATURES = {
@@ -226,7 +231,7 @@ CONTEXT = (
 )
 
 
-def rule(op, exception, feature):
+def rule(op: str, exception: str, feature: str | None) -> str:
     """The rule by which a call of the operation was refused so, with code between backquotes."""
     if feature:
         return FEATURES.get(feature, "The profile leaves this out.")
@@ -263,7 +268,7 @@ _SCRIPT_FIELDS = {
 }
 
 
-def kind_in_words(kind, default):
+def kind_in_words(kind: str, default: list[Any]) -> str:
     """What a field of the kind may be."""
     base = kind.replace(" or null", "")
     told = _KINDS.get(base) or "one of the words " + ", ".join(f"`{word}`" for word in base.split())
@@ -280,7 +285,7 @@ def _field(ordinal, field, op):
     return "an object"
 
 
-def fault(line, call, reason):
+def fault(line: Line, call: Call | None, reason: str) -> str:
     """The fault of a script that a line tells, in words. The reason is that of a text that is no
     JSON."""
     if line.word == "BadJson":
@@ -313,7 +318,7 @@ def fault(line, call, reason):
     return f"`{line.field}` {told}: it has to be {wanted}.{found}"
 
 
-def meaning(row, script):
+def meaning(row: Row, script: Script) -> str:
     """What a line says, in words; an empty text where it speaks for itself."""
     line, call = row.line, row.call
     if line.kind in ("throw", "rejected"):

@@ -7,6 +7,7 @@ yet.
 
 import json
 import re
+from typing import Any
 
 from waplay_tools.reporting import entries
 from waplay_tools.reporting.text import BadInput, Written, visible
@@ -17,13 +18,13 @@ MOST_NESTED = 127
 class Call:
     """A call of a script: what stands at its place, its ordinal, and the ordinals around it."""
 
-    def __init__(self, ordinal, value, holder, depth):
+    def __init__(self, ordinal: int, value: Any, holder: int, depth: int) -> None:
         self.ordinal, self.value, self.holder, self.depth = ordinal, value, holder, depth
-        self.members = value if isinstance(value, dict) else {}
+        self.members: dict[str, Any] = value if isinstance(value, dict) else {}
         self.op = self.members.get("op")
-        self.held = []  # the ordinals of the calls of its list
+        self.held: list[int] = []  # the ordinals of the calls of its list
 
-    def field(self, name):
+    def field(self, name: str) -> Any:
         """The value of a field, which is its default where it is absent."""
         for field, _, *default in entries.fields_of(self.op):
             if field == name:
@@ -34,11 +35,11 @@ class Call:
 class Script:
     """A script: its value, its calls in document order, and its first fault if it has one."""
 
-    def __init__(self, value, calls, fault, reason=""):
+    def __init__(self, value: Any, calls: list[Call], fault: str | None, reason: str = "") -> None:
         self.value, self.calls, self.fault, self.reason = value, calls, fault, reason
         self.by_ordinal = {call.ordinal: call for call in calls}
 
-    def context(self, name):
+    def context(self, name: str) -> int:
         """A number of the context; 0 where the script has a fault there."""
         context = self.value.get("context") if isinstance(self.value, dict) else None
         number = context.get(name) if isinstance(context, dict) else None
@@ -87,7 +88,7 @@ def _plain(value, room):
     return value
 
 
-def json_of(data):
+def json_of(data: bytes) -> Any:
     """The value of JSON bytes. It raises ValueError with a reason where they have none."""
     try:
         value = json.loads(
@@ -104,7 +105,7 @@ def json_of(data):
         raise ValueError(f"arrays and objects nest deeper than {MOST_NESTED}") from None
 
 
-def cause(value, kind):
+def cause(value: Any, kind: str) -> str | None:
     """What is wrong with a value that is to be of the kind; None where nothing is."""
     if kind in entries.RANGES:
         low, high = entries.RANGES[kind]
@@ -190,7 +191,7 @@ def _numbered(values, holder, depth, calls):
     return ordinals
 
 
-def script_of(data):
+def script_of(data: bytes) -> Script:
     """The script that the bytes are, with its first fault if it has one."""
     try:
         value = json_of(data)
@@ -205,7 +206,7 @@ def script_of(data):
     return Script(value, calls, None)
 
 
-def bytes_of(path):
+def bytes_of(path: str) -> bytes:
     """The bytes of a file that a tool is handed."""
     try:
         with open(path, "rb") as file:

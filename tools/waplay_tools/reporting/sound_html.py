@@ -15,7 +15,7 @@ from waplay_tools.reporting.text import (
     seconds,
     sentence,
 )
-from waplay_tools.reporting.wav_samples import front_of, peak
+from waplay_tools.reporting.wav_samples import Differences, Sound, front_of, peak
 
 MOST_BYTES = 64 * 2**20  # of a file that is put into the page
 MOST_PLAYED = 8  # channels of a file that browsers are sure to play
@@ -47,7 +47,7 @@ def _peaks(sound):
     return [peak(channel) for channel in sound.channels]
 
 
-def numbers_html(sound, rate):
+def numbers_html(sound: Sound, rate: int) -> str:
     """The table of peaks and sums."""
     rows = []
     for number, (greatest, value, frame) in enumerate(_peaks(sound)):
@@ -97,7 +97,7 @@ def _head(words=(), numbers=(), last=()):
     return f"<thead><tr>{''.join(cells)}</tr></thead>"
 
 
-def frame_html(frame):
+def frame_html(frame: int) -> str:
     """A frame, which a script makes a button that shows it."""
     return f'<span class="frame" data-frame="{frame}">{grouped(frame)}</span>'
 
@@ -157,7 +157,7 @@ def _difference_lanes(differences, marks, frames):
     return "".join(lanes)
 
 
-def events_html(marks, rate):
+def events_html(marks: list[Mark], rate: int) -> str:
     """The table of the marks."""
     title = '<h3 id="events-title">Events of the time line</h3>'
     if not marks:
@@ -197,7 +197,7 @@ def _difference_marks(differences):
     return found
 
 
-def differences_html(differences, name, rate):
+def differences_html(differences: Differences, name: str, rate: int) -> str:
     """The section of the differences from the file of this name."""
     samples = sum(map(len, differences.channels))
     lines = []
@@ -242,7 +242,7 @@ def differences_html(differences, name, rate):
     )
 
 
-def legend_html(marks):
+def legend_html(marks: list[Mark]) -> str:
     """What the signs of these marks mean."""
     texts = "".join(
         f"<li>{waveform.sign(kind)} {text}</li>"
@@ -254,7 +254,7 @@ def legend_html(marks):
     return f'<ul class="legend" aria-label="Signs of the time line">{texts}</ul>' if texts else ""
 
 
-def no_sound_html(told, marks, length, rate):
+def no_sound_html(told: str, marks: list[Mark], length: int, rate: int) -> str:
     """The section in place of the sound, where the session wrote no file, for a reason that is
     HTML."""
     line = ""
@@ -271,7 +271,13 @@ def no_sound_html(told, marks, length, rate):
     )
 
 
-def sound_html(sound, data, marks, differences=None, other=None):
+def sound_html(
+    sound: Sound,
+    data: bytes,
+    marks: list[Mark],
+    differences: Differences | None = None,
+    other: bytes | None = None,
+) -> str:
     """The section of the sound. The other is the bytes of the file that it is held against."""
     all_marks = marks + _difference_marks(differences)
     places = waveform.placed(all_marks, sound.frames)

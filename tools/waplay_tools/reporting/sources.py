@@ -6,9 +6,10 @@ nowhere. Then there is a first and a last frame between which it ended.
 """
 
 from waplay_tools.reporting import entries
+from waplay_tools.reporting.script_reading import Call
 
 
-def quantum_end(frame):
+def quantum_end(frame: int) -> int:
     """The first end of a quantum that is not before the frame."""
     return -(-frame // entries.QUANTUM) * entries.QUANTUM
 
@@ -17,15 +18,20 @@ class Thing:
     """A node or a buffer: its kind in words, its number if it is a node, and the call that made
     it."""
 
-    def __init__(self, kind, number, call):
+    def __init__(self, kind: str, number: int | None, call: Call | None) -> None:
         self.kind, self.number, self.call = kind, number, call
         self.name = call.field("as") if call else "destination"
-        self.start = self.stop = self.buffer = self.duration = None
-        self.offset, self.length, self.has_ended = 0, None, False
+        self.start: int | None = None
+        self.stop: int | None = None
+        self.buffer: Thing | None = None
+        self.offset = 0
+        self.duration: int | None = None
+        self.length: int | None = None
+        self.has_ended = False
         self.is_looping = bool(call and call.field("loop"))
         self.rate = max(1, (call.field("playbackRate") or 0) // entries.ONE) if call else 1
 
-    def ends(self):
+    def ends(self) -> tuple[int, int | None]:
         """The first and the last frame at which a started source may end. The last is None where
         nothing says when it ends; then the first is its start."""
         least, most = self._content() if self.kind == "buffer source" else (None, None)
@@ -60,9 +66,9 @@ class Book:
 
     def __init__(self):
         self.nodes = [Thing("destination", 0, None)]
-        self.names = {"destination": self.nodes[0]}
+        self.names: dict[str, Thing] = {"destination": self.nodes[0]}
 
-    def what(self, name):
+    def what(self, name: str) -> str:
         """What a name stands for, in words."""
         it = self.names.get(name)
         if it is None:
@@ -71,7 +77,7 @@ class Book:
             return "is the destination"
         return f"is a{'n' if it.kind[0] in 'aeiouI' else ''} {it.kind}"
 
-    def apply(self, call, now):
+    def apply(self, call: Call, now: int) -> None:
         """What an accepted call changes, made at the frame `now`."""
         op = call.op
         if op in entries.NODES:

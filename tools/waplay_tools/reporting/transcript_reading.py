@@ -45,7 +45,7 @@ _FORMS = [
 class Line:
     """A line of a transcript, and what its words are. What its form does not have is None."""
 
-    def __init__(self, place, text, words):
+    def __init__(self, place: int, text: str, words: dict[str, str | None]) -> None:
         self.place, self.text = place, text
         self.kind = words["kind"]
         self.ordinal = int(words["ordinal"]) if words.get("ordinal") else None
@@ -55,7 +55,7 @@ class Line:
         if self.exception:
             self.exception = self.exception.split()[0]
 
-    def is_refusal(self):
+    def is_refusal(self) -> bool:
         """Whether the line refuses a call, the context or the script."""
         return (
             self.kind in ("throw", "rejected", "script")
@@ -63,7 +63,7 @@ class Line:
             and self.word == "refused"
         )
 
-    def answer(self):
+    def answer(self) -> str:
         """The line without the ordinal that it begins with."""
         return (
             self.text
@@ -72,7 +72,7 @@ class Line:
         )
 
 
-def lines_of(data, name):
+def lines_of(data: bytes, name: str) -> list[Line]:
     """The lines of a transcript's bytes. The name is that of its file, for a sentence on what is
     wrong."""
     try:

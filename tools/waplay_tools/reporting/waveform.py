@@ -1,7 +1,12 @@
 """Waveforms as SVG, which are there without a script, and the marks of the time line."""
 
+from collections.abc import Sequence
+
+from waplay_tools.reporting.following import Mark
 from waplay_tools.reporting.text import escaped, grouped, seconds
-from waplay_tools.reporting.wav_samples import spans
+from waplay_tools.reporting.wav_samples import Sound, spans
+
+Placed = tuple[Mark, str]  # with where it stands, in percent of the width
 
 COLUMNS = 800
 HEIGHT = 200  # of the drawing's own units
@@ -23,7 +28,7 @@ BAND = (
 )
 
 
-def scale_of(sounds):
+def scale_of(sounds: list[Sound]) -> float:
     """The power of two that the drawing goes up and down to: the least that holds all samples, and
     1 of silence."""
     greatest = max(
@@ -40,10 +45,10 @@ def scale_of(sounds):
     return scale
 
 
-def path_of(columns, full):
+def path_of(columns: list[tuple[int, int]], full: float) -> str:
     """The outline of columns, each of which holds from its lowest to its highest sample."""
 
-    def height(value):
+    def height(value: int) -> str:
         """How far below the upper edge a value stands."""
         return (f"{HEIGHT / 2 - value * REACH / full:.1f}").replace(".0", "")
 
@@ -53,7 +58,14 @@ def path_of(columns, full):
     return f"M0,{there}{back}Z"
 
 
-def lane(samples, full, label, marks, attributes, frames):
+def lane(
+    samples: Sequence[int],
+    full: float,
+    label: str,
+    marks: list[Placed],
+    attributes: str,
+    frames: int,
+) -> str:
     """The drawing of one channel, whose samples may be fewer than the frames that the width stands
     for. The label says in words what it shows."""
     columns = spans(samples, COLUMNS)
@@ -81,7 +93,7 @@ def lane(samples, full, label, marks, attributes, frames):
     )
 
 
-def placed(marks, frames):
+def placed(marks: list[Mark], frames: int) -> list[Placed]:
     """Marks with where they stand, in percent of the width; of those of a kind and a place the
     first. A mark past the length stands at the end."""
     found = {}
@@ -92,7 +104,7 @@ def placed(marks, frames):
     return list(found.values())
 
 
-def time_line(marks, frames, rate):
+def time_line(marks: list[Mark], frames: int, rate: int) -> str:
     """The time line: the marks, each kind in its row, and the frames and times at the ends and the
     middle."""
     kinds = [kind for kind in MARKS if any(mark.kind == kind for mark in marks)]
@@ -142,7 +154,7 @@ def time_line(marks, frames, rate):
     )
 
 
-def signs():
+def signs() -> str:
     """The definitions of the marks' signs, once in a page."""
     paths = "".join(f'<path id="sign-{kind}" d="{path}"/>' for kind, (_, path, _) in MARKS.items())
     return (
@@ -150,7 +162,7 @@ def signs():
     )
 
 
-def sign(kind):
+def sign(kind: str) -> str:
     """A mark's sign by itself."""
     return (
         '<svg class="lone-sign %s" width="14" height="14" viewBox="-7 -7 14 14" aria-hidden="true">'
