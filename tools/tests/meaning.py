@@ -212,6 +212,6 @@ def values_of(data, folder):
     where it was not rendered."""
     with taped() as tape:
         _, _, session = sessions.replayed(data, folder)
-    if session is None or session.samples is None:
+    if session is None or session.values is None:
         return session, tape, None
     return session, tape, list(Meaning(tape).frames(session.length))

@@ -289,7 +289,7 @@ def main() -> int:
         if arguments.sums:
             peak = max(abs(value) for channel in channels for value in channel)
             size = f"{len(data)} bytes, {len(channels[0])} frames"
-            print(f"{name} {size}, peak {peak}, sums", *map(sum, channels))
+            print(f"{name} {size}, peak {peak}, sums", *(sum(it) for it in channels))
         elif not arguments.check:
             path.write_bytes(data)
         elif not path.exists() or path.read_bytes() != data:

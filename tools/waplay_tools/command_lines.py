@@ -26,6 +26,7 @@ import re
 import subprocess
 import sys
 import tempfile
+from collections.abc import Mapping
 from typing import Any, NamedTuple
 
 from waplay_tools import load_script
@@ -429,7 +430,7 @@ class Wanted(NamedTuple):
 
     status: int
     text: bytes
-    files: dict[bytes, bytes | None]
+    files: Mapping[bytes, bytes | None]
     bytes_read: int
 
 
@@ -504,7 +505,8 @@ def differences(program: str, words: list[bytes], input: Input, folder: str) -> 
 
 def compare(program: str, seed: int, count: int, folder: str) -> int:
     """Runs the program on lines of a seed, tells what differs, and gives the status."""
-    wrong, times = 0, collections.Counter()
+    wrong = 0
+    times: collections.Counter[str] = collections.Counter()
     for number in range(count):
         words, input = line(seed, number), random.Random(f"input {seed} {number}").choice(INPUTS)
         times[answer(words)] += 1

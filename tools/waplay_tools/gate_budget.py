@@ -63,7 +63,7 @@ def process_of(words: list[str], folder: str, product: set[str]) -> Process:
 class Watch(threading.Thread):
     """Looks at the processes below one until it is told to stop."""
 
-    def __init__(self, top: int, product: set[str]):
+    def __init__(self, top: int, product: set[str]) -> None:
         super().__init__(daemon=True)
         self.top, self.product = top, product
         self.is_over = threading.Event()
@@ -115,7 +115,7 @@ def _stat_of(pid: str) -> tuple[int, int, float] | None:
 
 def minutes_by_part(processes: list[Process], whole: float) -> dict[str, float]:
     """The minutes of the parts; the rest is what is seen nowhere of the whole, in seconds."""
-    seconds: collections.Counter[str] = collections.Counter()
+    seconds: dict[str, float] = collections.defaultdict(float)
     for process in processes:
         seconds[process.part] += process.seconds
     seconds[REST] = whole - sum(seconds[part] for part in (PROOFS, EDITS, TESTS))
@@ -135,13 +135,13 @@ def report(minutes: dict[str, float], budget: dict[str, float]) -> list[str]:
 
 def dearest(processes: list[Process], number: int) -> list[str]:
     """The crates that took most, in each part."""
-    seconds: collections.Counter[tuple[str, str]] = collections.Counter()
+    seconds: dict[tuple[str, str], float] = collections.defaultdict(float)
     for process in processes:
         if process.crate:
             seconds[process.part, process.crate] += process.seconds
+    by_seconds = sorted(seconds.items(), key=lambda it: it[1], reverse=True)
     return [
-        f"    {part} {crate}: {took / 60:.1f}"
-        for (part, crate), took in seconds.most_common(number)
+        f"    {part} {crate}: {took / 60:.1f}" for (part, crate), took in by_seconds[:number]
     ]
 
 

@@ -112,6 +112,7 @@ class Comparison:
         """What is wrong at the number, a sentence each. Looked at whole, samples and summary are
         worked out anew."""
         session = replayed(self.script, is_checked=not is_whole)[2]
+        assert session is not None  # a load has no fault
         counts = summary_of(session).split(" peak")[0].encode()
         scripts = {bits: Run(self.program, ["--bits", str(bits)], self.script) for bits in WIDTHS}
         lines = [

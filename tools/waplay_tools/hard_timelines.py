@@ -47,7 +47,7 @@ TIMED = [
     "cancelScheduledValues",
     "cancelAndHoldAtTime",
 ]
-FIELDS = {"value": 1, "time": 0, "values": [0, ONE], "duration": 128}
+FIELDS: dict[str, Any] = {"value": 1, "time": 0, "values": [0, ONE], "duration": 128}
 NEEDED = {
     "setValue": ["value"],
     "setValueAtTime": ["value", "time"],
@@ -60,13 +60,11 @@ NEEDED = {
 
 def operation(op: str, node: str, param: str, **fields: Any) -> Call:
     """A call of an operation on a parameter."""
-    call = {
-        "op": op,
-        "node": node,
-        "param": param,
-        **{name: FIELDS[name] for name in NEEDED.get(op, [])},
-    }
-    return {**call, **({"value": "k-rate"} if op == "setAutomationRate" else {}), **fields}
+    call: Call = {"op": op, "node": node, "param": param}
+    call.update({name: FIELDS[name] for name in NEEDED.get(op, [])})
+    if op == "setAutomationRate":
+        call["value"] = "k-rate"
+    return {**call, **fields}
 
 
 def played(calls: Calls, length: int = 512) -> Script:
@@ -266,7 +264,7 @@ def reads_of_a_long_timeline() -> Script:
 def as_many_timelines(events: int) -> Script:
     """1,000 timelines of so many events, in as few bytes as may be: sets and ramps, of which half
     go backwards."""
-    calls = [{"op": "createConstantSource", "as": "c"}, {"op": "start", "node": "c"}]
+    calls: Calls = [{"op": "createConstantSource", "as": "c"}, {"op": "start", "node": "c"}]
     for i in range(1000):
         name = f"{i:x}"
         calls += [
@@ -283,7 +281,7 @@ def as_many_timelines(events: int) -> Script:
 def many_timelines_at_once() -> Script:
     """1,000 timelines of as many events as a script has room for: values that are set before the
     first frame."""
-    calls = [{"op": "createConstantSource", "as": "c"}, {"op": "start", "node": "c"}]
+    calls: Calls = [{"op": "createConstantSource", "as": "c"}, {"op": "start", "node": "c"}]
     for i in range(1000):
         name = f"{i:x}"
         calls += [{"op": "createGain", "as": name}, joined("c", name), joined(name, "destination")]
@@ -337,14 +335,14 @@ def expected(data: bytes) -> Given:
     if len(data) > LONGEST:
         return 5, b"", None
     status, text, session = replayed(data)
-    return status, text.encode(), wav_bytes(session) if status == 0 else None
+    return status, text.encode(), wav_bytes(session) if session and status == 0 else None
 
 
 def measured(program: str, data: bytes, folder: str) -> tuple[Given, float, float]:
     """What the program gives, with its user time in seconds and its peak memory in MiB."""
     out, times = os.path.join(folder, "out.wav"), os.path.join(folder, "times")
     ran = subprocess.run(
-        [shutil.which("time"), "-q", "-o", times, "-f", "%U %M", program, out],
+        [shutil.which("time") or "time", "-q", "-o", times, "-f", "%U %M", program, out],
         input=data,
         stdout=subprocess.PIPE,
         timeout=600,

@@ -20,6 +20,7 @@ import subprocess
 import sys
 import tempfile
 import wave
+from collections.abc import Callable
 
 from waplay_tools.expecting.wav_reading import PCM, WavFault, recording_of
 from waplay_tools.places import TOP
@@ -152,6 +153,10 @@ def made_by_sox(folder: str) -> list[bytes]:
     return files
 
 
+# Two of three files are made by hand.
+MAKES: list[Callable[[random.Random], bytes]] = [made_by_wave, made_by_hand, made_by_hand]
+
+
 def mutated(rng: random.Random, data: bytes) -> bytes:
     """The file with one to three changes, most of them near its start, where its fields are."""
     data = bytearray(data)
@@ -194,7 +199,7 @@ def made(count: int, seed: int) -> list[bytes]:
     files = list(sources)
     while len(files) < count:
         rng = random.Random(f"{seed} {len(files)}")
-        data = rng.choice((made_by_wave, made_by_hand, made_by_hand))(rng)
+        data = rng.choice(MAKES)(rng)
         if sources and rng.random() < 0.1:
             data = rng.choice(sources)
         files.append(mutated(rng, data) if rng.random() < 0.75 else data)
@@ -235,7 +240,7 @@ def main() -> int:
     run = subprocess.run([words.program], input=given, stdout=subprocess.PIPE, check=True)
     found = run.stdout.decode().splitlines()
     wrong = abs(len(found) - len(files))
-    times = collections.Counter()
+    times: collections.Counter[str] = collections.Counter()
     for number, (data, answer) in enumerate(zip(files, found)):
         want = line(data)
         times[want.split("(")[0] if "(" in want else "samples"] += 1

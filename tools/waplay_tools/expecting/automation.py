@@ -3,7 +3,7 @@ give."""
 
 import itertools
 from collections.abc import Callable
-from typing import NamedTuple
+from typing import NamedTuple, TypeGuard
 
 from waplay_tools.expecting.numbers import rounded_quotient
 from waplay_tools.expecting.reading import Call
@@ -47,7 +47,7 @@ def curve_value(curve: Curve, frame: int) -> int:
     return curve.points[point] + rounded_quotient(rise * part, curve.duration)
 
 
-def has_in_it(event: Event | None, time: int) -> bool:
+def has_in_it(event: Event | None, time: int) -> TypeGuard[Curve]:
     """Whether an event is a curve that has this time in it."""
     return isinstance(event, Curve) and event.time <= time < event.end
 

@@ -63,9 +63,8 @@ class Delay(Node):
         count = self.most_until(first - QUANTUM if is_in_cycle else first)
         least = QUANTUM if is_in_cycle else 0
         places = [frame - max(least, self.frames(time)) for frame, time in enumerate(times, first)]
-        heard = {place // QUANTUM: None for place in places}
-        for quantum in heard:
-            heard[quantum] = self.heard_from(QUANTUM * quantum, count)
+        quanta = {place // QUANTUM for place in places}
+        heard = {quantum: self.heard_from(QUANTUM * quantum, count) for quantum in quanta}
         return [
             [heard[place // QUANTUM][c][place % QUANTUM] for place in places] for c in range(count)
         ]

@@ -25,7 +25,8 @@ class End(NamedTuple):
 def reached(arrows: dict[Place, set[Place]], start: Place) -> set[Place]:
     """What is reached from there by one arrow or more. Of each place the arrows tell where they
     lead from it."""
-    found, to_do = set(), [start]
+    found: set[Place] = set()
+    to_do = [start]
     while to_do:
         new = arrows[to_do.pop()] - found
         found |= new
@@ -46,7 +47,7 @@ class Graph:
     def delays_in_cycles(self, count: int, edges: set[Edge]) -> set[int]:
         """The delays whose nodes reach themselves by connections, those to parameters among
         them."""
-        following = {number: set() for number in range(count)}
+        following: dict[int, set[int]] = {number: set() for number in range(count)}
         for source, _, target, _ in edges:
             following[source].add(target)
         return {number for number in self.delays if number in reached(following, number)}
@@ -54,7 +55,7 @@ class Graph:
     def arrows_of(self, count: int, edges: set[Edge]) -> dict[End, set[End]]:
         """Of each end, the ends that it leads to: by connections, and from the writer of a delay
         that is in no cycle to its reader."""
-        arrows = {End(number, False): set() for number in range(count)}
+        arrows: dict[End, set[End]] = {End(number, False): set() for number in range(count)}
         arrows.update((End(number, True), set()) for number in self.delays)
         for source, _, target, place in edges:
             is_writer = isinstance(place, int) and End(target, True) in arrows
@@ -66,11 +67,12 @@ class Graph:
 
     def legal_order(self) -> list[End]:
         """The ends that are not muted, each behind all that lead to it."""
-        before = {end: set() for end in self.arrows}
+        before: dict[End, set[End]] = {end: set() for end in self.arrows}
         for end, following in self.arrows.items():
             for it in following:
                 before[it].add(end)
-        order, there = [], set(self.muted)
+        order: list[End] = []
+        there = set(self.muted)
         while len(there) < len(before):
             ready = [end for end in before if end not in there and before[end] <= there]
             order += ready

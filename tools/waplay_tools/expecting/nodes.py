@@ -62,7 +62,9 @@ class Node:
 
     def end(self) -> int | None:
         """The frame from which a source is silent for good; None where nothing ends it."""
-        return None if self.stop is None else max(self.start, self.stop)
+        if self.start is None or self.stop is None:
+            return None
+        return max(self.start, self.stop)
 
     def played_from(self, first: int) -> range:
         """The frames in which it plays of the quantum that begins here."""
@@ -140,12 +142,11 @@ class BufferSource(Node):
         """How many frames it plays, where that has a bound. The duration counts through the loop
         too."""
         if self.length() == 0:
-            content = 0
-        elif self.is_looping:
-            content = self.duration
-        else:
-            content = self.length() - self.first()
-            content = content if self.duration is None else min(content, self.duration)
+            return 0
+        content = self.duration
+        if not self.is_looping:
+            rest = self.length() - self.first()
+            content = rest if content is None else min(rest, content)
         return None if content is None else -(-content // self.rate)  # rounded up
 
     def end(self) -> int | None:
@@ -158,8 +159,9 @@ class BufferSource(Node):
 
     def positions(self, frames: range) -> list[int]:
         """The frames of the buffer that are heard at these frames."""
-        begin, (first, last) = self.first(), self.loop()
-        places = [begin + (frame - self.start) * self.rate for frame in frames]
+        assert self.start is not None
+        begin, (first, last) = self.first() - self.start * self.rate, self.loop()
+        places = [begin + frame * self.rate for frame in frames]
         if self.is_looping:
             return [
                 first + (place - first) % (last - first) if place >= last else place
@@ -169,10 +171,11 @@ class BufferSource(Node):
 
     def content(self, played: range, first: int, levels: Levels) -> Blocks:
         """What the buffer has at the frames in which it plays, of each channel."""
-        places = self.positions(played)
+        assert self.buffer is not None  # without one it ends where it starts
+        buffer, places = self.buffer, self.positions(played)
         return [
-            [self.buffer.sample(channel, place) for place in places]
-            for channel in range(self.buffer.channels)
+            [buffer.sample(channel, place) for place in places]
+            for channel in range(buffer.channels)
         ]
 
 

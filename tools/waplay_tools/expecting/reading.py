@@ -199,7 +199,8 @@ def cause(value: Any, kind: str) -> str | None:
     if kind == "path":
         fits = 1 <= len(value.encode()) <= 255
     elif kind == "new name":
-        fits = re.fullmatch("[A-Za-z0-9_-]{1,64}", value) and value != "destination"
+        is_name = re.fullmatch("[A-Za-z0-9_-]{1,64}", value) is not None
+        fits = is_name and value != "destination"
     else:
         fits = kind == "name" or value in kind.split()
     return None if fits else "OutOfRange"
@@ -232,9 +233,9 @@ def look_at_calls(calls: list[Any], first: int) -> int:
         for field in fields:
             look_at(ordinal, call, *field)
         if op == "disconnect" and call.get("input") is not None:
-            for field in ("to", "output"):
-                if call.get(field) is None:
-                    raise Fault(f"{ordinal} {field} MissingField")
+            for needed in ("to", "output"):
+                if call.get(needed) is None:
+                    raise Fault(f"{ordinal} {needed} MissingField")
         if HELD in fields:
             first = look_at_calls(call.get("then", []), first)
     return first
@@ -259,9 +260,10 @@ def script_of(data: bytes) -> dict[str, Any]:
 def numbered(calls: list[Call], first: int) -> tuple[list[NumberedCall], int]:
     """The calls of a list with their ordinals and the lists that they hold, and the next
     ordinal."""
-    done = []
+    done: list[NumberedCall] = []
     for call in calls:
-        ordinal, held = first, []
+        ordinal = first
+        held: list[NumberedCall] = []
         first += 1
         if HELD in OPERATIONS.get(call["op"], []):
             held, first = numbered(call.get("then", []), first)

@@ -4,6 +4,8 @@ docs/PROFILE.md."""
 from collections.abc import Callable, Hashable, Iterator
 from typing import Any, TypeVar
 
+from waplay_tools.expecting.causal import Filter, Shaper
+from waplay_tools.expecting.delay import Delay
 from waplay_tools.expecting.graph import Edge, End, Graph
 from waplay_tools.expecting.nodes import SOURCES, Levels, Node
 from waplay_tools.expecting.numbers import (
@@ -19,6 +21,7 @@ from waplay_tools.expecting.numbers import (
 )
 
 Made = TypeVar("Made")
+Output = tuple[int, int]  # a node's number, and the output's
 
 
 def input_of(node: Node, sources: list[Blocks]) -> Blocks:
@@ -40,7 +43,7 @@ def outputs_of(node: Node, heard: list[Blocks], levels: Levels) -> list[Blocks]:
     this on each of its inputs and its parameters have these values."""
     if node.kind == "gain":
         return [[products(block, levels["gain"]) for block in heard[0]]]
-    if node.kind == "shaper":
+    if isinstance(node, Shaper):
         return [[[node.shaped(x) for x in block] for block in heard[0]]]
     if node.kind == "splitter":  # its one input has as many channels as it has outputs
         return [[block] for block in heard[0]]
@@ -56,16 +59,22 @@ class Rendering:
     def __init__(self, nodes: list[Node], edges: set[Edge]) -> None:
         self.nodes = nodes
         self.graph = Graph(nodes, edges)
-        self.connected = [[[] for _ in range(node.inputs)] for node in self.nodes]
-        self.controls = [{parameter: [] for parameter in node.timelines} for node in self.nodes]
+        self.connected: list[list[list[Output]]] = [
+            [[] for _ in range(node.inputs)] for node in self.nodes
+        ]
+        self.controls: list[dict[str, list[Output]]] = [
+            {parameter: [] for parameter in node.timelines} for node in self.nodes
+        ]
         for source, output, target, place in edges:
-            places = self.connected if isinstance(place, int) else self.controls
-            places[target][place].append((source, output))
+            if isinstance(place, int):
+                self.connected[target][place].append((source, output))
+            else:
+                self.controls[target][place].append((source, output))
         muted = [self.nodes[end.node] for end in self.graph.muted]
-        self.muted_filters = [node for node in muted if node.kind == "filter"]
+        self.muted_filters = [node for node in muted if isinstance(node, Filter)]
         # Of each node its outputs, and of each output the blocks of its channels. A node that is
         # muted is silent.
-        self.carried = [[[SILENCE]] * node.outputs for node in self.nodes]
+        self.carried: list[list[Blocks]] = [[[SILENCE]] * node.outputs for node in self.nodes]
         self.made: dict[Hashable, tuple[tuple[Any, ...], Any]] = {}
 
     def made_of(self, key: Hashable, make: Callable[..., Made], *inputs: Any) -> Made:
@@ -75,7 +84,7 @@ class Rendering:
             self.made[key] = inputs, make(*inputs)
         return self.made[key][1]
 
-    def sources_of(self, edges: list[tuple[int, int]]) -> list[Blocks]:
+    def sources_of(self, edges: list[Output]) -> list[Blocks]:
         """The channels of the outputs at which these connections begin."""
         return [self.carried[source][output] for source, output in edges]
 
@@ -92,8 +101,8 @@ class Rendering:
         node, sources = self.nodes[number], self.sources_of(self.controls[number][parameter])
         timeline = node.timelines[parameter]
         own = timeline.values(first, 1 if timeline.is_k_rate else QUANTUM)
-        levels = self.made_of((number, parameter), computed, node.nominal, own, sources)
-        return levels * QUANTUM if timeline.is_k_rate else levels
+        levels: Block = self.made_of((number, parameter), computed, node.nominal, own, sources)
+        return [*levels] * QUANTUM if timeline.is_k_rate else levels
 
     def outputs(self, end: End, first: int) -> list[Blocks]:
         """What each output of an end carries in the quantum that begins here."""
@@ -103,18 +112,19 @@ class Rendering:
         }
         if node.kind in SOURCES:
             return [node.sound(first, levels)]
-        if node.kind == "delay":
+        if isinstance(node, Delay):
             return [node.read(first, levels["delayTime"], end.node in self.graph.in_cycle)]
         heard = self.heard(end.node)
-        if node.kind == "filter":
+        if isinstance(node, Filter):
             return [node.filtered(heard[0])]
         return self.made_of((end.node, "outputs"), outputs_of, node, heard, levels)
 
     def render(self, end: End, first: int) -> None:
         """Renders an end in the quantum that begins here, in which all that leads to it was
         rendered."""
-        if end.is_writer:
-            self.nodes[end.node].write(first, self.heard(end.node)[0])
+        node = self.nodes[end.node]
+        if end.is_writer and isinstance(node, Delay):
+            node.write(first, self.heard(end.node)[0])
             return
         outputs = self.outputs(end, first)
         if outputs != self.carried[end.node]:

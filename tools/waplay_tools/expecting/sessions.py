@@ -87,12 +87,16 @@ class Session:
             raise Refused("TypeError")
         return number
 
-    def find_buffer(self, name: str | None) -> Buffer | None:
-        """The buffer of this name, which is None where null stands for the name."""
+    def find_buffer(self, name: str) -> Buffer:
+        """The buffer of this name. A name for nothing or for a node is refused."""
         buffer = self.names.get(name)
-        if name is not None and not isinstance(buffer, Buffer):
+        if not isinstance(buffer, Buffer):
             raise Refused("TypeError")
         return buffer
+
+    def buffer_or_none(self, name: str | None) -> Buffer | None:
+        """The same, and None where null stands for the name."""
+        return None if name is None else self.find_buffer(name)
 
     def check_node_limit(self) -> None:
         """Refuses one more node where there are as many as there may be."""
@@ -135,7 +139,7 @@ class Session:
 
     def create_source(self, call: Call) -> str:
         """Makes a buffer source, at a whole rate, with its buffer or without one."""
-        buffer, rate = self.find_buffer(call.get("buffer")), call.get("playbackRate", ONE)
+        buffer, rate = self.buffer_or_none(call.get("buffer")), call.get("playbackRate", ONE)
         if rate <= 0 or rate % ONE != 0:
             raise profile("playback-rate")
         if buffer:
@@ -167,7 +171,15 @@ class Session:
 
     def shaper(self, call: Call) -> Shaper:
         """The wave shaper that a call names."""
-        return self.nodes[self.find(call["node"], ("shaper",))]
+        node = self.nodes[self.find(call["node"], ("shaper",))]
+        assert isinstance(node, Shaper)
+        return node
+
+    def player(self, call: Call) -> BufferSource:
+        """The buffer source that a call names."""
+        node = self.nodes[self.find(call["node"], ("buffer source",))]
+        assert isinstance(node, BufferSource)
+        return node
 
     def set_curve(self, call: Call) -> str:
         """Sets a shaper's curve or takes it away, as the shaper allows it."""
@@ -182,8 +194,7 @@ class Session:
 
     def set_buffer(self, call: Call) -> str:
         """Gives a source that was not started its one buffer, or takes the buffer away."""
-        node = self.nodes[self.find(call["node"], SOURCES[1:])]
-        buffer = self.find_buffer(call["buffer"])
+        node, buffer = self.player(call), self.buffer_or_none(call["buffer"])
         if buffer and node.was_set:
             raise Refused("InvalidStateError")
         if node.start is not None:
@@ -196,7 +207,7 @@ class Session:
 
     def set_loop(self, call: Call) -> str:
         """Sets a part of the loop of a source that was not started."""
-        node = self.nodes[self.find(call["node"], SOURCES[1:])]
+        node = self.player(call)
         if node.start is not None:
             raise profile("loop-change")
         setattr(node, LOOPS[call["op"]], call["value"])
@@ -214,7 +225,7 @@ class Session:
                 buffer.written[channel, frame] = value
         return "ok"
 
-    def add_edge(self, *edge: Any) -> str:
+    def add_edge(self, edge: Edge) -> str:
         """Makes a connection. One that is there already needs no room."""
         if edge not in self.edges and len(self.edges) >= CONNECTION_LIMIT:
             raise profile("connection-limit")
@@ -229,7 +240,7 @@ class Session:
             raise profile("destination-output")
         if output >= self.nodes[source].outputs or place >= self.nodes[target].inputs:
             raise Refused("IndexSizeError")
-        return self.add_edge(source, output, target, place)
+        return self.add_edge((source, output, target, place))
 
     def disconnect(self, call: Call) -> str:
         """Takes away the connections that a call means: from a node or an output on, all, those to
@@ -242,7 +253,7 @@ class Session:
             raise profile("destination-output")
         if output is not None and output >= self.nodes[source].outputs:
             raise Refused("IndexSizeError")
-        if place is not None and place >= self.nodes[target].inputs:
+        if target is not None and place is not None and place >= self.nodes[target].inputs:
             raise Refused("IndexSizeError")
         meant = self.edges_of_form(source, output, target, place)
         if target is not None:  # connections to the parameters of a node have a call of their own
@@ -280,7 +291,7 @@ class Session:
         self.check_parameter(target, call["param"])
         if output >= self.nodes[source].outputs:
             raise Refused("IndexSizeError")
-        return self.add_edge(source, output, target, call["param"])
+        return self.add_edge((source, output, target, call["param"]))
 
     def disconnect_param(self, call: Call) -> str:
         """Takes away the connections from a node or an output to a parameter, of which there has to
@@ -422,7 +433,8 @@ class Session:
         """What comes after each quantum: sources end."""
         self.now += QUANTUM
         for number, node in enumerate(self.nodes):
-            if not node.ended and node.end() is not None and node.end() <= self.now:
+            end = None if node.ended else node.end()
+            if end is not None and end <= self.now:
                 node.ended = True
                 self.lines.append(f"ended {number} {node.name}")
 
@@ -437,18 +449,20 @@ class Session:
 
     def rendered(self, end: int) -> list[tuple[int, ...]]:
         """The values from now on up to a frame."""
-        values = []
+        values: list[tuple[int, ...]] = []
         for first, blocks in enumerate(Rendering(self.nodes, self.edges).quanta(self.now, end)):
             frames = list(zip(*blocks))[: end - self.now - QUANTUM * first]
             values += frames
-            self.peak = max(self.peak, *map(abs, itertools.chain(*frames)))
-            self.sum += sum(itertools.chain(*frames))
+            flat = list(itertools.chain(*frames))
+            self.peak = max(self.peak, max(flat), -min(flat))
+            self.sum += sum(flat)
         return values
 
     @functools.cached_property
-    def samples(self) -> list[list[int]] | None:
-        """Of each frame the samples of its channels, when the session is through."""
-        return None if self.values is None else samples_of(self.values, 24)
+    def samples(self) -> list[list[int]]:
+        """Of each frame that was rendered the samples of its channels, when the session is
+        through."""
+        return samples_of(self.values or [], 24)
 
     def replay(self, calls: list[NumberedCall]) -> str:
         """The last line. The other lines and the samples stand in the session afterwards. Nothing
@@ -482,7 +496,8 @@ class Session:
 
 def samples_of(values: list[tuple[int, ...]], bits: int) -> list[list[int]]:
     """Of each frame the samples of so many bits. Of frames that are alike one is kept."""
-    alike, samples = {}, []
+    alike: dict[tuple[int, ...], list[int]] = {}
+    samples = []
     for frame in values:
         if frame not in alike:
             if len(alike) == KEPT:
@@ -495,7 +510,7 @@ def samples_of(values: list[tuple[int, ...]], bits: int) -> list[list[int]]:
 def wav_bytes(session: Session, bits: int = 24) -> bytes:
     """The WAV file of a session that completed, as the program writes it."""
     channels, rate, width = session.channels, session.rate, bits // 8
-    samples = session.samples if bits == 24 else samples_of(session.values, bits)
+    samples = session.samples if bits == 24 else samples_of(session.values or [], bits)
     body = b"".join(s.to_bytes(width, "little", signed=True) for row in samples for s in row)
     padding = len(body) % 2
     return (

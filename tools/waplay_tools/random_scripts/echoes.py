@@ -1,7 +1,7 @@
 """Shapes of scripts: delays, mostly in cycles, and what is made around them."""
 
 from waplay_tools.random_scripts.effects import Effects
-from waplay_tools.random_scripts.kinds import KINDS, ONE, Call, Calls, Sound
+from waplay_tools.random_scripts.kinds import KINDS, ONE, Call, Calls, Make, Sound
 
 
 class Echoes(Effects):
@@ -127,7 +127,7 @@ class Echoes(Effects):
         frames = [128 * k for k in range(1, 6) if 128 * k < self.length]
         gain = {"op": "createGain", "as": "between", "gain": self.rng.randint(-ONE // 2, ONE)}
         control = {"from": name, "to": name, "param": "delayTime"}
-        changes = [
+        changes: list[tuple[Calls, Calls]] = [
             ([self.joined(name, name)], [{"op": "disconnect", "from": name, "to": name}]),
             (
                 [gain, self.joined(name, "between"), self.joined("between", name)],
@@ -136,12 +136,11 @@ class Echoes(Effects):
             ([{"op": "connectParam", **control}], [{"op": "disconnectParam", **control}]),
         ]
         if "setChannelInterpretation" in self.attributes:
-            changes.append(
-                [
-                    [{"op": "setChannelInterpretation", "node": name, "value": word}]
-                    for word in ("discrete", "speakers")
-                ]
+            there, back = (
+                [{"op": "setChannelInterpretation", "node": name, "value": word}]
+                for word in ("discrete", "speakers")
             )
+            changes.append((there, back))
         if len(frames) < 2:
             return []
         return [
@@ -184,11 +183,8 @@ class Echoes(Effects):
         calls = self.kept_quiet([self.create_source() for _ in range(self.rng.randint(1, 4))])
         sources = [call["as"] for call in calls]
         for _ in range(self.rng.randint(1, 5)):
-            make = (
-                self.create_delay
-                if self.may(0.6)
-                else self.rng.choice([self.create_gain, self.create_place])
-            )
+            others: list[Make] = [self.create_gain, self.create_place]
+            make = self.create_delay if self.may(0.6) else self.rng.choice(others)
             calls += self.kept_quiet([make()])
         places = list(dict.fromkeys(call["as"] for call in calls))
         delays = [name for name in places if self.names[name] is KINDS["createDelay"]]
@@ -200,13 +196,13 @@ class Echoes(Effects):
                 self.joined(delays[-1], "destination"),
             ]
         for name in delays:
-            for make, chance in (
+            for around, chance in (
                 (self.looped, 0.4),
                 (self.widened, 0.15),
                 (self.passing, 0.25),
                 (self.split, 0.4),
             ):
-                calls += make(name) if self.may(chance) else []
+                calls += around(name) if self.may(chance) else []
             if "setChannelInterpretation" in self.attributes and self.may(0.25):
                 calls.append({"op": "setChannelInterpretation", "node": name, "value": "discrete"})
             calls += self.moving(name, sources) if self.may(0.5) else []

@@ -1,7 +1,7 @@
 """Shapes of scripts: parameters that move, wave shapers and filters."""
 
 from waplay_tools.random_scripts.graphs import Graphs
-from waplay_tools.random_scripts.kinds import FIX, KINDS, ONE, Calls
+from waplay_tools.random_scripts.kinds import FIX, KINDS, ONE, Calls, Make
 
 
 class Effects(Graphs):
@@ -79,7 +79,7 @@ class Effects(Graphs):
             calls += [self.edit("setAutomationRate", name) for name in dict.fromkeys(heard)]
         lines = [self.timeline(name) for name in controlled if self.may(0.7)]
         if self.may(0.2):  # a sum past the range at a parameter, whose own value brings it back
-            heard, extreme = self.rng.choice(controlled), self.rng.choice(FIX)
+            loud, extreme = self.rng.choice(controlled), self.rng.choice(FIX)
             for name in ("loud", "louder", "loudest")[: self.rng.randint(1, 3)]:
                 calls += [
                     {"op": "createConstantSource", "as": name, "offset": extreme},
@@ -87,14 +87,14 @@ class Effects(Graphs):
                     {
                         "op": "connectParam",
                         "from": name,
-                        "to": heard,
-                        "param": self.parameter(heard)[1],
+                        "to": loud,
+                        "param": self.parameter(loud)[1],
                     },
                 ]
             values = [*FIX, -extreme - 1, -extreme // 2]
             lines.append(
                 [
-                    {**self.edit("setValueAtTime", heard), "value": self.rng.choice(values)}
+                    {**self.edit("setValueAtTime", loud), "value": self.rng.choice(values)}
                     for _ in range(self.rng.randint(1, 4))
                 ]
             )
@@ -173,7 +173,7 @@ class Effects(Graphs):
             if self.may(0.1)
         ]
         calls += [self.call("start", [("node", name)]) for name in sources if self.may(0.95)]
-        late = [self.set_curve, self.set_curve, self.set_oversample, self.any_call]
+        late: list[Make] = [self.set_curve, self.set_curve, self.set_oversample, self.any_call]
         calls += [self.rng.choice(late)() for _ in range(self.rng.choice([0, 0, 1, 4]))]
         calls += [self.stop() for _ in range(self.rng.choice([0, 0, 1]))]
         return calls + [self.start_rendering()]

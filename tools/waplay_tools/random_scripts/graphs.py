@@ -3,7 +3,7 @@
 from typing import Any
 
 from waplay_tools.expecting.sessions import ATTRIBUTES
-from waplay_tools.random_scripts.kinds import KINDS, ONE, Calls, Sound
+from waplay_tools.random_scripts.kinds import KINDS, ONE, Calls, Make, Sound
 from waplay_tools.random_scripts.suspensions import Suspensions
 
 
@@ -184,7 +184,7 @@ class Graphs(Suspensions):
             calls += [self.create_constant() for _ in range(self.rng.randint(1, 2))]
         calls += [self.create_place() for _ in range(self.rng.choice([0, 0, 1, 3]))]
         places = [call["as"] for call in calls]
-        changes = [
+        changes: list[Make] = [
             self.set_loop,
             self.set_loop,
             self.set_buffer,
@@ -222,7 +222,8 @@ class Graphs(Suspensions):
 
     def in_a_row(self, places: list[str]) -> Calls:
         """Connections of nodes that stand behind one another, in some scripts also back."""
-        calls, backward = [], self.rng.choice([0, 0, 0, 0.1, 0.3])
+        calls: Calls = []
+        backward = self.rng.choice([0, 0, 0, 0.1, 0.3])
         for at, name in enumerate(places):
             after = [place for place in places[at + 1 :] if self.names[place].inputs]
             after = places if self.may(backward) else after
@@ -235,12 +236,12 @@ class Graphs(Suspensions):
         """The calls with some more between them that have to do with parameters."""
         calls = list(calls)
         for _ in range(self.rng.choice([1, 3, 10, 30])):
-            makes = [self.any_edit] if self.automated_by else []
-            others = (self.connect_param, "connectParam"), (
-                self.disconnect_param,
-                "disconnectParam",
-            )
-            makes += [make for make, op in others if op in self.read_ops and self.may(0.3)]
+            makes: list[Make] = [self.any_edit] if self.automated_by else []
+            others: dict[str, Make] = {
+                "connectParam": self.connect_param,
+                "disconnectParam": self.disconnect_param,
+            }
+            makes += [make for op, make in others.items() if op in self.read_ops and self.may(0.3)]
             if makes:
                 calls.insert(
                     len(calls) - self.rng.randint(0, len(calls) // 2), self.rng.choice(makes)()

@@ -9,6 +9,7 @@ from waplay_tools.expecting.sessions import LOOPS
 Call = dict[str, Any]
 Calls = list[Call]
 Script = dict[str, Any]
+Make = Callable[[], Call]
 
 FIX = (-(2**31), 2**31 - 1)
 TIME = 2**40

@@ -3,7 +3,7 @@
 from waplay_tools.expecting.reading import OPERATIONS as FIELDS
 from waplay_tools.random_scripts.chances import SPOILED
 from waplay_tools.random_scripts.echoes import Echoes
-from waplay_tools.random_scripts.kinds import KINDS, ONE, Calls, Script, Sound
+from waplay_tools.random_scripts.kinds import KINDS, ONE, Calls, Make, Script, Sound
 
 
 class Limits(Echoes):
@@ -56,7 +56,7 @@ class Limits(Echoes):
             }
             for _ in range(self.rng.randint(0, 3))
         ]
-        makes = [self.create_buffer, self.decode] if self.has_assets else [self.create_buffer]
+        makes: list[Make] = [self.create_buffer, *([self.decode] if self.has_assets else [])]
         calls += [self.rng.choice(makes)() for _ in range(30)]
         return calls + self.played()
 

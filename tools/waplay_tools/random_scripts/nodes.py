@@ -70,7 +70,7 @@ class Nodes(Values):
             if self.may(0.8)
             else self.buffer()
         )
-        length = getattr(self.names.get(name), "length", 3)
+        length = getattr(self.names.get(name or ""), "length", 3)
         call = self.create(
             "createBufferSource",
             buffer=name,
@@ -155,7 +155,7 @@ class Nodes(Values):
 
     def joined(self, source: str, target: str) -> Call:
         """A connection from any output to any input, nearly always such that are there."""
-        call = {"op": "connect", "from": source, "to": target}
+        call: Call = {"op": "connect", "from": source, "to": target}
         for field, name in ("output", source), ("input", target):
             there = getattr(self.names.get(name), field + "s", 1)
             if there != 1 or self.may(0.1):
@@ -166,20 +166,18 @@ class Nodes(Values):
         """A call of any form that takes connections away; where there are connections to
         parameters, often between such nodes."""
         source, target = self.name(), self.target()
-        if self.controls and self.may(
-            0.4
-        ):  # nodes that may have a connection to a parameter between them
+        # Nodes that may have a connection to a parameter between them.
+        if self.controls and self.may(0.4):
             control = self.rng.choice(self.controls)
             source, target = control["from"], control["to"]
-        call = {"op": "disconnect", "from": source}
-        values = {
+        call: Call = {"op": "disconnect", "from": source}
+        values: Call = {
             "output": self.index(source, "outputs"),
             "to": target,
             "input": self.index(target, "inputs"),
         }
-        form = self.rng.choice(
-            [[], ["output"], ["to"], ["to", "output"], ["to", "output", "input"]]
-        )
+        forms: list[list[str]] = [[], ["output"], ["to"], ["to", "output"]]
+        form = self.rng.choice([*forms, ["to", "output", "input"]])
         for field, value in values.items():
             if field in form:
                 call[field] = value
@@ -200,7 +198,8 @@ class Nodes(Values):
 
     def attribute(self, op: str, name: str) -> Call:
         """Mostly a count that has a layout, and often the one that is there where it is fixed."""
-        kind = dict(field[:2] for field in FIELDS[op])["value"]
+        kind = next(kind for field, kind, *_ in FIELDS[op] if field == "value")
+        value: str | int
         some = self.rng.randint(0, 9)
         if kind != "count":
             value = self.rng.choice(kind.split())
@@ -242,7 +241,7 @@ class Nodes(Values):
     def read(self) -> Call:
         """A call that reads the state or the time, or resumes. Now and then it has a list that it
         can't hold."""
-        call = {"op": self.rng.choice(["readState", "readTime", "resume"])}
+        call: Call = {"op": self.rng.choice(["readState", "readTime", "resume"])}
         if self.may(0.05):
             call["then"] = [{"op": "no operation, and no call"}]
         return call

@@ -1,5 +1,7 @@
 """Calls on parameters: edits of their timelines, and connections to them."""
 
+from typing import Any
+
 from waplay_tools.expecting.reading import OPERATIONS as FIELDS
 from waplay_tools.random_scripts.kinds import KINDS, TIME, Call, Calls
 from waplay_tools.random_scripts.nodes import Nodes
@@ -12,20 +14,21 @@ class Parameters(Nodes):
         """A call of this operation on a parameter, that of this node and at this time where they
         are told."""
         node, parameter = self.parameter(name)
-        needed = [("node", node), ("param", parameter)]
+        needed: list[tuple[str, Any]] = [("node", node), ("param", parameter)]
         value = self.delayed_by if self.names.get(node) is KINDS["createDelay"] else self.value
         fields = [field for field, *_ in FIELDS[op][2:]]
+        at = time or 0
         if "time" in fields:
-            time = self.instant(node) if time is None else time
-            self.instants.setdefault(node, [0]).append(time)
+            at = self.instant(node) if time is None else time
+            self.instants.setdefault(node, [0]).append(at)
         for field in fields:
             if field == "time":
-                needed.append((field, time))
+                needed.append((field, at))
             elif field == "values":
                 needed.append((field, self.points(value)))
             elif field == "duration":
-                needed.append((field, self.span(node, time)))
-                self.instants[node].append(time + needed[-1][1])
+                needed.append((field, self.span(node, at)))
+                self.instants[node].append(at + needed[-1][1])
             elif op == "setAutomationRate":
                 needed.append((field, self.rng.choice(["a-rate", "k-rate", "k-rate"])))
             else:
@@ -95,10 +98,8 @@ class Parameters(Nodes):
     def disconnect_param(self) -> Call:
         """A call that takes connections to a parameter away, mostly such as were made."""
         there = self.controls and self.may(0.7)
-        call = {
-            **(self.rng.choice(self.controls) if there else self.connect_param()),
-            "op": "disconnectParam",
-        }
+        made = self.rng.choice(self.controls) if there else self.connect_param()
+        call: Call = {**made, "op": "disconnectParam"}
         if self.may(0.3):
             call["output"] = self.rng.choice([None, 0, 1])
         return call

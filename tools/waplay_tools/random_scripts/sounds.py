@@ -177,9 +177,11 @@ class Sounds(Parameters):
                 continue
             calls.append(self.create_buffer())
             name = calls[-1]["as"]
+            sound = self.names[name]
+            channels = sound.channels if isinstance(sound, Sound) else 0
             calls += [
                 self.copy_to_channel(name, channel)
-                for channel in range(min(32, self.names[name].channels))
+                for channel in range(min(32, channels))
                 if self.may(0.9)
             ]
         return calls

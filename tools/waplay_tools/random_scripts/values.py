@@ -100,8 +100,9 @@ class Values(Choices):
                 else [ONE, -ONE, ONE, 2 * ONE, rng.randint(1, 2 * ONE)]
             )
             part = abs(first) // max(1, back - 1)
-            lists = [rng.randint(-most, most) for _ in range(forward)], [
-                rng.randint(-part, part) for _ in range(back)
+            lists = [
+                [rng.randint(-most, most) for _ in range(forward)],
+                [rng.randint(-part, part) for _ in range(back)],
             ]
         elif some < 15:  # such as y[n] = x[n] + r y[n-1] - y[n-2], or that goes from end to end
             first = rng.choice([ONE, -ONE, 1, 2, 3, rng.randint(1, ONE)])
@@ -110,10 +111,8 @@ class Values(Choices):
                 first,
                 *(rng.randint(-1, 1) for _ in range(18)),
             ]
-            lists = [rng.randint(-2 * abs(first), 2 * abs(first)) for _ in range(forward)], [
-                0,
-                *swing[: back - 1],
-            ]
+            most = 2 * abs(first)
+            lists = [[rng.randint(-most, most) for _ in range(forward)], [0, *swing[: back - 1]]]
         else:
             first = rng.choice([*FIX, *FIX, 1, -1, 3, -3, 2**30, rng.randint(*FIX)])
             lists = [

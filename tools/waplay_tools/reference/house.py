@@ -63,7 +63,7 @@ class Crate:
 class House:
     """All crates of a repository, in the order of crates.txt."""
 
-    def __init__(self, top: Path):
+    def __init__(self, top: Path) -> None:
         self.top = top
         self.bases = bases_in(top / "crates.txt", top)
         below = self.below(PROGRAM) | {PROGRAM}
@@ -124,7 +124,7 @@ class House:
         text = listed.read_text(encoding="utf-8") if listed.exists() else ""
         names = [LISTED.fullmatch(line) for line in text.splitlines()]
         files = {it.stem: it for it in sorted(folder.rglob("*.antt")) if it != listed}
-        if not all(names) or {it[1] for it in names if it[1]} != set(files):
+        if not all(names) or {it[1] for it in names if it and it[1]} != set(files):
             raise Unreadable(f"{self.shown(listed)}: not a list of the files beside it")
         return {
             name: read_definitions(self.shown(path), path.read_text(encoding="utf-8"))
@@ -166,7 +166,8 @@ def ghost_uses(source: Source, items: list[Item]) -> list[Use]:
                 raise Unreadable(
                     f"{source.path}:{item.line}: a `ghost use` of a form that is not known"
                 )
-            uses += uses_in(*use.groups(), False)
+            path, names, alias = use.groups()
+            uses += uses_in(path, names, alias, False)
     return uses
 
 

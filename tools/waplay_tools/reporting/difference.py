@@ -1,6 +1,7 @@
 """Two transcripts side by side, by call."""
 
 import collections
+from typing import Any
 
 from waplay_tools.reporting import entries
 from waplay_tools.reporting.following import answers
@@ -24,7 +25,9 @@ class Pair:
 
     def line(self) -> Line:
         """The line that is there, the first one's where both are."""
-        return self.left or self.right
+        line = self.left or self.right
+        assert line is not None  # a pair has one at least
+        return line
 
 
 def _keys(lines):
@@ -47,7 +50,8 @@ def pairs_of(left: list[Line], right: list[Line]) -> list[Pair]:
     """The lines of two transcripts in pairs, in the order of the first; a line that only the second
     has comes behind the one that it follows there."""
     ones, twos = _keys(left), _keys(right)
-    order, behind, last = [None, *ones], collections.defaultdict(list), None
+    order, last = [None, *ones], None
+    behind: dict[Any, list[Any]] = collections.defaultdict(list)
     for key in twos:
         if key not in ones:
             behind[last].append(key)

@@ -3,11 +3,15 @@ of the time line. It raises BadInput, with a sentence, where the transcript does
 script.
 """
 
+from typing import Any
+
 from waplay_tools.reporting import entries
 from waplay_tools.reporting.script_reading import Call, Script
 from waplay_tools.reporting.sources import Book, quantum_end
 from waplay_tools.reporting.text import BadInput, as_it_is, counted, grouped, quoted
 from waplay_tools.reporting.transcript_reading import Line
+
+NO_END = 2**62  # a frame behind all that a session may have
 
 
 class Row:
@@ -31,7 +35,7 @@ class Mark:
     one."""
 
     def __init__(
-        self, kind: str, low: int, high: int | None, text: str, told: Line | None = None
+        self, kind: str, low: int, high: int, text: str, told: Line | None = None
     ) -> None:
         self.kind, self.low, self.high, self.text, self.told = kind, low, high, text, told
 
@@ -185,7 +189,7 @@ class Session:
         it.has_ended = True
         low, high = it.ends()
         text = f"{quoted(it.name)}, the {it.kind} of call {it.call.ordinal}"
-        self.marks.append(Mark("ended", low, high, text, line))
+        self.marks.append(Mark("ended", low, NO_END if high is None else high, text, line))
         self._add(Row(line, None, f"{it.kind[0].upper() + it.kind[1:]} of call {it.call.ordinal}."))
 
     def _suspended(self, line):
@@ -228,17 +232,13 @@ class Session:
         told = 0
         for mark in self.marks:
             told = max(told, quantum_end(mark.low))
-            mark.low = (
-                mark.low if mark.low == mark.high else max(mark.low, told - entries.QUANTUM + 1, 0)
-            )
+            if mark.low != mark.high:
+                mark.low = max(mark.low, told - entries.QUANTUM + 1, 0)
         told = quantum_end(self.length)
         for mark in reversed(self.marks):
-            told = told if mark.high is None else min(told, quantum_end(mark.high))
-            mark.high = (
-                told
-                if mark.high is None
-                else mark.high if mark.low == mark.high else min(mark.high, told)
-            )
+            told = min(told, quantum_end(mark.high))
+            if mark.low != mark.high:
+                mark.high = min(mark.high, told)
             mark.low = min(mark.low, mark.high)
 
     def count(self, *kinds: str) -> int:
@@ -250,7 +250,7 @@ class Session:
         return self.lines[-1]
 
 
-def answers(op: str) -> tuple[str, ...]:
+def answers(op: Any) -> tuple[str, ...]:
     """The kinds of lines that a call of the operation may get in its list."""
     if op in entries.LEFT_OUT:
         return ("throw",)
@@ -283,5 +283,5 @@ def summary(session: Session) -> str:
         else "no call was refused"
     )
     if end.word == "stalled":
-        return f"The session stalled at frame {grouped(end.number)}, so there is no sound; {told}."
+        return f"The session stalled at frame {grouped(end.number or 0)}, so there is no sound; {told}."
     return f"The session was rendered to its length; {told}."

@@ -85,7 +85,7 @@ def page(
     from another file, its name and its bytes."""
     style, code = _own("page.css"), _own("page.js")
     is_good = session.end().word == "completed"
-    differences, other_name, other = against or (None, None, None)
+    differences, other_name, other = against or (None, "", None)
     if sound:
         parts = [sound_html.sound_html(sound, data, session.marks, differences, other)]
         if differences:

@@ -21,7 +21,7 @@ class Call:
     def __init__(self, ordinal: int, value: Any, holder: int, depth: int) -> None:
         self.ordinal, self.value, self.holder, self.depth = ordinal, value, holder, depth
         self.members: dict[str, Any] = value if isinstance(value, dict) else {}
-        self.op = self.members.get("op")
+        self.op: Any = self.members.get("op")
         self.held: list[int] = []  # the ordinals of the calls of its list
 
     def field(self, name: str) -> Any:
@@ -130,7 +130,8 @@ def cause(value: Any, kind: str) -> str | None:
     if kind == "path":
         fits = 1 <= len(value.encode()) <= 255
     elif kind == "new name":
-        fits = re.fullmatch(entries.NEW_NAME.strip("^$"), value) and value != "destination"
+        is_name = re.fullmatch(entries.NEW_NAME.strip("^$"), value) is not None
+        fits = is_name and value != "destination"
     else:
         fits = kind in ("name", "param") or value in kind.split()
     return None if fits else "OutOfRange"
@@ -197,7 +198,8 @@ def script_of(data: bytes) -> Script:
         value = json_of(data)
     except ValueError as error:
         return Script(None, [], "BadJson", str(error))
-    calls, listed = [], value.get("calls") if isinstance(value, dict) else None
+    calls: list[Call] = []
+    listed = value.get("calls") if isinstance(value, dict) else None
     _numbered(listed if isinstance(listed, list) else [], 0, 0, calls)
     try:
         _check_script(value, calls)

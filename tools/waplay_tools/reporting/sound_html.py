@@ -218,7 +218,7 @@ def differences_html(differences: Differences, name: str, rate: int) -> str:
             f" {counted(samples, 'sample differs', 'samples differ')}."
         )
     text = f"<p>Against {isolated(name)}. {escaped(' '.join(lines))}</p>"
-    if differences.first is not None:
+    if differences.first is not None and differences.greatest is not None:
         rows = [
             '<tr><th scope="row">%s %s</th>%s</tr>'
             % (
@@ -286,7 +286,7 @@ def sound_html(
         marked = waveform.placed(_difference_marks(differences), sound.frames)
         lanes += _difference_lanes(differences, marked, sound.frames)
     players = _player(data, len(sound.channels), "The sound", "sound")
-    if other:
+    if other and differences:
         players += _player(other, differences.other_channels, "The other file", "other")
     return """<section aria-labelledby="sound-title">
 <h2 id="sound-title">Sound</h2>

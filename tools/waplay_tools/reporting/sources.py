@@ -64,7 +64,7 @@ class Thing:
 class Book:
     """The nodes, and what each name stands for."""
 
-    def __init__(self):
+    def __init__(self) -> None:
         self.nodes = [Thing("destination", 0, None)]
         self.names: dict[str, Thing] = {"destination": self.nodes[0]}
 

@@ -96,7 +96,7 @@ def lane(
 def placed(marks: list[Mark], frames: int) -> list[Placed]:
     """Marks with where they stand, in percent of the width; of those of a kind and a place the
     first. A mark past the length stands at the end."""
-    found = {}
+    found: dict[tuple[str, str], Placed] = {}
     for mark in marks:
         if mark.low == mark.high:
             place = f"{min(100, 100 * mark.low / frames):.3f}%"
