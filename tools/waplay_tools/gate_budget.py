@@ -18,6 +18,7 @@ import threading
 import tomllib
 from pathlib import Path
 
+from waplay_tools import crates
 from waplay_tools.places import TOP
 
 BUDGET = TOP / ".ci" / "budget.toml"
@@ -32,22 +33,6 @@ class Process:
     part: str
     crate: str
     seconds: float = 0.0
-
-
-def crates_below(name: str, crates: str) -> set[str]:
-    """The crates that one is made of, its own among them, by the text of crates.txt."""
-    below = {}
-    for line in crates.splitlines():
-        if ":" in line and not line.startswith("#"):
-            crate, _, others = line.partition(":")
-            below[crate.split()[0]] = others.split()
-    found, ahead = set(), [name]
-    while ahead:
-        crate = ahead.pop()
-        if crate in below and crate not in found:
-            found.add(crate)
-            ahead += below[crate]
-    return found
 
 
 def process_of(words: list[str], folder: str, product: set[str]) -> Process:
@@ -156,7 +141,7 @@ def main() -> int:
     )
     asked = parser.parse_args()
     budget = tomllib.loads(BUDGET.read_text(encoding="utf-8"))
-    product = crates_below("waplay", (TOP / "crates.txt").read_text(encoding="utf-8"))
+    product = crates.product(crates.bases_in(TOP))
     with subprocess.Popen(asked.command or ["rt", "ci"], cwd=TOP) as gate:
         watch = Watch(gate.pid, product)
         watch.start()

@@ -10,6 +10,7 @@ import shutil
 import subprocess
 import sys
 import time
+import tomllib
 from pathlib import Path
 
 from waplay_tools.places import TOP
@@ -89,14 +90,28 @@ def run_cases(programs: list[Path]) -> tuple[int, int]:
     return (int(told[1]), int(told[2])) if told else (0, 1)
 
 
-def run_ruff() -> tuple[int, int]:
-    """Runs ruff over the tools' own Python, where it is installed."""
-    if not shutil.which("ruff"):
-        print("ruff: skipped, as it is not installed")
-        return 0, 0
-    done = subprocess.run(["ruff", "check", "--quiet", "tools", "recorder"], cwd=TOP, check=False)
-    print(f"ruff: {'no fault' if done.returncode == 0 else 'faults'}")
-    return int(done.returncode == 0), int(done.returncode != 0)
+def linters() -> list[list[str]]:
+    """The commands that look at the tools' own Python. What pycodestyle is told stands in
+    pyproject.toml, as do the settings of those that read it themselves."""
+    told = tomllib.loads((TOP / "tools" / "pyproject.toml").read_text(encoding="utf-8"))
+    style = [
+        f"--{name}={','.join(value) if isinstance(value, list) else value}"
+        for name, value in told["tool"]["pycodestyle"].items()
+    ]
+    return [["ruff", "check", "--quiet"], ["pycodestyle", *style], ["pyflakes3"]]
+
+
+def run_linters() -> tuple[int, int]:
+    """Runs those of the linters that are installed, and says what they find."""
+    passed = failed = 0
+    for name, *words in linters():
+        if not shutil.which(name):
+            print(f"{name}: skipped, as it is not installed")
+            continue
+        done = subprocess.run([name, *words, "tools", "recorder"], cwd=TOP, check=False)
+        print(f"{name}: {'no fault' if done.returncode == 0 else 'faults'}")
+        passed, failed = passed + (done.returncode == 0), failed + (done.returncode != 0)
+    return passed, failed
 
 
 def main() -> int:
@@ -126,7 +141,7 @@ def main() -> int:
     counts = [tuple(map(int, re.findall(r"(\d+) (?:passed|failed)", asked.before)))]
     counts.append(run_cases(programs))
     counts.append(run_modules(modules(asked.browser), programs[0] if programs else None))
-    counts.append(run_ruff())
+    counts.append(run_linters())
     print(f"./test took {time.monotonic() - begun:.0f} s")
     print(f"{sum(it[0] for it in counts)} passed, {sum(it[1] for it in counts)} failed")
     return 1 if any(it[1] for it in counts) else 0

@@ -64,20 +64,22 @@ EQUATIONS: dict[tuple[int, int], Callable[..., list[int]]] = {
     (1, 2): lambda m: [ONE * m, ONE * m],
     (1, 4): lambda m: [ONE * m, ONE * m, 0, 0],
     (1, 6): lambda m: [0, 0, ONE * m, 0, 0, 0],
-    (2, 4): lambda l, r: [ONE * l, ONE * r, 0, 0],
-    (2, 6): lambda l, r: [ONE * l, ONE * r, 0, 0, 0, 0],
-    (4, 6): lambda l, r, sl, sr: [ONE * l, ONE * r, 0, 0, ONE * sl, ONE * sr],
-    (2, 1): lambda l, r: [HALF * (l + r)],
-    (4, 1): lambda l, r, sl, sr: [QUARTER * (l + r + sl + sr)],
-    (6, 1): lambda l, r, c, lfe, sl, sr: [ROOT_HALF * (l + r) + ONE * c + HALF * (sl + sr)],
-    (4, 2): lambda l, r, sl, sr: [HALF * (l + sl), HALF * (r + sr)],
-    (6, 2): lambda l, r, c, lfe, sl, sr: [
-        ONE * l + ROOT_HALF * (c + sl),
-        ONE * r + ROOT_HALF * (c + sr),
+    (2, 4): lambda left, right: [ONE * left, ONE * right, 0, 0],
+    (2, 6): lambda left, right: [ONE * left, ONE * right, 0, 0, 0, 0],
+    (4, 6): lambda left, right, sl, sr: [ONE * left, ONE * right, 0, 0, ONE * sl, ONE * sr],
+    (2, 1): lambda left, right: [HALF * (left + right)],
+    (4, 1): lambda left, right, sl, sr: [QUARTER * (left + right + sl + sr)],
+    (6, 1): lambda left, right, c, lfe, sl, sr: [
+        ROOT_HALF * (left + right) + ONE * c + HALF * (sl + sr)
     ],
-    (6, 4): lambda l, r, c, lfe, sl, sr: [
-        ONE * l + ROOT_HALF * c,
-        ONE * r + ROOT_HALF * c,
+    (4, 2): lambda left, right, sl, sr: [HALF * (left + sl), HALF * (right + sr)],
+    (6, 2): lambda left, right, c, lfe, sl, sr: [
+        ONE * left + ROOT_HALF * (c + sl),
+        ONE * right + ROOT_HALF * (c + sr),
+    ],
+    (6, 4): lambda left, right, c, lfe, sl, sr: [
+        ONE * left + ROOT_HALF * c,
+        ONE * right + ROOT_HALF * c,
         ONE * sl,
         ONE * sr,
     ],

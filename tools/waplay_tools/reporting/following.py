@@ -283,5 +283,6 @@ def summary(session: Session) -> str:
         else "no call was refused"
     )
     if end.word == "stalled":
-        return f"The session stalled at frame {grouped(end.number or 0)}, so there is no sound; {told}."
+        frame = grouped(end.number or 0)
+        return f"The session stalled at frame {frame}, so there is no sound; {told}."
     return f"The session was rendered to its length; {told}."

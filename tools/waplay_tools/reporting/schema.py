@@ -200,7 +200,8 @@ def schema() -> dict[str, Any]:
             " everywhere."
         ),
         "$comment": (
-            "Written by tools/makeschema, which has the operations from tools/waplay_tools/reporting/entries.py."
+            "Written by tools/makeschema, which has the operations from"
+            " tools/waplay_tools/reporting/entries.py."
         ),
         "type": "object",
         "required": ["version", "context", "calls"],

@@ -113,7 +113,8 @@ _TOOLS = """<div class="tools" hidden>
 <label>to frame <input type="number" name="last" min="1" max="%d" value="%d" step="1"></label>
 <button type="submit">Show</button></form>
 <p class="hint" id="wave-keys">Drag over the waveform to zoom, click to play from there. Keys on the
-waveform: + and \u2212 zoom, \u2190 and \u2192 move, Home and End go to the ends, 0 shows the whole.</p>
+waveform: + and \u2212 zoom, \u2190 and \u2192 move, Home and End go to the ends, 0 shows the
+whole.</p>
 <p class="status" role="status"></p></div>"""
 
 
