@@ -219,7 +219,7 @@ class Graphs(unittest.TestCase):
                     )
                 )
             found = graph.Graph(nodes, edges)
-            world = meaning.World(types.SimpleNamespace(nodes=nodes, edges=edges))
+            world = meaning.World(nodes, edges)
             self.assertEqual((found.in_cycle, found.muted), (world.in_cycle, world.muted), edges)
             self.assertFalse([end for end in found.muted if end.is_writer])
             self.assertEqual(sorted([*found.order, *found.muted]), sorted(found.arrows))

@@ -1,6 +1,5 @@
-"""Text for people: what is shown of values, names and numbers, and what HTML makes of them."""
+"""Text for people: what is shown of values, names and numbers."""
 
-import html
 import json
 import unicodedata
 from typing import Any
@@ -37,6 +36,8 @@ def is_seen(letter: str) -> bool:
 
 def visible(text: str) -> str:
     """The text with every letter that cannot be seen in the form that JSON has for it."""
+    if text.isascii() and text.isprintable():
+        return text
     shown = []
     for letter in text:
         if is_seen(letter):
@@ -80,40 +81,16 @@ def counted(number: int, what: str, several: str | None = None) -> str:
     return f"{grouped(number)} {what if number == 1 else several or what + 's'}"
 
 
-def seconds(frame: int, rate: int) -> str:
-    """The time of a frame."""
-    if rate <= 0:
-        return "\u2013"
-    return "{:,.6f}".format(frame / rate).rstrip("0").rstrip(".") + "\u00a0s"
-
-
 def decimal(numerator: int, denominator: int) -> str:
     """A quotient, with six digits after its point."""
     return "{:.6f}".format(numerator / denominator).replace("-", "\u2212")
 
 
-def escaped(text: str) -> str:
-    """Text for HTML: nothing of it is markup, and nothing of it is unseen."""
-    return html.escape(visible(text), quote=True)
-
-
-def isolated(text: str) -> str:
-    """Text for HTML that someone else chose: its direction does not spread."""
-    return f"<bdi>{escaped(text)}</bdi>"
-
-
-_BACKQUOTE = (  # what stands for a backquote that makes no code; visible text does not have it
-    "\ue000"
-)
+# What stands for a backquote that makes no code; visible text does not have it.
+BACKQUOTE = "\ue000"
 
 
 def as_it_is(text: str) -> str:
     """Visible text that someone else chose, for a place in a sentence: its backquotes make no
     code."""
-    return text.replace("`", _BACKQUOTE)
-
-
-def sentence(text: str) -> str:
-    """A plain text for HTML, whose parts between backquotes are code."""
-    parts = [escaped(part.replace(_BACKQUOTE, "`")) for part in text.split("`")]
-    return "".join(f"<code>{part}</code>" if at % 2 else part for at, part in enumerate(parts))
+    return text.replace("`", BACKQUOTE)
