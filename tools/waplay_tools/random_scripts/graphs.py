@@ -3,7 +3,7 @@
 from typing import Any
 
 from waplay_tools.expecting.sessions import ATTRIBUTES
-from waplay_tools.random_scripts.kinds import KINDS, ONE, Calls, Make, Sound
+from waplay_tools.random_scripts.kinds import KINDS, ONE, Call, Calls, Make, Sound
 from waplay_tools.random_scripts.suspensions import Suspensions
 
 
@@ -126,38 +126,15 @@ class Graphs(Suspensions):
             for call in made:
                 if "gain" in call and self.may(0.9):
                     call["gain"] = self.rng.randint(-ONE, ONE)
-            calls += made
             after = [call["as"] for call in made]
-            for name in after:
-                if self.may(0.2):
-                    calls += [self.attribute(op, name) for op in self.attributes if self.may(0.6)]
-                # Each input is joined to an output, nearly all of them, and each output to an
-                # input.
-                for place in range(min(self.names[name].inputs, 40)):
-                    source = self.rng.choice(layer)
-                    if self.may(0.85):
-                        calls.append({**self.joined(source, name), "input": place})
-            for source in layer:
-                for output in range(min(self.names[source].outputs, 40)):
-                    if self.may(0.5):
-                        calls.append(
-                            {**self.joined(source, self.rng.choice(after)), "output": output}
-                        )
+            calls += made + self.between(layer, after)
             if self.may(backward):
                 calls.append(self.joined(self.rng.choice(after), self.rng.choice(layer)))
             if self.may(0.1):
                 calls.append(self.joined(self.rng.choice(before), self.rng.choice(after)))
             before, layer = layer, after
-        if self.may(0.5):  # what is there comes to the destination on as many channels as it has
-            calls.append(
-                {"op": "createChannelMerger", "as": "last", "numberOfInputs": self.channels}
-            )
-            self.names["last"] = KINDS["createChannelMerger"]._replace(inputs=self.channels)
-            calls += [
-                {**self.joined(self.rng.choice(before + layer), "last"), "input": place}
-                for place in range(self.channels)
-                if self.may(0.9)
-            ]
+        if self.may(0.5):
+            calls += self.merged(before + layer)
             layer = ["last"]
         calls += [
             self.joined(name, "destination")
@@ -174,6 +151,34 @@ class Graphs(Suspensions):
             for _ in range(self.rng.choice([0, 1, 3]))
         ]
         return calls + sets + cuts + again + [self.start_rendering()]
+
+    def between(self, layer: list[str], after: list[str]) -> Calls:
+        """Connections from one layer to the next: each input is joined to an output, nearly all of
+        them, and half of the outputs to an input. Some nodes have attributes set."""
+        calls = []
+        for name in after:
+            if self.may(0.2):
+                calls += [self.attribute(op, name) for op in self.attributes if self.may(0.6)]
+            for place in range(min(self.names[name].inputs, 40)):
+                source = self.rng.choice(layer)
+                if self.may(0.85):
+                    calls.append({**self.joined(source, name), "input": place})
+        for source in layer:
+            for output in range(min(self.names[source].outputs, 40)):
+                if self.may(0.5):
+                    calls.append({**self.joined(source, self.rng.choice(after)), "output": output})
+        return calls
+
+    def merged(self, sources: list[str]) -> Calls:
+        """A merger `last`, by which sources come to the destination on as many channels as it
+        has."""
+        self.names["last"] = KINDS["createChannelMerger"]._replace(inputs=self.channels)
+        call: Call = {"op": "createChannelMerger", "as": "last", "numberOfInputs": self.channels}
+        return [call] + [
+            {**self.joined(self.rng.choice(sources), "last"), "input": place}
+            for place in range(self.channels)
+            if self.may(0.9)
+        ]
 
     def played(self) -> Calls:
         """Buffers, and sources that play them, with loops, offsets, durations, rates and stops, by

@@ -7,6 +7,24 @@ from waplay_tools.expecting.sessions import LOOPS
 from waplay_tools.random_scripts.kinds import Call, Calls, Link, Sound
 from waplay_tools.random_scripts.parameters import Parameters
 
+# Paths at which there is no file, and those that could lead from one that is there to one outside.
+NOWHERE = [
+    "nowhere.wav",
+    "sub/nowhere.wav",
+    "/dev/zero",
+    "/",
+    "..",
+    "../beside.wav",
+    "./../beside.wav",
+    "a0.wav/..",
+    "\0",
+    "x" * 255,
+    "sub" * 60,
+    "...",
+    "A0.WAV",
+]
+OUTSIDE = ["/%", "%\0", "sub/../%", "../%", "%/", "%/%"]  # with that file for each %
+
 
 class Sounds(Parameters):
     """Buffers, and the assets that are decoded into them."""
@@ -121,29 +139,7 @@ class Sounds(Parameters):
             self.assets[path] = Link("../" * path.count("/") + target)
         elif some < 195:  # a path that names no file, or could name one outside
             outside = rng.choice(files)
-            return rng.choice(
-                [
-                    "nowhere.wav",
-                    "sub/nowhere.wav",
-                    "/dev/zero",
-                    "/",
-                    "..",
-                    "../beside.wav",
-                    "./../beside.wav",
-                    "a0.wav/..",
-                    "\0",
-                    "x" * 255,
-                    "sub" * 60,
-                    "...",
-                    "A0.WAV",
-                    "/" + outside,
-                    outside + "\0",
-                    "sub/../" + outside,
-                    "../" + outside,
-                    outside + "/",
-                    outside + "/" + outside,
-                ]
-            )
+            return rng.choice([*NOWHERE, *(form.replace("%", outside) for form in OUTSIDE)])
         elif some < 197:
             self.assets[path] = rng.choice([2**26 + 1, 2**26 + 1, 2**26, 2**28])
         else:  # what cannot be read: a folder, and a link to itself

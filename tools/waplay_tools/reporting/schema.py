@@ -161,24 +161,32 @@ def _where(op, name):
     return {"if": {"required": ["op"], "properties": {"op": op}}, "then": _ref(name)}
 
 
-def schema() -> dict[str, Any]:
-    """The schema."""
-    operations = list(entries.OPERATIONS)
-    call = {
+def _groups() -> dict[str, Any]:
+    """The definitions of the groups of operations, each of which chooses by the operation."""
+    return {
+        name: {
+            "description": "The calls of one of these operations.",
+            "allOf": [_where({"const": op}, op) for op in group],
+        }
+        for name, group in entries.GROUPS.items()
+    }
+
+
+def _call(operations: list[str]) -> dict[str, Any]:
+    """The definition of a call, which chooses the group by the operation."""
+    return {
         "description": "A call: its operation and its fields. Further members are ignored.",
         "type": "object",
         "required": ["op"],
         "properties": {"op": {"description": "The operation.", "enum": operations}},
         "allOf": [_where({"enum": list(group)}, name) for name, group in entries.GROUPS.items()],
     }
-    groups = {}
-    for name, group in entries.GROUPS.items():
-        groups[name] = {
-            "description": "The calls of one of these operations.",
-            "allOf": [_where({"const": op}, op) for op in group],
-        }
+
+
+def _context() -> dict[str, Any]:
+    """The schema of a context."""
     count = _ref("count")
-    context = {
+    return {
         "description": (
             rules.CONTEXT
             + " A context out of these ranges is no fault of the script: the session refuses it."
@@ -191,6 +199,11 @@ def schema() -> dict[str, Any]:
             "rate": {**count, "description": "Frames a second."},
         },
     }
+
+
+def schema() -> dict[str, Any]:
+    """The schema of scripts."""
+    operations = list(entries.OPERATIONS)
     return {
         "$schema": "https://json-schema.org/draft/2020-12/schema",
         "$id": "urn:waplay:script:1",
@@ -207,13 +220,13 @@ def schema() -> dict[str, Any]:
         "required": ["version", "context", "calls"],
         "properties": {
             "version": {"description": "The version of the format.", "type": "integer", "const": 1},
-            "context": context,
+            "context": _context(),
             "calls": {**_ref("calls"), "description": "The main list of calls."},
         },
         "$defs": {
             **_kinds(),
-            "call": call,
-            **groups,
+            "call": _call(operations),
+            **_groups(),
             **{op: _operation(op) for op in operations},
         },
     }

@@ -1,5 +1,5 @@
-"""Public functions of the tools tell what a caller needs: hints for what they take and give, and a
-docstring."""
+"""Functions of the tools are short, and public ones tell what a caller needs: hints for what they
+take and give, and a docstring."""
 
 import ast
 import unittest
@@ -9,6 +9,7 @@ from pathlib import Path
 from waplay_tools.places import TOP
 
 PACKAGE = TOP / "tools" / "waplay_tools"
+MOST_LINES = 50  # of a function
 
 Function = ast.FunctionDef | ast.AsyncFunctionDef
 
@@ -32,12 +33,20 @@ def unhinted(function: Function, is_method: bool) -> list[str]:
     return [it.arg for it in names[is_bound:] + others if it.annotation is None]
 
 
+def lines_of(function: Function) -> int:
+    """How many lines a function has."""
+    return (function.end_lineno or 0) - function.lineno + 1
+
+
 def lacking(text: str, name: str) -> Iterator[str]:
-    """What the public functions of a module of this name lack."""
+    """What is wrong with functions of a module of this name: of all that they are long, and what
+    public ones lack."""
     for function, is_method in functions_in(ast.parse(text)):
+        where = f"{name}:{function.lineno}: {function.name}"
+        if lines_of(function) > MOST_LINES:
+            yield f"{where} has {lines_of(function)} lines"
         if function.name.startswith("_"):
             continue
-        where = f"{name}:{function.lineno}: {function.name}"
         if function.returns is None:
             yield f"{where} does not tell what it gives"
         if not ast.get_docstring(function):
@@ -51,8 +60,8 @@ def lacking_in(path: Path) -> list[str]:
     return list(lacking(path.read_text(encoding="utf-8"), str(path.relative_to(PACKAGE))))
 
 
-class Hints(unittest.TestCase):
-    def test_public_functions_tell_what_a_caller_needs(self):
+class Functions(unittest.TestCase):
+    def test_they_are_short_and_tell_what_a_caller_needs(self):
         paths = sorted(PACKAGE.rglob("*.py"))
         self.assertGreater(len(paths), 50)
         for path in paths:
@@ -73,6 +82,8 @@ class Hints(unittest.TestCase):
             changed = within.replace(*change).replace("*c, a: int, *,", "*c, a: int,")
             self.assertEqual(list(lacking(changed, "m")), [found])
         self.assertEqual(list(lacking(whole, "m")), ["m:1: f does not tell what self is"])
+        long = "def _f():\n" + "    pass\n" * MOST_LINES
+        self.assertEqual(list(lacking(long, "m")), ["m:1: _f has 51 lines"])
 
 
 if __name__ == "__main__":
