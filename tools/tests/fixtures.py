@@ -82,7 +82,7 @@ def run(tool, *words, **more):
 def program(folder, text):
     """Writes a program of this text in Python, which finds the tools and the tests, and gives its
     path."""
-    words = [sys.executable, write(folder, "program.py", text)]
+    words = [sys.executable, "-S", write(folder, "program.py", text)]  # which starts faster
     paths = f"{TOOLS}:{TOOLS / 'tests'}"
     start = (
         f'PYTHONDONTWRITEBYTECODE=1 PYTHONPATH={shlex.quote(paths)} exec {shlex.join(words)} "$@"'

@@ -9,8 +9,9 @@ import unittest
 import unittest.mock
 
 import fixtures
-from waplay_tools import generated
-from waplay_tools import load_script
+from small_load import small
+
+from waplay_tools import generated, load_script
 from waplay_tools.expecting import numbers, sessions
 
 # The widths of samples at which a wrong program is looked at; all of them where it is asked for.
@@ -22,7 +23,7 @@ PROGRAM = """
 import json, os, sys
 from waplay_tools import command_lines
 from waplay_tools.expecting.sessions import replayed, summary_of, wav_bytes
-from test_generated import small
+from small_load import small
 asked = command_lines.reading([os.fsencode(word) for word in sys.argv[1:]])
 is_checked, is_generated = asked.mode == "check", asked.generated is not None
 data = json.dumps(small(asked.generated)).encode() if is_generated else sys.stdin.buffer.read()
@@ -36,20 +37,6 @@ if file:
         out.write(file)
 sys.exit(status)
 """
-
-
-def small(number):
-    """The small script that stands for a load."""
-    calls = [
-        {"op": "createConstantSource", "as": "c", "offset": 5001 - number},
-        load_script.connected("c", "destination"),
-        {"op": "start", "node": "c", "when": 3},
-        {"op": "stop", "node": "c", "when": 140},
-        {"op": "start", "node": "c"},
-        {"op": "suspend", "time": 128, "then": [{"op": "resume"}]},
-        {"op": "startRendering"},
-    ]
-    return {"version": 1, "context": {"channels": 2, "length": 300, "rate": 48000}, "calls": calls}
 
 
 class Loads(unittest.TestCase):

@@ -235,7 +235,8 @@ class Following(unittest.TestCase):
         exact = between = 0
         for number in range(400):
             data = json.dumps(random_script(number)).encode()
-            status, text, session = sessions.replayed(data, os.path.join(fixtures.TOP, "nowhere"))
+            nowhere = os.path.join(fixtures.TOP, "nowhere")
+            status, text, session = sessions.replayed(data, nowhere, is_checked=True)
             if status not in (0, 3):
                 continue
             lines = transcript_reading.lines_of(text.encode(), "t")

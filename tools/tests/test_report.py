@@ -1,6 +1,7 @@
 """Tests of the page that tools/report writes, without a browser."""
 
 import html.parser
+import io
 import json
 import os
 import random
@@ -11,8 +12,10 @@ import unittest
 import unittest.mock
 
 import fixtures
-from waplay_tools.expecting import sessions
 import test_reading
+
+from waplay_tools import report
+from waplay_tools.expecting import sessions
 from waplay_tools.reporting import sound_html, waveform
 from waplay_tools.reporting.wav_samples import Differences, front_of, sound_of
 
@@ -75,6 +78,16 @@ class Report(unittest.TestCase):
         self.assertEqual(page.wrong, [])
         return page
 
+    def page(self, paths):
+        """The same, without a process of its own."""
+        out = io.TextIOWrapper(io.BytesIO())
+        with unittest.mock.patch("sys.argv", ["report", *paths]):
+            with unittest.mock.patch("sys.stdout", out):
+                self.assertEqual(report.main(), 0)
+        page = Page(out.buffer.getvalue())
+        self.assertEqual(page.wrong, [])
+        return page
+
     def refused(self, *words):
         """The one sentence of a run that ends with status 2."""
         ran = fixtures.run("report", *words)
@@ -85,7 +98,7 @@ class Report(unittest.TestCase):
     def test_every_session_has_its_page(self):
         for name in fixtures.SESSIONS:
             data, text, sound = fixtures.session_of_case(name)
-            page = self.report(fixtures.written(self.folder, name, data, text, sound))
+            page = self.page(fixtures.written(self.folder, name, data, text, sound))
             channels = json.loads(data)["context"]["channels"] if sound else 0
             self.assertEqual(len(page.of("path", **{"class": "envelope"})), channels)
             self.assertEqual(len(page.of("audio")), 1 if sound else 0)
@@ -282,7 +295,7 @@ class Report(unittest.TestCase):
             _, text, session = sessions.replayed(data, os.path.join(self.folder, "nowhere"))
             if text:
                 sound = sessions.wav_bytes(session) if session and session.samples else None
-                self.report(fixtures.written(self.folder, "it", data, text, sound))
+                self.page(fixtures.written(self.folder, "it", data, text, sound))
 
     def test_differences_are_told(self):
         data, text, sound = fixtures.resumed()

@@ -43,14 +43,19 @@ def words() -> argparse.Namespace:
         action="store_true",
         help="change wanted values of each case, one at a time, and say which changes are not told",
     )
-    parser.add_argument("--jobs", type=int, default=os.cpu_count(), help="how many run at a time")
+    parser.add_argument(
+        "--jobs",
+        type=int,
+        default=len(os.sched_getaffinity(0)),
+        help="how many run at a time; one on each processor by default",
+    )
     return parser.parse_args()
 
 
 def files_in(paths: list[Path]) -> list[Path]:
     """The files of the cases and examples at these paths, in order."""
     found: list[Path] = []
-    for path in paths or [CASES, EXAMPLES]:
+    for path in paths or [EXAMPLES, CASES]:  # an example takes as long as a hundred cases
         found += sorted(path.rglob("*.json")) if path.is_dir() else [path]
     return [path.resolve() for path in found]
 
@@ -112,7 +117,7 @@ def main() -> int:
     passed: dict[str, int] = {}
     failed = 0
     with concurrent.futures.ProcessPoolExecutor(asked.jobs) as pool:
-        for path, told in zip(paths, pool.map(look, paths, [programs] * len(paths), chunksize=4)):
+        for path, told in zip(paths, pool.map(look, paths, [programs] * len(paths))):
             for name, lines in told.items():
                 passed[name] = passed.get(name, 0) + (not lines)
                 failed += bool(lines)

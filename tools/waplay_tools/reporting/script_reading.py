@@ -77,8 +77,10 @@ def _plain(value, room):
     """The value with dictionaries for members, of which the last of a name counts. It refuses lone
     surrogates, and arrays and objects that nest deeper than there is room for."""
     if isinstance(value, str):
-        if any("\ud800" <= letter <= "\udfff" for letter in value):
-            raise ValueError("an escape of a lone surrogate")
+        try:
+            value.encode()
+        except UnicodeEncodeError:
+            raise ValueError("an escape of a lone surrogate") from None
     elif isinstance(value, list):
         if room == 0:
             raise ValueError(f"arrays and objects nest deeper than {MOST_NESTED}")
