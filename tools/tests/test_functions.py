@@ -1,5 +1,5 @@
-"""Functions of the tools are short, and public ones tell what a caller needs: hints for what they
-take and give, and a docstring."""
+"""Functions of the tools are short and have hints for what they take and give, and public ones have
+a docstring."""
 
 import ast
 import unittest
@@ -39,17 +39,14 @@ def lines_of(function: Function) -> int:
 
 
 def lacking(text: str, name: str) -> Iterator[str]:
-    """What is wrong with functions of a module of this name: of all that they are long, and what
-    public ones lack."""
+    """What is wrong with functions of a module of this name."""
     for function, is_method in functions_in(ast.parse(text)):
         where = f"{name}:{function.lineno}: {function.name}"
         if lines_of(function) > MOST_LINES:
             yield f"{where} has {lines_of(function)} lines"
-        if function.name.startswith("_"):
-            continue
         if function.returns is None:
             yield f"{where} does not tell what it gives"
-        if not ast.get_docstring(function):
+        if not function.name.startswith("_") and not ast.get_docstring(function):
             yield f"{where} has no docstring"
         for parameter in unhinted(function, is_method):
             yield f"{where} does not tell what {parameter} is"
@@ -71,7 +68,7 @@ class Functions(unittest.TestCase):
         whole = 'def f(self, a: int, *, b: int = 0) -> int:\n    """Gives a."""\n'
         within = "class C:\n" + "".join(f"    {line}\n" for line in whole.splitlines())
         self.assertEqual(list(lacking(within, "m")), [])
-        self.assertEqual(list(lacking("def _f(a): pass", "m")), [])
+        self.assertEqual(list(lacking("def _f() -> None: pass", "m")), [])
         for change, found in [
             ((" -> int", ""), "m:2: f does not tell what it gives"),
             (('"""Gives a."""', "pass"), "m:2: f has no docstring"),
@@ -82,7 +79,7 @@ class Functions(unittest.TestCase):
             changed = within.replace(*change).replace("*c, a: int, *,", "*c, a: int,")
             self.assertEqual(list(lacking(changed, "m")), [found])
         self.assertEqual(list(lacking(whole, "m")), ["m:1: f does not tell what self is"])
-        long = "def _f():\n" + "    pass\n" * MOST_LINES
+        long = "def _f() -> None:\n" + "    pass\n" * MOST_LINES
         self.assertEqual(list(lacking(long, "m")), ["m:1: _f has 51 lines"])
 
 

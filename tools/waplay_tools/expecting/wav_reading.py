@@ -14,7 +14,7 @@ PCM = bytes.fromhex("0100000000001000800000aa00389b71")  # the subformat of an e
 class WavFault(Exception):
     """What is wrong with a file: the name of the fault, and its place."""
 
-    def __str__(self):
+    def __str__(self) -> str:
         return "%s(%d)" % self.args
 
 

@@ -12,6 +12,9 @@ from waplay_tools.reporting.transcript_reading import Line
 SIGNS = {"same": " ", "other": "|", "left": "<", "right": ">", "moved": "~"}
 
 
+Key = tuple[Any, ...]  # what a line answers
+
+
 class Pair:
     """A line of the first transcript, the line of the second that answers the same, and how they
     differ."""
@@ -30,11 +33,13 @@ class Pair:
         return line
 
 
-def _keys(lines):
+def _keys(lines: list[Line]) -> dict[Key, Line]:
     """The lines by what they answer: a call, its promise, the end of a source, or the session's
     end."""
-    keyed, seen = {}, collections.Counter()
+    keyed: dict[Key, Line] = {}
+    seen: collections.Counter[Key] = collections.Counter()
     for line in lines:
+        key: Key
         if line.kind == "script":
             key = ("end",)
         elif line.ordinal is not None:
@@ -50,23 +55,24 @@ def pairs_of(left: list[Line], right: list[Line]) -> list[Pair]:
     """The lines of two transcripts in pairs, in the order of the first; a line that only the second
     has comes behind the one that it follows there."""
     ones, twos = _keys(left), _keys(right)
-    order, last = [None, *ones], None
-    behind: dict[Any, list[Any]] = collections.defaultdict(list)
+    order: list[Key | None] = [None, *ones]
+    last: Key | None = None
+    behind: dict[Key | None, list[Key]] = collections.defaultdict(list)
     for key in twos:
         if key not in ones:
             behind[last].append(key)
         else:
             last = key
     pairs = []
-    for key in order:
-        if key is not None:
-            pairs.append(Pair(ones[key], twos.get(key)))
-        pairs += [Pair(None, twos[other]) for other in behind[key]]
+    for before in order:
+        if before is not None:
+            pairs.append(Pair(ones[before], twos.get(before)))
+        pairs += [Pair(None, twos[other]) for other in behind[before]]
     _find_moved(pairs)
     return pairs
 
 
-def _find_moved(pairs):
+def _find_moved(pairs: list[Pair]) -> None:
     """Marks the pairs of equal lines whose order is another one in the second transcript."""
     latest = 0
     for pair in pairs:
@@ -97,9 +103,11 @@ def call_text(call: Call) -> str:
     return " ".join(words)
 
 
-def _sentence(left, right, names, script):
+def _sentence(
+    left: list[Line], right: list[Line], names: tuple[str, str], script: Script | None
+) -> str:
     """Where two transcripts part."""
-    place = parting(left, right)
+    place = parting(left, right) or 0
     lines = [lines[place - 1] if place <= len(lines) else None for lines in (left, right)]
     told = [
         f"nothing, after {len(all_lines)} lines" if line is None else visible(line.text)
@@ -111,16 +119,17 @@ def _sentence(left, right, names, script):
         f"  {names[1]}: {told[1]}",
     ]
     ordinals = sorted({line.ordinal for line in lines if line is not None and line.ordinal})
-    for ordinal in ordinals if script else ():
-        if ordinal in script.by_ordinal:
-            parts.append(f"  call {ordinal}: {call_text(script.by_ordinal[ordinal])}")
+    for ordinal in ordinals:
+        call = script.by_ordinal.get(ordinal) if script else None
+        if call:
+            parts.append(f"  call {ordinal}: {call_text(call)}")
     return "\n".join(parts)
 
 
-def _seen(pairs, context):
+def _seen(pairs: list[Pair], context: int) -> set[int]:
     """The places of the pairs that are shown: those that differ, and so many before and after
     each."""
-    seen = set()
+    seen: set[int] = set()
     for at, pair in enumerate(pairs):
         if pair.kind != "same":
             seen.update(range(max(0, at - context), min(len(pairs), at + context + 1)))

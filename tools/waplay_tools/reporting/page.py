@@ -48,7 +48,7 @@ def _facts(session: Session, sound: Sound | None) -> Iterator[tuple[str, str]]:
         )
     if sound:
         peak = max(max(-min(channel), max(channel)) for channel in sound.channels)
-        total = sum(map(sum, sound.channels))
+        total = sum(sum(channel) for channel in sound.channels)
         told = f"greatest absolute value {grouped(peak)}, sum {grouped(total)}"
         yield "Samples", f"{sound.bits} bits, {told}"
 

@@ -275,10 +275,10 @@ def kind_in_words(kind: str, default: list[Any]) -> str:
     return told + (", or null" if default == [None] or kind != base else "")
 
 
-def _field(ordinal, field, op):
+def _field(ordinal: int | None, field: str | None, op: Any) -> str:
     """What a field that has a fault may be, in words."""
     if ordinal == 0:
-        return "1" if field == "version" else _KINDS[_SCRIPT_FIELDS.get(field, "object")]
+        return "1" if field == "version" else _KINDS[_SCRIPT_FIELDS.get(field or "", "object")]
     for name, kind, *default in entries.fields_of(op):
         if name == field:
             return kind_in_words(kind, default)

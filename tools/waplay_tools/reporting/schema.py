@@ -67,12 +67,12 @@ _UNITS = {
 }
 
 
-def _ref(name):
+def _ref(name: str) -> dict[str, Any]:
     """What stands for the definition of this name."""
     return {"$ref": "#/$defs/" + name}
 
 
-def _kinds():
+def _kinds() -> dict[str, Any]:
     """The definitions of the kinds of fields."""
     kinds = {}
     for kind, (low, high) in entries.RANGES.items():
@@ -120,9 +120,10 @@ def _kinds():
     return kinds
 
 
-def _field(kind, default):
+def _field(kind: str, default: list[Any]) -> dict[str, Any]:
     """The schema of a field."""
     base = kind.replace(" or null", "")
+    schema: dict[str, Any]
     if base == "bool":
         schema = {"type": "boolean"}
     elif " " in base and base != "new name":
@@ -134,7 +135,7 @@ def _field(kind, default):
     return {**schema, "default": default[0]} if default else schema
 
 
-def _operation(op):
+def _operation(op: str) -> dict[str, Any]:
     """The schema of the calls of one operation."""
     if op in entries.LEFT_OUT:
         told = (
@@ -144,7 +145,7 @@ def _operation(op):
     else:
         told = DOES[op]
     fields = entries.fields_of(op)
-    schema = {"description": told, "properties": {"op": {"const": op}}}
+    schema: dict[str, Any] = {"description": told, "properties": {"op": {"const": op}}}
     schema["properties"].update((name, _field(kind, default)) for name, kind, *default in fields)
     schema["required"] = ["op"] + [name for name, _, *default in fields if not default]
     if op == "disconnect":
@@ -156,7 +157,7 @@ def _operation(op):
     return schema
 
 
-def _where(op, name):
+def _where(op: dict[str, Any], name: str) -> dict[str, Any]:
     """The schema of this name, where the operation is so."""
     return {"if": {"required": ["op"], "properties": {"op": op}}, "then": _ref(name)}
 

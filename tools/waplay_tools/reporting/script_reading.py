@@ -7,7 +7,7 @@ yet.
 
 import json
 import re
-from typing import Any
+from typing import Any, NoReturn
 
 from waplay_tools.reporting import entries
 from waplay_tools.reporting.text import BadInput, Written, visible
@@ -37,7 +37,8 @@ class Script:
 
     def __init__(self, value: Any, calls: list[Call], fault: str | None, reason: str = "") -> None:
         self.value, self.calls, self.fault, self.reason = value, calls, fault, reason
-        self.by_ordinal = {call.ordinal: call for call in calls}
+        # None stands for the ordinal of a line that has none, and so for no call.
+        self.by_ordinal: dict[int | None, Call] = {call.ordinal: call for call in calls}
 
     def context(self, name: str) -> int:
         """A number of the context; 0 where the script has a fault there."""
@@ -54,26 +55,26 @@ class Members(list):
     """The members of an object as they are written, repeated ones too."""
 
 
-def _no_json(*_):
+def _no_json(*_: object) -> NoReturn:
     """Refuses NaN and the infinities, which Python reads and JSON does not have."""
     raise ValueError("a word that JSON does not have")
 
 
-def _fraction(text):
+def _fraction(text: str) -> Written:
     """A number that is not whole, where a binary64 floating-point number can hold it."""
     if abs(float(text)) == float("inf"):
         raise ValueError("a number that is too large")
     return Written(text)
 
 
-def _whole(text):
+def _whole(text: str) -> int | Written:
     """A number without fraction and exponent, which is not whole where it is -0 or has more than 64
     bits."""
     is_whole = text != "-0" and len(text) <= 20 and -(2**63) <= int(text) < 2**64
     return int(text) if is_whole else _fraction(text)
 
 
-def _plain(value, room):
+def _plain(value: Any, room: int) -> Any:
     """The value with dictionaries for members, of which the last of a name counts. It refuses lone
     surrogates, and arrays and objects that nest deeper than there is room for."""
     if isinstance(value, str):
@@ -139,7 +140,7 @@ def cause(value: Any, kind: str) -> str | None:
     return None if fits else "OutOfRange"
 
 
-def _check(ordinal, members, field, kind, *default):
+def _check(ordinal: int, members: dict[str, Any], field: str, kind: str, *default: Any) -> None:
     """Raises the fault of one field, if it has one."""
     if field not in members:
         wrong = None if default else "MissingField"
@@ -151,7 +152,7 @@ def _check(ordinal, members, field, kind, *default):
         raise Fault(f"{ordinal} {field} {wrong}")
 
 
-def _check_call(call):
+def _check_call(call: Call) -> None:
     """Raises the first fault of one call, if it has one."""
     if not isinstance(call.value, dict):
         raise Fault(f"{call.ordinal} call WrongKind")
@@ -160,12 +161,12 @@ def _check_call(call):
     for field in entries.fields_of(call.op):
         _check(call.ordinal, call.members, *field)
     if call.op == "disconnect" and call.members.get("input") is not None:
-        for field in ("to", "output"):
-            if call.members.get(field) is None:
-                raise Fault(f"{call.ordinal} {field} MissingField")
+        for needed in ("to", "output"):
+            if call.members.get(needed) is None:
+                raise Fault(f"{call.ordinal} {needed} MissingField")
 
 
-def _check_script(value, calls):
+def _check_script(value: Any, calls: list[Call]) -> None:
     """Raises the first fault of a script, if it has one."""
     if not isinstance(value, dict):
         raise Fault("0 script WrongKind")
@@ -180,7 +181,7 @@ def _check_script(value, calls):
         _check_call(call)
 
 
-def _numbered(values, holder, depth, calls):
+def _numbered(values: list[Any], holder: int, depth: int, calls: list[Call]) -> list[int]:
     """Appends the calls of a list, and those that they hold, in document order. The answer is the
     ordinals of the calls of the list itself."""
     ordinals = []

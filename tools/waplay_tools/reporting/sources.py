@@ -34,19 +34,20 @@ class Thing:
     def ends(self) -> tuple[int, int | None]:
         """The first and the last frame at which a started source may end. The last is None where
         nothing says when it ends; then the first is its start."""
+        assert self.start is not None
         least, most = self._content() if self.kind == "buffer source" else (None, None)
-        low, high = self._end(least), self._end(most)
+        low, high = self._end(self.start, least), self._end(self.start, most)
         return self.start if low is None else low, high
 
-    def _end(self, content):
-        """The frame at which it ends where it plays so many frames of its buffer, or frames without
-        end."""
-        ends = [] if content is None else [self.start + -(-content // self.rate)]
+    def _end(self, start: int, content: int | None) -> int | None:
+        """The frame at which it ends where it starts there and plays so many frames of its buffer,
+        or frames without end."""
+        ends = [] if content is None else [start + -(-content // self.rate)]
         if self.stop is not None:
-            ends.append(max(self.start, self.stop))
+            ends.append(max(start, self.stop))
         return min(ends, default=None)
 
-    def _content(self):
+    def _content(self) -> tuple[int | None, int | None]:
         """The least and the greatest number of frames of its buffer that it plays; None has no
         end."""
         if self.buffer is None:
@@ -95,7 +96,7 @@ class Book:
         else:
             self._change(call, self.names.get(call.field("node")), now)
 
-    def _change(self, call, it, now):
+    def _change(self, call: Call, it: "Thing | None", now: int) -> None:
         """What an accepted call changes of a node that is there."""
         if it is None:
             return

@@ -39,7 +39,7 @@ _SHIFTED = bytes(byte ^ 128 for byte in range(256))  # samples of 8 bits have an
 _TYPES = {8: "b", 16: "h", 24: "i", 32: "i"}
 
 
-def _numbers(data, bits):
+def _numbers(data: bytes, bits: int) -> array.array:
     """The numbers of a file's samples."""
     if bits == 8:
         data = data.translate(_SHIFTED)
@@ -113,7 +113,7 @@ class Differences:
         if self.count:
             self._find(first, second)
 
-    def _find(self, first, second):
+    def _find(self, first: Sound, second: Sound) -> None:
         """Finds the first and the greatest difference."""
         places, peaks = [], []
         for number, channel in enumerate(self.channels):
@@ -137,7 +137,7 @@ class Differences:
         self.greatest = told(*min(peaks)[1:])
 
 
-def _shapes(first, second):
+def _shapes(first: Sound, second: Sound) -> list[tuple[str, int, int]]:
     """What else differs, in words: pairs of what the first and the second file have."""
     pairs = [
         ("channels", len(first.channels), len(second.channels)),
