@@ -23,7 +23,6 @@ LONG = (
     "test_command_lines",
     "test_delays",
     "test_generated",
-    "test_pages",
     "test_reading",
     "test_report",
     "test_schema",
