@@ -41,8 +41,8 @@ def line(data: bytes) -> str:
         return str(fault)
     digest = 0
     for channel in range(recording.channels):
-        for frame in range(recording.frames):
-            digest = (digest * FACTOR + recording.sample(channel, frame) % 2**32) % 2**64
+        for sample in recording.samples(channel, range(recording.frames)):
+            digest = (digest * FACTOR + sample % 2**32) % 2**64
     return f"{recording.rate} {recording.channels} {recording.frames} {digest}"
 
 

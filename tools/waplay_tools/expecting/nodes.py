@@ -1,6 +1,7 @@
 """Nodes, buffers and the assets that become buffers, by the rules of docs/PROFILE.md."""
 
 import os
+from collections.abc import Sequence
 
 from waplay_tools.expecting.automation import Timeline
 from waplay_tools.expecting.numbers import FIX, ONE, QUANTUM, SILENCE, Block, Blocks
@@ -173,10 +174,7 @@ class BufferSource(Node):
         """What the buffer has at the frames in which it plays, of each channel."""
         assert self.buffer is not None  # without one it ends where it starts
         buffer, places = self.buffer, self.positions(played)
-        return [
-            [buffer.sample(channel, place) for place in places]
-            for channel in range(buffer.channels)
-        ]
+        return [buffer.samples(channel, places) for channel in range(buffer.channels)]
 
 
 class Buffer:
@@ -189,10 +187,16 @@ class Buffer:
         self.written: dict[tuple[int, int], int] = {}  # of channels and frames
         self.is_acquired = False
 
+    def samples(self, channel: int, frames: Sequence[int]) -> list[int]:
+        """The values at these frames: what was written there last, or the recording's, or 0."""
+        there = self.recording.samples(channel, frames) if self.recording else [0] * len(frames)
+        if not self.written:
+            return there
+        return [self.written.get((channel, at), value) for at, value in zip(frames, there)]
+
     def sample(self, channel: int, frame: int) -> int:
-        """The value at a frame: what was written there last, or the recording's, or 0."""
-        there = self.recording.sample(channel, frame) if self.recording else 0
-        return self.written.get((channel, frame), there)
+        """The same at one frame."""
+        return self.samples(channel, [frame])[0]
 
 
 class AssetFault(Exception):

@@ -6,6 +6,7 @@ import math
 from collections.abc import Callable, Sequence
 
 ONE = 2**24
+HALF, QUARTER = ONE // 2, ONE // 4
 FIX = -(2**31), 2**31 - 1  # the ends of the range of values
 QUANTUM = 128
 
@@ -33,10 +34,11 @@ def bounded(block: Block, low: int, high: int) -> Block:
 
 
 def products(block: Block, levels: Block) -> Block:
-    """What becomes of a block by a gain of these levels."""
+    """What becomes of a block by a gain of these levels: the rounded quotients of the products and
+    1.0, in the range of values."""
     if block is SILENCE:
         return SILENCE
-    return bounded([rounded_quotient(x * g, ONE) for x, g in zip(block, levels)], *FIX)
+    return bounded([(x * g + HALF) // ONE for x, g in zip(block, levels)], *FIX)
 
 
 def summed(blocks: list[Block]) -> Block:
@@ -47,17 +49,22 @@ def summed(blocks: list[Block]) -> Block:
     return bounded(total, *FIX)
 
 
+def samples_of_channel(values: Sequence[int], bits: int) -> Block:
+    """The samples of a file with so many bits that rendered values become: their rounded quotients
+    by a step, in the range of samples."""
+    step, end = 2 ** (25 - bits), 2 ** (bits - 1)
+    return bounded([(value + step // 2) // step for value in values], -end, end - 1)
+
+
 def sample_of(value: int, bits: int = 24) -> int:
-    """The sample of a file with so many bits that a rendered value becomes."""
-    end = 2 ** (bits - 1)
-    return max(-end, min(end - 1, rounded_quotient(value, 2 ** (25 - bits))))
+    """The same of one value."""
+    return samples_of_channel([value], bits)[0]
 
 
 # Mixing. The equations are those of the recommendation's "Channel Up-Mixing and Down-Mixing", for
 # speakers. That of a pair of counts takes as many channels as the first, and gives as many as the
 # second, times 2^24.
 
-HALF, QUARTER = ONE // 2, ONE // 4
 ROOT_HALF = math.isqrt(2**47)  # the root is 11,863,283.2: this is the nearest whole number
 
 EQUATIONS: dict[tuple[int, int], Callable[..., list[int]]] = {

@@ -23,7 +23,7 @@ from waplay_tools.expecting.nodes import (
     Node,
     asset,
 )
-from waplay_tools.expecting.numbers import ONE, QUANTUM, sample_of
+from waplay_tools.expecting.numbers import ONE, QUANTUM, samples_of_channel
 from waplay_tools.expecting.reading import (
     LEFT_OUT,
     Call,
@@ -40,7 +40,6 @@ NODE_LIMIT = 1024
 CONNECTION_LIMIT = 8192
 BUFFER_LIMIT = 2**27  # samples of all buffers
 DELAY_LIMIT = 2**22  # frames of all delays
-KEPT = 10000  # frames that are kept for those that are like them
 
 
 # The attributes that a call sets.
@@ -495,16 +494,9 @@ class Session:
 
 
 def samples_of(values: list[tuple[int, ...]], bits: int) -> list[list[int]]:
-    """Of each frame the samples of so many bits. Of frames that are alike one is kept."""
-    alike: dict[tuple[int, ...], list[int]] = {}
-    samples = []
-    for frame in values:
-        if frame not in alike:
-            if len(alike) == KEPT:
-                alike.clear()
-            alike[frame] = [sample_of(value, bits) for value in frame]
-        samples.append(alike[frame])
-    return samples
+    """Of each frame the samples of so many bits."""
+    channels = [samples_of_channel(channel, bits) for channel in zip(*values)]
+    return [list(frame) for frame in zip(*channels)]
 
 
 def wav_bytes(session: Session, bits: int = 24) -> bytes:

@@ -7,6 +7,7 @@ it. It has no code in common with the program.
 
 import functools
 import struct
+from collections.abc import Iterable
 
 PCM = bytes.fromhex("0100000000001000800000aa00389b71")  # the subformat of an extended format
 
@@ -25,11 +26,11 @@ class Recording:
         self.rate, self.channels, self.bits, self.data = rate, channels, bits, data
         self.frames = len(data) // (channels * bits // 8)
 
-    def sample(self, channel: int, frame: int) -> int:
-        """The value at a frame of a channel, in units of 2^-24."""
+    def samples(self, channel: int, frames: Iterable[int]) -> list[int]:
+        """The values at these frames of a channel, in units of 2^-24."""
         width = self.bits // 8
-        place = (frame * self.channels + channel) * width
-        return value(self.bits, self.data[place : place + width])
+        places = ((frame * self.channels + channel) * width for frame in frames)
+        return [value(self.bits, self.data[place : place + width]) for place in places]
 
 
 @functools.lru_cache(maxsize=2**16)
