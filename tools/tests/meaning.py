@@ -1,6 +1,6 @@
-"""The values of a session by recursion from one frame to another, as the meaning of a graph is defined: a third
-calculation, which has no blocks, no order and no state. It takes the nodes and their timelines from the second one,
-and asks of everything else again."""
+"""The values of a session by recursion from one frame to another, as the meaning of a graph is
+defined: a third calculation, which has no blocks, no order and no state. It takes the nodes and
+their timelines from the second one, and asks of everything else again."""
 
 import contextlib
 import copy
@@ -14,23 +14,30 @@ QUANTUM = 128
 
 
 class World:
-    """The nodes and connections that are in force in a quantum. An end is a number and whether it is a writer."""
+    """The nodes and connections that are in force in a quantum. An end is a number and whether it
+    is a writer."""
 
-    def __init__(self, session):
-        self.nodes, self.edges = copy.deepcopy(session.nodes), sorted(session.edges, key=repr)
+    def __init__(self, nodes, edges):
+        self.nodes, self.edges = copy.deepcopy(nodes), sorted(edges, key=repr)
         numbers = range(len(self.nodes))
         self.delays = {number for number in numbers if self.nodes[number].kind == "delay"}
         paths = closure(numbers, {(source, target) for source, _, target, _ in self.edges})
         self.in_cycle = {number for number in self.delays if (number, number) in paths}
-        arrows = {((source, False), (target, target in self.delays and isinstance(place, int)))
-                  for source, _, target, place in self.edges}
+        arrows = {
+            ((source, False), (target, target in self.delays and isinstance(place, int)))
+            for source, _, target, place in self.edges
+        }
         arrows |= {((number, True), (number, False)) for number in self.delays - self.in_cycle}
         ends = [(number, False) for number in numbers] + [(number, True) for number in self.delays]
         paths = closure(ends, arrows)
         self.muted = {end for end in ends if (end, end) in paths}
 
     def edges_to(self, number, place):
-        return [(source, output) for source, output, target, at in self.edges if (target, at) == (number, place)]
+        return [
+            (source, output)
+            for source, output, target, at in self.edges
+            if (target, at) == (number, place)
+        ]
 
 
 def closure(places, arrows):
@@ -102,8 +109,10 @@ class Meaning:
         """What comes to a channel of an input; nothing where it has no such channel."""
         world = self.world(frame)
         count = self.input_count(frame // QUANTUM, number, place)
-        mixes = [mixed(self.frame_of(frame, source, output), count, world.nodes[number].interpretation)
-                 for source, output in world.edges_to(number, place)]
+        mixes = [
+            mixed(self.frame_of(frame, source, output), count, world.nodes[number].interpretation)
+            for source, output in world.edges_to(number, place)
+        ]
         return saturated(sum(mix[channel] for mix in mixes)) if channel < count else 0
 
     def parameter(self, frame, number, name):
@@ -115,7 +124,10 @@ class Meaning:
         timeline = node.timelines[name]
         if timeline.is_k_rate:
             frame -= frame % QUANTUM
-        mixes = [mixed(self.frame_of(frame, source, output), 1, "speakers") for source, output in world.edges_to(number, name)]
+        mixes = [
+            mixed(self.frame_of(frame, source, output), 1, "speakers")
+            for source, output in world.edges_to(number, name)
+        ]
         total = timeline.value(frame) + saturated(sum(mix[0] for mix in mixes))
         low, high = (0, node.nominal[1]) if name == "delayTime" else (-(2**31), 2**31 - 1)
         return max(low, min(high, total))
@@ -126,7 +138,9 @@ class Meaning:
     def value_of(self, frame, number, output, channel, is_writer):
         world = self.world(frame)
         node = world.nodes[number]
-        if (number, is_writer) in world.muted or channel >= self.count(frame // QUANTUM, number, is_writer):
+        if (number, is_writer) in world.muted or channel >= self.count(
+            frame // QUANTUM, number, is_writer
+        ):
             return 0
         if node.kind in SOURCES:
             if not self.plays(node, frame):
@@ -189,14 +203,15 @@ class Meaning:
 
 @contextlib.contextmanager
 def taped():
-    """A list, to which each session that is replayed in between adds a world for each quantum that it renders."""
+    """A list, to which each session that is replayed in between adds a world for each quantum that
+    it renders."""
     tape = []
     rendering = sessions.Rendering
 
     class Taping(rendering):
-        def __init__(self, session):
-            super().__init__(session)
-            self.world = World(session)
+        def __init__(self, nodes, edges):
+            super().__init__(nodes, edges)
+            self.world = World(nodes, edges)
 
         def quanta(self, begin, end):
             for blocks in super().quanta(begin, end):
@@ -208,10 +223,10 @@ def taped():
 
 
 def values_of(data, folder):
-    """A session that was replayed, its tape, and the values that come to its destination by this calculation, or None
-    where it was not rendered."""
+    """A session that was replayed, its tape, and the values that come to its destination by this
+    calculation, or None where it was not rendered."""
     with taped() as tape:
         _, _, session = sessions.replayed(data, folder)
-    if session is None or session.samples is None:
+    if session is None or session.values is None:
         return session, tape, None
     return session, tape, list(Meaning(tape).frames(session.length))

@@ -20,8 +20,11 @@ from waplay_tools.places import TOP
 SCHEMA = json.loads((TOP / "tests" / "case.schema.json").read_text(encoding="utf-8"))
 CONTEXT = {"channels": 1, "length": 3, "rate": 8000}
 MEMBERS = {
-    "shows": "three samples", "from": "by hand", "transcript": ["1 ok", "end completed"],
-    "script": {"version": 1, "context": CONTEXT, "calls": []}, "samples": [[[3, 1, 2]]],
+    "shows": "three samples",
+    "from": "by hand",
+    "transcript": ["1 ok", "end completed"],
+    "script": {"version": 1, "context": CONTEXT, "calls": []},
+    "samples": [[[3, 1, 2]]],
 }
 
 
@@ -29,7 +32,9 @@ def case_with(**members: object) -> Case:
     return case_of({**MEMBERS, **members}, Path("tests/cases/made/up.json"))
 
 
-def told(case: Case, text: str = "1 ok\nend completed\n", status: int = 0, samples: object = (1, 3, 5)) -> list[str]:
+def told(
+    case: Case, text: str = "1 ok\nend completed\n", status: int = 0, samples: object = (1, 3, 5)
+) -> list[str]:
     file = None if samples is None else wav.wav_bytes(wav.Form(1, 8000, 24), [list(samples)])
     return differences(case, Outcome(status, text.encode(), file), None)
 
@@ -46,22 +51,52 @@ class ShortForms(unittest.TestCase):
         self.assertEqual(runs_in([[2, [[2, [[1, 3, 0], [1, 4, 0]]]]]]), [3, 4] * 4)
 
     def test_a_range_of_lines_is_a_line_each(self):
-        self.assertEqual(lines_in(["1 throw TypeError", "2..4 ok"]), ["1 throw TypeError", "2 ok", "3 ok", "4 ok"])
+        self.assertEqual(
+            lines_in(["1 throw TypeError", "2..4 ok"]),
+            ["1 throw TypeError", "2 ok", "3 ok", "4 ok"],
+        )
 
     def test_calls_are_made_for_each_number(self):
-        calls = [{"for": "n", "first": 0, "last": 1, "calls": [
-            {"op": "connect", "from": "g{n}", "to": "g{n+1}", "output": "{n}", "x": "{n*128+1}"}]}]
-        self.assertEqual(calls_in(calls), [
-            {"op": "connect", "from": "g0", "to": "g1", "output": 0, "x": 1},
-            {"op": "connect", "from": "g1", "to": "g2", "output": 1, "x": 129}])
+        calls = [
+            {
+                "for": "n",
+                "first": 0,
+                "last": 1,
+                "calls": [
+                    {
+                        "op": "connect",
+                        "from": "g{n}",
+                        "to": "g{n+1}",
+                        "output": "{n}",
+                        "x": "{n*128+1}",
+                    }
+                ],
+            }
+        ]
+        self.assertEqual(
+            calls_in(calls),
+            [
+                {"op": "connect", "from": "g0", "to": "g1", "output": 0, "x": 1},
+                {"op": "connect", "from": "g1", "to": "g2", "output": 1, "x": 129},
+            ],
+        )
 
     def test_numbers_of_two_loops_stand_together(self):
-        calls = [{"for": "a", "first": 1, "last": 2, "calls": [{"for": "b", "first": 1, "last": 2, "calls": ["{a}{b}"]}]}]
+        calls = [
+            {
+                "for": "a",
+                "first": 1,
+                "last": 2,
+                "calls": [{"for": "b", "first": 1, "last": 2, "calls": ["{a}{b}"]}],
+            }
+        ]
         self.assertEqual(calls_in(calls), ["11", "12", "21", "22"])
 
     def test_runs_stand_for_a_list_in_a_call_and_in_a_list_that_it_holds(self):
         call = {"op": "suspend", "then": [{"samples": {"runs": [[2, 5, 1]]}}, {"as": "{n}"}]}
-        self.assertEqual(calls_in([call]), [{"op": "suspend", "then": [{"samples": [5, 6]}, {"as": "{n}"}]}])
+        self.assertEqual(
+            calls_in([call]), [{"op": "suspend", "then": [{"samples": [5, 6]}, {"as": "{n}"}]}]
+        )
 
 
 class Reading(unittest.TestCase):
@@ -90,12 +125,20 @@ class Reading(unittest.TestCase):
         look = jsonschema.Draft202012Validator(SCHEMA)
         for path in files_in([CASES]):
             read_case(path)
-            self.assertEqual([it.message for it in look.iter_errors(json.loads(path.read_text()))], [], path)
+            self.assertEqual(
+                [it.message for it in look.iter_errors(json.loads(path.read_text()))], [], path
+            )
 
     def test_words(self):
         self.assertEqual(words_of(["--bits", "16", "--mode=check", "a.wav"]).bits, 16)
         self.assertEqual(words_of(["--", "--x"]).out, "--x")
-        for words in ([], ["a", "b"], ["--bits", "8", "a"], ["--what", "a"], ["--bits=16", "--bits=16", "a"]):
+        for words in (
+            [],
+            ["a", "b"],
+            ["--bits", "8", "a"],
+            ["--what", "a"],
+            ["--bits=16", "--bits=16", "a"],
+        ):
             self.assertIsNone(words_of(words))
 
 
@@ -106,12 +149,21 @@ class Comparing(unittest.TestCase):
     def test_each_kind_of_difference_is_told_in_words(self):
         case = case_with()
         self.assertEqual(told(case, status=3), ["status: wanted 0, found 3"])
-        self.assertEqual(told(case, text="1 throw TypeError\nend completed\n"),
-                         ["line 1, of call 1: wanted “1 ok”, found “1 throw TypeError”"])
-        self.assertEqual(told(case, text="1 ok\n"), ["line 2: wanted “end completed”, found no line"])
-        self.assertEqual(told(case, samples=(1, 4, 6)), ["frame 1, channel 0: wanted 3, found 4; 2 samples differ"])
+        self.assertEqual(
+            told(case, text="1 throw TypeError\nend completed\n"),
+            ["line 1, of call 1: wanted “1 ok”, found “1 throw TypeError”"],
+        )
+        self.assertEqual(
+            told(case, text="1 ok\n"), ["line 2: wanted “end completed”, found no line"]
+        )
+        self.assertEqual(
+            told(case, samples=(1, 4, 6)),
+            ["frame 1, channel 0: wanted 3, found 4; 2 samples differ"],
+        )
         self.assertEqual(told(case, samples=(1, 3)), ["WAV file: wanted 3 frames, found 2"])
-        self.assertEqual(told(case, samples=None), ["WAV file: wanted one of 54 bytes, found no file"])
+        self.assertEqual(
+            told(case, samples=None), ["WAV file: wanted one of 54 bytes, found no file"]
+        )
 
     def test_samples_of_some_frames(self):
         members = {key: it for key, it in MEMBERS.items() if key != "samples"}
@@ -131,7 +183,12 @@ class Comparing(unittest.TestCase):
 
 class Folders(unittest.TestCase):
     def test_files_are_written_and_changes_are_told(self):
-        files = {"a/b": {"hex": ["00 ff"]}, "c": {"zeros": 3}, "d": {"folder": True}, "e": {"text": "x"}}
+        files = {
+            "a/b": {"hex": ["00 ff"]},
+            "c": {"zeros": 3},
+            "d": {"folder": True},
+            "e": {"text": "x"},
+        }
         with tempfile.TemporaryDirectory() as room:
             folder = Path(room)
             write_files(folder, files)
@@ -144,9 +201,13 @@ class Folders(unittest.TestCase):
             self.assertEqual(changes_in(folder, files, {"e": {"text": "y"}, "d": None}, "new"), [])
 
     def test_a_file_of_samples(self):
-        data = content_of({"wav": {"rate": 8000, "bits": 16, "channels": [[[2, 1, 1]], [[2, -1, 0]]]}})
+        data = content_of(
+            {"wav": {"rate": 8000, "bits": 16, "channels": [[[2, 1, 1]], [[2, -1, 0]]]}}
+        )
         form = wav.form_of(data)
-        self.assertEqual((form, wav.samples_of(data, form)), (wav.Form(2, 8000, 16), [1, -1, 2, -1]))
+        self.assertEqual(
+            (form, wav.samples_of(data, form)), (wav.Form(2, 8000, 16), [1, -1, 2, -1])
+        )
 
 
 if __name__ == "__main__":

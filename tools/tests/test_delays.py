@@ -1,7 +1,7 @@
 """Tests of how tools/expected.py works out delays and cycles, and of the load that has delays.
 
-The rules are tried one by one, on sessions whose samples are told by hand, and together on random sessions, against
-a calculation by recursion from one frame to another (meaning.py)."""
+The rules are tried one by one, on sessions whose samples are told by hand, and together on random
+sessions, against a calculation by recursion from one frame to another (meaning.py)."""
 
 import itertools
 import json
@@ -58,8 +58,10 @@ def suspend(time, *calls):
 
 def ramp(node, param, value, time):
     """Calls that let a parameter grow from 0 to a value at a time."""
-    return [edit(node, "setValueAtTime", param, value=0, time=0),
-            edit(node, "linearRampToValueAtTime", param, value=value, time=time)]
+    return [
+        edit(node, "setValueAtTime", param, value=0, time=0),
+        edit(node, "linearRampToValueAtTime", param, value=value, time=time),
+    ]
 
 
 def delayed(**fields):
@@ -78,7 +80,9 @@ def gain(name, **fields):
 
 # A constant c whose sample at each frame is the frame's number.
 NUMBERS = [
-    create("createConstantSource", "c"), *ramp("c", "offset", 1024, 512), call("start", node="c"),
+    create("createConstantSource", "c"),
+    *ramp("c", "offset", 1024, 512),
+    call("start", node="c"),
 ]
 
 
@@ -113,24 +117,37 @@ class Creations(unittest.TestCase):
         fill = [create("createDelay", "d", maxDelayTime=2**28)] * 16
         nodes = [gain("g")] * 1007
         for before, longest, wanted in [
-                ([], 0, "throw NotSupportedError"), ([], -(2**31), "throw NotSupportedError"),
-                ([], 2**28 + 1, "throw NotSupportedError profile:long-delay"),
-                ([], 2**28, "ok"), ([], 1, "ok"),
-                (fill, 1, "throw NotSupportedError profile:delay-limit"),
-                (fill, 0, "throw NotSupportedError"),
-                (fill, 2**28 + 1, "throw NotSupportedError profile:long-delay"),
-                (fill + nodes, 1, "throw NotSupportedError profile:node-limit"),
-                (fill + nodes, 0, "throw NotSupportedError")]:
+            ([], 0, "throw NotSupportedError"),
+            ([], -(2**31), "throw NotSupportedError"),
+            ([], 2**28 + 1, "throw NotSupportedError profile:long-delay"),
+            ([], 2**28, "ok"),
+            ([], 1, "ok"),
+            (fill, 1, "throw NotSupportedError profile:delay-limit"),
+            (fill, 0, "throw NotSupportedError"),
+            (fill, 2**28 + 1, "throw NotSupportedError profile:long-delay"),
+            (fill + nodes, 1, "throw NotSupportedError profile:node-limit"),
+            (fill + nodes, 0, "throw NotSupportedError"),
+        ]:
             creation = create("createDelay", "e", maxDelayTime=longest)
             self.assertEqual(answer_of([*before, creation]), wanted, (len(before), longest))
         for time in -1, 2**31 - 1:
             self.assertEqual(answer_of([create("createDelay", "e", delayTime=time)]), "ok")
 
     def test_the_capacity_is_the_longest_time_and_a_quantum_at_least(self):
-        for longest, rate, wanted in [(2**24, 48000, 48000), (1, 96000, 128), (2**28, 96000, 1536000), (2**28, 8000, 128000),
-                                      (130 * 1024, 16384, 130), (130 * 1024 + 511, 16384, 130), (130 * 1024 + 512, 16384, 131),
-                                      (128 * 1024 + 512, 16384, 129), (127 * 1024, 16384, 128)]:
-            self.assertEqual(delay.Delay({"as": "d", "maxDelayTime": longest}, rate, 0).capacity, wanted)
+        for longest, rate, wanted in [
+            (2**24, 48000, 48000),
+            (1, 96000, 128),
+            (2**28, 96000, 1536000),
+            (2**28, 8000, 128000),
+            (130 * 1024, 16384, 130),
+            (130 * 1024 + 511, 16384, 130),
+            (130 * 1024 + 512, 16384, 131),
+            (128 * 1024 + 512, 16384, 129),
+            (127 * 1024, 16384, 128),
+        ]:
+            self.assertEqual(
+                delay.Delay({"as": "d", "maxDelayTime": longest}, rate, 0).capacity, wanted
+            )
 
     def test_what_a_refused_delay_would_have_is_free(self):
         # 128 frames are left, and the last one would have 129.
@@ -141,9 +158,13 @@ class Creations(unittest.TestCase):
         self.assertEqual(answer_of([*creations, smaller]), "ok")
 
     def test_faults_of_reading_are_those_of_the_fields(self):
-        for fields, wanted in [({}, "1 as MissingField"), ({"as": "d", "maxDelayTime": 1.0}, "1 maxDelayTime WrongKind"),
-                               ({"as": "d", "maxDelayTime": 2**31, "delayTime": None}, "1 maxDelayTime OutOfRange"),
-                               ({"as": "d", "delayTime": -(2**31) - 1}, "1 delayTime OutOfRange"), ({"as": "d"}, None)]:
+        for fields, wanted in [
+            ({}, "1 as MissingField"),
+            ({"as": "d", "maxDelayTime": 1.0}, "1 maxDelayTime WrongKind"),
+            ({"as": "d", "maxDelayTime": 2**31, "delayTime": None}, "1 maxDelayTime OutOfRange"),
+            ({"as": "d", "delayTime": -(2**31) - 1}, "1 delayTime OutOfRange"),
+            ({"as": "d"}, None),
+        ]:
             data = fixtures.script([{"op": "createDelay", **fields}])
             try:
                 reading.script_of(data)
@@ -156,18 +177,27 @@ class Creations(unittest.TestCase):
 class Graphs(unittest.TestCase):
     def test_parameters_count_for_cycles(self):
         nodes = delays_and_others("delay", "gain")
-        for edges, in_cycle in [({(1, 0, 0, 0)}, set()), ({(1, 0, 1, 0)}, {1}), ({(1, 0, 1, "delayTime")}, {1}),
-                                ({(1, 0, 2, "gain"), (2, 0, 1, 0)}, {1}), ({(2, 0, 2, 0), (2, 0, 1, 0)}, set())]:
+        for edges, in_cycle in [
+            ({(1, 0, 0, 0)}, set()),
+            ({(1, 0, 1, 0)}, {1}),
+            ({(1, 0, 1, "delayTime")}, {1}),
+            ({(1, 0, 2, "gain"), (2, 0, 1, 0)}, {1}),
+            ({(2, 0, 2, 0), (2, 0, 1, 0)}, set()),
+        ]:
             self.assertEqual(graph.Graph(nodes, edges).in_cycle, in_cycle, edges)
 
     def test_ends_that_reach_themselves_are_muted(self):
         nodes = delays_and_others("delay", "gain", "delay")
         reader, other, gain = End(1, False), End(3, False), End(2, False)
         for edges, muted in [
-                ({(1, 0, 1, 0)}, set()), ({(1, 0, 1, "delayTime")}, {reader}), ({(1, 0, 2, 0), (2, 0, 1, 0)}, set()),
-                ({(1, 0, 2, 0), (2, 0, 1, "delayTime")}, {reader, gain}), ({(2, 0, 2, "gain"), (2, 0, 1, 0)}, {gain}),
-                ({(1, 0, 3, "delayTime"), (3, 0, 1, "delayTime")}, {reader, other}),
-                ({(1, 0, 3, "delayTime"), (3, 0, 1, 0)}, set())]:
+            ({(1, 0, 1, 0)}, set()),
+            ({(1, 0, 1, "delayTime")}, {reader}),
+            ({(1, 0, 2, 0), (2, 0, 1, 0)}, set()),
+            ({(1, 0, 2, 0), (2, 0, 1, "delayTime")}, {reader, gain}),
+            ({(2, 0, 2, "gain"), (2, 0, 1, 0)}, {gain}),
+            ({(1, 0, 3, "delayTime"), (3, 0, 1, "delayTime")}, {reader, other}),
+            ({(1, 0, 3, "delayTime"), (3, 0, 1, 0)}, set()),
+        ]:
             self.assertEqual(graph.Graph(nodes, edges).muted, muted, edges)
 
     def test_random_graphs_are_those_of_all_paths(self):
@@ -180,9 +210,16 @@ class Graphs(unittest.TestCase):
             edges = set()
             for _ in range(rng.randint(0, 10)):
                 source, target = rng.randint(1, len(kinds)), rng.randint(0, len(kinds))
-                edges.add((source, 0, target, parameters[kinds[target - 1]] if target and rng.random() < 0.3 else 0))
+                edges.add(
+                    (
+                        source,
+                        0,
+                        target,
+                        parameters[kinds[target - 1]] if target and rng.random() < 0.3 else 0,
+                    )
+                )
             found = graph.Graph(nodes, edges)
-            world = meaning.World(types.SimpleNamespace(nodes=nodes, edges=edges))
+            world = meaning.World(nodes, edges)
             self.assertEqual((found.in_cycle, found.muted), (world.in_cycle, world.muted), edges)
             self.assertFalse([end for end in found.muted if end.is_writer])
             self.assertEqual(sorted([*found.order, *found.muted]), sorted(found.arrows))
@@ -197,13 +234,24 @@ class Graphs(unittest.TestCase):
 
 class Times(unittest.TestCase):
     def heard(self, delay_of_n, *more):
-        """Compares what a delay gives, whose time is set by more calls, with its delay in frames at each frame."""
+        """Compares what a delay gives, whose time is set by more calls, with its delay in frames at
+        each frame."""
         found = samples_of([*NUMBERS, *delayed(), *more])
         wanted = [max(0, n - delay_of_n(n)) for n in range(384)]
         self.assertEqual(found, mono(*wanted))
 
     def test_halves_of_a_frame_go_up(self):
-        for time, frames in (0, 0), (511, 0), (512, 1), (1535, 1), (1536, 2), (-1, 0), (131072, 128), (131071, 128), (130559, 127):
+        for time, frames in (
+            (0, 0),
+            (511, 0),
+            (512, 1),
+            (1535, 1),
+            (1536, 2),
+            (-1, 0),
+            (131072, 128),
+            (131071, 128),
+            (130559, 127),
+        ):
             self.heard(lambda _: frames, edit("d", "setValue", value=time))
 
     def test_the_computed_value_is_within_its_range_and_the_slot_is_not(self):
@@ -232,7 +280,13 @@ class Times(unittest.TestCase):
             given = {name: fields[name] for name, *_ in reading.OPERATIONS[op][2:]}
             given.update({"value": "k-rate"} if op == "setAutomationRate" else {})
             wanted = automation.LEFT_OUT_EDITS.get(op)
-            wanted = "throw NotSupportedError profile:" + wanted if wanted else "value 7" if op == "readValue" else "ok"
+            wanted = (
+                "throw NotSupportedError profile:" + wanted
+                if wanted
+                else "value 7"
+                if op == "readValue"
+                else "ok"
+            )
             made = [*NUMBERS, *delayed(delayTime=7)]
             self.assertEqual(answer_of([*made, edit("d", op, **given)]), wanted)
         other = edit("d", "setValue", "gain", value=0)
@@ -244,20 +298,27 @@ class Times(unittest.TestCase):
         for _ in range(3 * COUNT):
             timeline = automation.Timeline(rng.randint(-99, 99))
             for _ in range(rng.randint(0, 9)):
-                call = {"value": rng.randint(-9999, 9999), "time": rng.randint(0, 300), "duration": rng.randint(1, 90),
-                        "values": [rng.randint(-999, 999) for _ in range(rng.randint(2, 5))]}
+                call = {
+                    "value": rng.randint(-9999, 9999),
+                    "time": rng.randint(0, 300),
+                    "duration": rng.randint(1, 90),
+                    "values": [rng.randint(-999, 999) for _ in range(rng.randint(2, 5))],
+                }
                 edits = [edit for op, edit in automation.EDITS.items() if op != "setAutomationRate"]
                 try:
                     rng.choice(edits)(timeline, call, rng.randint(0, 60))
                 except refusals.Refused:
                     pass
             first = rng.randint(0, 300)
-            self.assertEqual(timeline.values(first, 128), [self.value(timeline, frame) for frame in range(first, first + 128)])
+            self.assertEqual(
+                timeline.values(first, 128),
+                [self.value(timeline, frame) for frame in range(first, first + 128)],
+            )
 
     def value(self, timeline, frame):
         """The value of a timeline at a frame, by its rule."""
         until = [event for event in timeline.events if event.time <= frame]
-        after = timeline.events[len(until):]
+        after = timeline.events[len(until) :]
         if not until:
             return timeline.base
         last, start = until[-1], until[-1].time
@@ -277,16 +338,29 @@ class Times(unittest.TestCase):
 class Channels(unittest.TestCase):
     def test_blocks_are_mixed_as_frames_are(self):
         rng = random.Random("blocks")
-        for several, count, word in itertools.product([*range(1, 9), 31, 32], [*range(1, 9), 31, 32], ["speakers", "discrete"]):
-            blocks = [[rng.randint(-(2**31), 2**31 - 1) for _ in range(128)] for _ in range(several)]
+        for several, count, word in itertools.product(
+            [*range(1, 9), 31, 32], [*range(1, 9), 31, 32], ["speakers", "discrete"]
+        ):
+            blocks = [
+                [rng.randint(-(2**31), 2**31 - 1) for _ in range(128)] for _ in range(several)
+            ]
             found = list(zip(*numbers.mixed_blocks(blocks, count, word)))
-            self.assertEqual([list(frame) for frame in found], [numbers.mixed(list(it), count, word) for it in zip(*blocks)])
+            self.assertEqual(
+                [list(frame) for frame in found],
+                [numbers.mixed(list(it), count, word) for it in zip(*blocks)],
+            )
 
     def test_what_a_writer_had_its_reader_keeps(self):
         it = delay.Delay({"as": "d"}, RATE, 256)
         times, block = [0] * 128, [0] * 128
         self.assertEqual(len(it.read(256, times, True)), 1)
-        for first, written, in_cycle, in_none in [(256, 1, 1, 1), (384, 4, 1, 4), (512, 2, 4, 4), (640, 6, 4, 6), (768, 1, 6, 6)]:
+        for first, written, in_cycle, in_none in [
+            (256, 1, 1, 1),
+            (384, 4, 1, 4),
+            (512, 2, 4, 4),
+            (640, 6, 4, 6),
+            (768, 1, 6, 6),
+        ]:
             it.write(first, [block] * written)
             self.assertEqual(len(it.read(first, times, True)), in_cycle)
             self.assertEqual(len(it.read(first, times, False)), in_none)
@@ -330,15 +404,20 @@ class Cycles(unittest.TestCase):
 
     def test_a_cycle_by_a_parameter_is_one(self):
         by_gain = connect_param("d", "g", "gain")
-        for more, is_one in [([connect_param("d", "c", "offset")], True), ([by_gain], False),
-                             ([by_gain, connect("g", "d")], True)]:
+        for more, is_one in [
+            ([connect_param("d", "c", "offset")], True),
+            ([by_gain], False),
+            ([by_gain, connect("g", "d")], True),
+        ]:
             found = samples_of([*NUMBERS, *delayed(), gain("g", gain=0), *more], length=128)
             self.assertEqual(found, mono(0) * 128 if is_one else mono(*range(128)), more)
 
     def test_a_cycle_lasts_for_the_quanta_in_which_it_is_there(self):
         for first, last in itertools.combinations(range(1, 4), 2):
             calls = [
-                *NUMBERS, *delayed(), gain("g", gain=0),
+                *NUMBERS,
+                *delayed(),
+                gain("g", gain=0),
                 suspend(128 * first, connect("d", "g"), connect("g", "d")),
                 suspend(128 * last, disconnect("d", to="g")),
             ]
@@ -347,17 +426,27 @@ class Cycles(unittest.TestCase):
             self.assertEqual(samples_of(calls, length=512), wanted)
 
     def test_a_muted_delay_is_silent_and_writes(self):
-        calls = [*NUMBERS, *delayed(delayTime=131072), connect_param("d", "d", "delayTime"),
-                 suspend(256, connect_param("d", "d", "delayTime", "disconnectParam"))]
+        calls = [
+            *NUMBERS,
+            *delayed(delayTime=131072),
+            connect_param("d", "d", "delayTime"),
+            suspend(256, connect_param("d", "d", "delayTime", "disconnectParam")),
+        ]
         self.assertEqual(samples_of(calls), mono(*[0] * 256, *range(128, 256)))
 
     def test_a_muted_delay_has_one_channel(self):
         calls = [
-            *constant("l", offset=2), *constant("r", offset=4),
+            *constant("l", offset=2),
+            *constant("r", offset=4),
             create("createChannelMerger", "m", numberOfInputs=2),
-            connect("l", "m", input=0), connect("r", "m", input=1),
-            create("createDelay", "d"), connect("m", "d"),
-            *constant("c", offset=8), gain("h"), connect("c", "h"), connect("h", "destination"),
+            connect("l", "m", input=0),
+            connect("r", "m", input=1),
+            create("createDelay", "d"),
+            connect("m", "d"),
+            *constant("c", offset=8),
+            gain("h"),
+            connect("c", "h"),
+            connect("h", "destination"),
             connect("d", "h"),
         ]
         self.assertEqual(samples_of(calls, channels=6, length=1), [[5, 6, 0, 0, 0, 0]])
@@ -389,7 +478,11 @@ class Meaning(unittest.TestCase):
             session, tape, values = meaning.values_of(data, folder)
             if values is None:
                 continue
-            self.assertEqual(session.samples, [[numbers.sample_of(value) for value in frame] for frame in values], number)
+            self.assertEqual(
+                session.samples,
+                [[numbers.sample_of(value) for value in frame] for frame in values],
+                number,
+            )
             flat = list(itertools.chain(*values))
             self.assertEqual((session.peak, session.sum), (max(map(abs, flat)), sum(flat)), number)
             compared += 1
@@ -407,8 +500,12 @@ class Meaning(unittest.TestCase):
             """The ends that are not muted, in a random order of those that are legal."""
             order, there = [], set(self.muted)
             while len(there) < len(self.arrows):
-                ready = [end for end in self.arrows if end not in there
-                         and all(it in there for it in self.arrows if end in self.arrows[it])]
+                ready = [
+                    end
+                    for end in self.arrows
+                    if end not in there
+                    and all(it in there for it in self.arrows if end in self.arrows[it])
+                ]
                 order.append(rng.choice(ready))
                 there.add(order[-1])
             return order
@@ -419,7 +516,9 @@ class Meaning(unittest.TestCase):
                 with unittest.mock.patch.object(graph.Graph, "legal_order", legal_order):
                     mixed = sessions.replayed(data, folder)
                 self.assertEqual(mixed[:2], plain[:2], number)
-                self.assertEqual(mixed[2] and mixed[2].samples, plain[2] and plain[2].samples, number)
+                self.assertEqual(
+                    mixed[2] and mixed[2].samples, plain[2] and plain[2].samples, number
+                )
 
 
 class RandomScripts(unittest.TestCase):
@@ -445,13 +544,17 @@ class Loads(unittest.TestCase):
             script = load_script.script(number)
             _, following = reading.numbered(script["calls"], 1)
             creations = [call["op"] for call in script["calls"] if call["op"].startswith("create")]
-            self.assertEqual((following - 1, len(creations) + 1, creations.count("createDelay")), (1768, 451, 25))
+            self.assertEqual(
+                (following - 1, len(creations) + 1, creations.count("createDelay")), (1768, 451, 25)
+            )
             self.assertEqual(script["context"], {"channels": 2, "length": 480000, "rate": 48000})
             reading.script_of(json.dumps(script).encode())
 
     def test_the_first_draws_of_0(self):
         draws = load_script.Draws(0)
-        self.assertEqual([draws.draw(most) for most in (2048, 32768, 4096, 240)], [0, 21468, 1796, 37])
+        self.assertEqual(
+            [draws.draw(most) for most in (2048, 32768, 4096, 240)], [0, 21468, 1796, 37]
+        )
         draws = load_script.Draws(0)
         self.assertEqual([draws.draw(2**15) for _ in range(4)], [0, 21468, 9988, 22117])
         source, _, _, ramp = load_script.script(0)["calls"][:4]
@@ -463,30 +566,52 @@ class Loads(unittest.TestCase):
 
     def test_the_summary_is_that_of_each_voice_by_itself(self):
         length = 3000
-        script = {**load_script.script(7), "context": {"channels": 2, "length": length, "rate": 48000}}
+        script = {
+            **load_script.script(7),
+            "context": {"channels": 2, "length": length, "rate": 48000},
+        }
         script["calls"] = [call for call in script["calls"] if call["op"] != "suspend"]
         total = [0] * length
         for voice in range(load_script.VOICES):
-            calls = [call for call in script["calls"] if str(voice) in [it[1:] for it in call.values() if isinstance(it, str)]]
+            calls = [
+                call
+                for call in script["calls"]
+                if str(voice) in [it[1:] for it in call.values() if isinstance(it, str)]
+            ]
             total = [a + b for a, b in zip(total, self.voice(calls, length))]
         with tempfile.TemporaryDirectory() as folder:
             path = fixtures.write(folder, "load.json", json.dumps(script))
             found = fixtures.run("expected.py", path, "--summary").stdout.decode()
-        self.assertEqual(found, "summary calls 1726 quanta 24 ended 0 refused 0 peak %d sum %d\nend completed\n"
-                         % (max(map(abs, total)), 2 * sum(total)))
+        self.assertEqual(
+            found,
+            "summary calls 1726 quanta 24 ended 0 refused 0 peak %d sum %d\nend completed\n"
+            % (max(map(abs, total)), 2 * sum(total)),
+        )
 
     def voice(self, calls, length):
         """The values that a voice brings to the destination."""
         fields = {call["op"]: call for call in calls}
         offset, ramp = fields["createConstantSource"]["offset"], fields["linearRampToValueAtTime"]
-        levels = [numbers.rounded_quotient(ramp["value"] * min(n, ramp["time"]), ramp["time"]) for n in range(length)]
-        heard = [numbers.rounded_quotient(offset * level, 2**24) if n >= fields["start"]["when"] else 0
-                 for n, level in enumerate(levels)]
+        levels = [
+            numbers.rounded_quotient(ramp["value"] * min(n, ramp["time"]), ramp["time"])
+            for n in range(length)
+        ]
+        heard = [
+            numbers.rounded_quotient(offset * level, 2**24) if n >= fields["start"]["when"] else 0
+            for n, level in enumerate(levels)
+        ]
         if "createDelay" not in fields:
             return heard
-        late, given = max(128, numbers.rounded_quotient(fields["createDelay"]["delayTime"] * 48000, 2**24)), []
+        late, given = (
+            max(128, numbers.rounded_quotient(fields["createDelay"]["delayTime"] * 48000, 2**24)),
+            [],
+        )
         for n in range(length):
-            given.append(heard[n - late] + numbers.rounded_quotient(given[n - late] * 2**23, 2**24) if n >= late else 0)
+            given.append(
+                heard[n - late] + numbers.rounded_quotient(given[n - late] * 2**23, 2**24)
+                if n >= late
+                else 0
+            )
         return given
 
 

@@ -44,20 +44,34 @@ class Difference(unittest.TestCase):
         self.assertEqual(status, 1)
         self.assertIn("The transcripts part at line 6.", told)
         self.assertIn('  call 6: createGain as="hats" gain=8388608\n', told)
-        self.assertIn('| 6 ok ', told)
-        self.assertIn('| 6 throw NotSupportedError profile:node-limit | createGain as="hats" gain=8388608\n', told)
+        self.assertIn("| 6 ok ", told)
+        self.assertIn(
+            '| 6 throw NotSupportedError profile:node-limit | createGain as="hats" gain=8388608\n',
+            told,
+        )
         self.assertIn("  ... 4 alike\n", told)
         self.assertIn("\nLines: 46 alike, 1 other in A than in B.\n", told)
 
     def test_lines_of_one_transcript_alone_and_at_other_places(self):
-        one = "1 ok\n2 pending\nended 1 a\nended 2 b\nended 3 c\n2 resolved\ncomplete 128\nend completed\n"
-        two = "1 ok\n2 pending\nended 2 b\nended 1 a\n2 resolved\ncomplete 128\nend completed\n"
+        end = "2 resolved\ncomplete 128\nend completed\n"
+        one = "1 ok\n2 pending\nended 1 a\nended 2 b\nended 3 c\n" + end
+        two = "1 ok\n2 pending\nended 2 b\nended 1 a\n" + end
         status, told = self.run_on(one, two, "--all")
         self.assertEqual(status, 1)
-        self.assertEqual(told.splitlines()[4:13], [
-            "  A             | B", "  1 ok          | 1 ok", "  2 pending     | 2 pending", "  ended 1 a     | ended 1 a",
-            "~ ended 2 b     | ended 2 b", "< ended 3 c     |", "  2 resolved    | 2 resolved",
-            "  complete 128  | complete 128", "  end completed | end completed"])
+        self.assertEqual(
+            told.splitlines()[4:13],
+            [
+                "  A             | B",
+                "  1 ok          | 1 ok",
+                "  2 pending     | 2 pending",
+                "  ended 1 a     | ended 1 a",
+                "~ ended 2 b     | ended 2 b",
+                "< ended 3 c     |",
+                "  2 resolved    | 2 resolved",
+                "  complete 128  | complete 128",
+                "  end completed | end completed",
+            ],
+        )
         self.assertIn("Lines: 6 alike, 1 only in A, 1 at another place in B.", told)
         status, told = self.run_on(two, one)
         self.assertIn(">               | ended 3 c\n", told)
@@ -76,7 +90,9 @@ class Difference(unittest.TestCase):
             if rng.random() < 0.5:
                 lines.pop(at)
             else:
-                lines[at] = lines[at].split()[0] + " value 7" if lines[at][0].isdigit() else "ended 1 other"
+                lines[at] = (
+                    lines[at].split()[0] + " value 7" if lines[at][0].isdigit() else "ended 1 other"
+                )
             other = lines_of("\n".join(lines) + "\n")
             pairs = difference.pairs_of(lines_of(text), other)
             self.assertEqual([pair.left.text for pair in pairs if pair.left], text.splitlines())
@@ -85,7 +101,9 @@ class Difference(unittest.TestCase):
 
     def test_input_that_is_of_no_use(self):
         data, text, _ = fixtures.session_of_case("constant")
-        script, good = fixtures.write(self.folder, "it.json", data), fixtures.write(self.folder, "good", text)
+        script, good = fixtures.write(self.folder, "it.json", data), fixtures.write(
+            self.folder, "good", text
+        )
         other = fixtures.write(self.folder, "other", fixtures.suspended()[1])
         nowhere = os.path.join(self.folder, "nowhere")
         self.assertIn("can't be read", self.refused(good, nowhere))

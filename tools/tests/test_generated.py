@@ -1,4 +1,5 @@
-"""Tests of how a program's loads are compared, and of the second calculation where it is told to check or to give 16 bits."""
+"""Tests of how a program's loads are compared, and of the second calculation where it is told to
+check or to give 16 bits."""
 
 import json
 import os
@@ -8,19 +9,21 @@ import unittest
 import unittest.mock
 
 import fixtures
-from waplay_tools import generated
-from waplay_tools import load_script
+from small_load import small
+
+from waplay_tools import generated, load_script
 from waplay_tools.expecting import numbers, sessions
 
 # The widths of samples at which a wrong program is looked at; all of them where it is asked for.
 WIDTHS = generated.WIDTHS if "ALL_WIDTHS" in os.environ else (24,)
 
-# A program that generates small scripts, and does with them what is wanted, but for what the test has it do otherwise.
+# A program that generates small scripts, and does with them what is wanted, but for what the test
+# has it do otherwise.
 PROGRAM = """
 import json, os, sys
 from waplay_tools import command_lines
 from waplay_tools.expecting.sessions import replayed, summary_of, wav_bytes
-from test_generated import small
+from small_load import small
 asked = command_lines.reading([os.fsencode(word) for word in sys.argv[1:]])
 is_checked, is_generated = asked.mode == "check", asked.generated is not None
 data = json.dumps(small(asked.generated)).encode() if is_generated else sys.stdin.buffer.read()
@@ -36,26 +39,22 @@ sys.exit(status)
 """
 
 
-def small(number):
-    """The small script that stands for a load."""
-    calls = [{"op": "createConstantSource", "as": "c", "offset": 5001 - number}, load_script.connected("c", "destination"),
-             {"op": "start", "node": "c", "when": 3}, {"op": "stop", "node": "c", "when": 140}, {"op": "start", "node": "c"},
-             {"op": "suspend", "time": 128, "then": [{"op": "resume"}]}, {"op": "startRendering"}]
-    return {"version": 1, "context": {"channels": 2, "length": 300, "rate": 48000}, "calls": calls}
-
-
 class Loads(unittest.TestCase):
     def test_the_counts_of_a_load_are_the_same_for_every_number(self):
         for number in [0, 1, 4711, 9999]:
             script = load_script.script(number)
             status, text, session = sessions.replayed(json.dumps(script).encode(), is_checked=True)
             self.assertEqual((status, len(session.nodes)), (0, 451))
-            self.assertEqual(sessions.summary_of(session), "summary calls 1768 quanta 3750 ended 200 refused 0")
+            self.assertEqual(
+                sessions.summary_of(session), "summary calls 1768 quanta 3750 ended 200 refused 0"
+            )
             self.assertEqual(generated.counted(text.encode()), (1768, 200, 0))
 
     def test_numbers_are_drawn_as_is_said(self):
         draws = load_script.Draws(0)
-        self.assertEqual([draws.draw(count) for count in (2048, 32768, 4096, 240)], [0, 21468, 1796, 37])
+        self.assertEqual(
+            [draws.draw(count) for count in (2048, 32768, 4096, 240)], [0, 21468, 1796, 37]
+        )
         self.assertNotEqual(load_script.script(1), load_script.script(0))
 
 
@@ -68,18 +67,34 @@ class SecondCalculation(unittest.TestCase):
             self.assertIsNone(session and session.values, name)
 
     def test_samples_of_16_bits(self):
-        for value, sample in [(16777216, 32767), (8388608, 16384), (5592405, 10923), (1, 0), (-257, -1), (-256, 0), (255, 0),
-                              (256, 1), (-16777216, -32768), (2**31 - 1, 32767), (-(2**31), -32768)]:
+        for value, sample in [
+            (16777216, 32767),
+            (8388608, 16384),
+            (5592405, 10923),
+            (1, 0),
+            (-257, -1),
+            (-256, 0),
+            (255, 0),
+            (256, 1),
+            (-16777216, -32768),
+            (2**31 - 1, 32767),
+            (-(2**31), -32768),
+        ]:
             self.assertEqual(numbers.sample_of(value, 16), sample)
         session = sessions.replayed(json.dumps(small(0)).encode())[2]
         file = sessions.wav_bytes(session, 16)
-        self.assertEqual(struct.unpack("<IHHIIHH4sI", file[16:44]), (16, 1, 2, 48000, 192000, 4, 16, b"data", 1200))
+        self.assertEqual(
+            struct.unpack("<IHHIIHH4sI", file[16:44]),
+            (16, 1, 2, 48000, 192000, 4, 16, b"data", 1200),
+        )
         self.assertEqual(file[44:], bytes(12) + struct.pack("<h", 10) * 274 + bytes(640))
 
 
 class Comparison(unittest.TestCase):
     def compared(self, change, number=7, is_whole=True):
-        with tempfile.TemporaryDirectory() as work, unittest.mock.patch("waplay_tools.load_script.script", small):
+        with tempfile.TemporaryDirectory() as work, unittest.mock.patch(
+            "waplay_tools.load_script.script", small
+        ):
             program = fixtures.program(work, PROGRAM % change)
             return generated.compared((program, number, is_whole))
 
@@ -89,17 +104,27 @@ class Comparison(unittest.TestCase):
 
     def test_a_program_that_does_otherwise_differs(self):
         for change, told in [
-                ("sys.stdin.buffer.read()", "bytes of standard input are read"),
-                ("status = 3 * is_generated", "status 3"),
-                ("sys.stderr.write('load' * is_generated); open('load', 'w').close()", "files ['load']"),
-                ("file = wav_bytes(replayed(data)[2], 24)", "a file in mode check"),
-                ("text = text.replace('ended 1 c\\n', '')", "the transcript has other counts"),
-                ("text = text.replace('end c', 'end  c')", "the text b'summary calls 8 quanta 3"),
-                ("text = text.replace('refused 1\\n', 'refused 1 peak 4 sum 4\\n')", "a greatest value in mode check"),
-                ("file = file and is_generated and file[:-1] or file", "another file than that of the script"),
-                ("text += (asked.order == 'down') * is_generated * 'again\\n'", "several texts"),
-                ("text = text.replace('sum 1368356', 'sum 1368357')", "the file can't have"),
-                ("text = text.replace('peak 4994 ', 'peak 4995 ')", "the file can't have")]:
+            ("sys.stdin.buffer.read()", "bytes of standard input are read"),
+            ("status = 3 * is_generated", "status 3"),
+            (
+                "sys.stderr.write('load' * is_generated); open('load', 'w').close()",
+                "files ['load']",
+            ),
+            ("file = wav_bytes(replayed(data)[2], 24)", "a file in mode check"),
+            ("text = text.replace('ended 1 c\\n', '')", "the transcript has other counts"),
+            ("text = text.replace('end c', 'end  c')", "the text b'summary calls 8 quanta 3"),
+            (
+                "text = text.replace('refused 1\\n', 'refused 1 peak 4 sum 4\\n')",
+                "a greatest value in mode check",
+            ),
+            (
+                "file = file and is_generated and file[:-1] or file",
+                "another file than that of the script",
+            ),
+            ("text += (asked.order == 'down') * is_generated * 'again\\n'", "several texts"),
+            ("text = text.replace('sum 1368356', 'sum 1368357')", "the file can't have"),
+            ("text = text.replace('peak 4994 ', 'peak 4995 ')", "the file can't have"),
+        ]:
             with unittest.mock.patch.object(generated, "WIDTHS", WIDTHS):
                 number, wrong = self.compared(change, is_whole=False)
             self.assertIn(told, "\n".join(wrong), change)

@@ -28,20 +28,27 @@ sys.exit(status)
 
 def answers(name):
     """Of each operation of a script its answers, and the script's last line."""
-    (_, data), = hard_timelines.scripts_of([name])
+    ((_, data),) = hard_timelines.scripts_of([name])
     calls, found = json.loads(data)["calls"], collections.defaultdict(set)
     text = sessions.replayed(data)[1].splitlines()
     for line in text:
         if line[0].isdigit():
             ordinal, answer = line.split(" ", 1)
-            found[calls[int(ordinal) - 1]["op"]].add("value" if answer.startswith("value ") else answer)
+            found[calls[int(ordinal) - 1]["op"]].add(
+                "value" if answer.startswith("value ") else answer
+            )
     return found, text[-1]
 
 
 class Scripts(unittest.TestCase):
     def test_each_operation_meets_each_refusal_of_parameters(self):
         found, last = answers("every_parameter")
-        for op in [*hard_timelines.EDITS, *hard_timelines.LEFT_OUT_EDITS, "readValue", "connectParam"]:
+        for op in [
+            *hard_timelines.EDITS,
+            *hard_timelines.LEFT_OUT_EDITS,
+            "readValue",
+            "connectParam",
+        ]:
             wanted = {"throw TypeError", PROFILE + "playback-rate-automation", PROFILE + "detune"}
             left_out = hard_timelines.LEFT_OUT_EDITS.get(op)
             wanted.add(PROFILE + left_out if left_out else "value" if op == "readValue" else "ok")
@@ -65,10 +72,12 @@ class Scripts(unittest.TestCase):
 
     def test_there_are_as_many_events_as_a_script_has_room_for(self):
         for name in ["many_timelines", "many_timelines_at_once"]:
-            (_, data), = hard_timelines.scripts_of([name])
+            ((_, data),) = hard_timelines.scripts_of([name])
             self.assertLess(0.9 * hard_timelines.LONGEST, len(data))
             self.assertLessEqual(len(data), hard_timelines.LONGEST)
-        self.assertEqual(hard_timelines.expected(b" " * (hard_timelines.LONGEST + 1)), (5, b"", None))
+        self.assertEqual(
+            hard_timelines.expected(b" " * (hard_timelines.LONGEST + 1)), (5, b"", None)
+        )
 
 
 @unittest.skipUnless(shutil.which("time"), "GNU time is not installed")
@@ -86,8 +95,11 @@ class Comparison(unittest.TestCase):
         self.assertRegex(lines[0], r"^times: \d+\.\d\d s, \d+\.\d MiB, \d+ bytes, status 0$")
 
     def test_a_program_that_does_otherwise_differs(self):
-        for change, told in [("text = text[1:]", "status 0, DIFFERS: transcript"), ("file = file[:-1]", "DIFFERS: WAV file"),
-                             ("status = 3", "DIFFERS: status 3")]:
+        for change, told in [
+            ("text = text[1:]", "status 0, DIFFERS: transcript"),
+            ("file = file[:-1]", "DIFFERS: WAV file"),
+            ("status = 3", "DIFFERS: status 3"),
+        ]:
             status, lines = self.compared(change)
             self.assertEqual((status, lines[-1]), (1, "2 scripts, 2 differences"))
             self.assertIn(told, lines[0])

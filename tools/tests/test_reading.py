@@ -27,12 +27,14 @@ def fault_of(data):
 
 
 def random_script(number, spoiled=False, most=60):
-    """A random script of at most so many calls, with its assets' paths leading nowhere. Half of them have
-    suspensions."""
+    """A random script of at most so many calls, with its assets' paths leading nowhere. Half of
+    them have suspensions."""
     read = [op for op in reading.OPERATIONS if op != "suspend" or number % 2 == 0]
     maker = Maker(random.Random("tools %d" % number), read)
     script = maker.script()
-    script["calls"] = script["calls"][:most] if isinstance(script.get("calls"), list) else script.get("calls")
+    script["calls"] = (
+        script["calls"][:most] if isinstance(script.get("calls"), list) else script.get("calls")
+    )
     if spoiled and isinstance(script.get("context"), dict):
         maker.spoil(script)
     return script
@@ -41,7 +43,10 @@ def random_script(number, spoiled=False, most=60):
 class Reading(unittest.TestCase):
     def test_the_table_of_operations_is_that_of_the_second_calculation(self):
         for op, fields in reading.OPERATIONS.items():
-            own = [(name, "name" if kind == "param" else kind, *default) for name, kind, *default in entries.fields_of(op)]
+            own = [
+                (name, "name" if kind == "param" else kind, *default)
+                for name, kind, *default in entries.fields_of(op)
+            ]
             self.assertEqual(own, [tuple(field) for field in fields], op)
         self.assertEqual(entries.LEFT_OUT, reading.LEFT_OUT)
 
@@ -60,47 +65,99 @@ class Reading(unittest.TestCase):
 
     def test_texts_that_are_no_json(self):
         deep = b"[" * 127 + b"]" * 127
-        texts = [b"", b"\xff", b"\xef\xbb\xbf{}", b"{", b"{}{}", b'"\\ud800"', b"[1e400]", b"NaN", b"[" + deep + b"]",
-                 b"[" * 100000, b'{"a":"\\ud800","a":1}', deep, b"[-0]", b'{"\\ud800":1}', b"9" * 5000, b"01", b"'a'",
-                 b"[1,]"]
+        texts = [
+            b"",
+            b"\xff",
+            b"\xef\xbb\xbf{}",
+            b"{",
+            b"{}{}",
+            b'"\\ud800"',
+            b"[1e400]",
+            b"NaN",
+            b"[" + deep + b"]",
+            b"[" * 100000,
+            b'{"a":"\\ud800","a":1}',
+            deep,
+            b"[-0]",
+            b'{"\\ud800":1}',
+            b"9" * 5000,
+            b"01",
+            b"'a'",
+            b"[1,]",
+        ]
         for data in texts:
             self.assertEqual(script_reading.script_of(data).fault, fault_of(data), data[:40])
 
     def test_numbers_that_are_not_whole(self):
-        form = '{"version":1,"context":{"channels":1,"length":1,"rate":8000},"calls":[{"op":"stop","node":"c","when":%s}]}'
-        for number, wanted in [("-0", "WrongKind"), ("0.0", "WrongKind"), ("1e2", "WrongKind"),
-                               ("18446744073709551616", "WrongKind"), ("18446744073709551615", "OutOfRange"),
-                               ("-9223372036854775808", "OutOfRange"),
-                               ("-9223372036854775809", "WrongKind"), ("1099511627776", None),
-                               ("1099511627777", "OutOfRange")]:
+        form = (
+            '{"version":1,"context":{"channels":1,"length":1,"rate":8000},'
+            '"calls":[{"op":"stop","node":"c","when":%s}]}'
+        )
+        for number, wanted in [
+            ("-0", "WrongKind"),
+            ("0.0", "WrongKind"),
+            ("1e2", "WrongKind"),
+            ("18446744073709551616", "WrongKind"),
+            ("18446744073709551615", "OutOfRange"),
+            ("-9223372036854775808", "OutOfRange"),
+            ("-9223372036854775809", "WrongKind"),
+            ("1099511627776", None),
+            ("1099511627777", "OutOfRange"),
+        ]:
             data = (form % number).encode()
             self.assertEqual(script_reading.script_of(data).fault, wanted and "1 when " + wanted)
             self.assertEqual(script_reading.script_of(data).fault, fault_of(data))
 
     def test_no_line_of_another_form_is_read(self):
-        for text in ("", "\n", "1 ok", "1 ok\n", "01 ok\nend idle\n", "1  ok\nend idle\n", "1 ok \nend idle\n",
-                     "end idle\nend idle\n", "1 throw Error\nend idle\n", "1 throw TypeError profile:detune\nend idle\n",
-                     "ended 1 a b\nend idle\n",
-                     "end idle\r\n", "script: 1 a b\n", "script: BadJson\nend idle\n", "1 value -\nend idle\n",
-                     "1 time -1\nend idle\n", "1 ok\nend idle\n\n", "end stalled\n", "\u00e9\nend idle\n", "\0\nend idle\n",
-                     "2 value -0x1\nend idle\n"):
+        for text in (
+            "",
+            "\n",
+            "1 ok",
+            "1 ok\n",
+            "01 ok\nend idle\n",
+            "1  ok\nend idle\n",
+            "1 ok \nend idle\n",
+            "end idle\nend idle\n",
+            "1 throw Error\nend idle\n",
+            "1 throw TypeError profile:detune\nend idle\n",
+            "ended 1 a b\nend idle\n",
+            "end idle\r\n",
+            "script: 1 a b\n",
+            "script: BadJson\nend idle\n",
+            "1 value -\nend idle\n",
+            "1 time -1\nend idle\n",
+            "1 ok\nend idle\n\n",
+            "end stalled\n",
+            "\u00e9\nend idle\n",
+            "\0\nend idle\n",
+            "2 value -0x1\nend idle\n",
+        ):
             with self.assertRaises(BadInput, msg=repr(text)):
                 transcript_reading.lines_of(text.encode(), "t")
 
     def test_visible_text_has_nothing_unseen(self):
-        self.assertEqual(visible("a\u0000\u202e\u00a0\u2028\ud800\U000e0001"),
-                         "a\\u0000\\u202e\\u00a0\\u2028\\ud800\\udb40\\udc01")
+        self.assertEqual(
+            visible("a\u0000\u202e\u00a0\u2028\ud800\U000e0001"),
+            "a\\u0000\\u202e\\u00a0\\u2028\\ud800\\udb40\\udc01",
+        )
         self.assertEqual(visible("\u00e9 \u4e2d \U0001f3b9"), "\u00e9 \u4e2d \U0001f3b9")
         self.assertEqual(quoted('"\n'), '"\\"\\n"')
 
 
 class Rules(unittest.TestCase):
     def test_every_refusal_has_its_rule(self):
-        built = {op: [it.rsplit("profile:", 1)[-1] for it in refusals] for op, refusals in REFUSALS.items()}
+        built = {
+            op: [it.rsplit("profile:", 1)[-1] for it in refusals]
+            for op, refusals in REFUSALS.items()
+        }
         for op, refusals in built.items():
             for refusal in refusals:
                 is_feature = refusal not in transcript_reading.EXCEPTIONS
-                told = rules.rule(op, "NotSupportedError" if is_feature else refusal, refusal if is_feature else None)
+                told = rules.rule(
+                    op,
+                    "NotSupportedError" if is_feature else refusal,
+                    refusal if is_feature else None,
+                )
                 self.assertTrue(told.endswith("."), (op, refusal))
                 self.assertNotIn(told, rules._OF_EXCEPTION.values(), (op, refusal))
                 self.assertNotEqual(told, "The profile leaves this out.", (op, refusal))
@@ -114,41 +171,63 @@ class Samples(unittest.TestCase):
         rng = random.Random("widths")
         for bits in (8, 16, 24, 32):
             low = -(2 ** (bits - 1))
-            channels = [[rng.choice([low, -low - 1, 0, rng.randint(low, -low - 1)]) for _ in range(40)] for _ in range(3)]
+            channels = [
+                [rng.choice([low, -low - 1, 0, rng.randint(low, -low - 1)]) for _ in range(40)]
+                for _ in range(3)
+            ]
             sound = wav_samples.sound_of(fixtures.wav(channels, bits=bits), "it")
             self.assertEqual([list(channel) for channel in sound.channels], channels)
             for channel in sound.channels:
                 greatest, value, frame = wav_samples.peak(channel)
                 self.assertEqual(greatest, max(map(abs, channel)))
-                self.assertEqual((channel[frame], frame), (value, [abs(it) for it in channel].index(greatest)))
+                self.assertEqual(
+                    (channel[frame], frame), (value, [abs(it) for it in channel].index(greatest))
+                )
 
     def test_spans_hold_every_sample(self):
         samples = list(range(1000, 0, -1))
         for columns in (1, 7, 999, 1000, 2000):
             spans = wav_samples.spans(samples, columns)
             self.assertEqual(len(spans), min(columns, 1000))
-            self.assertEqual((min(low for low, _ in spans), max(high for _, high in spans)), (1, 1000))
+            self.assertEqual(
+                (min(low for low, _ in spans), max(high for _, high in spans)), (1, 1000)
+            )
 
     def test_differences_are_those_of_a_plain_search(self):
         rng = random.Random("differences")
         for _ in range(40):
             frames, count = rng.randint(1, 60), rng.randint(1, 3)
             one = [[rng.randint(-5, 5) for _ in range(frames)] for _ in range(count)]
-            two = [[it if rng.random() < 0.9 else rng.randint(-5, 5) for it in channel] for channel in one]
-            found = wav_samples.Differences(*(wav_samples.sound_of(fixtures.wav(it), "it") for it in (one, two)))
-            plain = [(frame, channel, a, b, b - a) for frame in range(frames) for channel in range(count)
-                     for a, b in [(one[channel][frame], two[channel][frame])] if a != b]
+            two = [
+                [it if rng.random() < 0.9 else rng.randint(-5, 5) for it in channel]
+                for channel in one
+            ]
+            found = wav_samples.Differences(
+                *(wav_samples.sound_of(fixtures.wav(it), "it") for it in (one, two))
+            )
+            plain = [
+                (frame, channel, a, b, b - a)
+                for frame in range(frames)
+                for channel in range(count)
+                for a, b in [(one[channel][frame], two[channel][frame])]
+                if a != b
+            ]
             self.assertEqual(found.count, len(plain))
             self.assertEqual(found.first, min(plain, default=None))
             most = max((abs(it[4]) for it in plain), default=0)
-            self.assertEqual(found.greatest, min((it for it in plain if abs(it[4]) == most), default=None))
+            self.assertEqual(
+                found.greatest, min((it for it in plain if abs(it[4]) == most), default=None)
+            )
 
     def test_files_of_other_shapes(self):
         files = fixtures.wav([[256, 512, 0]]), fixtures.wav([[1, 2], [3, 4]], 8000, 16)
         one, two = (wav_samples.sound_of(data, "it") for data in files)
         found = wav_samples.Differences(one, two)
         self.assertEqual((found.full, found.count), (2**23, 0))
-        self.assertEqual([it[0] for it in found.shapes], ["channels", "frames", "frames a second", "bits a sample"])
+        self.assertEqual(
+            [it[0] for it in found.shapes],
+            ["channels", "frames", "frames a second", "bits a sample"],
+        )
 
 
 class Following(unittest.TestCase):
@@ -156,12 +235,18 @@ class Following(unittest.TestCase):
         exact = between = 0
         for number in range(400):
             data = json.dumps(random_script(number)).encode()
-            status, text, session = sessions.replayed(data, os.path.join(fixtures.TOP, "nowhere"))
+            nowhere = os.path.join(fixtures.TOP, "nowhere")
+            status, text, session = sessions.replayed(data, nowhere, is_checked=True)
             if status not in (0, 3):
                 continue
             lines = transcript_reading.lines_of(text.encode(), "t")
             found = Session(script_reading.script_of(data), lines, ("s", "t"))
-            ends = {line.number: mark for mark in found.marks for line in [mark.told] if mark.kind == "ended"}
+            ends = {
+                line.number: mark
+                for mark in found.marks
+                for line in [mark.told]
+                if mark.kind == "ended"
+            }
             for node, mark in ends.items():
                 end = session.nodes[node].end()
                 self.assertLessEqual(mark.low, end)
@@ -172,34 +257,73 @@ class Following(unittest.TestCase):
         self.assertEqual(between, 0)  # no asset is there
 
     def test_a_source_may_take_the_name_of_its_buffer(self):
-        data = fixtures.script([{"op": "createBuffer", "as": "b", "channels": 1, "length": 20, "rate": 48000},
-                                {"op": "createBufferSource", "as": "b", "buffer": "b"},
-                                {"op": "start", "node": "b", "when": 5}, {"op": "startRendering"}])
+        data = fixtures.script(
+            [
+                {"op": "createBuffer", "as": "b", "channels": 1, "length": 20, "rate": 48000},
+                {"op": "createBufferSource", "as": "b", "buffer": "b"},
+                {"op": "start", "node": "b", "when": 5},
+                {"op": "startRendering"},
+            ]
+        )
         _, text, _ = sessions.replayed(data)
-        found = Session(script_reading.script_of(data), transcript_reading.lines_of(text.encode(), "t"), ("s", "t"))
+        found = Session(
+            script_reading.script_of(data),
+            transcript_reading.lines_of(text.encode(), "t"),
+            ("s", "t"),
+        )
         self.assertEqual([(it.kind, it.low, it.high) for it in found.marks], [("ended", 25, 25)])
 
     def test_ends_of_decoded_files_lie_between_their_frames(self):
-        for name in ("drum_loop", "mono_and_stereo_files", "one_shot_cut_by_stop", "sustained_note"):
+        for name in (
+            "drum_loop",
+            "mono_and_stereo_files",
+            "one_shot_cut_by_stop",
+            "sustained_note",
+        ):
             data, text, _ = fixtures.session_of_case(name)
             _, _, session = sessions.replayed(data, fixtures.EXAMPLES)
-            found = Session(script_reading.script_of(data), transcript_reading.lines_of(text.encode(), "t"), ("s", "t"))
+            found = Session(
+                script_reading.script_of(data),
+                transcript_reading.lines_of(text.encode(), "t"),
+                ("s", "t"),
+            )
             for mark in found.marks:
-                self.assertTrue(mark.low <= session.nodes[mark.told.number].end() <= mark.high, (name, mark.text))
+                self.assertTrue(
+                    mark.low <= session.nodes[mark.told.number].end() <= mark.high,
+                    (name, mark.text),
+                )
 
     def test_suspensions_are_marks_and_begin_parts(self):
         data, text = fixtures.suspended()
-        found = Session(script_reading.script_of(data), transcript_reading.lines_of(text.encode(), "t"), ("s", "t"))
-        self.assertEqual([(it.kind, it.low) for it in found.marks], [("suspended", 512), ("ended", 1000), ("stalled", 1536)])
-        self.assertEqual([part.title for part in found.parts], [
-            "The main list, at frame 0", "Suspended at frame 512: the list of call 14", "Rendering, from frame 512 on",
-            "Suspended at frame 1,536: the list of call 20", "The end"])
+        found = Session(
+            script_reading.script_of(data),
+            transcript_reading.lines_of(text.encode(), "t"),
+            ("s", "t"),
+        )
+        self.assertEqual(
+            [(it.kind, it.low) for it in found.marks],
+            [("suspended", 512), ("ended", 1000), ("stalled", 1536)],
+        )
+        self.assertEqual(
+            [part.title for part in found.parts],
+            [
+                "The main list, at frame 0",
+                "Suspended at frame 512: the list of call 14",
+                "Rendering, from frame 512 on",
+                "Suspended at frame 1,536: the list of call 20",
+                "The end",
+            ],
+        )
         self.assertEqual([call.ordinal for call in found.not_run], [23])
 
     def test_transcripts_of_cases_belong_to_their_scripts(self):
         for path in files_in([CASES]):
             case = read_case(path)
-            if case.script is not None and case.status in (0, 3, 9):  # with others there is no transcript
+            if case.script is not None and case.status in (
+                0,
+                3,
+                9,
+            ):  # with others there is no transcript
                 self.belongs_to_its_script(path.stem, case.input_bytes(), case.text())
 
     def belongs_to_its_script(self, name, data, text):
@@ -208,42 +332,79 @@ class Following(unittest.TestCase):
         found = Session(script, transcript_reading.lines_of(text.encode(), "t"), ("s", "t"))
         marks = [mark for mark in found.marks if mark.kind != "ended"]
         resolved = [int(it) for it in re.findall(r"^(\d+) resolved$", text, re.M)]
-        self.assertEqual([mark.told.ordinal for mark in marks],
-                         [it for it in resolved if script.by_ordinal[it].op == "suspend"], name)
-        self.assertEqual([mark.low for mark in marks if mark.kind == "stalled"],
-                         [int(it) for it in re.findall(r"^end stalled (\d+)$", text, re.M)], name)
+        self.assertEqual(
+            [mark.told.ordinal for mark in marks],
+            [it for it in resolved if script.by_ordinal[it].op == "suspend"],
+            name,
+        )
+        self.assertEqual(
+            [mark.low for mark in marks if mark.kind == "stalled"],
+            [int(it) for it in re.findall(r"^end stalled (\d+)$", text, re.M)],
+            name,
+        )
         answered = {int(it) for it in re.findall(r"^(\d+) ", text, re.M)}
-        self.assertEqual([call.ordinal for call in found.not_run],
-                         [call.ordinal for call in script.calls if call.ordinal not in answered], name)
+        self.assertEqual(
+            [call.ordinal for call in found.not_run],
+            [call.ordinal for call in script.calls if call.ordinal not in answered],
+            name,
+        )
 
     def test_transcripts_that_do_not_belong_to_their_script(self):
         data, text = fixtures.suspended()
         rendered, whole, _ = fixtures.resumed()
         for script, good, old, new in [
-                (data, text, "\n1 ok\n2 ok\n", "\n2 ok\n1 ok\n"), (data, text, "\n2 ok\n", "\n"),
-                (data, text, "\n2 ok\n", "\n2 ok\n2 ok\n"), (data, text, "\n4 ok\n5 ok\n", "\n5 ok\n4 ok\n"),
-                (data, text, "\n2 ok\n", "\n2 pending\n"), (data, text, "\n12 value -16777216\n", "\n12 ok\n"),
-                (data, text, "\n14 pending\n", "\n14 ok\n"), (data, text, "\n20 pending\n", "\n20 resolved\n"),
-                (data, text, "ended 1 c", "ended 2 c"), (data, text, "ended 1 c", "ended 1 d"),
-                (data, text, "ended 1 c\n", "ended 1 c\n" * 2),
-                (data, text, "ended 1 c", "ended 9 c"), (data, text, "end stalled 1536", "end stalled 1500"),
-                (data, text, "end stalled 1536", "end idle"),
-                (data, text, "\n22 pending\n", "\n22 rejected InvalidStateError\n"),
-                (data, text, "\n18 resolved\n", "\n"),
-                (data, text, "\n14 resolved\n15 ok\n16 time 512\n17 throw TypeError\n18 resolved\n", "\n"),
-                (rendered, whole, "complete 2048", "complete 2047"), (rendered, whole, "complete 2048\n", ""),
-                (rendered, whole, "24 state closed", "24 throw TypeError"), (rendered, whole, "end completed", "end idle")]:
+            (data, text, "\n1 ok\n2 ok\n", "\n2 ok\n1 ok\n"),
+            (data, text, "\n2 ok\n", "\n"),
+            (data, text, "\n2 ok\n", "\n2 ok\n2 ok\n"),
+            (data, text, "\n4 ok\n5 ok\n", "\n5 ok\n4 ok\n"),
+            (data, text, "\n2 ok\n", "\n2 pending\n"),
+            (data, text, "\n12 value -16777216\n", "\n12 ok\n"),
+            (data, text, "\n14 pending\n", "\n14 ok\n"),
+            (data, text, "\n20 pending\n", "\n20 resolved\n"),
+            (data, text, "ended 1 c", "ended 2 c"),
+            (data, text, "ended 1 c", "ended 1 d"),
+            (data, text, "ended 1 c\n", "ended 1 c\n" * 2),
+            (data, text, "ended 1 c", "ended 9 c"),
+            (data, text, "end stalled 1536", "end stalled 1500"),
+            (data, text, "end stalled 1536", "end idle"),
+            (data, text, "\n22 pending\n", "\n22 rejected InvalidStateError\n"),
+            (data, text, "\n18 resolved\n", "\n"),
+            (
+                data,
+                text,
+                "\n14 resolved\n15 ok\n16 time 512\n17 throw TypeError\n18 resolved\n",
+                "\n",
+            ),
+            (rendered, whole, "complete 2048", "complete 2047"),
+            (rendered, whole, "complete 2048\n", ""),
+            (rendered, whole, "24 state closed", "24 throw TypeError"),
+            (rendered, whole, "end completed", "end idle"),
+        ]:
             changed = ("\n" + good).replace(old, new)[1:]
             self.assertNotEqual(changed, good, old)
             with self.assertRaisesRegex(BadInput, "^t does not belong to s: ", msg=(old, new)):
-                Session(script_reading.script_of(script), transcript_reading.lines_of(changed.encode(), "t"), ("s", "t"))
+                Session(
+                    script_reading.script_of(script),
+                    transcript_reading.lines_of(changed.encode(), "t"),
+                    ("s", "t"),
+                )
 
     def test_changed_transcripts_are_refused_or_followed_without_another_error(self):
         rng, refused = random.Random("changed"), 0
-        texts = [fixtures.suspended(), fixtures.resumed()[:2], fixtures.session_of_case("refused_calls")[:2],
-                 fixtures.session_of_case("hi_hat_choked")[:2]]
-        words = [("ok", "throw TypeError"), ("ended 1", "ended 9"), ("1", "2"), ("pending", "ok"),
-                 ("resolved", "rejected TypeError"), ("completed", "idle")]
+        texts = [
+            fixtures.suspended(),
+            fixtures.resumed()[:2],
+            fixtures.session_of_case("refused_calls")[:2],
+            fixtures.session_of_case("hi_hat_choked")[:2],
+        ]
+        words = [
+            ("ok", "throw TypeError"),
+            ("ended 1", "ended 9"),
+            ("1", "2"),
+            ("pending", "ok"),
+            ("resolved", "rejected TypeError"),
+            ("completed", "idle"),
+        ]
         for _ in range(1500):
             data, text = rng.choice(texts)
             lines = text.splitlines()
@@ -262,7 +423,11 @@ class Following(unittest.TestCase):
                     lines[at] = lines[at].replace(*rng.choice(words), 1)
             changed = "\n".join(lines) + "\n"
             try:
-                Session(script_reading.script_of(data), transcript_reading.lines_of(changed.encode(), "t"), ("s", "t"))
+                Session(
+                    script_reading.script_of(data),
+                    transcript_reading.lines_of(changed.encode(), "t"),
+                    ("s", "t"),
+                )
             except BadInput as bad:
                 refused += 1
                 self.assertNotIn("\n", str(bad))

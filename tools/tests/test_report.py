@@ -1,6 +1,7 @@
 """Tests of the page that tools/report writes, without a browser."""
 
 import html.parser
+import io
 import json
 import os
 import random
@@ -11,8 +12,10 @@ import unittest
 import unittest.mock
 
 import fixtures
-from waplay_tools.expecting import sessions
 import test_reading
+
+from waplay_tools import report
+from waplay_tools.expecting import sessions
 from waplay_tools.reporting import sound_html, waveform
 from waplay_tools.reporting.wav_samples import Differences, front_of, sound_of
 
@@ -54,8 +57,11 @@ class Page(html.parser.HTMLParser):
 
     def of(self, tag, **attributes):
         """The attributes of the elements of a tag that have these."""
-        return [it for name, it in self.elements
-                if name == tag and all(it.get(key) == value for key, value in attributes.items())]
+        return [
+            it
+            for name, it in self.elements
+            if name == tag and all(it.get(key) == value for key, value in attributes.items())
+        ]
 
 
 class Report(unittest.TestCase):
@@ -72,6 +78,16 @@ class Report(unittest.TestCase):
         self.assertEqual(page.wrong, [])
         return page
 
+    def page(self, paths):
+        """The same, without a process of its own."""
+        out = io.TextIOWrapper(io.BytesIO())
+        with unittest.mock.patch("sys.argv", ["report", *paths]):
+            with unittest.mock.patch("sys.stdout", out):
+                self.assertEqual(report.main(), 0)
+        page = Page(out.buffer.getvalue())
+        self.assertEqual(page.wrong, [])
+        return page
+
     def refused(self, *words):
         """The one sentence of a run that ends with status 2."""
         ran = fixtures.run("report", *words)
@@ -82,7 +98,7 @@ class Report(unittest.TestCase):
     def test_every_session_has_its_page(self):
         for name in fixtures.SESSIONS:
             data, text, sound = fixtures.session_of_case(name)
-            page = self.report(fixtures.written(self.folder, name, data, text, sound))
+            page = self.page(fixtures.written(self.folder, name, data, text, sound))
             channels = json.loads(data)["context"]["channels"] if sound else 0
             self.assertEqual(len(page.of("path", **{"class": "envelope"})), channels)
             self.assertEqual(len(page.of("audio")), 1 if sound else 0)
@@ -97,18 +113,30 @@ class Report(unittest.TestCase):
     def test_automation_has_its_values_and_its_rules(self):
         def on(node, name, op, **fields):
             return {"op": op, "node": node, "param": name, **fields}
-        calls = [{"op": "createBufferSource", "as": "b"}, {"op": "createGain", "as": "g"},
-                 on("b", "playbackRate", "readValue"), on("b", "detune", "setValue", value=0),
-                 on("g", "gain", "exponentialRampToValueAtTime"), on("g", "gain", "setTargetAtTime"),
-                 on("g", "gain", "setValue", value=-(2**23)), on("g", "gain", "readValue"), {"op": "startRendering"}]
+
+        calls = [
+            {"op": "createBufferSource", "as": "b"},
+            {"op": "createGain", "as": "g"},
+            on("b", "playbackRate", "readValue"),
+            on("b", "detune", "setValue", value=0),
+            on("g", "gain", "exponentialRampToValueAtTime"),
+            on("g", "gain", "setTargetAtTime"),
+            on("g", "gain", "setValue", value=-(2**23)),
+            on("g", "gain", "readValue"),
+            {"op": "startRendering"},
+        ]
         data = fixtures.script(calls)
         _, text, session = sessions.replayed(data)
-        page = self.report(fixtures.written(self.folder, "it", data, text, sessions.wav_bytes(session)))
-        for answer, told in [("profile:playback-rate-automation", "The playback rate of a source stays"),
-                             ("profile:detune", "Detuning is not part of the profile"),
-                             ("profile:exponential-ramp", "Exponential ramps are not part of the profile"),
-                             ("profile:set-target", "Approaching a target exponentially is not part of the profile"),
-                             ("value -8388608 (\u22120.5)", "readValue")]:
+        page = self.report(
+            fixtures.written(self.folder, "it", data, text, sessions.wav_bytes(session))
+        )
+        for answer, told in [
+            ("profile:playback-rate-automation", "The playback rate of a source stays"),
+            ("profile:detune", "Detuning is not part of the profile"),
+            ("profile:exponential-ramp", "Exponential ramps are not part of the profile"),
+            ("profile:set-target", "Approaching a target exponentially is not part of the profile"),
+            ("value -8388608 (\u22120.5)", "readValue"),
+        ]:
             self.assertTrue(any(answer in row and told in row for row in page.rows), answer)
 
     def test_peaks_and_sums_are_those_of_a_plain_sum(self):
@@ -120,9 +148,19 @@ class Report(unittest.TestCase):
                 greatest = max(map(abs, samples))
                 frame = list(map(abs, samples)).index(greatest)
                 time = "{:,.6f}".format(frame / session.rate).rstrip("0").rstrip(".")
-                row = "%d%s%.6f%s%s s%s" % (channel, "{:,}".format(greatest), samples[frame] / 2**23, "{:,}".format(frame),
-                                            time, "{:,}".format(sum(samples)))
-                self.assertIn(row.replace("-", "\u2212"), [row.replace("\u00a0", " ") for row in page.rows], name)
+                row = "%d%s%.6f%s%s s%s" % (
+                    channel,
+                    "{:,}".format(greatest),
+                    samples[frame] / 2**23,
+                    "{:,}".format(frame),
+                    time,
+                    "{:,}".format(sum(samples)),
+                )
+                self.assertIn(
+                    row.replace("-", "\u2212"),
+                    [row.replace("\u00a0", " ") for row in page.rows],
+                    name,
+                )
 
     def test_the_page_needs_nothing_beside_it_and_runs_nothing_else(self):
         page = self.report(fixtures.written(self.folder, "it", *fixtures.hostile()))
@@ -132,8 +170,13 @@ class Report(unittest.TestCase):
                 self.assertNotIn(name, ("style", "srcdoc", "srcset", "action", "formaction"))
                 if name in ("src", "href"):
                     self.assertRegex(value, r"\A(data:audio/wav;base64,[A-Za-z0-9+/=]+|#[a-z-]+)\Z")
-        self.assertEqual([len(page.of(tag)) for tag in ("script", "style", "img", "iframe", "object", "a", "link", "base")],
-                         [1, 1, 0, 0, 0, 0, 0, 0])
+        self.assertEqual(
+            [
+                len(page.of(tag))
+                for tag in ("script", "style", "img", "iframe", "object", "a", "link", "base")
+            ],
+            [1, 1, 0, 0, 0, 0, 0, 0],
+        )
         policy = page.of("meta", **{"http-equiv": "Content-Security-Policy"})[0]["content"]
         self.assertIn("default-src 'none'", policy)
         self.assertNotIn("unsafe", policy)
@@ -141,32 +184,54 @@ class Report(unittest.TestCase):
     def test_hostile_names_are_text(self):
         page = self.report(fixtures.written(self.folder, "it", *fixtures.hostile()))
         text = page.text()
-        for shown in ('"</script><script>window.hurt=1</script>"', '"\\"><img src=x onerror=\\"window.hurt=1\\">"',
-                      '"&lt;b&gt;"', "\\u0000\\u0007\\u001b[31m", "\\u202eabc\\u202c", "\\u2028line\\u2029",
-                      "(300 letters)", "{{constructor}}", "%s %d %(title)s", "a\\nb\\tc",
-                      '"`code` ${1}" stands for nothing.'):
+        for shown in (
+            '"</script><script>window.hurt=1</script>"',
+            '"\\"><img src=x onerror=\\"window.hurt=1\\">"',
+            '"&lt;b&gt;"',
+            "\\u0000\\u0007\\u001b[31m",
+            "\\u202eabc\\u202c",
+            "\\u2028line\\u2029",
+            "(300 letters)",
+            "{{constructor}}",
+            "%s %d %(title)s",
+            "a\\nb\\tc",
+            '"`code` ${1}" stands for nothing.',
+        ):
             self.assertIn(shown, text)
-        self.assertNotRegex(text, "[\u0000-\u0008\u000b-\u001f\u007f-\u009f\u202a-\u202e\u2066-\u2069]")
+        self.assertNotRegex(
+            text, "[\u0000-\u0008\u000b-\u001f\u007f-\u009f\u202a-\u202e\u2066-\u2069]"
+        )
 
     def test_hostile_file_names(self):
         data, text, sound = fixtures.session_of_case("constant")
-        name = "</title><script>window.hurt=1</script>\n\u202e'\"&".replace("/", "\u2215").encode() + b"\xff"
+        name = (
+            "</title><script>window.hurt=1</script>\n\u202e'\"&".replace("/", "\u2215").encode()
+            + b"\xff"
+        )
         folder = os.fsencode(self.folder)
         paths = [os.path.join(folder, name + end) for end in (b".json", b".txt", b".wav")]
         for path, content in zip(paths, (data, text.encode(), sound)):
             with open(path, "wb") as file:
                 file.write(content)
-        page = self.report([os.fsdecode(path) for path in paths], "--against", os.fsdecode(paths[2]))
+        page = self.report(
+            [os.fsdecode(path) for path in paths], "--against", os.fsdecode(paths[2])
+        )
         self.assertEqual(len(page.of("script")), 1)
         self.assertIn("\\u000a\\u202e'\"&\\udcff.json", page.text())
 
     def test_what_the_transcript_tells_of_suspensions(self):
         page = self.report(fixtures.written(self.folder, "it", *fixtures.suspended()))
         text = page.text()
-        for wanted in ("The session stalled at frame 1,536", "Suspended at frame 512: the list of call 14",
-                       "suspended and not resumedby call 20.", "A suspension comes at the end of a quantum",
-                       'a source ended"c", the constant source of call 1.', "The session wrote no WAV file.",
-                       "A wave shaper does not oversample", "Calls that were not run"):
+        for wanted in (
+            "The session stalled at frame 1,536",
+            "Suspended at frame 512: the list of call 14",
+            "suspended and not resumedby call 20.",
+            "A suspension comes at the end of a quantum",
+            'a source ended"c", the constant source of call 1.',
+            "The session wrote no WAV file.",
+            "A wave shaper does not oversample",
+            "Calls that were not run",
+        ):
             self.assertIn(wanted, text)
         self.assertEqual(len(page.of("use", **{"class": "placed stalled"})), 1)
         page = self.report(fixtures.written(self.folder, "it", *fixtures.resumed()))
@@ -176,28 +241,53 @@ class Report(unittest.TestCase):
     def test_sessions_without_sound(self):
         gain = {"op": "createGain", "as": "g"}
         for data, text, wanted in [
-                (fixtures.script([gain]), "1 ok\nend idle\n", "Rendering was not started"),
-                (fixtures.script([gain], channels=33), "end refused NotSupportedError\n",
-                 "A context has from 1 to 32 channels"),
-                (b"{", "script: BadJson\n", "The script is no JSON text"),
-                (b"\xff", "script: BadJson\n", "byte 0 is not UTF-8"),
-                (b"[]", "script: 0 script WrongKind\n", "The script is no object."),
-                (fixtures.script([gain, 7]), "script: 2 call WrongKind\n", "Call 2 is no object."),
-                (fixtures.script([{"op": "createFoo"}]), "script: 1 op UnknownOp\n", '"createFoo", which is no operation'),
-                (fixtures.script([{"op": 7}]), "script: 1 op UnknownOp\n", "The call has the op 7"),
-                (fixtures.script([{"op": "createDelay", "as": "d"}]), "script: 1 op UnknownOp\n",
-                 "does not read this operation"),
-                (fixtures.script([{**gain, "gain": 2**31}]), "script: 1 gain OutOfRange\n", "It is 2147483648."),
-                (fixtures.script([{**gain, "gain": 1.0}]), "script: 1 gain WrongKind\n", "It is 1.0."),
-                (fixtures.script([{"op": "disconnect", "from": "g", "input": 0}]), "script: 1 to MissingField\n",
-                 "to and output beside it"),
-                (b'{"version":1}', "script: 0 context MissingField\n", "The script has no member context"),
-                (b'{"version":2}', "script: 0 version OutOfRange\n", "it has to be 1")]:
+            (fixtures.script([gain]), "1 ok\nend idle\n", "Rendering was not started"),
+            (
+                fixtures.script([gain], channels=33),
+                "end refused NotSupportedError\n",
+                "A context has from 1 to 32 channels",
+            ),
+            (b"{", "script: BadJson\n", "The script is no JSON text"),
+            (b"\xff", "script: BadJson\n", "byte 0 is not UTF-8"),
+            (b"[]", "script: 0 script WrongKind\n", "The script is no object."),
+            (fixtures.script([gain, 7]), "script: 2 call WrongKind\n", "Call 2 is no object."),
+            (
+                fixtures.script([{"op": "createFoo"}]),
+                "script: 1 op UnknownOp\n",
+                '"createFoo", which is no operation',
+            ),
+            (fixtures.script([{"op": 7}]), "script: 1 op UnknownOp\n", "The call has the op 7"),
+            (
+                fixtures.script([{"op": "createDelay", "as": "d"}]),
+                "script: 1 op UnknownOp\n",
+                "does not read this operation",
+            ),
+            (
+                fixtures.script([{**gain, "gain": 2**31}]),
+                "script: 1 gain OutOfRange\n",
+                "It is 2147483648.",
+            ),
+            (fixtures.script([{**gain, "gain": 1.0}]), "script: 1 gain WrongKind\n", "It is 1.0."),
+            (
+                fixtures.script([{"op": "disconnect", "from": "g", "input": 0}]),
+                "script: 1 to MissingField\n",
+                "to and output beside it",
+            ),
+            (
+                b'{"version":1}',
+                "script: 0 context MissingField\n",
+                "The script has no member context",
+            ),
+            (b'{"version":2}', "script: 0 version OutOfRange\n", "it has to be 1"),
+        ]:
             paths = fixtures.written(self.folder, "it", data, text)
             page = self.report(paths)
             self.assertIn(wanted, page.text())
             self.assertIn("The session wrote no WAV file.", page.text())
-            self.assertIn("was not read", self.report([*paths, os.path.join(self.folder, "nowhere.wav")]).text())
+            self.assertIn(
+                "was not read",
+                self.report([*paths, os.path.join(self.folder, "nowhere.wav")]).text(),
+            )
 
     def test_random_sessions_have_pages(self):
         for number in range(1000, 1060):
@@ -205,15 +295,20 @@ class Report(unittest.TestCase):
             _, text, session = sessions.replayed(data, os.path.join(self.folder, "nowhere"))
             if text:
                 sound = sessions.wav_bytes(session) if session and session.samples else None
-                self.report(fixtures.written(self.folder, "it", data, text, sound))
+                self.page(fixtures.written(self.folder, "it", data, text, sound))
 
     def test_differences_are_told(self):
         data, text, sound = fixtures.resumed()
         paths, other = fixtures.written(self.folder, "it", data, text, sound), bytearray(sound)
-        self.assertIn("No sample differs, of 2,048 that were compared.", self.report(paths, "--against", paths[2]).text())
+        self.assertIn(
+            "No sample differs, of 2,048 that were compared.",
+            self.report(paths, "--against", paths[2]).text(),
+        )
         for frame, value in (700, b"\x01\x00\x00"), (900, b"\xff\xff\x7f"), (901, b"\x00\x00\x80"):
-            other[44 + 3 * frame:47 + 3 * frame] = value
-        page = self.report(paths, "--against", fixtures.write(self.folder, "other.wav", bytes(other)))
+            other[44 + 3 * frame : 47 + 3 * frame] = value
+        page = self.report(
+            paths, "--against", fixtures.write(self.folder, "other.wav", bytes(other))
+        )
         ours, theirs = (sound_of(bytes(it), "it").channels[0] for it in (sound, other))
         plain = [(abs(b - a), -frame) for frame, (a, b) in enumerate(zip(ours, theirs)) if a != b]
         self.assertIn("%d of 2,048 samples differ." % len(plain), page.text())
@@ -221,19 +316,35 @@ class Report(unittest.TestCase):
         for kind, frame in frames.items():
             numbers = ours[frame], theirs[frame], theirs[frame] - ours[frame]
             told = "".join("{:,}".format(it) for it in numbers).replace("-", "\u2212")
-            row = next(row.replace("\u00a0", "") for row in page.rows if row.replace(" ", "").startswith(kind))
+            row = next(
+                row.replace("\u00a0", "")
+                for row in page.rows
+                if row.replace(" ", "").startswith(kind)
+            )
             self.assertTrue(row.endswith(told), (row, told))
             self.assertIn("%d" % frame, row)
-        page = self.report(paths, "--against", fixtures.write(self.folder, "other.wav", fixtures.wav([[0], [1]], 8000, 16)))
-        self.assertIn("The files differ in channels (1 here, 2 there), frames (2,048 here, 1 there), ", page.text())
+        page = self.report(
+            paths,
+            "--against",
+            fixtures.write(self.folder, "other.wav", fixtures.wav([[0], [1]], 8000, 16)),
+        )
+        self.assertIn(
+            "The files differ in channels (1 here, 2 there), frames (2,048 here, 1 there), ",
+            page.text(),
+        )
 
     def test_input_that_is_of_no_use(self):
         data, text, sound = fixtures.session_of_case("hi_hat_choked")
         script, transcript, wav = fixtures.written(self.folder, "it", data, text, sound)
         nowhere = os.path.join(self.folder, "no\nwhere")
         empty = fixtures.write(self.folder, "empty", b"")
-        for words in [(nowhere, transcript, wav), (script, nowhere, wav), (script, transcript, nowhere),
-                      (self.folder, transcript, wav), (script, transcript, wav, "--against", nowhere)]:
+        for words in [
+            (nowhere, transcript, wav),
+            (script, nowhere, wav),
+            (script, transcript, nowhere),
+            (self.folder, transcript, wav),
+            (script, transcript, wav, "--against", nowhere),
+        ]:
             self.assertIn("can't be read: ", self.refused(*words))
         self.assertIn("no whole transcript", self.refused(script, empty, wav))
         self.assertIn("no WAV file", self.refused(script, transcript, empty))
@@ -245,7 +356,9 @@ class Report(unittest.TestCase):
         other = fixtures.write(self.folder, "other.json", fixtures.script_of_case("constant"))
         self.assertIn("does not belong", self.refused(other, transcript, wav))
         short = fixtures.write(self.folder, "short.wav", fixtures.wav([[0] * 191]))
-        self.assertIn("its length is 191, and the context's is 192", self.refused(script, transcript, short))
+        self.assertIn(
+            "its length is 191, and the context's is 192", self.refused(script, transcript, short)
+        )
         idle = fixtures.written(self.folder, "idle", fixtures.script([]), "end idle\n")
         self.assertIn("no WAV file", self.refused(*idle, "--against", wav))
 
@@ -268,7 +381,13 @@ class Waveforms(unittest.TestCase):
         self.assertEqual(heights, [round(it, 1) for it in wanted + wanted[::-1]])
 
     def test_the_scale_holds_all_samples(self):
-        for samples, scale in ([0, 0], 1), ([-(2**23)], 1), ([2**22], 0.5), ([2**22 + 1], 1), ([1], 2**-23):
+        for samples, scale in (
+            ([0, 0], 1),
+            ([-(2**23)], 1),
+            ([2**22], 0.5),
+            ([2**22 + 1], 1),
+            ([1], 2**-23),
+        ):
             self.assertEqual(waveform.scale_of([sound_of(fixtures.wav([samples]), "it")]), scale)
 
     def test_files_that_are_too_large_for_a_page(self):
@@ -285,7 +404,10 @@ class Waveforms(unittest.TestCase):
         for bits in (8, 16, 24, 32):
             channels = [[at, -at, 100, at + 1] for at in range(9)]
             front = sound_of(front_of(fixtures.wav(channels, 44100, bits)), "it")
-            self.assertEqual(([list(it) for it in front.channels], front.rate, front.bits), (channels[:2], 44100, bits))
+            self.assertEqual(
+                ([list(it) for it in front.channels], front.rate, front.bits),
+                (channels[:2], 44100, bits),
+            )
 
     def test_a_difference_of_files_that_are_equal_is_none(self):
         sound = sound_of(fixtures.wav([[1, 2, 3]]), "it")

@@ -1,10 +1,12 @@
-"""Holds docs/script.schema.json against the reader of the second calculation, over random good and faulty scripts.
+"""Holds docs/script.schema.json against the reader of the second calculation, over random good and
+faulty scripts.
 
-A schema can't say everything that the reader asks for. These differences have names here, are counted apart,
-and are only allowed where nothing else differs:
+A schema can't say everything that the reader asks for. These differences have names here, are
+counted apart, and are only allowed where nothing else differs:
 
-    no JSON        a text that has no JSON reading has no value that a schema could be held against: bytes that
-                   are not UTF-8, lone surrogates, numbers that are too large, and what nests deeper than 127
+    no JSON        a text that has no JSON reading has no value that a schema could be held against:
+                   bytes that are not UTF-8, lone surrogates, numbers that are too large, and what
+                   nests deeper than 127
     whole numbers  1.0, 1e2 and -0 are whole to a schema, and not to the reader
     bytes          a path has at most 255 bytes, and a schema counts characters
 """
@@ -29,8 +31,16 @@ PATH = os.path.join(fixtures.TOP, "docs", "script.schema.json")
 COUNT = int(os.environ.get("SCHEMA_SCRIPTS", "200"))  # how many random scripts
 
 # A value of each kind.
-VALUES = {"new name": "n", "name": "n", "param": "gain", "list": [1, 2], "calls": [], "bool": True, "path": "p",
-          **dict.fromkeys(entries.RANGES, 1)}
+VALUES = {
+    "new name": "n",
+    "name": "n",
+    "param": "gain",
+    "list": [1, 2],
+    "calls": [],
+    "bool": True,
+    "path": "p",
+    **dict.fromkeys(entries.RANGES, 1),
+}
 
 
 def some_value(kind):
@@ -40,14 +50,19 @@ def some_value(kind):
 
 
 def value_of(data):
-    """The value of a JSON text. Numbers that are whole to the reader are integers, and no others."""
-    return json.loads(data.decode(), parse_int=reading.whole, parse_float=reading.fraction,
-                      parse_constant=reading.bad_json)
+    """The value of a JSON text. Numbers that are whole to the reader are integers, and no
+    others."""
+    return json.loads(
+        data.decode(),
+        parse_int=reading.whole,
+        parse_float=reading.fraction,
+        parse_constant=reading.bad_json,
+    )
 
 
 def stricter(value, key=None):
-    """The value with a fraction in place of each number that is whole to a schema alone, and with a path that is
-    too long in place of one of too many bytes."""
+    """The value with a fraction in place of each number that is whole to a schema alone, and with a
+    path that is too long in place of one of too many bytes."""
     if isinstance(value, dict):
         return {name: stricter(item, name) for name, item in value.items()}
     if isinstance(value, list):
@@ -87,13 +102,16 @@ def any_call(rng):
 
 
 def random_text(number):
-    """The bytes of a random script: a good one, one with spoiled members, or one that is spelled in another way."""
+    """The bytes of a random script: a good one, one with spoiled members, or one that is spelled in
+    another way."""
     rng = random.Random("schema %d" % number)
     value = test_reading.random_script(number, number % 2 == 1, 30)
     if number % 50 == 7 and isinstance(value.get("calls"), list):
         value["calls"] = value["calls"][:5] + [any_call(rng)]
     if number % 20 == 3 and isinstance(value.get("calls"), list):
-        path = rng.choice(["\u00e9" * rng.choice([127, 128, 255]), "x" * rng.choice([255, 256]), ""])
+        path = rng.choice(
+            ["\u00e9" * rng.choice([127, 128, 255]), "x" * rng.choice([255, 256]), ""]
+        )
         value["calls"] = value["calls"][:5] + [{"op": "decodeAudioData", "as": "b", "path": path}]
     text = json.dumps(value)
     return (spelled(rng, text) if number % 3 == 0 else text).encode()
@@ -105,8 +123,11 @@ class Schema(unittest.TestCase):
             self.text = file.read()
 
     def test_the_file_is_what_the_tool_writes(self):
-        self.assertEqual(fixtures.run("makeschema").stdout.decode(), self.text,
-                         "tools/makeschema > docs/script.schema.json is wanted")
+        self.assertEqual(
+            fixtures.run("makeschema").stdout.decode(),
+            self.text,
+            "tools/makeschema > docs/script.schema.json is wanted",
+        )
 
     def test_every_operation_and_field_has_its_kind_and_default(self):
         definitions = json.loads(self.text)["$defs"]
@@ -115,8 +136,10 @@ class Schema(unittest.TestCase):
         for op, fields in entries.OPERATIONS.items():
             found = definitions[op]["properties"]
             self.assertEqual(list(found), ["op"] + [name for name, *_ in fields])
-            self.assertEqual({name: it["default"] for name, it in found.items() if "default" in it},
-                             {name: default[0] for name, _, *default in fields if default})
+            self.assertEqual(
+                {name: it["default"] for name, it in found.items() if "default" in it},
+                {name: default[0] for name, _, *default in fields if default},
+            )
 
     @unittest.skipUnless(jsonschema, "the module jsonschema is not installed")
     def test_the_schema_is_one(self):
@@ -137,30 +160,79 @@ class Schema(unittest.TestCase):
             self.assertEqual(is_good, fault is None, (fault, data))
             counts["faulty" if fault else "good"] += 1
             if fault and validator.is_valid(value):
-                paths = [str(call.get("path", "")) for call in value["calls"] if isinstance(call, dict)]
+                paths = [
+                    str(call.get("path", "")) for call in value["calls"] if isinstance(call, dict)
+                ]
                 is_long = any(len(path.encode()) > 255 for path in paths)
                 counts["bytes" if is_long else "whole numbers"] += 1
-        print("\nschema: %d scripts: %s" % (COUNT, ", ".join("%d %s" % (counts[it], it) for it in sorted(counts))))
+        print(
+            "\nschema: %d scripts: %s"
+            % (COUNT, ", ".join("%d %s" % (counts[it], it) for it in sorted(counts)))
+        )
         for name, least in [("good", 60), ("faulty", 40), ("no JSON", 2), ("whole numbers", 1)]:
             self.assertGreaterEqual(counts[name], least, name)
 
     @unittest.skipUnless(jsonschema, "the module jsonschema is not installed")
     def test_each_field_by_itself(self):
         validator = jsonschema.Draft202012Validator(json.loads(self.text))
-        values = [None, True, False, 0, 1, -1, 31, 2**31 - 1, 2**31, -(2**31), -(2**31) - 1, 2**32 - 1, 2**32, 2**40,
-                  2**40 + 1, -(2**40), -(2**40) - 1, 2**63, 0.5, "", "a", "destination", "a b", "x" * 64, "x" * 65,
-                  "x" * 256, "max", "speakers", "none", "a\n", [], [1], [2**31], [0.5], [None], [{}], {}, [{"op": "resume"}],
-                  [{"op": "x"}]]
+        values = [
+            None,
+            True,
+            False,
+            0,
+            1,
+            -1,
+            31,
+            2**31 - 1,
+            2**31,
+            -(2**31),
+            -(2**31) - 1,
+            2**32 - 1,
+            2**32,
+            2**40,
+            2**40 + 1,
+            -(2**40),
+            -(2**40) - 1,
+            2**63,
+            0.5,
+            "",
+            "a",
+            "destination",
+            "a b",
+            "x" * 64,
+            "x" * 65,
+            "x" * 256,
+            "max",
+            "speakers",
+            "none",
+            "a\n",
+            [],
+            [1],
+            [2**31],
+            [0.5],
+            [None],
+            [{}],
+            {},
+            [{"op": "resume"}],
+            [{"op": "x"}],
+        ]
         compared = 0
         for op, fields in reading.OPERATIONS.items():
-            whole = {"op": op, **{name: some_value(kind) for name, kind, *default in fields if not default}}
+            whole = {
+                "op": op,
+                **{name: some_value(kind) for name, kind, *default in fields if not default},
+            }
             for name in [name for name, *_ in fields] + ["op", "other"]:
                 for value in [*values, "absent"]:
                     call = {**whole, name: value}
                     if value == "absent":
                         del call[name]
                     data = fixtures.script([call])
-                    self.assertEqual(validator.is_valid(json.loads(data)), test_reading.fault_of(data) is None, call)
+                    self.assertEqual(
+                        validator.is_valid(json.loads(data)),
+                        test_reading.fault_of(data) is None,
+                        call,
+                    )
                     compared += 1
         self.assertGreater(compared, 2000)
 
@@ -170,9 +242,21 @@ class Schema(unittest.TestCase):
         for output in ("absent", None, 0):
             for to in ("absent", None, "a"):
                 for place in ("absent", None, 0):
-                    call = {"op": "disconnect", "from": "a", "output": output, "to": to, "input": place}
-                    data = fixtures.script([{name: value for name, value in call.items() if value != "absent"}])
-                    self.assertEqual(validator.is_valid(json.loads(data)), test_reading.fault_of(data) is None, call)
+                    call = {
+                        "op": "disconnect",
+                        "from": "a",
+                        "output": output,
+                        "to": to,
+                        "input": place,
+                    }
+                    data = fixtures.script(
+                        [{name: value for name, value in call.items() if value != "absent"}]
+                    )
+                    self.assertEqual(
+                        validator.is_valid(json.loads(data)),
+                        test_reading.fault_of(data) is None,
+                        call,
+                    )
 
     @unittest.skipUnless(jsonschema, "the module jsonschema is not installed")
     def test_the_examples_are_good(self):

@@ -8,11 +8,11 @@ on every machine.
 """
 
 import argparse
-import struct
 import sys
 from collections.abc import Callable, Iterator
 from dataclasses import dataclass
 
+from waplay_tools import wav
 from waplay_tools.places import EXAMPLES
 
 FULL = 2**15  # 1.0 in units of a sample of 16 bits
@@ -189,6 +189,7 @@ def bell(hertz: int) -> Callable[[], list[list[int]]]:
     """A bell of this frequency, with the partials of church bells: one at a half, a minor third."""
 
     def make() -> list[list[int]]:
+        """The sum of the partials, each struck at once and fading by itself."""
         waves = (
             struck(tone(hertz * part, 44100, 40000), half, height)
             for part, height, half in PARTIALS
@@ -255,31 +256,11 @@ ASSETS = {
 }
 
 
-def wav_bytes(rate: int, bits: int, channels: list[list[int]]) -> bytes:
-    """A file of these samples, which are unsigned in 8 bits."""
-    width = bits // 8
-    block = width * len(channels)
-    body = b"".join(
-        (value + 128 if bits == 8 else value % 2**bits).to_bytes(width, "little")
-        for frame in zip(*channels)
-        for value in frame
-    )
-    head = struct.pack(
-        "<4sI8sIHHIIHH4sI",
-        b"RIFF",
-        36 + len(body),
-        b"WAVEfmt ",
-        16,
-        1,
-        len(channels),
-        rate,
-        rate * block,
-        block,
-        bits,
-        b"data",
-        len(body),
-    )
-    return head + body + b"\0" * (len(body) % 2)
+def file_of(asset: Asset, channels: list[list[int]]) -> bytes:
+    """The file of an asset with these channels. In a file samples of 8 bits count from 0 up."""
+    offset = 128 if asset.bits == 8 else 0
+    stored = [[value + offset for value in samples] for samples in channels]
+    return wav.wav_bytes(wav.Form(len(stored), asset.rate, asset.bits), stored)
 
 
 def main() -> int:
@@ -303,12 +284,12 @@ def main() -> int:
     wrong = 0
     for name, asset in ASSETS.items():
         channels = asset.make()
-        data = wav_bytes(asset.rate, asset.bits, channels)
+        data = file_of(asset, channels)
         path = EXAMPLES / name
         if arguments.sums:
             peak = max(abs(value) for channel in channels for value in channel)
             size = f"{len(data)} bytes, {len(channels[0])} frames"
-            print(f"{name} {size}, peak {peak}, sums", *map(sum, channels))
+            print(f"{name} {size}, peak {peak}, sums", *(sum(it) for it in channels))
         elif not arguments.check:
             path.write_bytes(data)
         elif not path.exists() or path.read_bytes() != data:

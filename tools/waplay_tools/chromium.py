@@ -98,6 +98,7 @@ class _Pipe:
         high = [fcntl.fcntl(number, fcntl.F_DUPFD_CLOEXEC, 10) for number in (commands, answers)]
 
         def put_in_place() -> None:
+            """Gives the child the two ends that it is to have as 3 and 4."""
             os.dup2(high[0], 3)
             os.dup2(high[1], 4)
 

@@ -26,6 +26,8 @@ import re
 import subprocess
 import sys
 import tempfile
+from collections.abc import Mapping
+from typing import Any, NamedTuple
 
 from waplay_tools import load_script
 
@@ -38,11 +40,19 @@ RENDERED = "reading with a number, in mode render"
 # The reading.
 
 
-Reading = collections.namedtuple("Reading", "out bits order mode generated")
+class Reading(NamedTuple):
+    """What a line asks for, with the number of `--gen` where it stands."""
+
+    out: str
+    bits: int
+    order: str
+    mode: str
+    generated: int | None
+
 
 # Of each option the texts that stand for something, and what they stand for. A number is read
 # apart.
-TEXTS = {
+TEXTS: dict[str, dict[str, int | str]] = {
     "bits": {"16": 16, "24": 24},
     "order": {"up": "up", "down": "down"},
     "mode": {"render": "render", "check": "check"},
@@ -65,16 +75,19 @@ BAD_TEXT = {name: "bad text of --" + name for name in OPTIONS}
 REASONS = [NOT_TEXT, UNKNOWN, REPEATED, WITHOUT_TEXT, NO_OUT, SEVERAL, BAD_OUT, *BAD_TEXT.values()]
 
 
-def decoded(words):
+def decoded(words: list[bytes]) -> list[str]:
+    """The words as text; there is no reading where one is not UTF-8."""
     try:
         return [word.decode("utf-8") for word in words]
     except UnicodeDecodeError:
         raise NoReading(NOT_TEXT)
 
 
-def parted(words):
+def parted(words: list[str]) -> tuple[dict[str, str], list[str]]:
     """The text of each option that is given, and the other words."""
-    texts, others, left = {}, [], list(words)
+    texts: dict[str, str] = {}
+    others: list[str] = []
+    left = list(words)
     while left:
         word = left.pop(0)
         if word == "--":
@@ -94,7 +107,7 @@ def parted(words):
     return texts, others
 
 
-def value(name, text):
+def value(name: str, text: str) -> Any:
     """What the text of an option stands for."""
     if name == "gen" and re.fullmatch("[0-9]{1,4}", text):
         return int(text)
@@ -103,7 +116,7 @@ def value(name, text):
     return TEXTS[name][text]
 
 
-def reading(words):
+def reading(words: list[bytes]) -> Reading:
     """What the words after the program's name ask for. Each word is its bytes."""
     texts, others = parted(decoded(words))
     values = {name: value(name, text) for name, text in texts.items()}
@@ -120,7 +133,7 @@ def reading(words):
     )
 
 
-def answer(words):
+def answer(words: list[bytes]) -> str:
     """The name of the answer to a line: that it has a reading, or why not."""
     try:
         asked = reading(words)
@@ -243,13 +256,14 @@ UNKNOWNS = [
 NOT_UTF8 = [b"\xff", b"\xc3", b"\xc0\xaf", b"\xed\xa0\x80", b"\xf4\x90\x80\x80", b"\x80"]
 
 
-def good_text(rng, name):
+def good_text(rng: random.Random, name: str) -> str:
+    """A text that the option takes."""
     if name != "gen":
         return rng.choice(GOOD[name])
     return str(rng.randint(0, 9999)).zfill(rng.randint(1, 4))
 
 
-def text_for(rng, name):
+def text_for(rng: random.Random, name: str) -> str:
     """The text of an option: mostly a good one, else one nearby or that of another option."""
     some = rng.random()
     if some < 0.85:
@@ -259,7 +273,7 @@ def text_for(rng, name):
     return rng.choice(TEXTS_NEARBY + NUMBERS_NEARBY if name == "gen" else TEXTS_NEARBY)
 
 
-def misspelled(rng, name):
+def misspelled(rng: random.Random, name: str) -> str:
     """An option that is not spelled in full."""
     return rng.choice(
         [
@@ -276,7 +290,7 @@ def misspelled(rng, name):
     )
 
 
-def option_words(rng, name, text):
+def option_words(rng: random.Random, name: str, text: str) -> list[str]:
     """One use of an option: in one word, in two, or, now and then, misspelled or without its
     text."""
     option = "--" + name if rng.random() < 0.95 else misspelled(rng, name)
@@ -285,7 +299,7 @@ def option_words(rng, name, text):
     return [option + "=" + text] if rng.random() < 0.5 else [option, text]
 
 
-def uses(rng):
+def uses(rng: random.Random) -> list[list[str]]:
     """Uses of options. With a number the mode is mostly check, since rendering a load takes its
     time."""
     names = [name for name in OPTIONS if rng.random() < 0.35]
@@ -309,7 +323,7 @@ def uses(rng):
     ]
 
 
-def others(rng, names):
+def others(rng: random.Random, names: list[str]) -> list[str]:
     """The words that are no options: mostly one."""
     some = rng.random()
     if some < 0.06:
@@ -317,7 +331,7 @@ def others(rng, names):
     return [rng.choice(["", "-"]) if some < 0.1 else rng.choice(names)]
 
 
-def spoiled(rng, words):
+def spoiled(rng: random.Random, words: list[bytes]) -> list[bytes]:
     """The words with one of them changed, left out or put in."""
     words, place = list(words), rng.randint(0, len(words))
     some = rng.randint(0, 5)
@@ -339,7 +353,7 @@ def spoiled(rng, words):
     return words
 
 
-def line(seed, number):
+def line(seed: int, number: int) -> list[bytes]:
     """The line of a seed with this number: its words as bytes. Each line is run over one of the
     inputs."""
     rng = random.Random(f"command line {seed} {number}")
@@ -356,15 +370,23 @@ def line(seed, number):
 # The comparison.
 
 
-def input_of(calls):
+def input_of(calls: list[dict[str, Any]]) -> bytes:
+    """A script of one frame with these calls."""
     return json.dumps(
         {"version": 1, "context": {"channels": 1, "length": 1, "rate": 48000}, "calls": calls}
     ).encode()
 
 
-# An input, and where a line reads it, the status, the text, and whether a file is written: one
-# sample, 1.0.
-Input = collections.namedtuple("Input", "data status text is_rendered")
+class Input(NamedTuple):
+    """An input, and where a line reads it, the status, the text, and whether a file is written: one
+    sample, 1.0."""
+
+    data: bytes
+    status: int
+    text: bytes
+    is_rendered: bool
+
+
 INPUTS = [
     Input(input_of([]), 3, b"end idle\n", False),
     Input(input_of([{"op": "start"}]), 4, b"script: 1 node MissingField\n", False),
@@ -401,11 +423,20 @@ WHOLE = rb"(0|-?[1-9][0-9]*)"
 SUMMARY_OF_SAMPLES = SUMMARY + b" peak " + WHOLE + b" sum " + WHOLE
 LAST = b"\nend completed\n"
 
-# What a run is to give. The text is what all of it matches, and the files are all of the folder.
-Wanted = collections.namedtuple("Wanted", "status text files bytes_read")
+
+class Wanted(NamedTuple):
+    """What a run is to give. The text is what all of it matches, and the files are all of the
+    folder; None where the program wrote none for a load's script."""
+
+    status: int
+    text: bytes
+    files: Mapping[bytes, bytes | None]
+    bytes_read: int
 
 
-def run(program, words, data, folder):
+def run(
+    program: str, words: list[bytes], data: bytes, folder: str
+) -> tuple[subprocess.CompletedProcess[bytes], int]:
     """Runs the program over this input in a folder: what it gives, and how many bytes it has
     read."""
     with tempfile.TemporaryFile(buffering=0) as file:
@@ -417,7 +448,7 @@ def run(program, words, data, folder):
         return ran, os.lseek(file.fileno(), 0, os.SEEK_CUR)
 
 
-def files_in(folder):
+def files_in(folder: str) -> dict[bytes, bytes]:
     """The files of a folder, which is empty afterwards."""
     files = {}
     for entry in os.scandir(os.fsencode(folder)):
@@ -427,14 +458,14 @@ def files_in(folder):
     return files
 
 
-def load_file(program, number, bits, folder):
+def load_file(program: str, number: int, bits: int, folder: str) -> bytes | None:
     """The file that the program writes for the script of a load."""
     data = json.dumps(load_script.script(number)).encode()
     run(program, [b"--bits", b"%d" % bits, b"load.wav"], data, folder)
     return files_in(folder).get(b"load.wav")
 
 
-def wanted_of(program, words, input, folder):
+def wanted_of(program: str, words: list[bytes], input: Input, folder: str) -> Wanted:
     """What a run on these words and this input is to give."""
     try:
         asked = reading(words)
@@ -451,7 +482,7 @@ def wanted_of(program, words, input, folder):
     return Wanted(0, SUMMARY_OF_SAMPLES + LAST, {**BEFORE, out: written}, 0)
 
 
-def differences(program, words, input, folder):
+def differences(program: str, words: list[bytes], input: Input, folder: str) -> list[str]:
     """What differs where the program is run on these words and this input in this folder."""
     wanted, wrong = wanted_of(program, words, input, folder), []
     with open(os.path.join(folder, "out.wav"), "wb") as file:
@@ -472,9 +503,10 @@ def differences(program, words, input, folder):
     ]
 
 
-def compare(program, seed, count, folder):
+def compare(program: str, seed: int, count: int, folder: str) -> int:
     """Runs the program on lines of a seed, tells what differs, and gives the status."""
-    wrong, times = 0, collections.Counter()
+    wrong = 0
+    times: collections.Counter[str] = collections.Counter()
     for number in range(count):
         words, input = line(seed, number), random.Random(f"input {seed} {number}").choice(INPUTS)
         times[answer(words)] += 1
@@ -489,7 +521,7 @@ def compare(program, seed, count, folder):
     return 1 if wrong or not all(times[name] for name in answers) else 0
 
 
-def show(words):
+def show(words: list[bytes]) -> None:
     """Prints the words of a line, and its reading or why it has none."""
     print(*map(repr, words))
     try:

@@ -11,11 +11,11 @@ The digest is that which crates/effect_tests/src/delay_digests.rt is to give too
 import collections
 
 from waplay_tools import digests
-from waplay_tools.digests import mixed
+from waplay_tools.digests import Cases, mixed
 
 # Which channel each channel repeats where loudspeakers are mixed up; all other pairs keep their
 # channels.
-SPEAKERS = {
+SPEAKERS: dict[tuple[int, int], tuple[int | None, ...]] = {
     (1, 2): (0, 0),
     (1, 4): (0, 0, None, None),
     (1, 6): (None, None, 0, None, None, None),
@@ -25,28 +25,37 @@ SPEAKERS = {
 }
 
 
-def mixed_up(frame, to, is_discrete):
+def mixed_up(frame: list[int], to: int, is_discrete: bool) -> list[int]:
+    """A frame of channels on at least as many: repeated as loudspeakers are, or else in their
+    places with zeros behind them."""
     kept = tuple(c if c < len(frame) else None for c in range(to))
     row = kept if is_discrete else SPEAKERS.get((len(frame), to), kept)
     return [0 if c is None else frame[c] for c in row]
 
 
 class Delay:
-    def __init__(self, capacity, block):
+    """A delay that keeps all that was written, and says of each frame whether one of its capacity,
+    which writes blocks of so many frames, would still have it."""
+    def __init__(self, capacity: int, block: int) -> None:
         self.capacity, self.block = capacity, block
-        self.frames = []
+        self.frames: list[list[int]] = []
         self.most = 1
 
-    def write(self, samples, channels):
+    def write(self, samples: list[int], channels: int) -> None:
+        """Appends a block of so many channels, whose samples stand channel by channel."""
         for k in range(self.block):
             self.frames.append([samples[c * self.block + k] for c in range(channels)])
         self.most = max(self.most, channels)
 
-    def has(self, f, delay):
+    def has(self, f: int, delay: int) -> bool:
+        """Whether a read at frame f with this delay finds what it asks for; before the birth it
+        always does."""
         written, g = len(self.frames), f - delay
         return g < 0 or g < written <= g + self.capacity + self.block
 
-    def read(self, channels, first, delays, is_discrete, counts):
+    def read(
+        self, channels: int, first: int, delays: list[int], is_discrete: bool, counts: Cases
+    ) -> list[int] | None:
         """The samples of each channel in turn, or None where the delay does not keep what is asked
         for."""
         if not all(self.has(first + k, d) for k, d in enumerate(delays)):
@@ -61,18 +70,25 @@ class Delay:
         return [frame[c] for c in range(channels) for frame in block]
 
 
-def sample(random):
+def sample(random: digests.Random) -> int:
+    """A sample from the whole range, an even one."""
     return random.below(2**31) * 2 - 2**31
 
 
-def delays_of(random, least, capacity):
+def delays_of(random: digests.Random, least: int, capacity: int) -> list[int]:
+    """The delays of 16 frames, from a least one on: all alike, which may be longer than is kept, or
+    each by itself."""
     delays = [least + random.below(capacity + 4)] * 16
     if random.below(2) == 0:
         delays = [least + random.below(capacity + 1) for _ in range(16)]
     return delays
 
 
-def read(delay, random, digest, first, least, counts):
+def read(
+    delay: Delay, random: digests.Random, digest: int, first: int, least: int, counts: Cases
+) -> int:
+    """The digest with one block that is read of a delay, from this frame on and with no shorter
+    delays than the least."""
     delays = delays_of(random, least, delay.capacity)
     is_discrete = random.below(3) == 0
     channels = max(delay.most, 1 + random.below(6))
@@ -86,7 +102,9 @@ def read(delay, random, digest, first, least, counts):
     return digest
 
 
-def one_delay(random, digest, counts):
+def one_delay(random: digests.Random, digest: int, counts: Cases) -> int:
+    """The digest with all that one delay gives over 12 blocks; in a cycle each is read before it is
+    written."""
     capacity = random.below(41)
     block = 1 + random.below(16)
     delay = Delay(capacity, block)
@@ -109,7 +127,7 @@ def main() -> None:
     is_counted = digests.is_counted("tools/delays", __doc__)
     random = digests.Random(2026)
     digest = digests.EMPTY
-    counts = collections.Counter()
+    counts: Cases = collections.Counter()
     for _ in range(5_000):
         digest = one_delay(random, digest, counts)
     digests.tell(digest, counts, is_counted)

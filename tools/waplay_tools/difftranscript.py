@@ -18,7 +18,7 @@ from waplay_tools.reporting import difference, script_reading, transcript_readin
 from waplay_tools.reporting.text import BadInput, visible
 
 
-def compared(words):
+def compared(words: argparse.Namespace) -> tuple[str, int]:
     """The text that is printed, and the status."""
     names = visible(words.a), visible(words.b)
     left, right = (
@@ -40,17 +40,17 @@ def compared(words):
 
 def main() -> int:
     """Prints where the transcripts differ."""
-    words = argparse.ArgumentParser(
+    parser = argparse.ArgumentParser(
         prog="tools/difftranscript",
         description=__doc__,
         formatter_class=argparse.RawDescriptionHelpFormatter,
     )
-    words.add_argument("a", metavar="A", help="a transcript")
-    words.add_argument("b", metavar="B", help="another one")
-    words.add_argument(
+    parser.add_argument("a", metavar="A", help="a transcript")
+    parser.add_argument("b", metavar="B", help="another one")
+    parser.add_argument(
         "--script", metavar="SCRIPT", help="the script of both: show the calls beside their answers"
     )
-    shown = words.add_mutually_exclusive_group()
+    shown = parser.add_mutually_exclusive_group()
     shown.add_argument(
         "--context",
         metavar="N",
@@ -59,7 +59,7 @@ def main() -> int:
         help="how many equal lines are shown around a difference, 3 by default",
     )
     shown.add_argument("--all", action="store_true", help="show all equal lines")
-    words = words.parse_args()
+    words = parser.parse_args()
     try:
         if words.context < 0:
             raise BadInput("--context wants 0 or more")

@@ -18,6 +18,7 @@ import threading
 import tomllib
 from pathlib import Path
 
+from waplay_tools import crates
 from waplay_tools.places import TOP
 
 BUDGET = TOP / ".ci" / "budget.toml"
@@ -34,22 +35,6 @@ class Process:
     seconds: float = 0.0
 
 
-def crates_below(name: str, crates: str) -> set[str]:
-    """The crates that one is made of, its own among them, by the text of crates.txt."""
-    below = {}
-    for line in crates.splitlines():
-        if ":" in line and not line.startswith("#"):
-            crate, _, others = line.partition(":")
-            below[crate.split()[0]] = others.split()
-    found, ahead = set(), [name]
-    while ahead:
-        crate = ahead.pop()
-        if crate in below and crate not in found:
-            found.add(crate)
-            ahead += below[crate]
-    return found
-
-
 def process_of(words: list[str], folder: str, product: set[str]) -> Process:
     """What a process with these words in this folder is of."""
     if "--crate-name" not in words:
@@ -63,17 +48,20 @@ def process_of(words: list[str], folder: str, product: set[str]) -> Process:
 class Watch(threading.Thread):
     """Looks at the processes below one until it is told to stop."""
 
-    def __init__(self, top: int, product: set[str]):
+    def __init__(self, top: int, product: set[str]) -> None:
         super().__init__(daemon=True)
         self.top, self.product = top, product
         self.is_over = threading.Event()
         self.processes: dict[tuple[int, int], Process] = {}
 
     def run(self) -> None:
+        """Looks twice a second, from the thread's start on."""
         while not self.is_over.wait(0.5):
             self.look()
 
     def look(self) -> None:
+        """Notes what each process below has taken so far. What one took last is kept when it is
+        gone."""
         parents, took = {}, {}
         for entry in os.scandir("/proc"):
             if entry.name.isdigit():
@@ -112,7 +100,7 @@ def _stat_of(pid: str) -> tuple[int, int, float] | None:
 
 def minutes_by_part(processes: list[Process], whole: float) -> dict[str, float]:
     """The minutes of the parts; the rest is what is seen nowhere of the whole, in seconds."""
-    seconds: collections.Counter[str] = collections.Counter()
+    seconds: dict[str, float] = collections.defaultdict(float)
     for process in processes:
         seconds[process.part] += process.seconds
     seconds[REST] = whole - sum(seconds[part] for part in (PROOFS, EDITS, TESTS))
@@ -132,17 +120,18 @@ def report(minutes: dict[str, float], budget: dict[str, float]) -> list[str]:
 
 def dearest(processes: list[Process], number: int) -> list[str]:
     """The crates that took most, in each part."""
-    seconds: collections.Counter[tuple[str, str]] = collections.Counter()
+    seconds: dict[tuple[str, str], float] = collections.defaultdict(float)
     for process in processes:
         if process.crate:
             seconds[process.part, process.crate] += process.seconds
+    by_seconds = sorted(seconds.items(), key=lambda it: it[1], reverse=True)
     return [
-        f"    {part} {crate}: {took / 60:.1f}"
-        for (part, crate), took in seconds.most_common(number)
+        f"    {part} {crate}: {took / 60:.1f}" for (part, crate), took in by_seconds[:number]
     ]
 
 
 def main() -> int:
+    """Runs the gate, and prints a line for each part with its budget."""
     parser = argparse.ArgumentParser(prog="tools/gate-budget", description=__doc__)
     parser.add_argument(
         "--crates", type=int, default=0, metavar="N", help="also list the N dearest crates by part"
@@ -152,7 +141,7 @@ def main() -> int:
     )
     asked = parser.parse_args()
     budget = tomllib.loads(BUDGET.read_text(encoding="utf-8"))
-    product = crates_below("waplay", (TOP / "crates.txt").read_text(encoding="utf-8"))
+    product = crates.product(crates.bases_in(TOP))
     with subprocess.Popen(asked.command or ["rt", "ci"], cwd=TOP) as gate:
         watch = Watch(gate.pid, product)
         watch.start()

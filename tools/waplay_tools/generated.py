@@ -40,7 +40,7 @@ class Run:
     """A run of the program with these words, in a folder in which it finds a file OUT, over these
     bytes."""
 
-    def __init__(self, program, words, data):
+    def __init__(self, program: str, words: list[str], data: bytes) -> None:
         with tempfile.TemporaryDirectory() as work, tempfile.TemporaryFile(buffering=0) as file:
             out = os.path.join(work, "out.wav")
             with open(out, "wb") as before:
@@ -57,7 +57,7 @@ class Run:
             self.others = set(os.listdir(work)) - {"out.wav"}
 
 
-def counted(text):
+def counted(text: bytes) -> tuple[int, int, int]:
     """What the transcript of a script says of the counts: calls that were run, sources ended and
     calls refused."""
     words = [line.split() for line in text.decode().splitlines()]
@@ -68,7 +68,7 @@ def counted(text):
     )
 
 
-def samples_of(file):
+def samples_of(file: bytes) -> list[int]:
     """The samples of a file of 24 bits, all channels together."""
     return [
         int.from_bytes(file[at : at + 3], "little", signed=True)
@@ -76,7 +76,7 @@ def samples_of(file):
     ]
 
 
-def can_be(samples, peak, total):
+def can_be(samples: list[int], peak: int, total: int) -> bool:
     """Whether values that have these samples of 24 bits, none at an end of the range, can have this
     greatest one, without its sign, and this sum. The values of a sample s are 2 s - 1 and 2 s."""
     least, most = min(samples), max(samples)
@@ -88,15 +88,17 @@ def can_be(samples, peak, total):
 class Comparison:
     """What differs at one number."""
 
-    def __init__(self, program, number):
-        self.program, self.number, self.wrong = program, number, []
+    def __init__(self, program: str, number: int) -> None:
+        self.program, self.number = program, number
+        self.wrong: list[str] = []
         self.script = json.dumps(load_script.script(number)).encode()
 
-    def look(self, is_right, words, what):
+    def look(self, is_right: object, words: list[str], what: str) -> None:
+        """Notes what is wrong at these words, where the first is false."""
         if not is_right:
             self.wrong.append(f"{' '.join(words) or 'the script'}: {what}")
 
-    def generated(self, bits, order, mode):
+    def generated(self, bits: int, order: str, mode: str) -> tuple[list[str], Run]:
         """The run with the number and these options, looked at by itself."""
         words = ["--gen", str(self.number), "--bits", str(bits), "--order", order, "--mode", mode]
         ran = Run(self.program, words, FAULTY)
@@ -106,8 +108,11 @@ class Comparison:
         self.look(not ran.others, words, f"files {sorted(ran.others)!r}")
         return words, ran
 
-    def compare(self, is_whole):
+    def compare(self, is_whole: bool) -> list[str]:
+        """What is wrong at the number, a sentence each. Looked at whole, samples and summary are
+        worked out anew."""
         session = replayed(self.script, is_checked=not is_whole)[2]
+        assert session is not None  # a load has no fault
         counts = summary_of(session).split(" peak")[0].encode()
         scripts = {bits: Run(self.program, ["--bits", str(bits)], self.script) for bits in WIDTHS}
         lines = [
@@ -149,7 +154,8 @@ class Comparison:
         return self.wrong
 
 
-def compared(job):
+def compared(job: tuple[str, int, bool]) -> tuple[int, list[str]]:
+    """What is wrong at a number with a program; a comparison that fails itself is told as wrong."""
     program, number, is_whole = job
     try:
         return number, Comparison(program, number).compare(is_whole)
@@ -157,7 +163,7 @@ def compared(job):
         return number, [f"no comparison: {error!r}"]
 
 
-def numbers_of(seed, count, whole):
+def numbers_of(seed: int, count: int, whole: list[int]) -> dict[int, bool]:
     """The numbers to be compared, and of each whether it is whole."""
     drawn = random.Random(f"generated {seed}").choices(range(10000), k=count)
     return {number: number in whole for number in [*whole, 0, 1, 9999, *drawn]}
@@ -165,33 +171,33 @@ def numbers_of(seed, count, whole):
 
 def main() -> int:
     """Compares numbers."""
-    words = argparse.ArgumentParser(
+    parser = argparse.ArgumentParser(
         prog="tools/generated",
         description=__doc__,
         formatter_class=argparse.RawDescriptionHelpFormatter,
     )
-    words.add_argument("--program", metavar="FILE", required=True, help="the program")
-    words.add_argument(
+    parser.add_argument("--program", metavar="FILE", required=True, help="the program")
+    parser.add_argument(
         "--seed", type=int, default=1, help="the seed of the drawn numbers, 1 by default"
     )
-    words.add_argument(
+    parser.add_argument(
         "--count",
         type=int,
         default=20,
         help="how many numbers are drawn beside 0, 1 and 9999; 20 by default",
     )
-    words.add_argument(
+    parser.add_argument(
         "--whole",
         type=int,
         action="append",
         metavar="N",
         help="compare this number whole; may stand several times; 0 where it is absent",
     )
-    words.add_argument("--no-whole", action="store_true", help="compare no number whole")
-    words.add_argument(
+    parser.add_argument("--no-whole", action="store_true", help="compare no number whole")
+    parser.add_argument(
         "--jobs", type=int, default=1, help="how many numbers are compared at a time, 1 by default"
     )
-    words = words.parse_args()
+    words = parser.parse_args()
     program = os.path.abspath(words.program)
     if not os.access(program, os.X_OK):
         print("generated: --program FILE has to name a program", file=sys.stderr)

@@ -21,11 +21,13 @@ import shutil
 import subprocess
 import sys
 import tempfile
+from collections.abc import Callable, Iterator
+from typing import Any
 
 from waplay_tools.expecting.automation import EDITS, LEFT_OUT_EDITS
 from waplay_tools.expecting.sessions import replayed, wav_bytes
 from waplay_tools.places import BUILT
-from waplay_tools.random_scripts.kinds import FIX, ONE, TIME
+from waplay_tools.random_scripts.kinds import FIX, ONE, TIME, Call, Calls, Script
 from waplay_tools.random_scripts.loads import (
     edited,
     gain,
@@ -37,6 +39,7 @@ from waplay_tools.random_scripts.loads import (
 )
 
 LONGEST = 2**24  # bytes of a script
+Given = tuple[int, bytes, bytes | None]  # status, transcript and WAV file
 TIMED = [
     "setValueAtTime",
     "linearRampToValueAtTime",
@@ -44,7 +47,7 @@ TIMED = [
     "cancelScheduledValues",
     "cancelAndHoldAtTime",
 ]
-FIELDS = {"value": 1, "time": 0, "values": [0, ONE], "duration": 128}
+FIELDS: dict[str, Any] = {"value": 1, "time": 0, "values": [0, ONE], "duration": 128}
 NEEDED = {
     "setValue": ["value"],
     "setValueAtTime": ["value", "time"],
@@ -55,18 +58,16 @@ NEEDED = {
 }
 
 
-def operation(op, node, param, **fields):
+def operation(op: str, node: str, param: str, **fields: Any) -> Call:
     """A call of an operation on a parameter."""
-    call = {
-        "op": op,
-        "node": node,
-        "param": param,
-        **{name: FIELDS[name] for name in NEEDED.get(op, [])},
-    }
-    return {**call, **({"value": "k-rate"} if op == "setAutomationRate" else {}), **fields}
+    call: Call = {"op": op, "node": node, "param": param}
+    call.update({name: FIELDS[name] for name in NEEDED.get(op, [])})
+    if op == "setAutomationRate":
+        call["value"] = "k-rate"
+    return {**call, **fields}
 
 
-def played(calls, length=512):
+def played(calls: Calls, length: int = 512) -> Script:
     """The calls on the gain of `g`, through which a constant of 1.0 sounds. The gain is read before
     and after them."""
     read = operation("readValue", "g", "gain")
@@ -77,14 +78,17 @@ def played(calls, length=512):
     )
 
 
-def put_in(op, **fields):
+def put_in(op: str, **fields: Any) -> Call:
+    """A call of an operation on the gain that `played` renders."""
     return operation(op, "g", "gain", **fields)
 
 
 # One script for each function, or several.
 
 
-def every_parameter():
+def every_parameter() -> Script:
+    """Each operation on each parameter and on names that are none, of nodes of all kinds, of the
+    destination and of no node."""
     nodes = {
         "c": "createConstantSource",
         "g": "createGain",
@@ -115,7 +119,7 @@ def every_parameter():
     return script_with(1, 256, calls)
 
 
-def times():
+def times() -> Script:
     """Times within their range, before now too, and durations. None of them is a fault."""
     calls = []
     for time in [-TIME, -1, 0, 1, 127, 128, 511, 512, 2**31, 2**32, TIME - 1, TIME]:
@@ -128,7 +132,7 @@ def times():
     return played(calls + [suspension(128, *late), suspension(256, *late[::-1])])
 
 
-def faults():
+def faults() -> dict[str, Script]:
     """Of each operation with a time one script for each that is none, and of curves for each
     duration."""
     scripts = {}
@@ -145,12 +149,14 @@ def faults():
     return scripts
 
 
-def points(count):
+def points(count: int) -> list[int]:
+    """So many values from the whole range, the same ones each time."""
     rng = random.Random("points")
     return [rng.randint(*FIX) for _ in range(count)]
 
 
-def short_curves():
+def short_curves() -> Script:
+    """Curves of up to 3 points over up to 3 frames, among them those that are refused."""
     calls = []
     for count in [0, 1, 2, 3]:
         for duration in [0, 1, 2, 3]:
@@ -163,7 +169,8 @@ def short_curves():
     return played(calls)
 
 
-def long_curve(duration, rate="a-rate"):
+def long_curve(duration: int, rate: str = "a-rate") -> Script:
+    """A curve of 100,000 points over this duration, and a value behind it."""
     calls = [
         put_in("setAutomationRate", value=rate),
         put_in("setValueCurveAtTime", values=points(100000), time=5, duration=duration),
@@ -172,7 +179,7 @@ def long_curve(duration, rate="a-rate"):
     return played(calls, 4096)
 
 
-def curves_in_a_row():
+def curves_in_a_row() -> Script:
     """2,000 curves of 5 points over 3 frames each, one behind the other."""
     return played(
         [
@@ -183,7 +190,7 @@ def curves_in_a_row():
     )
 
 
-def events(order):
+def events(order: str) -> Calls:
     """10,000 events of one timeline, sets and ramps by turns, in this order of their times."""
     rng, times = random.Random(order), [2 * k for k in range(10000)]
     if order == "backwards":
@@ -202,11 +209,12 @@ def events(order):
     ]
 
 
-def events_in(order):
+def events_in(order: str) -> Script:
+    """The 10,000 events in this order, rendered until the last of them has come."""
     return played(events(order), 20100)
 
 
-def events_cancelled():
+def events_cancelled() -> Script:
     """10,000 events, and cancels and holds that take them away from behind, at suspensions too."""
     calls = events("at_random")
     for k in range(20000, 10000, -100):
@@ -225,7 +233,7 @@ def events_cancelled():
     return played(calls, 20100)
 
 
-def events_at_suspensions():
+def events_at_suspensions() -> Script:
     """An event before each of 1,000 quanta, and one that lies far behind."""
     return played(
         [
@@ -240,20 +248,23 @@ def events_at_suspensions():
     )
 
 
-def many_reads():
+def many_reads() -> Script:
+    """100,000 reads of a value."""
     return script_with(
         1, 128, gain("g", 7) + [{"op": "readValue", "node": "g", "param": "gain"}] * 100000
     )
 
 
-def reads_of_a_long_timeline():
+def reads_of_a_long_timeline() -> Script:
+    """50,000 reads of a value whose timeline has 10,000 events, with as many of the state
+    between."""
     return played(events("at_random") + [put_in("readValue"), {"op": "readState"}] * 50000, 20100)
 
 
-def as_many_timelines(events):
+def as_many_timelines(events: int) -> Script:
     """1,000 timelines of so many events, in as few bytes as may be: sets and ramps, of which half
     go backwards."""
-    calls = [{"op": "createConstantSource", "as": "c"}, {"op": "start", "node": "c"}]
+    calls: Calls = [{"op": "createConstantSource", "as": "c"}, {"op": "start", "node": "c"}]
     for i in range(1000):
         name = f"{i:x}"
         calls += [
@@ -267,10 +278,10 @@ def as_many_timelines(events):
     return script_with(1, 2560, calls)
 
 
-def many_timelines_at_once():
+def many_timelines_at_once() -> Script:
     """1,000 timelines of as many events as a script has room for: values that are set before the
     first frame."""
-    calls = [{"op": "createConstantSource", "as": "c"}, {"op": "start", "node": "c"}]
+    calls: Calls = [{"op": "createConstantSource", "as": "c"}, {"op": "start", "node": "c"}]
     for i in range(1000):
         name = f"{i:x}"
         calls += [{"op": "createGain", "as": name}, joined("c", name), joined(name, "destination")]
@@ -280,7 +291,7 @@ def many_timelines_at_once():
     return script_with(1, 2560, calls)
 
 
-SCRIPTS = {
+SCRIPTS: dict[str, Callable[[], dict[str, Any]]] = {
     "every_parameter": every_parameter,
     "times": times,
     "faults": faults,
@@ -306,7 +317,7 @@ SCRIPTS = {
 }
 
 
-def scripts_of(names):
+def scripts_of(names: list[str]) -> Iterator[tuple[str, bytes]]:
     """The scripts of these names, as bytes, by name. Those of several have a number behind it."""
     for name in names:
         made = SCRIPTS[name]()
@@ -319,19 +330,19 @@ def scripts_of(names):
             yield each, json.dumps(script, separators=(",", ":")).encode()
 
 
-def expected(data):
+def expected(data: bytes) -> Given:
     """The status, the text and the file of a script, or None where there is none."""
     if len(data) > LONGEST:
         return 5, b"", None
     status, text, session = replayed(data)
-    return status, text.encode(), wav_bytes(session) if status == 0 else None
+    return status, text.encode(), wav_bytes(session) if session and status == 0 else None
 
 
-def measured(program, data, folder):
+def measured(program: str, data: bytes, folder: str) -> tuple[Given, float, float]:
     """What the program gives, with its user time in seconds and its peak memory in MiB."""
     out, times = os.path.join(folder, "out.wav"), os.path.join(folder, "times")
     ran = subprocess.run(
-        [shutil.which("time"), "-q", "-o", times, "-f", "%U %M", program, out],
+        [shutil.which("time") or "time", "-q", "-o", times, "-f", "%U %M", program, out],
         input=data,
         stdout=subprocess.PIPE,
         timeout=600,
@@ -346,7 +357,9 @@ def measured(program, data, folder):
     return (ran.returncode, ran.stdout, file), float(seconds), int(memory) / 1024
 
 
-def compare(program, names):
+def compare(program: str, names: list[str]) -> int:
+    """Compares the scripts of these names, tells what each took and what differs, and gives the
+    status."""
     count = wrong = 0
     with tempfile.TemporaryDirectory() as folder:
         for name, data in scripts_of(names):
@@ -379,26 +392,26 @@ def compare(program, names):
 
 def main() -> int:
     """Compares scripts, or writes them."""
-    words = argparse.ArgumentParser(
+    parser = argparse.ArgumentParser(
         prog="tools/hard-timelines",
         description=__doc__,
         formatter_class=argparse.RawDescriptionHelpFormatter,
     )
-    words.add_argument(
+    parser.add_argument(
         "names", nargs="*", metavar="NAME", help="a script; all of them where none is named"
     )
-    words.add_argument(
+    parser.add_argument(
         "--program",
         default=BUILT,
         metavar="FILE",
         help="the program, that which tools/prove has built by default",
     )
-    words.add_argument(
+    parser.add_argument(
         "--write",
         metavar="FOLDER",
         help="write the scripts to FOLDER/NAME.json, and compare nothing",
     )
-    words = words.parse_args()
+    words = parser.parse_args()
     names, program = words.names or list(SCRIPTS), os.path.abspath(words.program)
     unknown = [name for name in names if name not in SCRIPTS]
     if unknown:

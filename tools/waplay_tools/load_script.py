@@ -10,6 +10,9 @@ drawn from. With every N there are 1,768 calls, and 451 nodes with the destinati
 import argparse
 import json
 import sys
+from typing import Any
+
+Call = dict[str, Any]
 
 VOICES = 200
 HALFTIME = 240000
@@ -18,20 +21,22 @@ HALF = 2**23
 
 
 class Draws:
-    def __init__(self, number):
+    """The drawn numbers of a load."""
+    def __init__(self, number: int) -> None:
         self.state = number
 
-    def draw(self, count):
+    def draw(self, count: int) -> int:
         """A number below the count."""
         self.state = (1103515245 * self.state + 12345) % 2**31
         return self.state // 2**16 % count
 
 
-def connected(source, target):
+def connected(source: str, target: str) -> Call:
+    """A call that connects two nodes, at their first output and input."""
     return {"op": "connect", "from": source, "to": target}
 
 
-def echo(i, time):
+def echo(i: int, time: int) -> list[Call]:
     """A delay of this voice, which is heard, and fed back by a half."""
     voice, delay, feedback = f"g{i}", f"d{i}", f"f{i}"
     return [
@@ -44,7 +49,9 @@ def echo(i, time):
     ]
 
 
-def voice(i, draws):
+def voice(i: int, draws: Draws) -> list[Call]:
+    """The calls of a voice: a source that starts and stops, a gain with a ramp, and of each eighth
+    the echo."""
     offset, top, length, time = (draws.draw(count) for count in (2048, 32768, 4096, 240))
     source, fade = f"c{i}", f"g{i}"
     gain = {"node": fade, "param": "gain"}
@@ -62,7 +69,7 @@ def voice(i, draws):
     ]
 
 
-def script(number):
+def script(number: int) -> dict[str, Any]:
     """The script of a number."""
     draws = Draws(number)
     calls = [call for i in range(VOICES) for call in voice(i, draws)]

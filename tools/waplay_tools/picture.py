@@ -53,7 +53,7 @@ def picture(recording: Recording) -> Iterator[str]:
     yield f'<rect width="{WIDTH}" height="{total}" fill="#fff"/>'
     for channel in range(recording.channels):
         top = channel * (2 * HALF + GAP)
-        samples = [recording.sample(channel, frame) for frame in range(recording.frames)]
+        samples = recording.samples(channel, range(recording.frames))
         text = f"channel {channel}: {recording.frames} frames, {recording.rate} a second"
         yield f'<path d="M0 {top + HALF}H{WIDTH}" stroke="#bbb"/>'
         yield f'<path d="{outline(samples, top)}" stroke="#247" stroke-width="2"/>'

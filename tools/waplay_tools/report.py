@@ -14,10 +14,12 @@ import sys
 
 from waplay_tools.reporting import page, script_reading, transcript_reading, wav_samples
 from waplay_tools.reporting.following import Session
+from waplay_tools.reporting.script_reading import Script
 from waplay_tools.reporting.text import BadInput, visible
+from waplay_tools.reporting.wav_samples import Sound
 
 
-def sound_of(path, script):
+def sound_of(path: str | None, script: Script) -> tuple[bytes, Sound]:
     """The bytes of the session's WAV file, and its samples."""
     if path is None:
         raise BadInput("the session was rendered, so its WAV file is wanted as a third word")
@@ -36,7 +38,7 @@ def sound_of(path, script):
     return data, sound
 
 
-def report(words):
+def report(words: argparse.Namespace) -> str:
     """The text of the page."""
     names = visible(words.script), visible(words.transcript)
     script = script_reading.script_of(script_reading.bytes_of(words.script))
@@ -57,22 +59,21 @@ def report(words):
 
 def main() -> int:
     """Writes the page to standard output."""
-    words = argparse.ArgumentParser(
+    parser = argparse.ArgumentParser(
         prog="tools/report",
         description=__doc__,
         formatter_class=argparse.RawDescriptionHelpFormatter,
     )
-    words.add_argument("script", metavar="SCRIPT", help="the script")
-    words.add_argument("transcript", metavar="TRANSCRIPT", help="what the program printed for it")
-    words.add_argument(
+    parser.add_argument("script", metavar="SCRIPT", help="the script")
+    parser.add_argument("transcript", metavar="TRANSCRIPT", help="what the program printed for it")
+    parser.add_argument(
         "wav", metavar="WAV", nargs="?", help="the file that the session wrote, if any"
     )
-    words.add_argument(
+    parser.add_argument(
         "--against", metavar="WAV2", help="tell where this other file differs from WAV"
     )
-    words = words.parse_args()
     try:
-        text = report(words)
+        text = report(parser.parse_args())
     except BadInput as bad:
         print(f"report: {bad}", file=sys.stderr)
         return 2

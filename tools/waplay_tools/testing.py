@@ -9,13 +9,24 @@ import re
 import shutil
 import subprocess
 import sys
+import tempfile
 import time
+import tomllib
 from pathlib import Path
 
 from waplay_tools.places import TOP
 
 FOLDERS = (TOP / "tools" / "tests", TOP / "recorder" / "tests")
 BROWSER = "browser"  # a module of tests whose name has this word wants a browser
+# The modules that take longest, so that none of them is left for the end.
+LONG = (
+    "test_command_lines",
+    "test_delays",
+    "test_generated",
+    "test_reading",
+    "test_report",
+    "test_schema",
+)
 
 _RAN = re.compile(r"^Ran (\d+) tests?", re.M)
 _NOT_PASSED = re.compile(r"^FAILED \((.*)\)$", re.M)
@@ -23,26 +34,34 @@ _SKIPPED = re.compile(r"skipped=(\d+)")
 
 
 def modules(with_browser: bool) -> list[Path]:
-    """The modules of tests, those that want a browser only where they are asked for."""
+    """The modules of tests, first those that take long; those that want a browser only where they
+    are asked for."""
     found = [path for folder in FOLDERS for path in sorted(folder.glob("test_*.py"))]
+    found.sort(key=lambda path: path.stem not in LONG)
     return [path for path in found if with_browser or BROWSER not in path.stem]
 
 
-def environment(program: Path | None) -> dict[str, str]:
-    """The environment of tests: where the tools are, and the program that they run."""
+def environment(program: Path | None, room: Path) -> dict[str, str]:
+    """The environment of tests: where the tools are, the program that they run, and this Python,
+    which keeps in a folder of its own what it compiles of the tools, once for all of its runs."""
     paths = [TOP / "tools", *FOLDERS, TOP / "recorder"]
-    told = {"PYTHONPATH": os.pathsep.join(map(str, paths)), "PYTHONDONTWRITEBYTECODE": "1"}
+    told = {
+        "PATH": os.pathsep.join([os.path.dirname(sys.executable), os.environ.get("PATH", "")]),
+        "PYTHONPATH": os.pathsep.join(map(str, paths)),
+        "PYTHONPYCACHEPREFIX": str(room),
+        "PYTHONDONTWRITEBYTECODE": "",
+    }
     return {**os.environ, **told, **({"WAPLAY": str(program)} if program else {})}
 
 
-def run_module(path: Path, program: Path | None) -> tuple[str, int, int, int, str]:
+def run_module(path: Path, told: dict[str, str]) -> tuple[str, int, int, int, str]:
     """Runs a module of tests: its name, how many passed, failed and were skipped, and what it
     printed."""
     command = [sys.executable, "-m", "unittest", "-v", path.stem]
     done = subprocess.run(
         command,
         cwd=path.parent,
-        env=environment(program),
+        env=told,
         text=True,
         errors="replace",
         check=False,
@@ -54,18 +73,19 @@ def run_module(path: Path, program: Path | None) -> tuple[str, int, int, int, st
     if not ran:
         return path.stem, 0, 1, 0, done.stdout
     skipped = sum(map(int, _SKIPPED.findall(done.stdout.splitlines()[-1])))
-    told = _NOT_PASSED.search(done.stdout)
-    failed = sum(int(it) for it in re.findall(r"(?:failures|errors)=(\d+)", told[1])) if told else 0
+    faults = _NOT_PASSED.search(done.stdout)
+    counts = re.findall(r"(?:failures|errors)=(\d+)", faults[1]) if faults else []
+    failed = sum(map(int, counts))
     failed = max(failed, int(done.returncode not in (0, 5)))
     return path.stem, int(ran[1]) - failed - skipped, failed, skipped, done.stdout
 
 
-def run_modules(paths: list[Path], program: Path | None) -> tuple[int, int]:
+def run_modules(paths: list[Path], told: dict[str, str]) -> tuple[int, int]:
     """Runs modules of tests side by side, and says what failed or was skipped."""
     passed_by_all = failed_by_all = 0
-    with concurrent.futures.ThreadPoolExecutor(os.cpu_count()) as pool:
+    with concurrent.futures.ThreadPoolExecutor(len(os.sched_getaffinity(0))) as pool:
         for name, passed, failed, skipped, text in pool.map(
-            run_module, paths, [program] * len(paths)
+            run_module, paths, [told] * len(paths)
         ):
             print(f"{name}: {passed} passed" + f", {failed} failed" * (failed > 0))
             if failed:
@@ -76,30 +96,44 @@ def run_modules(paths: list[Path], program: Path | None) -> tuple[int, int]:
     return passed_by_all, failed_by_all
 
 
-def run_cases(programs: list[Path]) -> tuple[int, int]:
+def run_cases(programs: list[Path], told: dict[str, str]) -> tuple[int, int]:
     """Runs the cases on these programs, and on the shipped one where there are none."""
     words = [word for program in programs for word in ("--program", str(program))]
     command = [sys.executable, "-m", "waplay_tools.cases", *words]
-    done = subprocess.run(
-        command, env=environment(None), stdout=subprocess.PIPE, text=True, check=False
-    )
+    done = subprocess.run(command, env=told, stdout=subprocess.PIPE, text=True, check=False)
     *lines, last = done.stdout.splitlines() or [""]
     print("\n".join(lines), flush=True)
-    told = re.fullmatch(r"(\d+) passed, (\d+) failed", last)
-    return (int(told[1]), int(told[2])) if told else (0, 1)
+    counts = re.fullmatch(r"(\d+) passed, (\d+) failed", last)
+    return (int(counts[1]), int(counts[2])) if counts else (0, 1)
 
 
-def run_ruff() -> tuple[int, int]:
-    """Runs ruff over the tools' own Python, where it is installed."""
-    if not shutil.which("ruff"):
-        print("ruff: skipped, as it is not installed")
-        return 0, 0
-    done = subprocess.run(["ruff", "check", "--quiet", "tools", "recorder"], cwd=TOP, check=False)
-    print(f"ruff: {'no fault' if done.returncode == 0 else 'faults'}")
-    return int(done.returncode == 0), int(done.returncode != 0)
+def linters() -> list[list[str]]:
+    """The commands that look at the tools' own Python. What pycodestyle is told stands in
+    pyproject.toml, as do the settings of those that read it themselves."""
+    told = tomllib.loads((TOP / "tools" / "pyproject.toml").read_text(encoding="utf-8"))
+    style = [
+        f"--{name}={','.join(value) if isinstance(value, list) else value}"
+        for name, value in told["tool"]["pycodestyle"].items()
+    ]
+    return [["ruff", "check", "--quiet"], ["pycodestyle", *style], ["pyflakes3"]]
+
+
+def run_linters() -> tuple[int, int]:
+    """Runs those of the linters that are installed, and says what they find."""
+    passed = failed = 0
+    for name, *words in linters():
+        if not shutil.which(name):
+            print(f"{name}: skipped, as it is not installed")
+            continue
+        done = subprocess.run([name, *words, "tools", "recorder"], cwd=TOP, check=False)
+        print(f"{name}: {'no fault' if done.returncode == 0 else 'faults'}")
+        passed, failed = passed + (done.returncode == 0), failed + (done.returncode != 0)
+    return passed, failed
 
 
 def main() -> int:
+    """Runs all that the command line asks for. The last line has the counts, and the status is 0
+    where nothing failed."""
     parser = argparse.ArgumentParser(prog="./test", description=__doc__)
     parser.add_argument(
         "--program",
@@ -122,9 +156,11 @@ def main() -> int:
     begun = time.monotonic()
     programs = [program.resolve() for program in asked.program]
     counts = [tuple(map(int, re.findall(r"(\d+) (?:passed|failed)", asked.before)))]
-    counts.append(run_cases(programs))
-    counts.append(run_modules(modules(asked.browser), programs[0] if programs else None))
-    counts.append(run_ruff())
+    with tempfile.TemporaryDirectory(prefix="waplay-test-") as room:
+        told = environment(programs[0] if programs else None, Path(room))
+        counts.append(run_cases(programs, told))
+        counts.append(run_modules(modules(asked.browser), told))
+    counts.append(run_linters())
     print(f"./test took {time.monotonic() - begun:.0f} s")
     print(f"{sum(it[0] for it in counts)} passed, {sum(it[1] for it in counts)} failed")
     return 1 if any(it[1] for it in counts) else 0

@@ -2,6 +2,7 @@
 
 import dataclasses
 import struct
+from itertools import chain
 
 
 @dataclasses.dataclass(frozen=True)
@@ -16,34 +17,27 @@ class Form:
         return f"{self.channels} channels, {self.rate} frames a second, {self.bits} bits"
 
 
+def file_of(form: Form, samples: bytes) -> bytes:
+    """The file of these bytes of samples, which stand channel by channel within a frame."""
+    step = form.channels * form.bits // 8
+    padding = len(samples) % 2
+    fields = (16, 1, form.channels, form.rate, form.rate * step, step, form.bits)
+    head = b"RIFF" + struct.pack("<I", 36 + len(samples) + padding)
+    head += b"WAVEfmt " + struct.pack("<IHHIIHH", *fields)
+    return head + b"data" + struct.pack("<I", len(samples)) + samples + bytes(padding)
+
+
 def wav_bytes(form: Form, channels: list[list[int]]) -> bytes:
     """The file with these samples, a list a channel; samples of 8 bits count from 0 to 255."""
-    width = form.bits // 8
-    body = b"".join(
-        sample.to_bytes(width, "little", signed=form.bits > 8)
-        for frame in zip(*channels, strict=True)
-        for sample in frame
-    )
-    padding = len(body) % 2
-    step = form.channels * width
-    head = struct.pack(
-        "<IHHIIHH", 16, 1, form.channels, form.rate, form.rate * step, step, form.bits
-    )
-    size = struct.pack("<I", 36 + len(body) + padding)
-    return (
-        b"RIFF"
-        + size
-        + b"WAVEfmt "
-        + head
-        + b"data"
-        + struct.pack("<I", len(body))
-        + body
-        + bytes(padding)
+    width, is_signed = form.bits // 8, form.bits > 8
+    frames = zip(*channels, strict=True)
+    return file_of(
+        form, b"".join(it.to_bytes(width, "little", signed=is_signed) for it in chain(*frames))
     )
 
 
 def form_of(data: bytes) -> Form | None:
-    """The form of a file that begins as `wav_bytes` writes it."""
+    """The form of a file that begins as `file_of` writes it."""
     if len(data) < 44 or data[:4] != b"RIFF" or data[8:16] != b"WAVEfmt " or data[36:40] != b"data":
         return None
     channels, rate = struct.unpack_from("<HI", data, 22)

@@ -20,6 +20,7 @@ import subprocess
 import sys
 import tempfile
 import wave
+from collections.abc import Callable
 
 from waplay_tools.expecting.wav_reading import PCM, WavFault, recording_of
 from waplay_tools.places import TOP
@@ -32,7 +33,7 @@ FACTOR = 6364136223846793005
 # The answers.
 
 
-def line(data):
+def line(data: bytes) -> str:
     """The line that the program has to write for a file."""
     try:
         recording = recording_of(data)
@@ -40,24 +41,27 @@ def line(data):
         return str(fault)
     digest = 0
     for channel in range(recording.channels):
-        for frame in range(recording.frames):
-            digest = (digest * FACTOR + recording.sample(channel, frame) % 2**32) % 2**64
+        for sample in recording.samples(channel, range(recording.frames)):
+            digest = (digest * FACTOR + sample % 2**32) % 2**64
     return f"{recording.rate} {recording.channels} {recording.frames} {digest}"
 
 
 # The files.
 
 
-def chunk(name, body, padded=True):
+def chunk(name: bytes, body: bytes, padded: bool = True) -> bytes:
+    """A chunk of a RIFF file, which may lack the zero byte behind an odd body."""
     return name + struct.pack("<I", len(body)) + body + (b"\0" if padded and len(body) % 2 else b"")
 
 
-def riff(*chunks):
+def riff(*chunks: bytes) -> bytes:
+    """A WAV file of these chunks."""
     body = b"WAVE" + b"".join(chunks)
     return b"RIFF" + struct.pack("<I", len(body)) + body
 
 
-def made_by_wave(rng):
+def made_by_wave(rng: random.Random) -> bytes:
+    """A file of random shape and samples that Python's module wave writes."""
     width, channels = rng.choice((1, 2, 3, 4)), rng.randint(1, 8)
     out = io.BytesIO()
     with wave.open(out, "wb") as file:
@@ -68,7 +72,7 @@ def made_by_wave(rng):
     return out.getvalue()
 
 
-def made_by_hand(rng, rate=None):
+def made_by_hand(rng: random.Random, rate: int | None = None) -> bytes:
     """With other chunks around, with an extension, with sizes that are odd or promise too much. The
     rate is one of two, where none is given."""
     width, channels = rng.choice((1, 2, 3, 4)), rng.randint(1, 8)
@@ -92,7 +96,8 @@ def made_by_hand(rng, rate=None):
         )
     samples = rng.randbytes(rng.randint(0, 24) * block + rng.choice((0, 0, 1, block // 2)))
 
-    def others():
+    def others() -> list[bytes]:
+        """Some chunks that are to be passed over."""
         names = (b"LIST", b"fact", b"bext", b"Data", b"fmt\0")
         return [
             chunk(rng.choice(names), rng.randbytes(rng.randint(0, 9)))
@@ -117,7 +122,7 @@ def made_by_hand(rng, rate=None):
     return riff(*parts)
 
 
-def made_by_sox(folder):
+def made_by_sox(folder: str) -> list[bytes]:
     """Some files of sox, of 1 to 8 channels and every width; none where it is not found."""
     sox = shutil.which("sox")
     if not sox:
@@ -148,7 +153,11 @@ def made_by_sox(folder):
     return files
 
 
-def mutated(rng, data):
+# Two of three files are made by hand.
+MAKES: list[Callable[[random.Random], bytes]] = [made_by_wave, made_by_hand, made_by_hand]
+
+
+def mutated(rng: random.Random, data: bytes) -> bytes:
     """The file with one to three changes, most of them near its start, where its fields are."""
     data = bytearray(data)
     for _ in range(rng.randint(1, 3)):
@@ -182,14 +191,15 @@ def mutated(rng, data):
     return bytes(data)
 
 
-def made(count, seed):
+def made(count: int, seed: int) -> list[bytes]:
+    """So many files of a seed: those of sox, and made ones, of which most are changed."""
     with tempfile.TemporaryDirectory() as folder:
         sources = made_by_sox(folder)
     print(f"files of sox: {len(sources)}")
     files = list(sources)
     while len(files) < count:
         rng = random.Random(f"{seed} {len(files)}")
-        data = rng.choice((made_by_wave, made_by_hand, made_by_hand))(rng)
+        data = rng.choice(MAKES)(rng)
         if sources and rng.random() < 0.1:
             data = rng.choice(sources)
         files.append(mutated(rng, data) if rng.random() < 0.75 else data)
@@ -198,11 +208,27 @@ def made(count, seed):
 
 def main() -> int:
     """Compares files, or prints answers."""
-    parser = argparse.ArgumentParser(prog="tools/wav-check", description=__doc__, formatter_class=argparse.RawDescriptionHelpFormatter)
-    parser.add_argument("--count", type=int, default=20000, help="how many files, 20,000 by default")
+    parser = argparse.ArgumentParser(
+        prog="tools/wav-check",
+        description=__doc__,
+        formatter_class=argparse.RawDescriptionHelpFormatter,
+    )
+    parser.add_argument(
+        "--count", type=int, default=20000, help="how many files, 20,000 by default"
+    )
     parser.add_argument("--seed", type=int, default=1, help="the seed of the files, 1 by default")
-    parser.add_argument("--program", default=PROGRAM, metavar="FILE", help="the program, that which the gate leaves in crates/wav_dump/out by default")
-    parser.add_argument("--line", nargs="+", metavar="FILE", help="print the answers of the second calculation to these files alone")
+    parser.add_argument(
+        "--program",
+        default=PROGRAM,
+        metavar="FILE",
+        help="the program, that which the gate leaves in crates/wav_dump/out by default",
+    )
+    parser.add_argument(
+        "--line",
+        nargs="+",
+        metavar="FILE",
+        help="print the answers of the second calculation to these files alone",
+    )
     words = parser.parse_args()
     if words.line:
         for path in words.line:
@@ -214,7 +240,7 @@ def main() -> int:
     run = subprocess.run([words.program], input=given, stdout=subprocess.PIPE, check=True)
     found = run.stdout.decode().splitlines()
     wrong = abs(len(found) - len(files))
-    times = collections.Counter()
+    times: collections.Counter[str] = collections.Counter()
     for number, (data, answer) in enumerate(zip(files, found)):
         want = line(data)
         times[want.split("(")[0] if "(" in want else "samples"] += 1

@@ -19,6 +19,7 @@ SECOND = "the second calculation"
 
 
 def words() -> argparse.Namespace:
+    """The words of the command line."""
     parser = argparse.ArgumentParser(prog="tools/cases", description=__doc__)
     parser.add_argument(
         "paths",
@@ -42,19 +43,26 @@ def words() -> argparse.Namespace:
         action="store_true",
         help="change wanted values of each case, one at a time, and say which changes are not told",
     )
-    parser.add_argument("--jobs", type=int, default=os.cpu_count(), help="how many run at a time")
+    parser.add_argument(
+        "--jobs",
+        type=int,
+        default=len(os.sched_getaffinity(0)),
+        help="how many run at a time; one on each processor by default",
+    )
     return parser.parse_args()
 
 
 def files_in(paths: list[Path]) -> list[Path]:
     """The files of the cases and examples at these paths, in order."""
     found: list[Path] = []
-    for path in paths or [CASES, EXAMPLES]:
+    for path in paths or [EXAMPLES, CASES]:  # an example takes as long as a hundred cases
         found += sorted(path.rglob("*.json")) if path.is_dir() else [path]
     return [path.resolve() for path in found]
 
 
 def case_at(path: Path) -> Case:
+    """The case of a file, or the example that stands for one. It raises CaseFault where the file is
+    neither."""
     return example_of(path) if path.parent == EXAMPLES else read_case(path)
 
 
@@ -96,6 +104,8 @@ def changes_untold(path: Path, programs: list[Path]) -> dict[str, list[str]]:
 
 
 def main() -> int:
+    """Runs what the command line names, tells what is otherwise than wanted, and gives the
+    status."""
     asked = words()
     programs = [] if asked.second_alone else [it.resolve() for it in asked.program or [SHIPPED]]
     for program in programs:
@@ -107,7 +117,7 @@ def main() -> int:
     passed: dict[str, int] = {}
     failed = 0
     with concurrent.futures.ProcessPoolExecutor(asked.jobs) as pool:
-        for path, told in zip(paths, pool.map(look, paths, [programs] * len(paths), chunksize=4)):
+        for path, told in zip(paths, pool.map(look, paths, [programs] * len(paths))):
             for name, lines in told.items():
                 passed[name] = passed.get(name, 0) + (not lines)
                 failed += bool(lines)

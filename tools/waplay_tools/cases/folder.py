@@ -1,6 +1,7 @@
 """The folder that a case's run stands in: its files before, and what is there after."""
 
 import base64
+from collections.abc import Callable
 from pathlib import Path
 from typing import Any
 
@@ -18,10 +19,10 @@ def content_of(told: dict[str, Any]) -> Content:
     if form == "wav":
         channels = [runs_in(channel) for channel in value["channels"]]
         return wav.wav_bytes(wav.Form(len(channels), value["rate"], value["bits"]), channels)
-    readings = {
+    readings: dict[str, Callable[[], Content]] = {
         "hex": lambda: bytes.fromhex("".join(value) if isinstance(value, list) else value),
         "base64": lambda: base64.b64decode(value),
-        "text": value.encode if isinstance(value, str) else None,
+        "text": lambda: value.encode(),
         "zeros": lambda: value,
         "folder": lambda: None,
         "copy": lambda: (TOP / value).read_bytes(),

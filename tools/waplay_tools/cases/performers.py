@@ -43,10 +43,9 @@ def perform(program: Path, case: Case, folder: Path) -> Outcome:
     faults = changes_in(folder, case.files, case.left, out)
     if done.stderr:
         faults.append(f"standard error: {done.stderr[:200].decode(errors='replace')!r}")
-    has_file = out is not None and (folder / out).is_file()
-    return Outcome(
-        done.returncode, done.stdout, (folder / out).read_bytes() if has_file else None, faults
-    )
+    path = None if out is None else folder / out
+    file = path.read_bytes() if path and path.is_file() else None
+    return Outcome(done.returncode, done.stdout, file, faults)
 
 
 def calculate(case: Case, folder: Path) -> Outcome:
@@ -58,6 +57,5 @@ def calculate(case: Case, folder: Path) -> Outcome:
     is_checked = asked.mode == "check"
     status, text, session = replayed(case.input_bytes() or b"", str(folder), is_checked)
     is_rendered = status == 0 and not is_checked
-    return Outcome(
-        status, text.encode(), expected_wav(session, asked.bits) if is_rendered else None
-    )
+    file = expected_wav(session, asked.bits) if session and is_rendered else None
+    return Outcome(status, text.encode(), file)

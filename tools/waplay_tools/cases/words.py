@@ -17,7 +17,8 @@ class Words:
 
 def words_of(words: list[str]) -> Words | None:
     """What these words ask for; None where they have no reading."""
-    outs, told = [], {}
+    outs: list[str] = []
+    told: dict[str, str] = {}
     rest = iter(words)
     for word in rest:
         if word == "--":

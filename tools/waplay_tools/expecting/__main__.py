@@ -26,12 +26,7 @@ import os
 import sys
 from pathlib import Path
 
-from waplay_tools.expecting.sessions import (
-    replayed,
-    samples_of,
-    summary_of,
-    wav_bytes,
-)  # noqa: E402
+from waplay_tools.expecting.sessions import replayed, samples_of, summary_of, wav_bytes
 
 
 def arguments() -> argparse.Namespace:
@@ -83,14 +78,16 @@ def main() -> int:
     if asked.summary and session:
         print(summary_of(session), text.splitlines()[-1], sep="\n")
         return 0
-    wav = wav_bytes(session, asked.bits) if status == 0 and not is_checked else b""
+    is_written = status == 0 and not is_checked
+    wav = wav_bytes(session, asked.bits) if session and is_written else b""
     if asked.check:
         return 1 if differs(asked.check, wav) else 0
     print(text, end="")
     if asked.wav and wav:
         asked.wav.write_bytes(wav)
-    elif not asked.lines and wav:
-        for channel, samples in enumerate(zip(*samples_of(session.values, asked.bits))):
+    elif not asked.lines and wav and session:
+        values = session.values or []
+        for channel, samples in enumerate(zip(*samples_of(values, asked.bits))):
             print(f"channel {channel} sum {sum(samples)}")
         print(f"wav sha256 {hashlib.sha256(wav).hexdigest()}")
     return 0

@@ -4,11 +4,15 @@ import itertools
 import operator
 
 from waplay_tools.expecting.nodes import Node
-from waplay_tools.expecting.numbers import ONE, SILENCE, rounded_quotient, saturated
+from waplay_tools.expecting.numbers import ONE, SILENCE, Blocks, rounded_quotient, saturated
+from waplay_tools.expecting.reading import Call
 from waplay_tools.expecting.refusals import Refused, profile
 
+History = tuple[int, ...]  # of a channel, the newest one first
 
-def check_oversample(word):
+
+def check_oversample(word: str) -> None:
+    """Refuses an oversampling, which the profile leaves out."""
     if word != "none":
         raise profile("oversample")
 
@@ -17,19 +21,22 @@ class Shaper(Node):
     """A wave shaper. The points of its curve are spread evenly from -1.0 to 1.0. That one was set
     stays, also where it was taken away."""
 
-    def __init__(self, call):
+    def __init__(self, call: Call) -> None:
         super().__init__("shaper", call["as"])
         check_oversample(call.get("oversample", "none"))
-        self.curve, self.was_set = None, False
+        self.curve: list[int] | None = None
+        self.was_set = False
         self.set_curve(call.get("curve"))
 
-    def set_curve(self, curve):
+    def set_curve(self, curve: list[int] | None) -> None:
+        """Sets the curve, or takes it away. A second one is refused, and one of fewer than two
+        points."""
         if curve is not None and (len(curve) < 2 or self.was_set):
             raise Refused("InvalidStateError")
         self.curve = curve
         self.was_set = self.was_set or curve is not None
 
-    def shaped(self, x):
+    def shaped(self, x: int) -> int:
         """What becomes of a sample, which passes through where there is no curve."""
         if self.curve is None:
             return x
@@ -45,16 +52,16 @@ class Filter(Node):
     coefficients reach, the newest ones first. A channel that it has not heard yet was 0 from its
     birth on."""
 
-    def __init__(self, call):
+    def __init__(self, call: Call) -> None:
         super().__init__("filter", call["as"])
         self.forward, self.back = call["feedforward"], call["feedback"]
         if not (1 <= len(self.forward) <= 20 and 1 <= len(self.back) <= 20):
             raise Refused("NotSupportedError")
         if not any(self.forward) or self.back[0] == 0:
             raise Refused("InvalidStateError")
-        self.histories = ()
+        self.histories: list[tuple[History, History]] = []
 
-    def heard(self, x, inputs, outputs):
+    def heard(self, x: int, inputs: History, outputs: History) -> tuple[History, History]:
         """The inputs and the outputs of a channel that hears this next."""
         inputs = (x, *inputs[:-1])
         total = sum(map(operator.mul, self.forward, inputs)) - sum(
@@ -65,7 +72,7 @@ class Filter(Node):
             total, divisor = -total, -divisor
         return inputs, (saturated(rounded_quotient(total, divisor)), *outputs[:-1])
 
-    def filtered(self, blocks):
+    def filtered(self, blocks: Blocks) -> Blocks:
         """What it gives that hears these channels in a quantum. Every other channel is heard as
         0."""
         silent = (0,) * len(self.forward), (0,) * len(self.back)

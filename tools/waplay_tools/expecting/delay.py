@@ -1,7 +1,16 @@
 """Delays: what their writers wrote, and what their readers read of it."""
 
 from waplay_tools.expecting.nodes import Node
-from waplay_tools.expecting.numbers import ONE, QUANTUM, SILENCE, mixed_blocks, rounded_quotient
+from waplay_tools.expecting.numbers import (
+    ONE,
+    QUANTUM,
+    SILENCE,
+    Block,
+    Blocks,
+    mixed_blocks,
+    rounded_quotient,
+)
+from waplay_tools.expecting.reading import Call
 from waplay_tools.expecting.refusals import Refused, profile
 
 LONGEST = 16 * ONE  # seconds
@@ -12,7 +21,7 @@ class Delay(Node):
     writer wrote, as far back as its reader may ask, and how many channels the writer had at most
     since the birth."""
 
-    def __init__(self, call, rate, birth):
+    def __init__(self, call: Call, rate: int, birth: int) -> None:
         longest = call.get("maxDelayTime", ONE)
         if longest <= 0:
             raise Refused("NotSupportedError")
@@ -22,41 +31,40 @@ class Delay(Node):
         self.nominal = 0, longest
         self.rate, self.birth = rate, birth
         self.capacity = max(self.frames(longest), QUANTUM)
-        self.written, self.most = {}, {}
+        self.written: dict[int, Blocks] = {}
+        self.most: dict[int, int] = {}
 
-    def frames(self, time):
+    def frames(self, time: int) -> int:
+        """The whole frames nearest to a time in seconds."""
         return rounded_quotient(time * self.rate, ONE)
 
-    def write(self, first, channels):
+    def write(self, first: int, channels: Blocks) -> None:
         """The writer has these channels in the quantum that begins here."""
         self.written[first] = channels
         self.most[first] = max(self.most_until(first - QUANTUM), len(channels))
-        asked = (
-            first - self.capacity
-        ) // QUANTUM  # the first quantum that may be asked for, now and later
-        for kept in self.written, self.most:
-            kept.pop((asked - 1) * QUANTUM, None)
+        asked = (first - self.capacity) // QUANTUM  # the first quantum that may be asked for
+        self.written.pop((asked - 1) * QUANTUM, None)
+        self.most.pop((asked - 1) * QUANTUM, None)
 
-    def most_until(self, first):
+    def most_until(self, first: int) -> int:
         """The most channels that the writer had up to the quantum that begins here, and one at
         least."""
         return self.most[first] if first >= self.birth else 1
 
-    def heard_from(self, first, count):
+    def heard_from(self, first: int, count: int) -> Blocks:
         """What was written in the quantum that begins here, mixed to so many channels."""
         if first < self.birth:
             return [SILENCE] * count
         return mixed_blocks(self.written[first], count, self.interpretation)
 
-    def read(self, first, times, is_in_cycle):
+    def read(self, first: int, times: Block, is_in_cycle: bool) -> Blocks:
         """The channels of the reader in the quantum that begins here, with these values of
         delayTime. In a cycle it reads nothing that is written in the same quantum."""
         count = self.most_until(first - QUANTUM if is_in_cycle else first)
         least = QUANTUM if is_in_cycle else 0
         places = [frame - max(least, self.frames(time)) for frame, time in enumerate(times, first)]
-        heard = {place // QUANTUM: None for place in places}
-        for quantum in heard:
-            heard[quantum] = self.heard_from(QUANTUM * quantum, count)
+        quanta = {place // QUANTUM for place in places}
+        heard = {quantum: self.heard_from(QUANTUM * quantum, count) for quantum in quanta}
         return [
             [heard[place // QUANTUM][c][place % QUANTUM] for place in places] for c in range(count)
         ]

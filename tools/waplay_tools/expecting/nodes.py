@@ -1,14 +1,19 @@
 """Nodes, buffers and the assets that become buffers, by the rules of docs/PROFILE.md."""
 
 import os
+from collections.abc import Sequence
 
 from waplay_tools.expecting.automation import Timeline
-from waplay_tools.expecting.numbers import FIX, ONE, QUANTUM, SILENCE
+from waplay_tools.expecting.numbers import FIX, ONE, QUANTUM, SILENCE, Block, Blocks
+from waplay_tools.expecting.reading import Call
+from waplay_tools.expecting.wav_reading import Recording
+
+Levels = dict[str, Block]  # of each parameter its values in a quantum
 
 ASSET_LIMIT = 2**26  # bytes of a file
 
 # The attributes of each kind of node that cannot change.
-FIXED = {
+FIXED: dict[str, tuple[str, ...]] = {
     "destination": ("count", "mode"),
     "constant": (),
     "buffer source": (),
@@ -23,7 +28,7 @@ FIXED = {
 SOURCES = ("constant", "buffer source")
 
 # The parameters of each kind of node that has any, with the feature where no call may change them.
-PARAMETERS = {
+PARAMETERS: dict[str, dict[str, str | None]] = {
     "constant": {"offset": None},
     "buffer source": {"playbackRate": "playback-rate-automation", "detune": "detune"},
     "gain": {"gain": None},
@@ -38,7 +43,7 @@ class Node:
 
     nominal = FIX  # the range of the values of its parameters
 
-    def __init__(self, kind, name, value=None):
+    def __init__(self, kind: str, name: str, value: int = 0) -> None:
         self.kind, self.name = kind, name
         self.timelines = {
             parameter: Timeline(value)
@@ -52,13 +57,17 @@ class Node:
             "splitter": (value, "explicit", "discrete"),
             "merger": (1, "explicit", "speakers"),
         }.get(kind, (2, "max", "speakers"))
-        self.start = self.stop = None
+        self.start: int | None = None
+        self.stop: int | None = None
         self.ended = False
 
-    def end(self):
-        return None if self.stop is None else max(self.start, self.stop)
+    def end(self) -> int | None:
+        """The frame from which a source is silent for good; None where nothing ends it."""
+        if self.start is None or self.stop is None:
+            return None
+        return max(self.start, self.stop)
 
-    def played_from(self, first):
+    def played_from(self, first: int) -> range:
         """The frames in which it plays of the quantum that begins here."""
         end = self.end()
         if self.start is None:
@@ -67,14 +76,15 @@ class Node:
             max(self.start, first), first + QUANTUM if end is None else min(end, first + QUANTUM)
         )
 
-    def times(self, call):
+    def times(self, call: Call) -> list[int]:
         """The times of a call that starts or stops it."""
         return [call.get("when", 0)]
 
-    def started(self, frame, call):
+    def started(self, frame: int, call: Call) -> None:
+        """Notes that the source begins at a frame, by this call of start."""
         self.start = frame
 
-    def sound(self, first, levels):
+    def sound(self, first: int, levels: Levels) -> Blocks:
         """The channels of a source in the quantum that begins here, in which its parameters have
         these values. One that plays in no frame of it has one, which is silent."""
         played = self.played_from(first)
@@ -83,7 +93,7 @@ class Node:
         before, after = SILENCE[: played.start - first], SILENCE[played.stop - first :]
         return [[*before, *part, *after] for part in self.content(played, first, levels)]
 
-    def content(self, played, first, levels):
+    def content(self, played: range, first: int, levels: Levels) -> Blocks:
         """What the channels of a source have in the frames in which it plays."""
         return [levels["offset"][played.start - first : played.stop - first]]
 
@@ -92,62 +102,67 @@ class BufferSource(Node):
     """A source that plays a buffer. Its times are frames of the session, and its offset, its
     duration and the ends of its loop are frames of the buffer."""
 
-    def __init__(self, call, buffer):
+    def __init__(self, call: Call, buffer: "Buffer | None") -> None:
         super().__init__("buffer source", call["as"])
         self.buffer, self.was_set = buffer, buffer is not None
         self.is_looping = call.get("loop", False)
         self.loop_start, self.loop_end = call.get("loopStart", 0), call.get("loopEnd", 0)
         self.rate = call.get("playbackRate", ONE) // ONE
-        self.offset, self.duration = 0, None
+        self.offset = 0
+        self.duration: int | None = None
 
-    def length(self):
+    def length(self) -> int:
+        """The frames of the buffer, and 0 where there is none."""
         return self.buffer.length if self.buffer else 0
 
-    def loop(self):
+    def loop(self) -> tuple[int, int]:
         """The first frame of the buffer that is in the loop, and the first one behind the loop."""
         first, last = self.loop_start, self.loop_end
         if first >= 0 and last > 0 and first < last and first < self.length():
             return first, min(last, self.length())
         return 0, self.length()
 
-    def times(self, call):
+    def times(self, call: Call) -> list[int]:
+        """The times of a call that starts or stops it: a start has an offset and a duration too."""
         if call["op"] == "stop":
             return super().times(call)
         return super().times(call) + [call.get("offset", 0), call.get("duration") or 0]
 
-    def started(self, frame, call):
+    def started(self, frame: int, call: Call) -> None:
+        """The same as of any source, and the buffer cannot be written any more."""
         super().started(frame, call)
         self.offset, self.duration = call.get("offset", 0), call.get("duration")
         if self.buffer:
             self.buffer.is_acquired = True
 
-    def first(self):
+    def first(self) -> int:
         """The frame of the buffer that it begins with."""
         return min(self.offset, self.loop()[1] if self.is_looping else self.length())
 
-    def played(self):
+    def played(self) -> int | None:
         """How many frames it plays, where that has a bound. The duration counts through the loop
         too."""
         if self.length() == 0:
-            content = 0
-        elif self.is_looping:
-            content = self.duration
-        else:
-            content = self.length() - self.first()
-            content = content if self.duration is None else min(content, self.duration)
+            return 0
+        content = self.duration
+        if not self.is_looping:
+            rest = self.length() - self.first()
+            content = rest if content is None else min(rest, content)
         return None if content is None else -(-content // self.rate)  # rounded up
 
-    def end(self):
+    def end(self) -> int | None:
+        """Where its content, its duration or its stop ends it, whichever comes first."""
         if self.start is None:
             return None
         played = self.played()
         ends = [None if played is None else self.start + played, super().end()]
         return min((end for end in ends if end is not None), default=None)
 
-    def positions(self, frames):
+    def positions(self, frames: range) -> list[int]:
         """The frames of the buffer that are heard at these frames."""
-        begin, (first, last) = self.first(), self.loop()
-        places = [begin + (frame - self.start) * self.rate for frame in frames]
+        assert self.start is not None
+        begin, (first, last) = self.first() - self.start * self.rate, self.loop()
+        places = [begin + frame * self.rate for frame in frames]
         if self.is_looping:
             return [
                 first + (place - first) % (last - first) if place >= last else place
@@ -155,32 +170,40 @@ class BufferSource(Node):
             ]
         return places
 
-    def content(self, played, first, levels):
-        places = self.positions(played)
-        return [
-            [self.buffer.sample(channel, place) for place in places]
-            for channel in range(self.buffer.channels)
-        ]
+    def content(self, played: range, first: int, levels: Levels) -> Blocks:
+        """What the buffer has at the frames in which it plays, of each channel."""
+        assert self.buffer is not None  # without one it ends where it starts
+        buffer, places = self.buffer, self.positions(played)
+        return [buffer.samples(channel, places) for channel in range(buffer.channels)]
 
 
 class Buffer:
     """A buffer: a recording, or else zeros, and what was written over it."""
 
-    def __init__(self, channels, length, rate, recording=None):
+    def __init__(
+        self, channels: int, length: int, rate: int, recording: Recording | None = None
+    ) -> None:
         self.channels, self.length, self.rate, self.recording = channels, length, rate, recording
-        self.written = {}  # of channels and frames
+        self.written: dict[tuple[int, int], int] = {}  # of channels and frames
         self.is_acquired = False
 
-    def sample(self, channel, frame):
-        there = self.recording.sample(channel, frame) if self.recording else 0
-        return self.written.get((channel, frame), there)
+    def samples(self, channel: int, frames: Sequence[int]) -> list[int]:
+        """The values at these frames: what was written there last, or the recording's, or 0."""
+        there = self.recording.samples(channel, frames) if self.recording else [0] * len(frames)
+        if not self.written:
+            return there
+        return [self.written.get((channel, at), value) for at, value in zip(frames, there)]
+
+    def sample(self, channel: int, frame: int) -> int:
+        """The same at one frame."""
+        return self.samples(channel, [frame])[0]
 
 
 class AssetFault(Exception):
     """An asset that is there and could not be read."""
 
 
-def asset(folder, path):
+def asset(folder: str, path: str) -> bytes | None:
     """The bytes of a file of the folder, so many of them that they tell whether there are too many;
     None where the system finds no file, and where the path could name one that is not in the
     folder."""

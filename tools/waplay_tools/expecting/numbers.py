@@ -3,22 +3,29 @@ quantum."""
 
 import functools
 import math
+from collections.abc import Callable, Sequence
 
 ONE = 2**24
+HALF, QUARTER = ONE // 2, ONE // 4
 FIX = -(2**31), 2**31 - 1  # the ends of the range of values
 QUANTUM = 128
-SILENCE = (0,) * QUANTUM
+
+Block = Sequence[int]
+Blocks = Sequence[Block]  # of each channel its block
+SILENCE: Block = (0,) * QUANTUM
 
 
-def rounded_quotient(a, b):
+def rounded_quotient(a: int, b: int) -> int:
+    """The whole number nearest to a / b, for a positive b; a half goes up."""
     return (2 * a + b) // (2 * b)
 
 
-def saturated(x):
+def saturated(x: int) -> int:
+    """The value nearest to a number that may be out of the range of values."""
     return max(FIX[0], min(FIX[1], x))
 
 
-def bounded(block, low, high):
+def bounded(block: Block, low: int, high: int) -> Block:
     """The block, where each value that is out of this range is the end of the range that is next to
     it."""
     if low <= min(block) and max(block) <= high:
@@ -26,14 +33,15 @@ def bounded(block, low, high):
     return [max(low, min(high, x)) for x in block]
 
 
-def products(block, levels):
-    """What becomes of a block by a gain of these levels."""
+def products(block: Block, levels: Block) -> Block:
+    """What becomes of a block by a gain of these levels: the rounded quotients of the products and
+    1.0, in the range of values."""
     if block is SILENCE:
         return SILENCE
-    return bounded([rounded_quotient(x * g, ONE) for x, g in zip(block, levels)], *FIX)
+    return bounded([(x * g + HALF) // ONE for x, g in zip(block, levels)], *FIX)
 
 
-def summed(blocks):
+def summed(blocks: list[Block]) -> Block:
     """The exact sum of blocks, saturated once; silence where there is none. Silent ones add
     nothing."""
     blocks = [block for block in blocks if block is not SILENCE] or [SILENCE]
@@ -41,45 +49,51 @@ def summed(blocks):
     return bounded(total, *FIX)
 
 
-def sample_of(value, bits=24):
-    end = 2 ** (bits - 1)
-    return max(-end, min(end - 1, rounded_quotient(value, 2 ** (25 - bits))))
+def samples_of_channel(values: Sequence[int], bits: int) -> Block:
+    """The samples of a file with so many bits that rendered values become: their rounded quotients
+    by a step, in the range of samples."""
+    step, end = 2 ** (25 - bits), 2 ** (bits - 1)
+    return bounded([(value + step // 2) // step for value in values], -end, end - 1)
+
+
+def sample_of(value: int, bits: int = 24) -> int:
+    """The same of one value."""
+    return samples_of_channel([value], bits)[0]
 
 
 # Mixing. The equations are those of the recommendation's "Channel Up-Mixing and Down-Mixing", for
 # speakers. That of a pair of counts takes as many channels as the first, and gives as many as the
 # second, times 2^24.
 
-HALF, QUARTER = ONE // 2, ONE // 4
-ROOT_HALF = math.isqrt(
-    2**47
-)  # the root of 2^47 is 11,863,283.2: this is the nearest whole number
+ROOT_HALF = math.isqrt(2**47)  # the root is 11,863,283.2: this is the nearest whole number
 
-EQUATIONS = {
+EQUATIONS: dict[tuple[int, int], Callable[..., list[int]]] = {
     (1, 2): lambda m: [ONE * m, ONE * m],
     (1, 4): lambda m: [ONE * m, ONE * m, 0, 0],
     (1, 6): lambda m: [0, 0, ONE * m, 0, 0, 0],
-    (2, 4): lambda l, r: [ONE * l, ONE * r, 0, 0],
-    (2, 6): lambda l, r: [ONE * l, ONE * r, 0, 0, 0, 0],
-    (4, 6): lambda l, r, sl, sr: [ONE * l, ONE * r, 0, 0, ONE * sl, ONE * sr],
-    (2, 1): lambda l, r: [HALF * (l + r)],
-    (4, 1): lambda l, r, sl, sr: [QUARTER * (l + r + sl + sr)],
-    (6, 1): lambda l, r, c, lfe, sl, sr: [ROOT_HALF * (l + r) + ONE * c + HALF * (sl + sr)],
-    (4, 2): lambda l, r, sl, sr: [HALF * (l + sl), HALF * (r + sr)],
-    (6, 2): lambda l, r, c, lfe, sl, sr: [
-        ONE * l + ROOT_HALF * (c + sl),
-        ONE * r + ROOT_HALF * (c + sr),
+    (2, 4): lambda left, right: [ONE * left, ONE * right, 0, 0],
+    (2, 6): lambda left, right: [ONE * left, ONE * right, 0, 0, 0, 0],
+    (4, 6): lambda left, right, sl, sr: [ONE * left, ONE * right, 0, 0, ONE * sl, ONE * sr],
+    (2, 1): lambda left, right: [HALF * (left + right)],
+    (4, 1): lambda left, right, sl, sr: [QUARTER * (left + right + sl + sr)],
+    (6, 1): lambda left, right, c, lfe, sl, sr: [
+        ROOT_HALF * (left + right) + ONE * c + HALF * (sl + sr)
     ],
-    (6, 4): lambda l, r, c, lfe, sl, sr: [
-        ONE * l + ROOT_HALF * c,
-        ONE * r + ROOT_HALF * c,
+    (4, 2): lambda left, right, sl, sr: [HALF * (left + sl), HALF * (right + sr)],
+    (6, 2): lambda left, right, c, lfe, sl, sr: [
+        ONE * left + ROOT_HALF * (c + sl),
+        ONE * right + ROOT_HALF * (c + sr),
+    ],
+    (6, 4): lambda left, right, c, lfe, sl, sr: [
+        ONE * left + ROOT_HALF * c,
+        ONE * right + ROOT_HALF * c,
         ONE * sl,
         ONE * sr,
     ],
 }
 
 
-def mixed(channels, count, interpretation):
+def mixed(channels: list[int], count: int, interpretation: str) -> list[int]:
     """Channels mixed to so many. Where there is no equation, each stays in its place: those that
     are too many are dropped, and those that are missing are 0."""
     equation = EQUATIONS.get((len(channels), count))
@@ -89,7 +103,7 @@ def mixed(channels, count, interpretation):
 
 
 @functools.lru_cache(maxsize=None)
-def moved(several, count, interpretation):
+def moved(several: int, count: int, interpretation: str) -> list[int | None] | None:
     """Where mixing so many channels to a count leaves each of them as it is: of each channel that
     comes of it, which one it is, or None where it is silent. Elsewhere it is None as a whole."""
     alone = [
@@ -102,7 +116,7 @@ def moved(several, count, interpretation):
     return [part[0] if part else None for part in parts]
 
 
-def mixed_blocks(blocks, count, interpretation):
+def mixed_blocks(blocks: Blocks, count: int, interpretation: str) -> Blocks:
     """The same of channels that are blocks."""
     places = moved(len(blocks), count, interpretation)
     if places is not None:
@@ -110,7 +124,7 @@ def mixed_blocks(blocks, count, interpretation):
     return list(zip(*(mixed(list(frame), count, interpretation) for frame in zip(*blocks))))
 
 
-def computed_count(mode, channel_count, counts):
+def computed_count(mode: str, channel_count: int, counts: list[int]) -> int:
     """How many channels an input has, whose connections have these counts."""
     greatest = max(counts, default=1)
     return {

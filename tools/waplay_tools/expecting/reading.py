@@ -2,8 +2,12 @@
 
 import json
 import re
+from typing import Any, NoReturn
 
 from waplay_tools.expecting.numbers import ONE
+
+Call = dict[str, Any]  # a call of a script, by its fields
+NumberedCall = tuple[int, Call, list[Any]]  # its ordinal, itself, and the numbered calls it holds
 
 # The features of the operations that are left out.
 LEFT_OUT = dict(
@@ -18,12 +22,15 @@ LEFT_OUT = dict(
     createScriptProcessor:script-processor createAudioWorkletNode:audio-worklet""".split()
 )
 
-PARAMETER = [("node", "name"), ("param", "name")]
-HELD = ("then", "calls", [])
+# Of a field that is read its name, its kind, and its default where it has one.
+Field = tuple[str, str] | tuple[str, str, Any]
 
-# The fields of the operations that are read: of each its name, its kind, and its default where it
-# has one. Null is a value of a field whose default is null, and of one whose kind says so.
-OPERATIONS = {
+PARAMETER: list[Field] = [("node", "name"), ("param", "name")]
+HELD: Field = ("then", "calls", [])
+
+# The fields of the operations that are read. Null is a value of a field whose default is null, and
+# of one whose kind says so.
+OPERATIONS: dict[str, list[Field]] = {
     "createConstantSource": [("as", "new name"), ("offset", "fix", ONE)],
     "createGain": [("as", "new name"), ("gain", "fix", ONE)],
     "createDelay": [("as", "new name"), ("maxDelayTime", "fix", ONE), ("delayTime", "fix", 0)],
@@ -118,22 +125,26 @@ class Members(list):
     """The members of a JSON object as they are written, repeated ones too."""
 
 
-def bad_json(*_):
+def bad_json(*_: object) -> NoReturn:
+    """Raises the fault of bytes that are no JSON; a hook of the reader, whatever it is given."""
     raise Fault("BadJson")
 
 
-def fraction(text):
+def fraction(text: str) -> float:
+    """The floating-point number that a text of JSON is, in the range of binary64."""
     value = float(text)
     return value if abs(value) < float("inf") else bad_json()
 
 
-def whole(text):
+def whole(text: str) -> int | float:
+    """The number of a text without fraction or exponent; a floating-point number past 64 bits, as
+    `-0` is."""
     value = fraction(text)
     is_whole = text != "-0" and len(text) <= 20 and -(2**63) <= int(text) < 2**64
     return int(text) if is_whole else value
 
 
-def looked_through(value, room):
+def looked_through(value: Any, room: int) -> Any:
     """The value with objects for members. There is room for so many arrays and objects, one in
     another."""
     if isinstance(value, list) and room == 0:
@@ -147,7 +158,8 @@ def looked_through(value, room):
     return value
 
 
-def json_of(data):
+def json_of(data: bytes) -> Any:
+    """The JSON value that the bytes are, where of repeated members the last counts."""
     try:
         value = json.loads(
             data.decode(),
@@ -161,7 +173,7 @@ def json_of(data):
         bad_json()
 
 
-def cause(value, kind):
+def cause(value: Any, kind: str) -> str | None:
     """What is wrong with a value that is to be of the kind, if anything is. A kind that is none of
     the others is a list of words."""
     if kind in RANGES:
@@ -187,13 +199,16 @@ def cause(value, kind):
     if kind == "path":
         fits = 1 <= len(value.encode()) <= 255
     elif kind == "new name":
-        fits = re.fullmatch("[A-Za-z0-9_-]{1,64}", value) and value != "destination"
+        is_name = re.fullmatch("[A-Za-z0-9_-]{1,64}", value) is not None
+        fits = is_name and value != "destination"
     else:
         fits = kind == "name" or value in kind.split()
     return None if fits else "OutOfRange"
 
 
-def look_at(ordinal, members, field, kind, *default):
+def look_at(ordinal: int, members: dict[str, Any], field: str, kind: str, *default: Any) -> None:
+    """Raises the fault of a field of the call with this ordinal, if it has one. A field without a
+    default has to be there."""
     if field not in members:
         wrong = None if default else "MissingField"
     elif members[field] is None and (default == (None,) or kind.endswith(" or null")):
@@ -204,7 +219,7 @@ def look_at(ordinal, members, field, kind, *default):
         raise Fault(f"{ordinal} {field} {wrong}")
 
 
-def look_at_calls(calls, first):
+def look_at_calls(calls: list[Any], first: int) -> int:
     """Looks at the calls of a list, and at those that they hold. The answer is the next ordinal."""
     for call in calls:
         ordinal = first
@@ -218,15 +233,15 @@ def look_at_calls(calls, first):
         for field in fields:
             look_at(ordinal, call, *field)
         if op == "disconnect" and call.get("input") is not None:
-            for field in ("to", "output"):
-                if call.get(field) is None:
-                    raise Fault(f"{ordinal} {field} MissingField")
+            for needed in ("to", "output"):
+                if call.get(needed) is None:
+                    raise Fault(f"{ordinal} {needed} MissingField")
         if HELD in fields:
             first = look_at_calls(call.get("then", []), first)
     return first
 
 
-def script_of(data):
+def script_of(data: bytes) -> dict[str, Any]:
     """The script that the bytes are."""
     script = json_of(data)
     if not isinstance(script, dict):
@@ -242,12 +257,13 @@ def script_of(data):
     return script
 
 
-def numbered(calls, first):
+def numbered(calls: list[Call], first: int) -> tuple[list[NumberedCall], int]:
     """The calls of a list with their ordinals and the lists that they hold, and the next
     ordinal."""
-    done = []
+    done: list[NumberedCall] = []
     for call in calls:
-        ordinal, held = first, []
+        ordinal = first
+        held: list[NumberedCall] = []
         first += 1
         if HELD in OPERATIONS.get(call["op"], []):
             held, first = numbered(call.get("then", []), first)

@@ -7,6 +7,7 @@ it. It has no code in common with the program.
 
 import functools
 import struct
+from collections.abc import Iterable
 
 PCM = bytes.fromhex("0100000000001000800000aa00389b71")  # the subformat of an extended format
 
@@ -14,25 +15,26 @@ PCM = bytes.fromhex("0100000000001000800000aa00389b71")  # the subformat of an e
 class WavFault(Exception):
     """What is wrong with a file: the name of the fault, and its place."""
 
-    def __str__(self):
+    def __str__(self) -> str:
         return "%s(%d)" % self.args
 
 
 class Recording:
     """What a file holds. Of its data are kept those bytes that are whole blocks."""
 
-    def __init__(self, rate, channels, bits, data):
+    def __init__(self, rate: int, channels: int, bits: int, data: bytes) -> None:
         self.rate, self.channels, self.bits, self.data = rate, channels, bits, data
         self.frames = len(data) // (channels * bits // 8)
 
-    def sample(self, channel, frame):
+    def samples(self, channel: int, frames: Iterable[int]) -> list[int]:
+        """The values at these frames of a channel, in units of 2^-24."""
         width = self.bits // 8
-        place = (frame * self.channels + channel) * width
-        return value(self.bits, self.data[place : place + width])
+        places = ((frame * self.channels + channel) * width for frame in frames)
+        return [value(self.bits, self.data[place : place + width]) for place in places]
 
 
 @functools.lru_cache(maxsize=2**16)
-def value(bits, sample):
+def value(bits: int, sample: bytes) -> int:
     """The nearest whole number to the sample in units of 2^-24, where halves go up."""
     if bits == 8:
         number = sample[0] - 128
@@ -42,7 +44,7 @@ def value(bits, sample):
     return (2 * numerator + denominator) // (2 * denominator)
 
 
-def chunks_of(data):
+def chunks_of(data: bytes) -> tuple[list[tuple[int, bytes, int]], int]:
     """The chunks as (place, name, size), and where their list ends."""
     found = []
     place = 12
@@ -59,7 +61,7 @@ def chunks_of(data):
     return found, place
 
 
-def recording_of(data):
+def recording_of(data: bytes) -> Recording:
     """The recording that the bytes of a file are. It raises their fault where they are none."""
     if len(data) < 12 or data[:4] != b"RIFF" or data[8:12] != b"WAVE":
         raise WavFault("NotRiff", 0)

@@ -1,10 +1,12 @@
 """The answers that are to come up among those of random scripts."""
 
 import re
+from collections.abc import Iterator
 
 from waplay_tools.expecting.automation import LEFT_OUT_EDITS
-from waplay_tools.expecting.reading import LEFT_OUT, numbered
+from waplay_tools.expecting.reading import LEFT_OUT, NumberedCall, numbered
 from waplay_tools.expecting.sessions import LOOPS, PROMISES
+from waplay_tools.random_scripts.kinds import Script
 
 # The answers that are to come up, as they stand behind an ordinal or at the end, without numbers.
 ANSWERS = """ok
@@ -124,15 +126,15 @@ REFUSALS = {
 }
 
 
-def operations_of(numbered):
+def operations_of(numbered: list[NumberedCall]) -> dict[int, str]:
     """Of each ordinal of these calls and those that they hold, the operation."""
-    operations = {}
+    operations: dict[int, str] = {}
     for ordinal, call, held in numbered:
         operations.update({ordinal: call["op"], **operations_of(held)})
     return operations
 
 
-def answers_of(script, text):
+def answers_of(script: Script, text: str) -> Iterator[str]:
     """The answers of a transcript as ANSWERS has them, and refusals with their operations before
     them."""
     operations = (
@@ -154,7 +156,7 @@ def answers_of(script, text):
             yield re.sub(r"^\d+ | \d+$", "", line)
 
 
-def wanted_answers(read):
+def wanted_answers(read: list[str]) -> list[str]:
     """The answers that are to come up where these operations are read."""
     wanted = list(ANSWERS)
     for op, answers in OF_SOME.items():

@@ -1,13 +1,24 @@
 """Chances, and the names that a script in the making has."""
 
+import random
+
 from waplay_tools.expecting.sessions import ATTRIBUTES
-from waplay_tools.random_scripts.kinds import AUTOMATED, BUFFERS, KINDS, Sound
+from waplay_tools.random_scripts.kinds import (
+    AUTOMATED,
+    BUFFERS,
+    KINDS,
+    Assets,
+    Calls,
+    Fits,
+    Named,
+    Sound,
+)
 
 
 class Choices:
     """Chances, and the names that a script in the making has."""
 
-    def __init__(self, rng, read):
+    def __init__(self, rng: random.Random, read: list[str]) -> None:
         self.rng = rng
         self.read_ops = set(read)
         self.has_buffers = BUFFERS <= self.read_ops
@@ -19,11 +30,12 @@ class Choices:
             for op, kind in KINDS.items()
             if op in read and (self.has_buffers or op not in BUFFERS)
         }
-        self.names = {}  # of a name, its kind, with the inputs and outputs that it was given
-        self.assets = {}  # of a path, what stands there (see write_assets)
-        self.controls = []  # the connections to parameters that were made
-        self.loops = []  # connections that bring a delay into a cycle
-        self.instants = {}  # of a name, times that edits of its parameter had, and ends of curves
+        self.names: dict[str, Named] = {}  # with the inputs and outputs that they were given
+        self.assets: Assets = {}
+        self.controls: Calls = []  # the connections to parameters that were made
+        self.loops: Calls = []  # connections that bring a delay into a cycle
+        # Of a name, times that edits of its parameter had, and ends of curves.
+        self.instants: dict[str, list[int]] = {}
         self.made = 0
         self.depth = 0  # of the lists of calls
         self.suspends = "suspend" in read
@@ -31,10 +43,13 @@ class Choices:
         self.length = self.channels = 1
         self.rate = 48000
 
-    def may(self, chance):
+    def may(self, chance: float) -> bool:
+        """Whether something is done that has this chance, from 0 to 1."""
         return self.rng.random() < chance
 
-    def new_name(self):
+    def new_name(self) -> str:
+        """A name for an object: now and then that of another one, and some as long as a name may
+        be."""
         if self.names and self.may(0.05):
             return self.rng.choice(list(self.names))
         self.made += 1
@@ -42,7 +57,7 @@ class Choices:
             ["", "", "", "", "-", "_", "x" * (63 - len(str(self.made)))]
         )
 
-    def name(self, fits=lambda kind: not isinstance(kind, Sound)):
+    def name(self, fits: Fits = lambda kind: not isinstance(kind, Sound)) -> str:
         """A name of an object whose kind fits, mostly; else any, also of nothing. A node fits,
         where nothing else is said."""
         fitting = [name for name, kind in self.names.items() if fits(kind)]
@@ -50,22 +65,27 @@ class Choices:
             return self.rng.choice(fitting)
         return self.rng.choice(["destination", "nobody", "", "a b", "\u00e9\n", *self.names])
 
-    def source(self):
+    def source(self) -> str:
+        """A name, mostly of a node that starts and stops."""
         return self.name(lambda kind: kind.plays)
 
-    def player(self):
+    def player(self) -> str:
+        """A name, mostly of a buffer source."""
         return self.name(lambda kind: kind is KINDS["createBufferSource"])
 
-    def shaper(self):
+    def shaper(self) -> str:
+        """A name, mostly of a wave shaper."""
         return self.name(lambda kind: kind is KINDS["createWaveShaper"])
 
-    def delay(self):
+    def delay(self) -> str:
+        """A name, mostly of a delay."""
         return self.name(lambda kind: kind is KINDS["createDelay"])
 
-    def buffer(self):
+    def buffer(self) -> str:
+        """A name, mostly of a buffer."""
         return self.name(lambda kind: isinstance(kind, Sound))
 
-    def parameter(self, name=None):
+    def parameter(self, name: str | None = None) -> tuple[str, str]:
         """A node and a parameter, mostly such as fit. Those of buffer sources can't be changed."""
         some = self.rng.randint(0, 99)
         if name is None and some < 11:
@@ -76,10 +96,11 @@ class Choices:
         name = name or self.name(lambda kind: kind.parameter)
         return name, getattr(self.names.get(name), "parameter", None) or "gain"
 
-    def target(self):
+    def target(self) -> str:
+        """A name, mostly of a node with an input; a quarter of them the destination's."""
         return "destination" if self.may(0.25) else self.name(lambda kind: kind.inputs)
 
-    def index(self, name, field, chance=0.9):
+    def index(self, name: str, field: str, chance: float = 0.9) -> int:
         """The number of an input or an output of a node, with this chance one that is there."""
         there = getattr(self.names.get(name), field, 1)
         if there and self.may(chance):

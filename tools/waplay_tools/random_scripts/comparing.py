@@ -54,7 +54,7 @@ def differences(program: Path, script: Script) -> tuple[list[str], str]:
         wrong.append(f"status {ran.returncode}")
     if ran.stdout != text.encode():
         wrong.append("transcript")
-    if found != (wav_bytes(session) if status == 0 else None):
+    if found != (wav_bytes(session) if session and status == 0 else None):
         wrong.append("WAV file")
     return wrong, text
 
@@ -86,7 +86,8 @@ def tell(answers: collections.Counter, read: list[str]) -> None:
 
 def compare(program: Path, seed: int, count: int, jobs: int) -> int:
     """Compares so many scripts of a seed, tells what differs, and gives the status."""
-    wrong, answers, read = 0, collections.Counter(), read_by(program, operations())
+    wrong, read = 0, read_by(program, operations())
+    answers: collections.Counter[str] = collections.Counter()
     with tempfile.TemporaryDirectory() as work, multiprocessing.Pool(jobs, enter, [work]) as pool:
         asked = ((program, seed, read, number) for number in range(count))
         for number, different, seen in pool.imap_unordered(compared, asked, 20):

@@ -1,13 +1,13 @@
 """Shapes of scripts: delays, mostly in cycles, and what is made around them."""
 
 from waplay_tools.random_scripts.effects import Effects
-from waplay_tools.random_scripts.kinds import KINDS, ONE, Sound
+from waplay_tools.random_scripts.kinds import KINDS, ONE, Call, Calls, Make, Sound
 
 
 class Echoes(Effects):
     """Shapes of scripts: delays, mostly in cycles, and what is made around them."""
 
-    def kept_quiet(self, calls, most=ONE):
+    def kept_quiet(self, calls: Calls, most: int = ONE) -> Calls:
         """Gives constants and gains of these calls mostly a value of this size at most."""
         for call in calls:
             for field in ("offset", "gain"):
@@ -15,7 +15,7 @@ class Echoes(Effects):
                     call[field] = self.rng.randint(-most, most)
         return calls
 
-    def looped(self, name=None):
+    def looped(self, name: str | None = None) -> Calls:
         """Connections by which a delay mostly comes into a cycle: with itself, with a gain, of
         which it may reach the parameter alone, or with any node."""
         name, some = name or self.delay(), self.rng.randint(0, 9)
@@ -33,7 +33,7 @@ class Echoes(Effects):
         self.loops += [call for call in calls if call["op"] == "connect"][:2]
         return calls
 
-    def unlooped(self):
+    def unlooped(self) -> Call:
         """A connection that brings a delay into a cycle is taken away, or all of a delay."""
         loop = (
             self.rng.choice(self.loops) if self.loops and self.may(0.8) else {"from": self.delay()}
@@ -43,7 +43,7 @@ class Echoes(Effects):
             **{field: loop[field] for field in ("from", "to") if field in loop},
         }
 
-    def moving(self, name, sources):
+    def moving(self, name: str, sources: list[str]) -> Calls:
         """What moves the time of a delay: edits, a source by a gain that makes some frames of it,
         or any node."""
         some, calls = self.rng.randint(0, 9), []
@@ -61,7 +61,7 @@ class Echoes(Effects):
         calls += [self.edit("setAutomationRate", name)] if self.may(0.3) else []
         return calls + ([self.edit("readValue", name)] if self.may(0.3) else [])
 
-    def widened(self, name=None):
+    def widened(self, name: str | None = None) -> Calls:
         """Constants that come to a delay on several channels."""
         name, merger = name or self.delay(), self.create_merger()
         calls, place = [merger], merger["as"]
@@ -76,7 +76,7 @@ class Echoes(Effects):
         self.loops.append(self.joined(place, name))
         return calls + self.loops[-1:]
 
-    def passing(self, name=None):
+    def passing(self, name: str | None = None) -> Calls:
         """A source of several channels that comes to a delay for some quanta at most."""
         name, channels, length = (
             name or self.delay(),
@@ -110,7 +110,7 @@ class Echoes(Effects):
         when = self.rng.choice([0, self.rng.randint(self.now, max(self.now, self.length))])
         return calls + [{"op": "start", "node": source, "when": when}]
 
-    def split(self, name=None):
+    def split(self, name: str | None = None) -> Calls:
         """A splitter behind a delay, so that it is heard how many channels the delay has."""
         call = self.create_splitter()
         outputs = range(min(self.names[call["as"]].outputs, 6))
@@ -121,13 +121,13 @@ class Echoes(Effects):
         ]
         return [call, self.joined(name or self.delay(), call["as"]), *heard]
 
-    def for_some_quanta(self, name):
+    def for_some_quanta(self, name: str) -> Calls:
         """Suspensions between which a delay is in a cycle, is muted by its own time, or has another
         interpretation."""
         frames = [128 * k for k in range(1, 6) if 128 * k < self.length]
         gain = {"op": "createGain", "as": "between", "gain": self.rng.randint(-ONE // 2, ONE)}
         control = {"from": name, "to": name, "param": "delayTime"}
-        changes = [
+        changes: list[tuple[Calls, Calls]] = [
             ([self.joined(name, name)], [{"op": "disconnect", "from": name, "to": name}]),
             (
                 [gain, self.joined(name, "between"), self.joined("between", name)],
@@ -136,12 +136,11 @@ class Echoes(Effects):
             ([{"op": "connectParam", **control}], [{"op": "disconnectParam", **control}]),
         ]
         if "setChannelInterpretation" in self.attributes:
-            changes.append(
-                [
-                    [{"op": "setChannelInterpretation", "node": name, "value": word}]
-                    for word in ("discrete", "speakers")
-                ]
+            there, back = (
+                [{"op": "setChannelInterpretation", "node": name, "value": word}]
+                for word in ("discrete", "speakers")
             )
+            changes.append((there, back))
         if len(frames) < 2:
             return []
         return [
@@ -149,7 +148,7 @@ class Echoes(Effects):
             for frame, calls in zip(sorted(self.rng.sample(frames, 2)), self.rng.choice(changes))
         ]
 
-    def swaying(self):
+    def swaying(self) -> Calls:
         """A constant source whose values go up and down along a curve, so that each frame has its
         own, and starts."""
         calls = self.kept_quiet([self.create_constant()])
@@ -164,7 +163,7 @@ class Echoes(Effects):
         }
         return calls + [curve, self.call("start", [("node", calls[0]["as"])])]
 
-    def begun(self, sources):
+    def begun(self, sources: list[str]) -> Calls:
         """The sources start, and most of them are short or move."""
         calls = []
         for name in sources:
@@ -177,18 +176,15 @@ class Echoes(Effects):
                 calls += self.timeline(name)[:4]
         return calls
 
-    def delayed(self):
+    def delayed(self) -> Calls:
         """Sources, and delays behind one another with a few other nodes between, many of them in
         cycles and some in cycles without a delay. Numbers of channels grow, and times of delays
         move."""
         calls = self.kept_quiet([self.create_source() for _ in range(self.rng.randint(1, 4))])
         sources = [call["as"] for call in calls]
         for _ in range(self.rng.randint(1, 5)):
-            make = (
-                self.create_delay
-                if self.may(0.6)
-                else self.rng.choice([self.create_gain, self.create_place])
-            )
+            others: list[Make] = [self.create_gain, self.create_place]
+            make = self.create_delay if self.may(0.6) else self.rng.choice(others)
             calls += self.kept_quiet([make()])
         places = list(dict.fromkeys(call["as"] for call in calls))
         delays = [name for name in places if self.names[name] is KINDS["createDelay"]]
@@ -200,13 +196,13 @@ class Echoes(Effects):
                 self.joined(delays[-1], "destination"),
             ]
         for name in delays:
-            for make, chance in (
+            for around, chance in (
                 (self.looped, 0.4),
                 (self.widened, 0.15),
                 (self.passing, 0.25),
                 (self.split, 0.4),
             ):
-                calls += make(name) if self.may(chance) else []
+                calls += around(name) if self.may(chance) else []
             if "setChannelInterpretation" in self.attributes and self.may(0.25):
                 calls.append({"op": "setChannelInterpretation", "node": name, "value": "discrete"})
             calls += self.moving(name, sources) if self.may(0.5) else []
@@ -221,7 +217,7 @@ class Echoes(Effects):
         calls += [self.any_call() for _ in range(self.rng.choice([0, 0, 0, 3]))]
         return calls + [self.start_rendering()]
 
-    def crossed(self):
+    def crossed(self) -> Calls:
         """A splitter whose outputs go through delays into a merger, and from each delay back to a
         delay, as in echoes that go from side to side."""
         calls = self.kept_quiet([self.create_source() for _ in range(self.rng.randint(1, 3))])

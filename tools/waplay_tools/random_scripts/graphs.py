@@ -1,14 +1,16 @@
 """Shapes of scripts: any calls, and graphs of nodes of several channels."""
 
+from typing import Any
+
 from waplay_tools.expecting.sessions import ATTRIBUTES
-from waplay_tools.random_scripts.kinds import KINDS, ONE, Sound
+from waplay_tools.random_scripts.kinds import KINDS, ONE, Call, Calls, Make, Sound
 from waplay_tools.random_scripts.suspensions import Suspensions
 
 
 class Graphs(Suspensions):
     """Shapes of scripts: any calls, and graphs of nodes of several channels."""
 
-    def mixed(self):
+    def mixed(self) -> Calls:
         """Any calls, hostile ones among them; rendering is started before some of them."""
         calls = [self.create_source() for _ in range(self.rng.randint(0, 3))]
         calls += [self.start() for _ in calls]
@@ -24,7 +26,7 @@ class Graphs(Suspensions):
             calls.insert(self.rng.randint(len(calls) // 2, len(calls)), self.start_rendering())
         return calls
 
-    def graph(self):
+    def graph(self) -> Calls:
         """Nodes and connections, cycles in some; every source starts, some stop, and in some graphs
         attributes are set, before and after connections, and connections are taken away."""
         calls = [self.create_source() for _ in range(self.rng.randint(1, 8))]
@@ -57,7 +59,7 @@ class Graphs(Suspensions):
         calls += [self.disconnect() for _ in range(self.rng.choice([0, 0, 0, 1, 4]))]
         return calls + [self.start_rendering()]
 
-    def wide(self):
+    def wide(self) -> Calls:
         """Nodes behind one another, most of them with a count of channels that is set: what comes
         from the sources is mixed up and down on its way. Some begin with 5.1 and quad, where it
         comes to the surround channels, and some have a node that is connected to itself at their
@@ -66,10 +68,12 @@ class Graphs(Suspensions):
         calls += [{"op": "start", "node": call["as"]} for call in calls]
         places = [call["as"] for call in calls[: len(calls) // 2]]
 
-        def joined_to(target, *sources):
+        def joined_to(target: str, *sources: str) -> Calls:
+            """Connections of these sources to one node."""
             return [self.joined(source, target) for source in sources]
 
-        def set_to(place, **values):
+        def set_to(place: str, **values: Any) -> Calls:
+            """Calls that set these attributes of a node, as far as they are read."""
             return [
                 {"op": op, "node": place, "value": values[attribute]}
                 for op, attribute in ATTRIBUTES.items()
@@ -101,7 +105,7 @@ class Graphs(Suspensions):
         calls += [self.attribute(op, "destination") for op in self.attributes if self.may(0.4)]
         return calls + [self.start_rendering()]
 
-    def woven(self):
+    def woven(self) -> Calls:
         """Splitters and mergers behind one another, with gains between, and most outputs and inputs
         in use: what comes from the sources is on several channels and changes its places.
         Attributes are set before and after, and some connections are taken away. Some go back to
@@ -122,38 +126,15 @@ class Graphs(Suspensions):
             for call in made:
                 if "gain" in call and self.may(0.9):
                     call["gain"] = self.rng.randint(-ONE, ONE)
-            calls += made
             after = [call["as"] for call in made]
-            for name in after:
-                if self.may(0.2):
-                    calls += [self.attribute(op, name) for op in self.attributes if self.may(0.6)]
-                # Each input is joined to an output, nearly all of them, and each output to an
-                # input.
-                for place in range(min(self.names[name].inputs, 40)):
-                    source = self.rng.choice(layer)
-                    if self.may(0.85):
-                        calls.append({**self.joined(source, name), "input": place})
-            for source in layer:
-                for output in range(min(self.names[source].outputs, 40)):
-                    if self.may(0.5):
-                        calls.append(
-                            {**self.joined(source, self.rng.choice(after)), "output": output}
-                        )
+            calls += made + self.between(layer, after)
             if self.may(backward):
                 calls.append(self.joined(self.rng.choice(after), self.rng.choice(layer)))
             if self.may(0.1):
                 calls.append(self.joined(self.rng.choice(before), self.rng.choice(after)))
             before, layer = layer, after
-        if self.may(0.5):  # what is there comes to the destination on as many channels as it has
-            calls.append(
-                {"op": "createChannelMerger", "as": "last", "numberOfInputs": self.channels}
-            )
-            self.names["last"] = KINDS["createChannelMerger"]._replace(inputs=self.channels)
-            calls += [
-                {**self.joined(self.rng.choice(before + layer), "last"), "input": place}
-                for place in range(self.channels)
-                if self.may(0.9)
-            ]
+        if self.may(0.5):
+            calls += self.merged(before + layer)
             layer = ["last"]
         calls += [
             self.joined(name, "destination")
@@ -171,7 +152,35 @@ class Graphs(Suspensions):
         ]
         return calls + sets + cuts + again + [self.start_rendering()]
 
-    def played(self):
+    def between(self, layer: list[str], after: list[str]) -> Calls:
+        """Connections from one layer to the next: each input is joined to an output, nearly all of
+        them, and half of the outputs to an input. Some nodes have attributes set."""
+        calls = []
+        for name in after:
+            if self.may(0.2):
+                calls += [self.attribute(op, name) for op in self.attributes if self.may(0.6)]
+            for place in range(min(self.names[name].inputs, 40)):
+                source = self.rng.choice(layer)
+                if self.may(0.85):
+                    calls.append({**self.joined(source, name), "input": place})
+        for source in layer:
+            for output in range(min(self.names[source].outputs, 40)):
+                if self.may(0.5):
+                    calls.append({**self.joined(source, self.rng.choice(after)), "output": output})
+        return calls
+
+    def merged(self, sources: list[str]) -> Calls:
+        """A merger `last`, by which sources come to the destination on as many channels as it
+        has."""
+        self.names["last"] = KINDS["createChannelMerger"]._replace(inputs=self.channels)
+        call: Call = {"op": "createChannelMerger", "as": "last", "numberOfInputs": self.channels}
+        return [call] + [
+            {**self.joined(self.rng.choice(sources), "last"), "input": place}
+            for place in range(self.channels)
+            if self.may(0.9)
+        ]
+
+    def played(self) -> Calls:
         """Buffers, and sources that play them, with loops, offsets, durations, rates and stops, by
         a few nodes or none. What is too late for a buffer or a loop comes too."""
         calls = [self.create_buffer_source() for _ in range(self.rng.randint(1, 6))]
@@ -180,7 +189,7 @@ class Graphs(Suspensions):
             calls += [self.create_constant() for _ in range(self.rng.randint(1, 2))]
         calls += [self.create_place() for _ in range(self.rng.choice([0, 0, 1, 3]))]
         places = [call["as"] for call in calls]
-        changes = [
+        changes: list[Make] = [
             self.set_loop,
             self.set_loop,
             self.set_buffer,
@@ -216,9 +225,10 @@ class Graphs(Suspensions):
         ]
         return calls + late + [self.start_rendering()]
 
-    def in_a_row(self, places):
+    def in_a_row(self, places: list[str]) -> Calls:
         """Connections of nodes that stand behind one another, in some scripts also back."""
-        calls, backward = [], self.rng.choice([0, 0, 0, 0.1, 0.3])
+        calls: Calls = []
+        backward = self.rng.choice([0, 0, 0, 0.1, 0.3])
         for at, name in enumerate(places):
             after = [place for place in places[at + 1 :] if self.names[place].inputs]
             after = places if self.may(backward) else after
@@ -227,16 +237,16 @@ class Graphs(Suspensions):
                 calls.append(self.joined(name, target))
         return calls
 
-    def sprinkled(self, calls):
+    def sprinkled(self, calls: Calls) -> Calls:
         """The calls with some more between them that have to do with parameters."""
         calls = list(calls)
         for _ in range(self.rng.choice([1, 3, 10, 30])):
-            makes = [self.any_edit] if self.automated_by else []
-            others = (self.connect_param, "connectParam"), (
-                self.disconnect_param,
-                "disconnectParam",
-            )
-            makes += [make for make, op in others if op in self.read_ops and self.may(0.3)]
+            makes: list[Make] = [self.any_edit] if self.automated_by else []
+            others: dict[str, Make] = {
+                "connectParam": self.connect_param,
+                "disconnectParam": self.disconnect_param,
+            }
+            makes += [make for op, make in others.items() if op in self.read_ops and self.may(0.3)]
             if makes:
                 calls.insert(
                     len(calls) - self.rng.randint(0, len(calls) // 2), self.rng.choice(makes)()

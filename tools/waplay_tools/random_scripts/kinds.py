@@ -1,5 +1,6 @@
 """What scripts are made of: ranges of values, the kinds of nodes, buffers and assets."""
 
+from collections.abc import Callable
 from typing import Any, NamedTuple
 
 from waplay_tools.expecting.automation import EDITS, LEFT_OUT_EDITS
@@ -8,6 +9,7 @@ from waplay_tools.expecting.sessions import LOOPS
 Call = dict[str, Any]
 Calls = list[Call]
 Script = dict[str, Any]
+Make = Callable[[], Call]
 
 FIX = (-(2**31), 2**31 - 1)
 TIME = 2**40
@@ -52,6 +54,10 @@ class Sound(NamedTuple):
     channels: int
     length: int
     parameter: str | None = None
+
+
+Named = Kind | Sound  # what a name of a script may stand for
+Fits = Callable[[Named], Any]  # whether it is what a call wants, by the truth of the answer
 
 
 class Link(NamedTuple):

@@ -3,13 +3,13 @@
 from waplay_tools.expecting.reading import OPERATIONS as FIELDS
 from waplay_tools.random_scripts.chances import SPOILED
 from waplay_tools.random_scripts.echoes import Echoes
-from waplay_tools.random_scripts.kinds import KINDS, ONE, Sound
+from waplay_tools.random_scripts.kinds import KINDS, ONE, Calls, Make, Script, Sound
 
 
 class Limits(Echoes):
     """Shapes of scripts: at the limits of a session, and with faults."""
 
-    def lines(self):
+    def lines(self) -> Calls:
         """Delays of as many frames as there may be in all or nearly so, then more of them, and any
         calls."""
         capacities, calls = 0, []
@@ -33,7 +33,7 @@ class Limits(Echoes):
             + [self.start_rendering()]
         )
 
-    def store(self):
+    def store(self) -> Calls:
         """As many samples in buffers as there may be or nearly so, then more buffers, of assets
         too."""
         calls = [
@@ -56,11 +56,11 @@ class Limits(Echoes):
             }
             for _ in range(self.rng.randint(0, 3))
         ]
-        makes = [self.create_buffer, self.decode] if self.has_assets else [self.create_buffer]
+        makes: list[Make] = [self.create_buffer, *([self.decode] if self.has_assets else [])]
         calls += [self.rng.choice(makes)() for _ in range(30)]
         return calls + self.played()
 
-    def cables(self):
+    def cables(self) -> Calls:
         """A splitter of 32 outputs into eight mergers of 32 inputs, as many connections as there
         may be or nearly so, and then any calls."""
         calls = [self.create_source() for _ in range(3)]
@@ -85,7 +85,7 @@ class Limits(Echoes):
         calls += [self.connect_param() for _ in range(4) if "connectParam" in self.read_ops]
         return calls + [self.any_call() for _ in range(30)] + [self.start_rendering()]
 
-    def crowd(self):
+    def crowd(self) -> Calls:
         """More nodes than there may be, and then any calls."""
         count = 1500 if "createDelay" in self.kinds else 1030  # there may not be so many delays
         calls = [self.create_node() for _ in range(count)]
@@ -93,7 +93,7 @@ class Limits(Echoes):
         self.length = min(self.length, 130)
         return calls + [self.any_call() for _ in range(30)] + [self.start_rendering()]
 
-    def tangle(self):
+    def tangle(self) -> Calls:
         """More connections than there may be, each source to each gain, and then any calls."""
         sources, gains = (
             [make() for _ in range(98)] for make in (self.create_source, self.create_gain)
@@ -104,7 +104,7 @@ class Limits(Echoes):
         self.length = min(self.length, 130)
         return calls + [self.any_call() for _ in range(30)] + [self.start_rendering()]
 
-    def faulty(self):
+    def faulty(self) -> Calls:
         """Any calls, in some scripts many that set attributes. One member of the script or more is
         spoiled afterwards."""
         sets = [
@@ -113,7 +113,9 @@ class Limits(Echoes):
         ]
         return sets + self.mixed()
 
-    def spoil(self, script):
+    def spoil(self, script: Script) -> None:
+        """Puts something wrong into a script: members that are taken away, changed, or lengthened
+        by an item."""
         objects = [script, script["context"]]
         for object in objects:  # which grows
             for value in object.values():
@@ -130,6 +132,6 @@ class Limits(Echoes):
             else:
                 object[name] = self.rng.choice(SPOILED)
 
-    def unrendered(self):
+    def unrendered(self) -> Calls:
         """A context at the ends of its ranges, within or past them. Rendering is not started."""
         return [call for call in self.mixed() if call["op"] != "startRendering"]

@@ -2,14 +2,15 @@
 
 import json
 import os
-import struct
 
+from waplay_tools import wav
 from waplay_tools.expecting.reading import OPERATIONS as FIELDS
 from waplay_tools.random_scripts.assets import write_assets
-from waplay_tools.random_scripts.kinds import ONE
+from waplay_tools.random_scripts.kinds import ONE, Call, Calls, Script
 
 
-def script_with(channels, length, calls):
+def script_with(channels: int, length: int, calls: Calls) -> Script:
+    """A script at 48,000 frames a second that does these calls and is rendered."""
     return {
         "version": 1,
         "context": {"channels": channels, "length": length, "rate": 48000},
@@ -17,24 +18,28 @@ def script_with(channels, length, calls):
     }
 
 
-def sounding(name, offset):
+def sounding(name: str, offset: int) -> Calls:
+    """A constant source that starts."""
     return [
         {"op": "createConstantSource", "as": name, "offset": offset},
         {"op": "start", "node": name},
     ]
 
 
-def gain(name, value, *sources):
+def gain(name: str, value: int, *sources: str) -> Calls:
+    """A gain to which these sources are connected."""
     return [{"op": "createGain", "as": name, "gain": value}] + [
         joined(source, name) for source in sources
     ]
 
 
-def joined(source, target):
+def joined(source: str, target: str) -> Call:
+    """A connection from the first output to the first input."""
     return {"op": "connect", "from": source, "to": target}
 
 
-def pairs_of_constants_and_gains():
+def pairs_of_constants_and_gains() -> Script:
+    """200 constants, each through a gain of its own."""
     calls = []
     for i in range(200):
         calls += sounding(f"c{i}", 1000 * i) + gain(f"g{i}", ONE // 2 + i, f"c{i}")
@@ -42,14 +47,16 @@ def pairs_of_constants_and_gains():
     return script_with(2, 480000, calls)
 
 
-def chain_of_gains():
+def chain_of_gains() -> Script:
+    """A constant through 400 gains, each by 2^-24 above or below 1.0."""
     calls = sounding("g0", ONE // 2)
     for i in range(1, 401):
         calls += gain(f"g{i}", ONE - 1 if i % 2 else ONE + 1, f"g{i - 1}")
     return script_with(1, 480000, calls + [joined("g400", "destination")])
 
 
-def layers_of_gains():
+def layers_of_gains() -> Script:
+    """30 layers of 30 gains, each of which hears nine of the layer before."""
     calls = [call for i in range(30) for call in sounding(f"g0-{i}", 100000 * i)]
     for layer in range(1, 31):
         for i in range(30):
@@ -58,14 +65,16 @@ def layers_of_gains():
     return script_with(1, 48000, calls + [joined(f"g30-{i}", "destination") for i in range(30)])
 
 
-def as_many_nodes_as_there_may_be():
+def as_many_nodes_as_there_may_be() -> Script:
+    """A constant that 1,022 gains hear."""
     calls = sounding("c", ONE)
     for i in range(1022):
         calls += gain(f"g{i}", ONE // 1024, "c") + [joined(f"g{i}", "destination")]
     return script_with(1, 48000, calls)
 
 
-def stereo_gains_into_six_channels():
+def stereo_gains_into_six_channels() -> Script:
+    """200 constants through gains of two channels, which are mixed up to six."""
     calls = []
     for i in range(200):
         calls += sounding(f"c{i}", 500 * i) + gain(f"g{i}", ONE, f"c{i}")
@@ -74,7 +83,8 @@ def stereo_gains_into_six_channels():
     return script_with(6, 480000, calls)
 
 
-def stereo_mergers_into_six_channels():
+def stereo_mergers_into_six_channels() -> Script:
+    """200 mergers of two constants each, which are mixed up to six channels."""
     calls = []
     for i in range(200):
         calls += sounding(f"l{i}", 500 * i) + sounding(f"r{i}", -250 * i)
@@ -84,7 +94,8 @@ def stereo_mergers_into_six_channels():
     return script_with(6, 480000, calls)
 
 
-def stereo_loops():
+def stereo_loops() -> Script:
+    """32 sources that play the same stereo buffer in loops of several lengths."""
     calls = [{"op": "createBuffer", "as": "b", "channels": 2, "length": 4800, "rate": 48000}]
     for channel, step in enumerate((700, -900)):
         samples = [step * (i % 960 - 480) for i in range(4800)]
@@ -107,7 +118,7 @@ def stereo_loops():
     return script_with(2, 480000, calls)
 
 
-def loops_through(length, creation):
+def loops_through(length: int, creation: Call) -> Script:
     """The same loops, each through so many nodes of this creation behind one another."""
     calls = [
         call for call in stereo_loops()["calls"] if call["op"] not in ("connect", "startRendering")
@@ -119,14 +130,16 @@ def loops_through(length, creation):
     return script_with(2, 480000, calls)
 
 
-def loops_through_shapers():
+def loops_through_shapers() -> Script:
+    """The loops, each through six wave shapers of 129 points."""
     curve = [
         ONE * k * (12288 - k * k) // 2**20 for k in range(-64, 65)
     ]  # 3/4 x - 1/4 x^3 of x = k / 64
     return loops_through(6, {"op": "createWaveShaper", "curve": curve})
 
 
-def loops_through_filters():
+def loops_through_filters() -> Script:
+    """The loops, each through six filters of order 2."""
     back = [ONE, -15 * ONE // 8, 15 * ONE // 16]  # it rings for some 30 frames
     return loops_through(
         6,
@@ -138,7 +151,8 @@ def loops_through_filters():
     )
 
 
-def loops_through_long_filters():
+def loops_through_long_filters() -> Script:
+    """The loops, each through a filter with as many coefficients as there may be."""
     back = [ONE, *(ONE // (40 + k) for k in range(19))]
     return loops_through(
         1,
@@ -150,7 +164,8 @@ def loops_through_long_filters():
     )
 
 
-def largest_asset():
+def largest_asset() -> Script:
+    """A file of as many bytes as there may be, decoded and played."""
     calls = [
         {"op": "decodeAudioData", "as": "b", "path": "largest.wav"},
         joined("s", "destination"),
@@ -162,30 +177,20 @@ def largest_asset():
     return script_with(2, 480000, calls)
 
 
-def largest_wav():
+def largest_wav() -> bytes:
     """A file of 64 MiB, two channels of 16 bits."""
     size = 2**26 - 44
-    head = (
-        b"WAVEfmt "
-        + struct.pack("<IHHIIHH", 16, 1, 2, 48000, 192000, 4, 16)
-        + b"data"
-        + struct.pack("<I", size)
-    )
-    return (
-        b"RIFF"
-        + struct.pack("<I", 36 + size)
-        + head
-        + bytes(range(256)) * (size // 256)
-        + bytes(size % 256)
-    )
+    samples = bytes(range(256)) * (size // 256) + bytes(size % 256)
+    return wav.file_of(wav.Form(2, 48000, 16), samples)
 
 
-def voices_with_ramps():
+def voices_with_ramps() -> Script:
     """200 voices, whose numbers are drawn: a constant that starts and stops, and a gain that goes
     up or down."""
     state, calls = 0, []
 
-    def draw(most):
+    def draw(most: int) -> int:
+        """A number below this one."""
         nonlocal state
         state = (1103515245 * state + 12345) % 2**31
         return state // 2**16 % most
@@ -209,11 +214,12 @@ def voices_with_ramps():
     return script_with(2, 480000, calls)
 
 
-def edited(op, name, value, time):
+def edited(op: str, name: str, value: int, time: int) -> Call:
+    """A timed call on the gain of a node."""
     return {"op": op, "node": name, "param": "gain", "value": value, "time": time}
 
 
-def timelines(count, events):
+def timelines(count: int, events: int) -> Script:
     """So many gains of one constant, and in the timeline of each so many events, three sets and a
     ramp by turns, from the first frame of 9,600 on. A script has no room for many more than 200,000
     events."""
@@ -227,24 +233,27 @@ def timelines(count, events):
     return script_with(1, 9600, calls)
 
 
-def many_timelines():
+def many_timelines() -> Script:
+    """1,000 timelines of 200 events each."""
     return timelines(1000, 200)
 
 
-def long_timelines():
+def long_timelines() -> Script:
+    """200 timelines of 1,000 events each."""
     return timelines(200, 1000)
 
 
-def many_reads_of_the_state():
+def many_reads_of_the_state() -> Script:
+    """100,000 reads of the context's state."""
     return script_with(1, 128, [{"op": "readState"}] * 100000)
 
 
-def suspension(time, *calls):
+def suspension(time: int, *calls: Call) -> Call:
     """A suspension whose list has these calls, and resumes."""
     return {"op": "suspend", "time": time, "then": [*calls, {"op": "resume"}]}
 
 
-def voices_with_suspensions():
+def voices_with_suspensions() -> Script:
     """The voices, and a suspension behind each quantum but the last, which sets one of their
     gains."""
     script = voices_with_ramps()
@@ -263,13 +272,13 @@ def voices_with_suspensions():
     return {**script, "calls": script["calls"][:-1] + calls + script["calls"][-1:]}
 
 
-def many_suspensions():
+def many_suspensions() -> Script:
     """A suspension behind each quantum but the last, whose list resumes and does nothing else."""
     calls = sounding("c", ONE // 2) + [joined("c", "destination")]
     return script_with(1, 128 * 100001, calls + [suspension(128 * k) for k in range(1, 100001)])
 
 
-def write_loads(folder):
+def write_loads(folder: str) -> None:
     """Writes the loads whose operations are read, with their assets."""
     os.makedirs(folder, exist_ok=True)
     for name, load in LOADS.items():

@@ -21,7 +21,8 @@ def measured(command: list[str | Path], script: Path) -> tuple[int, float, float
 def measure(program: Path, folder: Path) -> None:
     """Prints the least time and memory of some runs of each script of a folder."""
     with tempfile.TemporaryDirectory() as work:
-        command = [shutil.which("time") or "time", "-f", "%U %M", program, Path(work, "out.wav")]
+        time = shutil.which("time") or "time"
+        command: list[str | Path] = [time, "-f", "%U %M", program, Path(work, "out.wav")]
         for script in sorted(folder.glob("*.json")):
             runs = [measured(command, script.resolve()) for _ in range(RUNS)]
             status, seconds, memory = (min(column) for column in zip(*runs))

@@ -1,15 +1,19 @@
 """Calls that make nodes, connect them, set their attributes, start and stop them."""
 
-from waplay_tools.expecting.reading import OPERATIONS as FIELDS, LEFT_OUT
+from collections.abc import Iterable
+from typing import Any
+
+from waplay_tools.expecting.reading import LEFT_OUT
+from waplay_tools.expecting.reading import OPERATIONS as FIELDS
 from waplay_tools.random_scripts.chances import OPERATIONS
-from waplay_tools.random_scripts.kinds import FIX, KINDS, ONE, Sound
+from waplay_tools.random_scripts.kinds import FIX, KINDS, ONE, Call, Calls, Fits, Sound
 from waplay_tools.random_scripts.values import Values
 
 
 class Nodes(Values):
     """Calls that make nodes, connect them, set their attributes, start and stop them."""
 
-    def call(self, op, needed=(), **optional):
+    def call(self, op: str, needed: Iterable[tuple[str, Any]] = (), **optional: Any) -> Call:
         """A call with its needed fields, and some of those that may be absent."""
         fields = {
             **dict(needed),
@@ -19,12 +23,13 @@ class Nodes(Values):
             fields["note"] = [None, {"op": "start"}]
         return {"op": op, **fields}
 
-    def create(self, op, **optional):
+    def create(self, op: str, **optional: Any) -> Call:
+        """A call that makes a node of a new name, by which later calls can take it."""
         name = self.new_name()
         self.names[name] = KINDS[op]
         return self.call(op, [("as", name)], **optional)
 
-    def create_with(self, op, field, ports):
+    def create_with(self, op: str, field: str, ports: str) -> Call:
         """A node that is told how many inputs or outputs it has, which are 6 where the call does
         not."""
         call = self.create(op, **{field: self.number()})
@@ -32,24 +37,31 @@ class Nodes(Values):
         self.names[call["as"]] = KINDS[op]._replace(**{ports: there if there <= 33 else 0})
         return call
 
-    def create_node(self, fits=lambda kind: True):
+    def create_node(self, fits: Fits = lambda kind: True) -> Call:
+        """A call that makes a node of a kind that fits, each as often as KINDS has it."""
         kinds = [kind for kind in self.kinds.values() if fits(kind)]
         kind = self.rng.choices(kinds, [kind.often for kind in kinds])[0]
         return getattr(self, kind.make)()
 
-    def create_source(self):
+    def create_source(self) -> Call:
+        """A call that makes a node which starts and stops."""
         return self.create_node(lambda kind: kind.plays)
 
-    def create_place(self):
+    def create_place(self) -> Call:
+        """A call that makes a node with an input."""
         return self.create_node(lambda kind: kind.inputs)
 
-    def create_constant(self):
+    def create_constant(self) -> Call:
+        """A constant source with any offset, or with none told."""
         return self.create("createConstantSource", offset=self.fix())
 
-    def create_gain(self):
+    def create_gain(self) -> Call:
+        """A gain with any value, or with none told."""
         return self.create("createGain", gain=self.fix())
 
-    def create_buffer_source(self):
+    def create_buffer_source(self) -> Call:
+        """A buffer source, mostly with a buffer that is there, a loop near the buffer's ends, and a
+        rate that may be refused."""
         sounds = [name for name, kind in self.names.items() if isinstance(kind, Sound)]
         name = (
             self.rng.choice(sounds)
@@ -58,7 +70,7 @@ class Nodes(Values):
             if self.may(0.8)
             else self.buffer()
         )
-        length = getattr(self.names.get(name), "length", 3)
+        length = getattr(self.names.get(name or ""), "length", 3)
         call = self.create(
             "createBufferSource",
             buffer=name,
@@ -80,34 +92,40 @@ class Nodes(Values):
             )
         return call
 
-    def create_splitter(self):
+    def create_splitter(self) -> Call:
+        """A splitter, mostly of a few outputs."""
         return self.create_with("createChannelSplitter", "numberOfOutputs", "outputs")
 
-    def create_merger(self):
+    def create_merger(self) -> Call:
+        """A merger, mostly of a few inputs."""
         return self.create_with("createChannelMerger", "numberOfInputs", "inputs")
 
-    def create_shaper(self):
+    def create_shaper(self) -> Call:
+        """A wave shaper with a curve or without one; some are refused for their oversampling."""
         return self.create(
             "createWaveShaper",
             curve=self.bend(),
             oversample=self.rng.choice(["none"] * 8 + ["2x", "4x"]),
         )
 
-    def set_curve(self, name=None):
+    def set_curve(self, name: str | None = None) -> Call:
+        """A call that sets the curve of this wave shaper, or mostly of any, or takes it away."""
         return self.call("setCurve", [("node", name or self.shaper()), ("curve", self.bend())])
 
-    def set_oversample(self):
+    def set_oversample(self) -> Call:
+        """A call that sets an oversampling, half of them one that is refused."""
         return self.call(
             "setOversample",
             [("node", self.shaper()), ("value", self.rng.choice(["none", "none", "2x", "4x"]))],
         )
 
-    def create_filter(self):
+    def create_filter(self) -> Call:
+        """An IIR filter, now and then with lists that are refused."""
         forward, back = self.coefficients()
         call = self.create("createIIRFilter")
         return {**call, "feedforward": forward, "feedback": back}
 
-    def create_delay(self):
+    def create_delay(self) -> Call:
         """A delay: mostly one of some quanta or a second at most; now and then one that there
         cannot be."""
         some, call = self.rng.randint(0, 39), self.create(
@@ -125,7 +143,8 @@ class Nodes(Values):
             call["maxDelayTime"] = self.rng.choice([0, -1, 16 * ONE + 1, *FIX])
         return call
 
-    def connect(self):
+    def connect(self) -> Call:
+        """A connection between any nodes, with an output and an input that are mostly there."""
         source, target = self.name(), self.target()
         return self.call(
             "connect",
@@ -134,31 +153,31 @@ class Nodes(Values):
             input=self.index(target, "inputs"),
         )
 
-    def joined(self, source, target):
+    def joined(self, source: str, target: str) -> Call:
         """A connection from any output to any input, nearly always such that are there."""
-        call = {"op": "connect", "from": source, "to": target}
+        call: Call = {"op": "connect", "from": source, "to": target}
         for field, name in ("output", source), ("input", target):
             there = getattr(self.names.get(name), field + "s", 1)
             if there != 1 or self.may(0.1):
                 call[field] = self.index(name, field + "s", 0.99)
         return call
 
-    def disconnect(self):
+    def disconnect(self) -> Call:
+        """A call of any form that takes connections away; where there are connections to
+        parameters, often between such nodes."""
         source, target = self.name(), self.target()
-        if self.controls and self.may(
-            0.4
-        ):  # nodes that may have a connection to a parameter between them
+        # Nodes that may have a connection to a parameter between them.
+        if self.controls and self.may(0.4):
             control = self.rng.choice(self.controls)
             source, target = control["from"], control["to"]
-        call = {"op": "disconnect", "from": source}
-        values = {
+        call: Call = {"op": "disconnect", "from": source}
+        values: Call = {
             "output": self.index(source, "outputs"),
             "to": target,
             "input": self.index(target, "inputs"),
         }
-        form = self.rng.choice(
-            [[], ["output"], ["to"], ["to", "output"], ["to", "output", "input"]]
-        )
+        forms: list[list[str]] = [[], ["output"], ["to"], ["to", "output"]]
+        form = self.rng.choice([*forms, ["to", "output", "input"]])
         for field, value in values.items():
             if field in form:
                 call[field] = value
@@ -166,7 +185,9 @@ class Nodes(Values):
                 call[field] = None
         return call
 
-    def set_attribute(self):
+    def set_attribute(self) -> Call:
+        """A call that sets the count, the mode or the interpretation of a node, mostly of one with
+        inputs."""
         some = self.rng.randint(0, 9)
         name = (
             "destination"
@@ -175,9 +196,10 @@ class Nodes(Values):
         )
         return self.attribute(self.rng.choice(self.attributes), name)
 
-    def attribute(self, op, name):
+    def attribute(self, op: str, name: str) -> Call:
         """Mostly a count that has a layout, and often the one that is there where it is fixed."""
-        kind = dict(field[:2] for field in FIELDS[op])["value"]
+        kind = next(kind for field, kind, *_ in FIELDS[op] if field == "value")
+        value: str | int
         some = self.rng.randint(0, 9)
         if kind != "count":
             value = self.rng.choice(kind.split())
@@ -196,7 +218,7 @@ class Nodes(Values):
             )
         return self.call(op, [("node", name), ("value", value)])
 
-    def start(self, name=None):
+    def start(self, name: str | None = None) -> Call:
         """Sources of buffers mostly begin near the start of what they play."""
         offset = self.time() if self.may(0.3) else self.rng.choice([0, 0, 1, 2, self.frames()])
         duration = self.rng.choice([None, None, self.time(), self.frames()])
@@ -208,33 +230,38 @@ class Nodes(Values):
             duration=duration,
         )
 
-    def stop(self):
+    def stop(self) -> Call:
+        """A call that stops a source, which may not be started."""
         return self.call("stop", [("node", self.source())], when=self.time())
 
-    def start_rendering(self):
+    def start_rendering(self) -> Call:
+        """A call of startRendering, mostly with a list."""
         return self.call("startRendering", then=self.held())
 
-    def read(self):
-        call = {"op": self.rng.choice(["readState", "readTime", "resume"])}
+    def read(self) -> Call:
+        """A call that reads the state or the time, or resumes. Now and then it has a list that it
+        can't hold."""
+        call: Call = {"op": self.rng.choice(["readState", "readTime", "resume"])}
         if self.may(0.05):
             call["then"] = [{"op": "no operation, and no call"}]
         return call
 
-    def left_out(self):
+    def left_out(self) -> Call:
+        """A call of an operation that the profile leaves out."""
         return {"op": self.rng.choice(list(LEFT_OUT)), "as": self.new_name()}
 
-    def made_by(self, rows: list[tuple]):
+    def made_by(self, rows: list[tuple]) -> Any:
         """What the method of one of these rows makes, of those whose operations are read."""
         rows = [row for row in rows if self.read_ops.issuperset(row[2:])]
         drawn = self.rng.choices([row[1] for row in rows], [row[0] for row in rows])[0]
         method, *words = drawn.split()
         return getattr(self, method)(*words)
 
-    def any_call(self):
+    def any_call(self) -> Call:
         """A call of any operation."""
         return self.made_by(OPERATIONS)
 
-    def held(self):
+    def held(self) -> Calls:
         """The calls of a list that a call holds."""
         self.depth += 1
         calls = [

@@ -1,18 +1,35 @@
 """Buffers, and the assets that are decoded into them."""
 
 import os
-import struct
 
-from waplay_tools import wav_check
+from waplay_tools import wav, wav_check
 from waplay_tools.expecting.sessions import LOOPS
-from waplay_tools.random_scripts.kinds import Link, Sound
+from waplay_tools.random_scripts.kinds import Call, Calls, Link, Sound
 from waplay_tools.random_scripts.parameters import Parameters
+
+# Paths at which there is no file, and those that could lead from one that is there to one outside.
+NOWHERE = [
+    "nowhere.wav",
+    "sub/nowhere.wav",
+    "/dev/zero",
+    "/",
+    "..",
+    "../beside.wav",
+    "./../beside.wav",
+    "a0.wav/..",
+    "\0",
+    "x" * 255,
+    "sub" * 60,
+    "...",
+    "A0.WAV",
+]
+OUTSIDE = ["/%", "%\0", "sub/../%", "../%", "%/", "%/%"]  # with that file for each %
 
 
 class Sounds(Parameters):
     """Buffers, and the assets that are decoded into them."""
 
-    def create_buffer(self):
+    def create_buffer(self) -> Call:
         """A buffer. Some are of another rate, and some are such that there cannot be."""
         channels, length, rate = (
             self.rng.choice([1, 1, 2, 2, 4, 6, self.rng.randint(1, 32)]),
@@ -44,7 +61,9 @@ class Sounds(Parameters):
             [("as", name), ("channels", channels), ("length", length), ("rate", rate)],
         )
 
-    def copy_to_channel(self, name=None, channel=None):
+    def copy_to_channel(self, name: str | None = None, channel: int | None = None) -> Call:
+        """A call that writes a buffer, this one and its channel where they are told. Some reach
+        past its end."""
         name = name or self.buffer()
         sound = self.names.get(name)
         channels, length = (sound.channels, sound.length) if isinstance(sound, Sound) else (1, 3)
@@ -68,18 +87,20 @@ class Sounds(Parameters):
             call["at"] = at
         return call
 
-    def set_buffer(self):
+    def set_buffer(self) -> Call:
+        """A call that gives a buffer source a buffer, or takes it away."""
         return self.call(
             "setBuffer",
             [("node", self.player()), ("buffer", None if self.may(0.3) else self.buffer())],
         )
 
-    def set_loop(self):
+    def set_loop(self) -> Call:
+        """A call that sets a part of a buffer source's loop."""
         op = self.rng.choice(list(LOOPS))
         value = self.may(0.7) if op == "setLoop" else self.loop_point(self.frames())
         return self.call(op, [("node", self.player()), ("value", value)])
 
-    def decode(self, is_good=False):
+    def decode(self, is_good: bool = False) -> Call:
         """A call that decodes an asset; with this, one of the context's rate that is likely
         read."""
         path, name = self.asset(is_good), self.new_name()
@@ -87,14 +108,15 @@ class Sounds(Parameters):
             self.names[name] = Sound(0, 0, False, 2, 20)
         return self.call("decodeAudioData", [("as", name), ("path", path)])
 
-    def new_path(self):
+    def new_path(self) -> str:
+        """A path at which nothing stands yet, in the folder or in one below it."""
         return "%s%d%s" % (
             self.rng.choice(["a", "a", "sub/a", "sub/sub/a", "\u00e9 ", "..a", "x" * 200]),
             len(self.assets),
             self.rng.choice([".wav", ".wav", "", "..", "."]),
         )
 
-    def asset(self, is_good=False):
+    def asset(self, is_good: bool = False) -> str:
         """A path. Mostly a WAV file stands there, which is made with it or was before."""
         rng, path = self.rng, self.new_path()
         files = [it for it, data in self.assets.items() if isinstance(data, bytes)] or ["a0.wav"]
@@ -117,29 +139,7 @@ class Sounds(Parameters):
             self.assets[path] = Link("../" * path.count("/") + target)
         elif some < 195:  # a path that names no file, or could name one outside
             outside = rng.choice(files)
-            return rng.choice(
-                [
-                    "nowhere.wav",
-                    "sub/nowhere.wav",
-                    "/dev/zero",
-                    "/",
-                    "..",
-                    "../beside.wav",
-                    "./../beside.wav",
-                    "a0.wav/..",
-                    "\0",
-                    "x" * 255,
-                    "sub" * 60,
-                    "...",
-                    "A0.WAV",
-                    "/" + outside,
-                    outside + "\0",
-                    "sub/../" + outside,
-                    "../" + outside,
-                    outside + "/",
-                    outside + "/" + outside,
-                ]
-            )
+            return rng.choice([*NOWHERE, *(form.replace("%", outside) for form in OUTSIDE)])
         elif some < 197:
             self.assets[path] = rng.choice([2**26 + 1, 2**26 + 1, 2**26, 2**28])
         else:  # what cannot be read: a folder, and a link to itself
@@ -148,29 +148,23 @@ class Sounds(Parameters):
             self.assets[path] = None if self.may(0.7) else Link(os.path.basename(path))
         return path
 
-    def wav(self):
+    def wav(self) -> bytes:
         """A WAV file of the context's rate. Some have other chunks, or data that is cut."""
         rng = self.rng
         if self.may(0.3):
             return wav_check.made_by_hand(rng, self.rate)
-        bits, channels = rng.choice([8, 16, 24, 32]), rng.choice(
-            [1, 1, 2, 2, 4, 6, rng.randint(1, 32)]
-        )
-        block, low = channels * bits // 8, 2 ** (bits - 1)
-        fields = struct.pack("<HHIIHH", 1, channels, self.rate, self.rate * block, block, bits)
-        most = (
-            low if self.may(0.3) else low // 16
-        )  # mostly quiet, so that sums stay within the range
+        bits = rng.choice([8, 16, 24, 32])
+        channels = rng.choice([1, 1, 2, 2, 4, 6, rng.randint(1, 32)])
+        low = 2 ** (bits - 1)
+        most = low if self.may(0.3) else low // 16  # mostly quiet: sums stay within the range
         values = [rng.randint(-most, most - 1) for _ in range(channels * self.frames())]
         samples = [
             (value + low if bits == 8 else value % 2**bits).to_bytes(bits // 8, "little")
             for value in values
         ]
-        return wav_check.riff(
-            wav_check.chunk(b"fmt ", fields), wav_check.chunk(b"data", b"".join(samples))
-        )
+        return wav.file_of(wav.Form(channels, self.rate, bits), b"".join(samples))
 
-    def some_buffers(self):
+    def some_buffers(self) -> Calls:
         """Buffers that sources can play, made and written, or decoded."""
         calls = []
         for _ in range(self.rng.randint(1, 4)):
@@ -179,9 +173,11 @@ class Sounds(Parameters):
                 continue
             calls.append(self.create_buffer())
             name = calls[-1]["as"]
+            sound = self.names[name]
+            channels = sound.channels if isinstance(sound, Sound) else 0
             calls += [
                 self.copy_to_channel(name, channel)
-                for channel in range(min(32, self.names[name].channels))
+                for channel in range(min(32, channels))
                 if self.may(0.9)
             ]
         return calls

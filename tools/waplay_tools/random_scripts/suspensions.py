@@ -1,14 +1,14 @@
 """Suspensions, and what is changed at them."""
 
 from waplay_tools.random_scripts.chances import CHANGES
-from waplay_tools.random_scripts.kinds import AUTOMATED, TIME
+from waplay_tools.random_scripts.kinds import AUTOMATED, TIME, Call, Calls
 from waplay_tools.random_scripts.sounds import Sounds
 
 
 class Suspensions(Sounds):
     """Suspensions, and what is changed at them."""
 
-    def suspension_time(self):
+    def suspension_time(self) -> int:
         """A time that is rounded up to a frame to come, or now and then one at which there can be
         no suspension."""
         ahead = range(self.now // 128 * 128 + 128, self.length, 128)
@@ -28,14 +28,15 @@ class Suspensions(Sounds):
         )
         return self.rng.choice([past, late, self.now + 1])
 
-    def suspend(self, time=None):
+    def suspend(self, time: int | None = None) -> Call:
+        """A suspension at this time, or mostly at one to come, with a list of changes."""
         time = self.suspension_time() if time is None else time
         call = self.call("suspend", [("time", time)])
         if self.may(0.97):
             call["then"] = self.changes(max(0, min(-(-time // 128) * 128, self.length)))
         return call
 
-    def changes(self, frame):
+    def changes(self, frame: int) -> Calls:
         """The calls of a list at a suspension. Most lists resume, mostly with their last call."""
         before, self.now, self.depth = self.now, frame, self.depth + 1
         calls = []
@@ -49,11 +50,11 @@ class Suspensions(Sounds):
             )
         return calls
 
-    def heard(self, name):
+    def heard(self, name: str) -> Call:
         """A connection by which a node is mostly heard."""
         return self.joined(name, "destination" if self.may(0.6) else self.target())
 
-    def voice(self):
+    def voice(self) -> Calls:
         """A source that is made and connected, mostly by a gain, and starts."""
         calls = [self.create_source()]
         name = last = calls[0]["as"]
@@ -65,25 +66,27 @@ class Suspensions(Sounds):
                 calls += self.timeline(last)[:4]
         return calls + [self.heard(last), self.call("start", [("node", name)], when=self.time())]
 
-    def rewired(self):
+    def rewired(self) -> Call:
+        """A connection by which a node that is there is mostly heard."""
         return self.heard(self.name(lambda kind: kind.outputs))
 
-    def moved(self):
+    def moved(self) -> Calls:
         """Edits of a parameter, mostly from now on."""
         edits = self.timeline(self.name(lambda kind: kind.parameter))
         return edits[: self.rng.choice([1, 2, 4, 8])]
 
-    def sampled(self):
+    def sampled(self) -> Calls:
         """Buffers, and a source that plays one."""
         calls = self.some_buffers() + [self.create_buffer_source()]
         name = calls[-1]["as"]
         return calls + [self.heard(name), self.start(name)]
 
-    def values_read(self):
+    def values_read(self) -> Calls:
+        """Reads of up to three parameters' values."""
         names = [name for name, kind in self.names.items() if kind.parameter]
         return [self.edit("readValue", name) for name in self.rng.sample(names, min(3, len(names)))]
 
-    def suspended(self, calls):
+    def suspended(self, calls: Calls) -> Calls:
         """The calls with suspensions between them, which are made in order of time."""
         calls, ahead = list(calls), range(128, self.length, 128)
         frames = self.rng.sample(ahead, min(len(ahead), self.rng.choice([1, 1, 2, 3, 5])))
@@ -93,7 +96,7 @@ class Suspensions(Sounds):
             calls.insert(self.rng.randint(len(calls) // 2, len(calls)), call)
         return calls
 
-    def for_a_while(self, calls, name):
+    def for_a_while(self, calls: Calls, name: str) -> Calls:
         """Suspensions that bring a node into a cycle and out of it, or that take something away
         from it which is connected by these calls, and give it back."""
         frames = [128 * k for k in range(1, 6) if 128 * k < self.length]

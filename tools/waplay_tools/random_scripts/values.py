@@ -1,5 +1,7 @@
 """Random values, times and lists of values."""
 
+from collections.abc import Callable
+
 from waplay_tools.random_scripts.choices import Choices
 from waplay_tools.random_scripts.kinds import FIX, ONE, TIME
 
@@ -7,7 +9,7 @@ from waplay_tools.random_scripts.kinds import FIX, ONE, TIME
 class Values(Choices):
     """Random values, times and lists of values."""
 
-    def fix(self):
+    def fix(self) -> int:
         """Mostly a value of moderate size, so that a sum is not always past the range."""
         some = self.rng.randint(0, 9)
         if some < 6:
@@ -16,7 +18,7 @@ class Values(Choices):
             return self.rng.choice([0, 1, -1, 2, ONE, -ONE, ONE // 2, ONE - 1, ONE + 1, 3 * ONE])
         return self.rng.choice([*FIX, self.rng.randint(*FIX)])
 
-    def time(self):
+    def time(self) -> int:
         """Mostly a frame of the context, and at a suspension mostly one that is to come."""
         some = self.rng.randint(0, 9)
         if some < 6:
@@ -25,7 +27,7 @@ class Values(Choices):
             return self.now + self.rng.choice([0, 1, 127, 128, 129, 256])
         return self.rng.choice([self.length + self.rng.randint(-1, 130), -1, TIME, -TIME])
 
-    def value(self):
+    def value(self) -> int:
         """A value of a parameter. Most are such that what comes to the file is within its range."""
         some = self.rng.randint(0, 19)
         if some < 13:
@@ -36,7 +38,7 @@ class Values(Choices):
             [*FIX, FIX[0] + 1, FIX[1] - 1, self.rng.randint(*FIX), self.rng.randint(-9, 9)]
         )
 
-    def points(self, value=None):
+    def points(self, value: Callable[[], int] | None = None) -> list[int]:
         """Those of a curve: two, three or some, now and then many or too few."""
         some = self.rng.randint(0, 19)
         count = (
@@ -48,12 +50,12 @@ class Values(Choices):
         )
         return [(value or self.value)() for _ in range(count)]
 
-    def seconds(self, frames):
+    def seconds(self, frames: float) -> int:
         """So many frames in units of 2^-24 of a second. With a half of a frame it is near where
         rounding turns."""
         return int(frames * ONE // self.rate)
 
-    def delayed_by(self):
+    def delayed_by(self) -> int:
         """A time of a delay. Most are some quanta at most; some lie where rounding turns, or past
         the ends."""
         some, frames = self.rng.randint(0, 19), self.rng.choice(
@@ -69,7 +71,7 @@ class Values(Choices):
             [0, 0, ONE, -1, 16 * ONE, *FIX, self.seconds(-frames), self.seconds(self.length)]
         )
 
-    def bend(self):
+    def bend(self) -> list[int] | None:
         """The curve of a shaper, or none. Some have points at the ends of the range, and some many
         of them, as a staircase has."""
         some = self.rng.randint(0, 19)
@@ -84,7 +86,7 @@ class Values(Choices):
             ]
         return self.points()
 
-    def coefficients(self):
+    def coefficients(self) -> tuple[list[int], list[int]]:
         """The two lists of a filter: mostly of one that comes to rest, some of them with small
         numbers, for the sake of halves; now and then of one that swings, or with numbers from the
         whole range, or such that there can be no filter."""
@@ -98,8 +100,9 @@ class Values(Choices):
                 else [ONE, -ONE, ONE, 2 * ONE, rng.randint(1, 2 * ONE)]
             )
             part = abs(first) // max(1, back - 1)
-            lists = [rng.randint(-most, most) for _ in range(forward)], [
-                rng.randint(-part, part) for _ in range(back)
+            lists = [
+                [rng.randint(-most, most) for _ in range(forward)],
+                [rng.randint(-part, part) for _ in range(back)],
             ]
         elif some < 15:  # such as y[n] = x[n] + r y[n-1] - y[n-2], or that goes from end to end
             first = rng.choice([ONE, -ONE, 1, 2, 3, rng.randint(1, ONE)])
@@ -108,10 +111,8 @@ class Values(Choices):
                 first,
                 *(rng.randint(-1, 1) for _ in range(18)),
             ]
-            lists = [rng.randint(-2 * abs(first), 2 * abs(first)) for _ in range(forward)], [
-                0,
-                *swing[: back - 1],
-            ]
+            most = 2 * abs(first)
+            lists = [[rng.randint(-most, most) for _ in range(forward)], [0, *swing[: back - 1]]]
         else:
             first = rng.choice([*FIX, *FIX, 1, -1, 3, -3, 2**30, rng.randint(*FIX)])
             lists = [
@@ -131,7 +132,7 @@ class Values(Choices):
             return [0] * len(lists[0]), lists[1]
         return lists[0], [0] + lists[1][1:] if wrong < 8 else lists[1]
 
-    def span(self, name, time):
+    def span(self, name: str, time: int) -> int:
         """The duration of a curve from this time on: mostly some frames or up to the time of
         another edit, now and then one, very many, or none."""
         some, later = self.rng.randint(0, 19), [
@@ -149,7 +150,7 @@ class Values(Choices):
             [self.length + self.rng.randint(0, 300), TIME, TIME - 1, 2**39, 2**31, 0, -1, -TIME]
         )
 
-    def instant(self, name):
+    def instant(self, name: str) -> int:
         """A time for an edit: often that of another one or a curve's end, or a frame beside it."""
         some, known = self.rng.randint(0, 19), self.instants.setdefault(name, [0])
         if some < 9:
@@ -167,21 +168,21 @@ class Values(Choices):
             time = self.rng.choice([-1, -TIME, *far])
         return max(-TIME, min(TIME, time))
 
-    def number(self):
+    def number(self) -> int:
         """The number of the outputs or inputs of a node, mostly a small one."""
         some = self.rng.randint(0, 19)
         if some < 12:
             return self.rng.choice([1, 2, 2, 3, 4, 6])
         return self.rng.randint(1, 32) if some < 19 else self.rng.choice([0, 32, 33, 2**32 - 1])
 
-    def loop_point(self, length):
+    def loop_point(self, length: int) -> int:
         """Mostly one that is in a buffer of this length or near its end."""
         some = self.rng.randint(0, 9)
         if some < 7:
             return self.rng.randint(0, length)
         return self.rng.choice([0, -1, 1, length - 1, length + 1, length + 9, TIME, -TIME])
 
-    def frames(self):
+    def frames(self) -> int:
         """The length of a buffer, mostly a small one."""
         some = self.rng.randint(0, 19)
         if some < 12:

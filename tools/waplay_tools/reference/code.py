@@ -5,6 +5,7 @@ the bodies of functions. What it does not know it refuses.
 """
 
 import dataclasses
+import itertools
 import re
 from collections.abc import Iterator
 
@@ -59,7 +60,7 @@ class Item:
 
 def file_comment(text: str) -> str:
     """The `//!` comment at the top of a file."""
-    lines = re.match(r"(?://!.*\n)*", text)[0].splitlines()
+    lines = itertools.takewhile(lambda line: line.startswith("//!"), text.splitlines())
     return "\n".join(line[3:].strip() for line in lines)
 
 
@@ -113,7 +114,8 @@ def item_at(source: Source, at: int, comment: str, attributes: list[str]) -> tup
     text, begin = source.text, at
     shown = VISIBILITY.match(text, at)
     at = shown.end() if shown else at
-    at = QUALIFIERS.match(text, at).end()
+    qualifiers = QUALIFIERS.match(text, at)
+    at = qualifiers.end() if qualifiers else at
     kind = KIND.match(text, at)
     if not kind:
         raise source.fault(at, f"no item is known that begins with {text[at:at + 20]!r}")
@@ -123,7 +125,7 @@ def item_at(source: Source, at: int, comment: str, attributes: list[str]) -> tup
         head="",
         comment=comment,
         attributes=attributes,
-        is_public=bool(shown) and not shown[1],
+        is_public=shown is not None and not shown[1],
         line=source.line_at(begin),
     )
     reader = READERS[kind[1]]
@@ -133,7 +135,8 @@ def item_at(source: Source, at: int, comment: str, attributes: list[str]) -> tup
 def indent_at(source: Source, at: int) -> int:
     """How far the line of a place is indented."""
     begin = source.text.rfind("\n", 0, at) + 1
-    return len(re.compile(r" *").match(source.text, begin)[0])
+    line = source.text[begin:].partition("\n")[0]
+    return len(line) - len(line.lstrip(" "))
 
 
 def take_head(source: Source, begin: int, end: int) -> str:

@@ -67,7 +67,7 @@ def uses_in(path: str, names: str | None, alias: str | None, is_public: bool) ->
 class Reader:
     """Goes through the lines of a file. Each line belongs to something, or is refused."""
 
-    def __init__(self, path: Path, text: str):
+    def __init__(self, path: Path, text: str) -> None:
         self.file = Definitions(path, "", [], [])
         self.lines = text.splitlines()
         self.at = 0
@@ -120,7 +120,8 @@ class Reader:
         use = USE.match(words)
         if not use or self.file.definitions:
             raise self.fault("a `use` of a form that is not known, or behind a definition")
-        self.file.uses += uses_in(*use.groups(), words.startswith("pub "))
+        path, names, alias = use.groups()
+        self.file.uses += uses_in(path, names, alias, words.startswith("pub "))
         return True
 
     def take_frame(self, words: str, indent: int) -> bool:

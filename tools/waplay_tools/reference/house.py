@@ -4,6 +4,7 @@ import dataclasses
 import re
 from pathlib import Path
 
+from waplay_tools import crates
 from waplay_tools.reference.code import Item, file_comment, items_of
 from waplay_tools.reference.definitions import (
     Definition,
@@ -14,7 +15,6 @@ from waplay_tools.reference.definitions import (
 )
 from waplay_tools.reference.scanning import Source, Unreadable
 
-PROGRAM = "waplay"
 GHOST_USE = re.compile(
     r"(?:pub )?ghost use ([A-Za-z_0-9.]+?)(?:\.\{([^}]*)\}| as ([a-zA-Z_0-9]+))?", re.S
 )
@@ -63,23 +63,12 @@ class Crate:
 class House:
     """All crates of a repository, in the order of crates.txt."""
 
-    def __init__(self, top: Path):
+    def __init__(self, top: Path) -> None:
         self.top = top
-        self.bases = bases_in(top / "crates.txt", top)
-        below = self.below(PROGRAM) | {PROGRAM}
-        self.product = [it for it in self.bases if it in below]
-        self.crates = {it: self.read_crate(it, it in below) for it in self.bases}
-
-    def below(self, name: str) -> set[str]:
-        """The crates of this repository that a crate stands on, on whatever way."""
-        found: set[str] = set()
-        left = [name]
-        while left:
-            for base in self.bases.get(left.pop(), ()):
-                if base in self.bases and base not in found:
-                    found.add(base)
-                    left.append(base)
-        return found
+        self.bases = crates.bases_in(top)
+        product = crates.product(self.bases)
+        self.product = [it for it in self.bases if it in product]
+        self.crates = {it: self.read_crate(it, it in product) for it in self.bases}
 
     def direct_bases(self, name: str) -> list[str]:
         """What a crate stands on and not already by another one of them."""
@@ -87,7 +76,7 @@ class House:
         indirect: set[str] = set()
         for base in bases:
             if base in self.crates:
-                indirect |= self.below(base) | set(self.crates[base].bases)
+                indirect |= crates.below(base, self.bases) | set(self.crates[base].bases)
         return [it for it in bases if it not in indirect]
 
     def read_crate(self, name: str, is_product: bool) -> Crate:
@@ -124,7 +113,7 @@ class House:
         text = listed.read_text(encoding="utf-8") if listed.exists() else ""
         names = [LISTED.fullmatch(line) for line in text.splitlines()]
         files = {it.stem: it for it in sorted(folder.rglob("*.antt")) if it != listed}
-        if not all(names) or {it[1] for it in names if it[1]} != set(files):
+        if not all(names) or {it[1] for it in names if it and it[1]} != set(files):
             raise Unreadable(f"{self.shown(listed)}: not a list of the files beside it")
         return {
             name: read_definitions(self.shown(path), path.read_text(encoding="utf-8"))
@@ -142,19 +131,6 @@ class House:
         return found[0] if found else None
 
 
-def bases_in(path: Path, top: Path) -> dict[str, tuple[str, ...]]:
-    """What each crate stands on, by crates.txt."""
-    bases = {}
-    for number, line in enumerate(path.read_text(encoding="utf-8").splitlines(), 1):
-        if not line.strip() or line.startswith("#"):
-            continue
-        name, colon, below = line.partition(":")
-        if not colon or not (top / "crates" / name).is_dir():
-            raise Unreadable(f"{path.relative_to(top)}:{number}: {line!r} names no crate")
-        bases[name] = tuple(below.split())
-    return bases
-
-
 def ghost_uses(source: Source, items: list[Item]) -> list[Use]:
     """What the contracts of a file may name, also where only an implementation brings it in."""
     uses = []
@@ -166,7 +142,8 @@ def ghost_uses(source: Source, items: list[Item]) -> list[Use]:
                 raise Unreadable(
                     f"{source.path}:{item.line}: a `ghost use` of a form that is not known"
                 )
-            uses += uses_in(*use.groups(), False)
+            path, names, alias = use.groups()
+            uses += uses_in(path, names, alias, False)
     return uses
 
 

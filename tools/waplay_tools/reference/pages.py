@@ -50,7 +50,7 @@ class Call:
 class Reference:
     """All that the pages are made of."""
 
-    def __init__(self, house: House):
+    def __init__(self, house: House) -> None:
         self.house = house
         self.entries: list[Entry] = []
         self.definitions: dict[Place, Entry] = {}
@@ -85,7 +85,7 @@ class Reference:
 class CratePage:
     """The page of a crate."""
 
-    def __init__(self, reference: Reference, crate: Crate):
+    def __init__(self, reference: Reference, crate: Crate) -> None:
         self.reference = reference
         self.house = reference.house
         self.crate = crate
@@ -174,8 +174,9 @@ class CratePage:
 
     def add_cites(self, places: list[Place], entry: Entry | None) -> None:
         """Adds a line with the definitions that a contract names."""
-        for place in places if entry else []:
-            self.reference.calls_by_definition.setdefault(place, []).append(entry)
+        if entry:
+            for place in places:
+                self.reference.calls_by_definition.setdefault(place, []).append(entry)
         links = [
             self.reference.definitions[it].link()
             for it in places

@@ -136,6 +136,7 @@ def boxes(house: House) -> dict[str, Box]:
 def path_of(begin: Box | None, end: Box | None) -> tuple[str, int, int]:
     """The line of a step, and the place of its word."""
     if begin is None:
+        assert end is not None  # a step has an end in the picture at least
         return f"M{end.middle()} 22V{end.y - 3}", end.middle() + 7, 36
     if end is None:
         return f"M{begin.middle()} {begin.y}V22", begin.middle() + 7, 42

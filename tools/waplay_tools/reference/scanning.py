@@ -39,7 +39,8 @@ class Source:
 
     def past_blanks(self, at: int) -> int:
         """The first place from `at` on that is no blank."""
-        return BLANKS.match(self.text, at).end()
+        blanks = BLANKS.match(self.text, at)
+        return blanks.end() if blanks else at
 
     def past_token(self, at: int) -> int:
         """The place behind a comment, a string, a character, or brackets with what they hold."""

@@ -1,35 +1,45 @@
 """Two transcripts side by side, by call."""
 
 import collections
+from typing import Any
 
 from waplay_tools.reporting import entries
 from waplay_tools.reporting.following import answers
+from waplay_tools.reporting.script_reading import Call, Script
 from waplay_tools.reporting.text import BadInput, quoted, shown, visible
+from waplay_tools.reporting.transcript_reading import Line
 
 SIGNS = {"same": " ", "other": "|", "left": "<", "right": ">", "moved": "~"}
+
+
+Key = tuple[Any, ...]  # what a line answers
 
 
 class Pair:
     """A line of the first transcript, the line of the second that answers the same, and how they
     differ."""
 
-    def __init__(self, left, right):
+    def __init__(self, left: Line | None, right: Line | None) -> None:
         self.left, self.right = left, right
         if left is None or right is None:
             self.kind = "right" if left is None else "left"
         else:
             self.kind = "same" if left.text == right.text else "other"
 
-    def line(self):
+    def line(self) -> Line:
         """The line that is there, the first one's where both are."""
-        return self.left or self.right
+        line = self.left or self.right
+        assert line is not None  # a pair has one at least
+        return line
 
 
-def _keys(lines):
+def _keys(lines: list[Line]) -> dict[Key, Line]:
     """The lines by what they answer: a call, its promise, the end of a source, or the session's
     end."""
-    keyed, seen = {}, collections.Counter()
+    keyed: dict[Key, Line] = {}
+    seen: collections.Counter[Key] = collections.Counter()
     for line in lines:
+        key: Key
         if line.kind == "script":
             key = ("end",)
         elif line.ordinal is not None:
@@ -41,26 +51,28 @@ def _keys(lines):
     return keyed
 
 
-def pairs_of(left, right):
+def pairs_of(left: list[Line], right: list[Line]) -> list[Pair]:
     """The lines of two transcripts in pairs, in the order of the first; a line that only the second
     has comes behind the one that it follows there."""
     ones, twos = _keys(left), _keys(right)
-    order, behind, last = [None, *ones], collections.defaultdict(list), None
+    order: list[Key | None] = [None, *ones]
+    last: Key | None = None
+    behind: dict[Key | None, list[Key]] = collections.defaultdict(list)
     for key in twos:
         if key not in ones:
             behind[last].append(key)
         else:
             last = key
     pairs = []
-    for key in order:
-        if key is not None:
-            pairs.append(Pair(ones[key], twos.get(key)))
-        pairs += [Pair(None, twos[other]) for other in behind[key]]
+    for before in order:
+        if before is not None:
+            pairs.append(Pair(ones[before], twos.get(before)))
+        pairs += [Pair(None, twos[other]) for other in behind[before]]
     _find_moved(pairs)
     return pairs
 
 
-def _find_moved(pairs):
+def _find_moved(pairs: list[Pair]) -> None:
     """Marks the pairs of equal lines whose order is another one in the second transcript."""
     latest = 0
     for pair in pairs:
@@ -71,7 +83,7 @@ def _find_moved(pairs):
         latest = max(latest, pair.right.place)
 
 
-def parting(left, right):
+def parting(left: list[Line], right: list[Line]) -> int | None:
     """The place of the first lines that differ, counted from 1; None where there is none."""
     for place, (one, two) in enumerate(zip(left, right), 1):
         if one.text != two.text:
@@ -79,7 +91,7 @@ def parting(left, right):
     return None if len(left) == len(right) else min(len(left), len(right)) + 1
 
 
-def call_text(call):
+def call_text(call: Call) -> str:
     """A call in one line: its operation, its fields, and of its list how long it is."""
     if not isinstance(call.op, str) or call.op not in entries.OPERATIONS:
         return shown(call.value)
@@ -91,9 +103,11 @@ def call_text(call):
     return " ".join(words)
 
 
-def _sentence(left, right, names, script):
+def _sentence(
+    left: list[Line], right: list[Line], names: tuple[str, str], script: Script | None
+) -> str:
     """Where two transcripts part."""
-    place = parting(left, right)
+    place = parting(left, right) or 0
     lines = [lines[place - 1] if place <= len(lines) else None for lines in (left, right)]
     told = [
         f"nothing, after {len(all_lines)} lines" if line is None else visible(line.text)
@@ -105,23 +119,24 @@ def _sentence(left, right, names, script):
         f"  {names[1]}: {told[1]}",
     ]
     ordinals = sorted({line.ordinal for line in lines if line is not None and line.ordinal})
-    for ordinal in ordinals if script else ():
-        if ordinal in script.by_ordinal:
-            parts.append(f"  call {ordinal}: {call_text(script.by_ordinal[ordinal])}")
+    for ordinal in ordinals:
+        call = script.by_ordinal.get(ordinal) if script else None
+        if call:
+            parts.append(f"  call {ordinal}: {call_text(call)}")
     return "\n".join(parts)
 
 
-def _seen(pairs, context):
+def _seen(pairs: list[Pair], context: int) -> set[int]:
     """The places of the pairs that are shown: those that differ, and so many before and after
     each."""
-    seen = set()
+    seen: set[int] = set()
     for at, pair in enumerate(pairs):
         if pair.kind != "same":
             seen.update(range(max(0, at - context), min(len(pairs), at + context + 1)))
     return seen
 
 
-def table(pairs, script, context):
+def table(pairs: list[Pair], script: Script | None, context: int | None) -> str:
     """The pairs side by side. Of those that are alike so many are shown around each that differs,
     and all where that is None."""
     seen = set(range(len(pairs))) if context is None else _seen(pairs, context)
@@ -156,7 +171,13 @@ def table(pairs, script, context):
     return "\n".join(rows)
 
 
-def differences(left, right, names, script=None, context=3):
+def differences(
+    left: list[Line],
+    right: list[Line],
+    names: tuple[str, str],
+    script: Script | None = None,
+    context: int | None = 3,
+) -> str:
     """What is printed of two transcripts that differ."""
     pairs = pairs_of(left, right)
     counts = collections.Counter(pair.kind for pair in pairs)
@@ -177,7 +198,7 @@ def differences(left, right, names, script=None, context=3):
     )
 
 
-def check(script, lines, names):
+def check(script: Script, lines: list[Line], names: tuple[str, str]) -> None:
     """Raises BadInput where a line answers no call of the script, or is no answer of its operation.
     More is not asked for: of two transcripts one may be wrong."""
     for line in lines:

@@ -6,6 +6,11 @@ its name, its kind, and its default where it has one. A kind that is none of KIN
 words. Null is a value of a field whose default is null, and of one whose kind ends with "or null".
 """
 
+from typing import Any
+
+Field = tuple[str, str] | tuple[str, str, Any]
+Fields = dict[str, list[Field]]  # of an operation
+
 ONE = 2**24
 QUANTUM = 128
 
@@ -24,9 +29,9 @@ NEW_NAME = "^[A-Za-z0-9_-]{1,64}$"
 _NEW = ("as", "new name")
 _NODE = ("node", "name")
 _PARAM = ("param", "param")
-_THEN = ("then", "calls", [])
+_THEN: Field = ("then", "calls", [])
 
-CREATIONS = {
+CREATIONS: Fields = {
     "createConstantSource": [_NEW, ("offset", "fix", ONE)],
     "createGain": [_NEW, ("gain", "fix", ONE)],
     "createDelay": [_NEW, ("maxDelayTime", "fix", ONE), ("delayTime", "fix", 0)],
@@ -57,7 +62,7 @@ NODES = {
     "createBufferSource": "buffer source",
 }
 
-CONNECTIONS = {
+CONNECTIONS: Fields = {
     "connect": [("from", "name"), ("output", "count", 0), ("to", "name"), ("input", "count", 0)],
     "connectParam": [("from", "name"), ("output", "count", 0), ("to", "name"), _PARAM],
     "disconnect": [
@@ -69,7 +74,7 @@ CONNECTIONS = {
     "disconnectParam": [("from", "name"), ("to", "name"), _PARAM, ("output", "count", None)],
 }
 
-ATTRIBUTES = {
+ATTRIBUTES: Fields = {
     "setChannelCount": [_NODE, ("value", "count")],
     "setChannelCountMode": [_NODE, ("value", "max clamped-max explicit")],
     "setChannelInterpretation": [_NODE, ("value", "speakers discrete")],
@@ -87,12 +92,12 @@ ATTRIBUTES = {
     ],
 }
 
-SOURCES = {
+SOURCES: Fields = {
     "start": [_NODE, ("when", "time", 0), ("offset", "time", 0), ("duration", "time", None)],
     "stop": [_NODE, ("when", "time", 0)],
 }
 
-PARAMETER_CALLS = {
+PARAMETER_CALLS: Fields = {
     "setValue": [_NODE, _PARAM, ("value", "fix")],
     "setValueAtTime": [_NODE, _PARAM, ("value", "fix"), ("time", "time")],
     "linearRampToValueAtTime": [_NODE, _PARAM, ("value", "fix"), ("time", "time")],
@@ -111,7 +116,7 @@ PARAMETER_CALLS = {
     "readValue": [_NODE, _PARAM],
 }
 
-CONTEXT_CALLS = {
+CONTEXT_CALLS: Fields = {
     "suspend": [("time", "time"), _THEN],
     "startRendering": [_THEN],
     "resume": [],
@@ -140,7 +145,7 @@ LEFT_OUT = {
     "createConvolver": "convolver",
 }
 
-GROUPS = {
+GROUPS: dict[str, Fields] = {
     "creations": CREATIONS,
     "connections": CONNECTIONS,
     "attributes": ATTRIBUTES,
@@ -158,11 +163,11 @@ PENDING = ("suspend", "startRendering")
 READS = {"readValue": "value", "readState": "state", "readTime": "time"}
 
 
-def fields_of(op):
+def fields_of(op: Any) -> list[Field]:
     """The fields of an operation; none of one that the format does not have."""
     return OPERATIONS.get(op, [])
 
 
-def holds_calls(op):
+def holds_calls(op: Any) -> bool:
     """Whether an operation has a list of calls."""
     return isinstance(op, str) and _THEN in fields_of(op)

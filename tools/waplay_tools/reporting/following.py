@@ -3,43 +3,55 @@ of the time line. It raises BadInput, with a sentence, where the transcript does
 script.
 """
 
+from typing import Any, NoReturn
+
 from waplay_tools.reporting import entries
+from waplay_tools.reporting.script_reading import Call, Script
 from waplay_tools.reporting.sources import Book, quantum_end
 from waplay_tools.reporting.text import BadInput, as_it_is, counted, grouped, quoted
+from waplay_tools.reporting.transcript_reading import Line
+
+NO_END = 2**62  # a frame behind all that a session may have
 
 
 class Row:
     """A line of the transcript beside its call, if it has one. The detail is what is known
     besides."""
 
-    def __init__(self, line, call=None, detail=""):
+    def __init__(self, line: Line, call: Call | None = None, detail: str = "") -> None:
         self.line, self.call, self.detail = line, call, detail
 
 
 class Part:
     """Rows that came one after the other: the title of their list or of what was rendered."""
 
-    def __init__(self, title):
-        self.title, self.rows = title, []
+    def __init__(self, title: str) -> None:
+        self.title = title
+        self.rows: list[Row] = []
 
 
 class Mark:
     """A mark of the time line. What it marks lies from its first to its last frame, mostly at
     one."""
 
-    def __init__(self, kind, low, high, text, told=None):
+    def __init__(
+        self, kind: str, low: int, high: int, text: str, told: Line | None = None
+    ) -> None:
         self.kind, self.low, self.high, self.text, self.told = kind, low, high, text, told
 
 
 class Session:
     """A transcript along its script: its parts, its marks, and the calls that were never run."""
 
-    def __init__(self, script, lines, names):
+    def __init__(self, script: Script, lines: list[Line], names: tuple[str, str]) -> None:
         self.script, self.lines = script, lines
         self.script_name, self.transcript_name = names
-        self.parts, self.marks, self.answered = [], [], set()
+        self.parts: list[Part] = []
+        self.marks: list[Mark] = []
+        self.answered: set[int] = set()
         self.book, self.now, self.at = Book(), 0, 0
-        self.rendering, self.suspensions = None, {}
+        self.rendering: int | None = None
+        self.suspensions: dict[int, int] = {}  # of ordinals, the frames at which they are due
         self.length = script.context("length")
         self._follow()
         self._settle_marks()
@@ -47,30 +59,30 @@ class Session:
 
     # The lines one after the other.
 
-    def _wrong(self, why):
+    def _wrong(self, why: str) -> NoReturn:
         """Refuses the transcript."""
         raise BadInput(f"{self.transcript_name} does not belong to {self.script_name}: {why}")
 
-    def _unfit(self, line):
+    def _unfit(self, line: Line) -> NoReturn:
         """Refuses the transcript for a line that can't come there."""
         self._wrong(f"line {line.place}, {quoted(line.text)}, does not fit there")
 
-    def _next(self):
+    def _next(self) -> Line:
         """The next line. A transcript has a last line, which is refused wherever it comes too
         early."""
         line = self.lines[self.at]
         self.at += 1
         return line
 
-    def _add(self, row):
+    def _add(self, row: Row) -> None:
         """Appends a row to the part that was begun last."""
         self.parts[-1].rows.append(row)
 
-    def _begin(self, title):
+    def _begin(self, title: str) -> None:
         """Begins a part."""
         self.parts.append(Part(title))
 
-    def _follow(self):
+    def _follow(self) -> None:
         """All lines, by the kind of the first or the last one."""
         first, last = self.lines[0], self.lines[-1]
         fault = first.text[len("script: ") :] if first.kind == "script" else None
@@ -87,7 +99,7 @@ class Session:
         else:
             self._follow_calls()
 
-    def _is_not_built(self, first):
+    def _is_not_built(self, first: Line) -> bool:
         """Whether the line is the fault of an operation that the program does not read yet, before
         any other fault of the script."""
         call = self.script.by_ordinal.get(first.ordinal)
@@ -99,9 +111,9 @@ class Session:
         ):
             return False
         own = self.script.fault
-        return own is None or own != "BadJson" and int(own.split()[0]) >= first.ordinal
+        return own is None or own != "BadJson" and int(own.split()[0]) >= call.ordinal
 
-    def _follow_calls(self):
+    def _follow_calls(self) -> None:
         """The lines of a session whose calls were run."""
         self._begin("The main list, at frame 0")
         self._run([call.ordinal for call in self.script.calls if call.holder == 0])
@@ -116,7 +128,7 @@ class Session:
             self._unfit(line)
         self._add(Row(line))
 
-    def _run(self, ordinals):
+    def _run(self, ordinals: list[int]) -> None:
         """The lines of a list of calls, one for each."""
         for ordinal in ordinals:
             line, call = self._next(), self.script.by_ordinal[ordinal]
@@ -136,7 +148,7 @@ class Session:
             elif line.kind == "pending":
                 self.suspensions[ordinal] = quantum_end(call.field("time"))
 
-    def _detail(self, line, call):
+    def _detail(self, line: Line, call: Call) -> str:
         """Of a TypeError, what the names of the call stand for at that moment."""
         if line.exception != "TypeError":
             return ""
@@ -152,15 +164,15 @@ class Session:
         ]
         return ", ".join(told) + "." if told else ""
 
-    def _follow_rendering(self):
+    def _follow_rendering(self) -> bool:
         """One event while rendering, with the list of a promise that resolves. The answer is
         whether there may be more."""
         line = self.lines[self.at]
-        due = min(self.suspensions, key=self.suspensions.get, default=None)
+        due = min(self.suspensions, key=self.suspensions.__getitem__, default=None)
         if line.kind == "ended":
             self._ended(self._next())
-        elif line.kind == "resolved" and line.ordinal == due:
-            self._suspended(self._next())
+        elif line.kind == "resolved" and due is not None and line.ordinal == due:
+            self._suspended(self._next(), due)
             return self.lines[self.at].kind != "end"
         elif line.kind == "resolved" and line.ordinal == self.rendering and due is None:
             self._finished(self._next())
@@ -169,20 +181,21 @@ class Session:
             self._unfit(line)
         return True
 
-    def _ended(self, line):
+    def _ended(self, line: Line) -> None:
         """The end of a source, which has to be there and started."""
-        it = self.book.nodes[line.number] if line.number < len(self.book.nodes) else None
-        if it is None or it.name != line.word or it.start is None or it.has_ended:
+        it = next((it for it in self.book.nodes if it.number == line.number), None)
+        has_started = it and it.name == line.word and it.start is not None and not it.has_ended
+        if it is None or it.call is None or not has_started:
             self._wrong(f"line {line.place} is {quoted(line.text)}, and no such source was started")
         it.has_ended = True
         low, high = it.ends()
         text = f"{quoted(it.name)}, the {it.kind} of call {it.call.ordinal}"
-        self.marks.append(Mark("ended", low, high, text, line))
+        self.marks.append(Mark("ended", low, NO_END if high is None else high, text, line))
         self._add(Row(line, None, f"{it.kind[0].upper() + it.kind[1:]} of call {it.call.ordinal}."))
 
-    def _suspended(self, line):
+    def _suspended(self, line: Line, ordinal: int) -> None:
         """A suspension that is due, with its list."""
-        call, self.now = self.script.by_ordinal[line.ordinal], self.suspensions.pop(line.ordinal)
+        call, self.now = self.script.by_ordinal[ordinal], self.suspensions.pop(ordinal)
         self._begin(f"Suspended at frame {grouped(self.now)}: the list of call {call.ordinal}")
         self._add(Row(line, call))
         self._run(call.held)
@@ -193,7 +206,7 @@ class Session:
         self.marks.append(Mark(kind, self.now, self.now, f"by call {call.ordinal}", line))
         self._begin("The end" if is_stalled else f"Rendering, from frame {grouped(self.now)} on")
 
-    def _finished(self, line):
+    def _finished(self, line: Line) -> None:
         """The end of rendering, with the list of startRendering."""
         call, self.now = self.script.by_ordinal[line.ordinal], quantum_end(self.length)
         self._begin(
@@ -213,36 +226,32 @@ class Session:
 
     # The marks.
 
-    def _settle_marks(self):
+    def _settle_marks(self) -> None:
         """Narrows the frames of a mark by those of the marks before and after it: what is told
         earlier lies in no later quantum. Parts without rows are left out."""
         self.parts = [part for part in self.parts if part.rows]
         told = 0
         for mark in self.marks:
             told = max(told, quantum_end(mark.low))
-            mark.low = (
-                mark.low if mark.low == mark.high else max(mark.low, told - entries.QUANTUM + 1, 0)
-            )
+            if mark.low != mark.high:
+                mark.low = max(mark.low, told - entries.QUANTUM + 1, 0)
         told = quantum_end(self.length)
         for mark in reversed(self.marks):
-            told = told if mark.high is None else min(told, quantum_end(mark.high))
-            mark.high = (
-                told
-                if mark.high is None
-                else mark.high if mark.low == mark.high else min(mark.high, told)
-            )
+            told = min(told, quantum_end(mark.high))
+            if mark.low != mark.high:
+                mark.high = min(mark.high, told)
             mark.low = min(mark.low, mark.high)
 
-    def count(self, *kinds):
+    def count(self, *kinds: str) -> int:
         """How many lines have one of these kinds."""
         return sum(line.kind in kinds for line in self.lines)
 
-    def end(self):
+    def end(self) -> Line:
         """The last line."""
         return self.lines[-1]
 
 
-def answers(op):
+def answers(op: Any) -> tuple[str, ...]:
     """The kinds of lines that a call of the operation may get in its list."""
     if op in entries.LEFT_OUT:
         return ("throw",)
@@ -253,13 +262,13 @@ def answers(op):
     return ("ok", "throw")
 
 
-def _faults_told(told, own):
+def _faults_told(told: str | None, own: str | None) -> str:
     """In words, that the transcript tells another fault than the script has."""
     has = "the script has no fault" if own is None else f"the script's first fault is {quoted(own)}"
     return f"{has}, and the transcript tells {'none' if told is None else quoted(told)}"
 
 
-def summary(session):
+def summary(session: Session) -> str:
     """One sentence on what became of the session."""
     end = session.end()
     if end.kind == "script":
@@ -275,5 +284,6 @@ def summary(session):
         else "no call was refused"
     )
     if end.word == "stalled":
-        return f"The session stalled at frame {grouped(end.number)}, so there is no sound; {told}."
+        frame = grouped(end.number or 0)
+        return f"The session stalled at frame {frame}, so there is no sound; {told}."
     return f"The session was rendered to its length; {told}."

@@ -1,7 +1,12 @@
 """The rules by which calls are refused, and the faults of scripts, in words."""
 
+from typing import Any
+
 from waplay_tools.reporting import entries
+from waplay_tools.reporting.following import Row
+from waplay_tools.reporting.script_reading import Call, Script
 from waplay_tools.reporting.text import as_it_is, grouped, shown
+from waplay_tools.reporting.transcript_reading import Line
 
 # The rule of each feature, where it does not hang on the operation.
 FEATURES = {
@@ -65,7 +70,7 @@ _SOURCE_TIMES = (
 )
 
 # The rule of each operation and exception that names no feature.
-_OF_OPERATION = {
+_OF_OPERATION: dict[tuple[str, str | None], str] = {
     ("createDelay", "NotSupportedError"): "The `maxDelayTime` of a delay is above 0.",
     ("createChannelSplitter", "IndexSizeError"): "A splitter has from 1 to 32 outputs.",
     ("createChannelMerger", "IndexSizeError"): "A merger has from 1 to 32 inputs.",
@@ -226,13 +231,13 @@ CONTEXT = (
 )
 
 
-def rule(op, exception, feature):
+def rule(op: Any, exception: str | None, feature: str | None) -> str:
     """The rule by which a call of the operation was refused so, with code between backquotes."""
     if feature:
         return FEATURES.get(feature, "The profile leaves this out.")
     if exception == "TypeError" and op in _NAMES:
         return _NAMES[op] + "."
-    return _OF_OPERATION.get((op, exception), _OF_EXCEPTION.get(exception, ""))
+    return _OF_OPERATION.get((op, exception), _OF_EXCEPTION.get(exception or "", ""))
 
 
 _KINDS = {
@@ -263,24 +268,24 @@ _SCRIPT_FIELDS = {
 }
 
 
-def kind_in_words(kind, default):
+def kind_in_words(kind: str, default: list[Any]) -> str:
     """What a field of the kind may be."""
     base = kind.replace(" or null", "")
     told = _KINDS.get(base) or "one of the words " + ", ".join(f"`{word}`" for word in base.split())
     return told + (", or null" if default == [None] or kind != base else "")
 
 
-def _field(ordinal, field, op):
+def _field(ordinal: int | None, field: str | None, op: Any) -> str:
     """What a field that has a fault may be, in words."""
     if ordinal == 0:
-        return "1" if field == "version" else _KINDS[_SCRIPT_FIELDS.get(field, "object")]
+        return "1" if field == "version" else _KINDS[_SCRIPT_FIELDS.get(field or "", "object")]
     for name, kind, *default in entries.fields_of(op):
         if name == field:
             return kind_in_words(kind, default)
     return "an object"
 
 
-def fault(line, call, reason):
+def fault(line: Line, call: Call | None, reason: str) -> str:
     """The fault of a script that a line tells, in words. The reason is that of a text that is no
     JSON."""
     if line.word == "BadJson":
@@ -294,7 +299,7 @@ def fault(line, call, reason):
             else f"has the `op` {as_it_is(shown(call.op))}"
         )
         return f"The call {told}, which is no operation."
-    of = "The script" if line.ordinal == 0 else f"Call {grouped(line.ordinal)}"
+    of = f"Call {grouped(line.ordinal)}" if line.ordinal else "The script"
     wanted = _field(line.ordinal, line.field, call.op if call else None)
     if line.word == "MissingField":
         if call and call.op == "disconnect" and line.field != "from":
@@ -313,24 +318,28 @@ def fault(line, call, reason):
     return f"`{line.field}` {told}: it has to be {wanted}.{found}"
 
 
-def meaning(row, script):
+# What the last line says of a session.
+_ENDS = {
+    "completed": "The context was rendered to its length, and the WAV file was written.",
+    "idle": "Rendering was not started: nothing was rendered, and no file was written.",
+    "stalled": "The suspension was not resumed by its list: no file was written.",
+    "refused": CONTEXT + " No call was run.",
+}
+
+
+def meaning(row: Row, script: Script) -> str:
     """What a line says, in words; an empty text where it speaks for itself."""
     line, call = row.line, row.call
-    if line.kind in ("throw", "rejected"):
+    if line.kind in ("throw", "rejected") and call:
         return (rule(call.op, line.exception, line.feature) + " " + row.detail).strip()
     if line.kind == "script":
         return fault(line, call, script.reason)
     if line.kind == "end":
-        return {
-            "completed": "The context was rendered to its length, and the WAV file was written.",
-            "idle": "Rendering was not started: nothing was rendered, and no file was written.",
-            "stalled": "The suspension was not resumed by its list: no file was written.",
-            "refused": CONTEXT + " No call was run.",
-        }[line.word]
+        return _ENDS[line.word or ""]
     if line.kind == "ended":
         return row.detail
     if line.kind == "complete":
         return "The complete event, with the context's length in frames."
-    if line.kind == "resolved" and call.op in entries.PENDING:
+    if line.kind == "resolved" and call and call.op in entries.PENDING:
         return f"The promise of call {call.ordinal}."
     return ""

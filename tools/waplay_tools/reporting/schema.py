@@ -67,12 +67,12 @@ _UNITS = {
 }
 
 
-def _ref(name):
+def _ref(name: str) -> dict[str, Any]:
     """What stands for the definition of this name."""
     return {"$ref": "#/$defs/" + name}
 
 
-def _kinds():
+def _kinds() -> dict[str, Any]:
     """The definitions of the kinds of fields."""
     kinds = {}
     for kind, (low, high) in entries.RANGES.items():
@@ -120,9 +120,10 @@ def _kinds():
     return kinds
 
 
-def _field(kind, default):
+def _field(kind: str, default: list[Any]) -> dict[str, Any]:
     """The schema of a field."""
     base = kind.replace(" or null", "")
+    schema: dict[str, Any]
     if base == "bool":
         schema = {"type": "boolean"}
     elif " " in base and base != "new name":
@@ -134,7 +135,7 @@ def _field(kind, default):
     return {**schema, "default": default[0]} if default else schema
 
 
-def _operation(op):
+def _operation(op: str) -> dict[str, Any]:
     """The schema of the calls of one operation."""
     if op in entries.LEFT_OUT:
         told = (
@@ -144,7 +145,7 @@ def _operation(op):
     else:
         told = DOES[op]
     fields = entries.fields_of(op)
-    schema = {"description": told, "properties": {"op": {"const": op}}}
+    schema: dict[str, Any] = {"description": told, "properties": {"op": {"const": op}}}
     schema["properties"].update((name, _field(kind, default)) for name, kind, *default in fields)
     schema["required"] = ["op"] + [name for name, _, *default in fields if not default]
     if op == "disconnect":
@@ -156,29 +157,37 @@ def _operation(op):
     return schema
 
 
-def _where(op, name):
+def _where(op: dict[str, Any], name: str) -> dict[str, Any]:
     """The schema of this name, where the operation is so."""
     return {"if": {"required": ["op"], "properties": {"op": op}}, "then": _ref(name)}
 
 
-def schema() -> dict[str, Any]:
-    """The schema."""
-    operations = list(entries.OPERATIONS)
-    call = {
+def _groups() -> dict[str, Any]:
+    """The definitions of the groups of operations, each of which chooses by the operation."""
+    return {
+        name: {
+            "description": "The calls of one of these operations.",
+            "allOf": [_where({"const": op}, op) for op in group],
+        }
+        for name, group in entries.GROUPS.items()
+    }
+
+
+def _call(operations: list[str]) -> dict[str, Any]:
+    """The definition of a call, which chooses the group by the operation."""
+    return {
         "description": "A call: its operation and its fields. Further members are ignored.",
         "type": "object",
         "required": ["op"],
         "properties": {"op": {"description": "The operation.", "enum": operations}},
         "allOf": [_where({"enum": list(group)}, name) for name, group in entries.GROUPS.items()],
     }
-    groups = {}
-    for name, group in entries.GROUPS.items():
-        groups[name] = {
-            "description": "The calls of one of these operations.",
-            "allOf": [_where({"const": op}, op) for op in group],
-        }
+
+
+def _context() -> dict[str, Any]:
+    """The schema of a context."""
     count = _ref("count")
-    context = {
+    return {
         "description": (
             rules.CONTEXT
             + " A context out of these ranges is no fault of the script: the session refuses it."
@@ -191,6 +200,11 @@ def schema() -> dict[str, Any]:
             "rate": {**count, "description": "Frames a second."},
         },
     }
+
+
+def schema() -> dict[str, Any]:
+    """The schema of scripts."""
+    operations = list(entries.OPERATIONS)
     return {
         "$schema": "https://json-schema.org/draft/2020-12/schema",
         "$id": "urn:waplay:script:1",
@@ -200,19 +214,20 @@ def schema() -> dict[str, Any]:
             " everywhere."
         ),
         "$comment": (
-            "Written by tools/makeschema, which has the operations from tools/waplay_tools/reporting/entries.py."
+            "Written by tools/makeschema, which has the operations from"
+            " tools/waplay_tools/reporting/entries.py."
         ),
         "type": "object",
         "required": ["version", "context", "calls"],
         "properties": {
             "version": {"description": "The version of the format.", "type": "integer", "const": 1},
-            "context": context,
+            "context": _context(),
             "calls": {**_ref("calls"), "description": "The main list of calls."},
         },
         "$defs": {
             **_kinds(),
-            "call": call,
-            **groups,
+            "call": _call(operations),
+            **_groups(),
             **{op: _operation(op) for op in operations},
         },
     }

@@ -7,6 +7,7 @@ yet.
 
 import json
 import re
+from typing import Any, NoReturn
 
 from waplay_tools.reporting import entries
 from waplay_tools.reporting.text import BadInput, Written, visible
@@ -17,13 +18,13 @@ MOST_NESTED = 127
 class Call:
     """A call of a script: what stands at its place, its ordinal, and the ordinals around it."""
 
-    def __init__(self, ordinal, value, holder, depth):
+    def __init__(self, ordinal: int, value: Any, holder: int, depth: int) -> None:
         self.ordinal, self.value, self.holder, self.depth = ordinal, value, holder, depth
-        self.members = value if isinstance(value, dict) else {}
-        self.op = self.members.get("op")
-        self.held = []  # the ordinals of the calls of its list
+        self.members: dict[str, Any] = value if isinstance(value, dict) else {}
+        self.op: Any = self.members.get("op")
+        self.held: list[int] = []  # the ordinals of the calls of its list
 
-    def field(self, name):
+    def field(self, name: str) -> Any:
         """The value of a field, which is its default where it is absent."""
         for field, _, *default in entries.fields_of(self.op):
             if field == name:
@@ -34,11 +35,12 @@ class Call:
 class Script:
     """A script: its value, its calls in document order, and its first fault if it has one."""
 
-    def __init__(self, value, calls, fault, reason=""):
+    def __init__(self, value: Any, calls: list[Call], fault: str | None, reason: str = "") -> None:
         self.value, self.calls, self.fault, self.reason = value, calls, fault, reason
-        self.by_ordinal = {call.ordinal: call for call in calls}
+        # None stands for the ordinal of a line that has none, and so for no call.
+        self.by_ordinal: dict[int | None, Call] = {call.ordinal: call for call in calls}
 
-    def context(self, name):
+    def context(self, name: str) -> int:
         """A number of the context; 0 where the script has a fault there."""
         context = self.value.get("context") if isinstance(self.value, dict) else None
         number = context.get(name) if isinstance(context, dict) else None
@@ -53,31 +55,33 @@ class Members(list):
     """The members of an object as they are written, repeated ones too."""
 
 
-def _no_json(*_):
+def _no_json(*_: object) -> NoReturn:
     """Refuses NaN and the infinities, which Python reads and JSON does not have."""
     raise ValueError("a word that JSON does not have")
 
 
-def _fraction(text):
+def _fraction(text: str) -> Written:
     """A number that is not whole, where a binary64 floating-point number can hold it."""
     if abs(float(text)) == float("inf"):
         raise ValueError("a number that is too large")
     return Written(text)
 
 
-def _whole(text):
+def _whole(text: str) -> int | Written:
     """A number without fraction and exponent, which is not whole where it is -0 or has more than 64
     bits."""
     is_whole = text != "-0" and len(text) <= 20 and -(2**63) <= int(text) < 2**64
     return int(text) if is_whole else _fraction(text)
 
 
-def _plain(value, room):
+def _plain(value: Any, room: int) -> Any:
     """The value with dictionaries for members, of which the last of a name counts. It refuses lone
     surrogates, and arrays and objects that nest deeper than there is room for."""
     if isinstance(value, str):
-        if any("\ud800" <= letter <= "\udfff" for letter in value):
-            raise ValueError("an escape of a lone surrogate")
+        try:
+            value.encode()
+        except UnicodeEncodeError:
+            raise ValueError("an escape of a lone surrogate") from None
     elif isinstance(value, list):
         if room == 0:
             raise ValueError(f"arrays and objects nest deeper than {MOST_NESTED}")
@@ -87,7 +91,7 @@ def _plain(value, room):
     return value
 
 
-def json_of(data):
+def json_of(data: bytes) -> Any:
     """The value of JSON bytes. It raises ValueError with a reason where they have none."""
     try:
         value = json.loads(
@@ -104,7 +108,7 @@ def json_of(data):
         raise ValueError(f"arrays and objects nest deeper than {MOST_NESTED}") from None
 
 
-def cause(value, kind):
+def cause(value: Any, kind: str) -> str | None:
     """What is wrong with a value that is to be of the kind; None where nothing is."""
     if kind in entries.RANGES:
         low, high = entries.RANGES[kind]
@@ -129,13 +133,14 @@ def cause(value, kind):
     if kind == "path":
         fits = 1 <= len(value.encode()) <= 255
     elif kind == "new name":
-        fits = re.fullmatch(entries.NEW_NAME.strip("^$"), value) and value != "destination"
+        is_name = re.fullmatch(entries.NEW_NAME.strip("^$"), value) is not None
+        fits = is_name and value != "destination"
     else:
         fits = kind in ("name", "param") or value in kind.split()
     return None if fits else "OutOfRange"
 
 
-def _check(ordinal, members, field, kind, *default):
+def _check(ordinal: int, members: dict[str, Any], field: str, kind: str, *default: Any) -> None:
     """Raises the fault of one field, if it has one."""
     if field not in members:
         wrong = None if default else "MissingField"
@@ -147,7 +152,7 @@ def _check(ordinal, members, field, kind, *default):
         raise Fault(f"{ordinal} {field} {wrong}")
 
 
-def _check_call(call):
+def _check_call(call: Call) -> None:
     """Raises the first fault of one call, if it has one."""
     if not isinstance(call.value, dict):
         raise Fault(f"{call.ordinal} call WrongKind")
@@ -156,12 +161,12 @@ def _check_call(call):
     for field in entries.fields_of(call.op):
         _check(call.ordinal, call.members, *field)
     if call.op == "disconnect" and call.members.get("input") is not None:
-        for field in ("to", "output"):
-            if call.members.get(field) is None:
-                raise Fault(f"{call.ordinal} {field} MissingField")
+        for needed in ("to", "output"):
+            if call.members.get(needed) is None:
+                raise Fault(f"{call.ordinal} {needed} MissingField")
 
 
-def _check_script(value, calls):
+def _check_script(value: Any, calls: list[Call]) -> None:
     """Raises the first fault of a script, if it has one."""
     if not isinstance(value, dict):
         raise Fault("0 script WrongKind")
@@ -176,7 +181,7 @@ def _check_script(value, calls):
         _check_call(call)
 
 
-def _numbered(values, holder, depth, calls):
+def _numbered(values: list[Any], holder: int, depth: int, calls: list[Call]) -> list[int]:
     """Appends the calls of a list, and those that they hold, in document order. The answer is the
     ordinals of the calls of the list itself."""
     ordinals = []
@@ -190,13 +195,14 @@ def _numbered(values, holder, depth, calls):
     return ordinals
 
 
-def script_of(data):
+def script_of(data: bytes) -> Script:
     """The script that the bytes are, with its first fault if it has one."""
     try:
         value = json_of(data)
     except ValueError as error:
         return Script(None, [], "BadJson", str(error))
-    calls, listed = [], value.get("calls") if isinstance(value, dict) else None
+    calls: list[Call] = []
+    listed = value.get("calls") if isinstance(value, dict) else None
     _numbered(listed if isinstance(listed, list) else [], 0, 0, calls)
     try:
         _check_script(value, calls)
@@ -205,7 +211,7 @@ def script_of(data):
     return Script(value, calls, None)
 
 
-def bytes_of(path):
+def bytes_of(path: str) -> bytes:
     """The bytes of a file that a tool is handed."""
     try:
         with open(path, "rb") as file:

@@ -6,9 +6,10 @@ nowhere. Then there is a first and a last frame between which it ended.
 """
 
 from waplay_tools.reporting import entries
+from waplay_tools.reporting.script_reading import Call
 
 
-def quantum_end(frame):
+def quantum_end(frame: int) -> int:
     """The first end of a quantum that is not before the frame."""
     return -(-frame // entries.QUANTUM) * entries.QUANTUM
 
@@ -17,30 +18,36 @@ class Thing:
     """A node or a buffer: its kind in words, its number if it is a node, and the call that made
     it."""
 
-    def __init__(self, kind, number, call):
+    def __init__(self, kind: str, number: int | None, call: Call | None) -> None:
         self.kind, self.number, self.call = kind, number, call
         self.name = call.field("as") if call else "destination"
-        self.start = self.stop = self.buffer = self.duration = None
-        self.offset, self.length, self.has_ended = 0, None, False
+        self.start: int | None = None
+        self.stop: int | None = None
+        self.buffer: Thing | None = None
+        self.offset = 0
+        self.duration: int | None = None
+        self.length: int | None = None
+        self.has_ended = False
         self.is_looping = bool(call and call.field("loop"))
         self.rate = max(1, (call.field("playbackRate") or 0) // entries.ONE) if call else 1
 
-    def ends(self):
+    def ends(self) -> tuple[int, int | None]:
         """The first and the last frame at which a started source may end. The last is None where
         nothing says when it ends; then the first is its start."""
+        assert self.start is not None
         least, most = self._content() if self.kind == "buffer source" else (None, None)
-        low, high = self._end(least), self._end(most)
+        low, high = self._end(self.start, least), self._end(self.start, most)
         return self.start if low is None else low, high
 
-    def _end(self, content):
-        """The frame at which it ends where it plays so many frames of its buffer, or frames without
-        end."""
-        ends = [] if content is None else [self.start + -(-content // self.rate)]
+    def _end(self, start: int, content: int | None) -> int | None:
+        """The frame at which it ends where it starts there and plays so many frames of its buffer,
+        or frames without end."""
+        ends = [] if content is None else [start + -(-content // self.rate)]
         if self.stop is not None:
-            ends.append(max(self.start, self.stop))
+            ends.append(max(start, self.stop))
         return min(ends, default=None)
 
-    def _content(self):
+    def _content(self) -> tuple[int | None, int | None]:
         """The least and the greatest number of frames of its buffer that it plays; None has no
         end."""
         if self.buffer is None:
@@ -58,11 +65,11 @@ class Thing:
 class Book:
     """The nodes, and what each name stands for."""
 
-    def __init__(self):
+    def __init__(self) -> None:
         self.nodes = [Thing("destination", 0, None)]
-        self.names = {"destination": self.nodes[0]}
+        self.names: dict[str, Thing] = {"destination": self.nodes[0]}
 
-    def what(self, name):
+    def what(self, name: str) -> str:
         """What a name stands for, in words."""
         it = self.names.get(name)
         if it is None:
@@ -71,7 +78,7 @@ class Book:
             return "is the destination"
         return f"is a{'n' if it.kind[0] in 'aeiouI' else ''} {it.kind}"
 
-    def apply(self, call, now):
+    def apply(self, call: Call, now: int) -> None:
         """What an accepted call changes, made at the frame `now`."""
         op = call.op
         if op in entries.NODES:
@@ -89,7 +96,7 @@ class Book:
         else:
             self._change(call, self.names.get(call.field("node")), now)
 
-    def _change(self, call, it, now):
+    def _change(self, call: Call, it: "Thing | None", now: int) -> None:
         """What an accepted call changes of a node that is there."""
         if it is None:
             return

@@ -1,8 +1,8 @@
-"""Text for people: what is shown of values, names and numbers, and what HTML makes of them."""
+"""Text for people: what is shown of values, names and numbers."""
 
-import html
 import json
 import unicodedata
+from typing import Any
 
 MANY = 12  # items of a list that are shown whole
 LONG = 200  # letters of a string that are shown whole
@@ -15,11 +15,11 @@ class BadInput(Exception):
 class Written:
     """A number that is not whole, as it is written."""
 
-    def __init__(self, text):
+    def __init__(self, text: str) -> None:
         self.text = text
 
 
-def is_seen(letter):
+def is_seen(letter: str) -> bool:
     """Whether a letter shows as itself: no control, no mark of direction, and no other invisible
     one."""
     return letter == " " or unicodedata.category(letter) not in (
@@ -34,8 +34,10 @@ def is_seen(letter):
     )
 
 
-def visible(text):
+def visible(text: str) -> str:
     """The text with every letter that cannot be seen in the form that JSON has for it."""
+    if text.isascii() and text.isprintable():
+        return text
     shown = []
     for letter in text:
         if is_seen(letter):
@@ -46,14 +48,14 @@ def visible(text):
     return "".join(shown)
 
 
-def quoted(text):
+def quoted(text: str) -> str:
     """A string as JSON writes it, cut where it is long."""
     if len(text) > LONG:
         return "%s\u2026 (%s letters)" % (quoted(text[:LONG])[:-1], grouped(len(text)))
     return visible(json.dumps(text, ensure_ascii=False))
 
 
-def shown(value):
+def shown(value: Any) -> str:
     """A value of a script in one line: JSON, but for long lists, which say how much they leave
     out."""
     if isinstance(value, Written):
@@ -69,50 +71,26 @@ def shown(value):
     return json.dumps(value)
 
 
-def grouped(number):
+def grouped(number: int) -> str:
     """A whole number with its digits in groups of three, and a true minus."""
     return "{:,}".format(number).replace("-", "\u2212")
 
 
-def counted(number, what, several=None):
+def counted(number: int, what: str, several: str | None = None) -> str:
     """So many of a thing."""
     return f"{grouped(number)} {what if number == 1 else several or what + 's'}"
 
 
-def seconds(frame, rate):
-    """The time of a frame."""
-    if rate <= 0:
-        return "\u2013"
-    return "{:,.6f}".format(frame / rate).rstrip("0").rstrip(".") + "\u00a0s"
-
-
-def decimal(numerator, denominator):
+def decimal(numerator: int, denominator: int) -> str:
     """A quotient, with six digits after its point."""
     return "{:.6f}".format(numerator / denominator).replace("-", "\u2212")
 
 
-def escaped(text):
-    """Text for HTML: nothing of it is markup, and nothing of it is unseen."""
-    return html.escape(visible(text), quote=True)
+# What stands for a backquote that makes no code; visible text does not have it.
+BACKQUOTE = "\ue000"
 
 
-def isolated(text):
-    """Text for HTML that someone else chose: its direction does not spread."""
-    return f"<bdi>{escaped(text)}</bdi>"
-
-
-_BACKQUOTE = (  # what stands for a backquote that makes no code; visible text does not have it
-    "\ue000"
-)
-
-
-def as_it_is(text):
+def as_it_is(text: str) -> str:
     """Visible text that someone else chose, for a place in a sentence: its backquotes make no
     code."""
-    return text.replace("`", _BACKQUOTE)
-
-
-def sentence(text):
-    """A plain text for HTML, whose parts between backquotes are code."""
-    parts = [escaped(part.replace(_BACKQUOTE, "`")) for part in text.split("`")]
-    return "".join(f"<code>{part}</code>" if at % 2 else part for at, part in enumerate(parts))
+    return text.replace("`", BACKQUOTE)

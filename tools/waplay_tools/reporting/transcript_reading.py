@@ -42,20 +42,24 @@ _FORMS = [
 ]
 
 
+def _whole(text: str | None) -> int | None:
+    """The number that a part of a line is, where the line has that part."""
+    return int(text) if text else None
+
+
 class Line:
     """A line of a transcript, and what its words are. What its form does not have is None."""
 
-    def __init__(self, place, text, words):
+    def __init__(self, place: int, text: str, words: dict[str, str | None]) -> None:
         self.place, self.text = place, text
-        self.kind = words["kind"]
-        self.ordinal = int(words["ordinal"]) if words.get("ordinal") else None
-        self.number = int(words["number"]) if words.get("number") else None
+        self.kind = words["kind"] or ""
+        self.ordinal, self.number = _whole(words.get("ordinal")), _whole(words.get("number"))
         self.word, self.field = words.get("word"), words.get("field")
         self.exception, self.feature = words.get("exception"), words.get("feature")
         if self.exception:
             self.exception = self.exception.split()[0]
 
-    def is_refusal(self):
+    def is_refusal(self) -> bool:
         """Whether the line refuses a call, the context or the script."""
         return (
             self.kind in ("throw", "rejected", "script")
@@ -63,7 +67,7 @@ class Line:
             and self.word == "refused"
         )
 
-    def answer(self):
+    def answer(self) -> str:
         """The line without the ordinal that it begins with."""
         return (
             self.text
@@ -72,7 +76,7 @@ class Line:
         )
 
 
-def lines_of(data, name):
+def lines_of(data: bytes, name: str) -> list[Line]:
     """The lines of a transcript's bytes. The name is that of its file, for a sentence on what is
     wrong."""
     try:
@@ -82,11 +86,11 @@ def lines_of(data, name):
     if not text.endswith("\n"):
         raise BadInput(f"{name} is no whole transcript: its last line does not end")
     lines = []
-    for place, line in enumerate(text[:-1].split("\n"), 1):
-        found = next(filter(None, (form.fullmatch(line) for form in _FORMS)), None)
+    for place, written in enumerate(text[:-1].split("\n"), 1):
+        found = next(filter(None, (form.fullmatch(written) for form in _FORMS)), None)
         if not found:
-            raise BadInput(f"{name} is no transcript: line {place} is {quoted(line)}")
-        lines.append(Line(place, line, found.groupdict()))
+            raise BadInput(f"{name} is no transcript: line {place} is {quoted(written)}")
+        lines.append(Line(place, written, found.groupdict()))
     last = lines[-1]
     if last.kind not in ("end", "script"):
         raise BadInput(f"{name} is no whole transcript: the line `end` is missing")

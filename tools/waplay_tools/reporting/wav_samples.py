@@ -2,12 +2,15 @@
 differ."""
 
 import array
-import struct
 import sys
+from collections.abc import Sequence
 
-from waplay_tools.expecting.wav_reading import WavFault, recording_of
-
+from waplay_tools import wav
+from waplay_tools.expecting.wav_reading import Recording, WavFault, recording_of
 from waplay_tools.reporting.text import BadInput
+
+# Where two files differ: frame, channel, the sample of each, and the difference.
+Difference = tuple[int, int, int, int, int]
 
 FAULTS = {
     "NotRiff": "it does not begin as a RIFF file of the form WAVE",
@@ -24,7 +27,7 @@ class Sound:
     """The samples of a file, channel by channel, as the file has them. A sample s of w bits stands
     for s / 2^(w - 1)."""
 
-    def __init__(self, recording):
+    def __init__(self, recording: Recording) -> None:
         self.rate, self.bits, self.frames = recording.rate, recording.bits, recording.frames
         self.full = 2 ** (self.bits - 1)  # what stands for 1.0
         samples = _numbers(recording.data, self.bits)
@@ -36,7 +39,7 @@ _SHIFTED = bytes(byte ^ 128 for byte in range(256))  # samples of 8 bits have an
 _TYPES = {8: "b", 16: "h", 24: "i", 32: "i"}
 
 
-def _numbers(data, bits):
+def _numbers(data: bytes, bits: int) -> array.array:
     """The numbers of a file's samples."""
     if bits == 8:
         data = data.translate(_SHIFTED)
@@ -52,7 +55,7 @@ def _numbers(data, bits):
     return numbers
 
 
-def sound_of(data, name):
+def sound_of(data: bytes, name: str) -> Sound:
     """The samples of a WAV file's bytes. The name is that of the file, for a sentence on what is
     wrong."""
     try:
@@ -63,7 +66,7 @@ def sound_of(data, name):
         ) from None
 
 
-def front_of(data):
+def front_of(data: bytes) -> bytes:
     """A WAV file of the first two channels of a WAV file's bytes, which has more."""
     it = recording_of(data)
     width = it.bits // 8
@@ -71,19 +74,10 @@ def front_of(data):
     samples = bytearray(size)
     for at in range(2 * width):
         samples[at :: 2 * width] = it.data[at::block]
-    head = struct.pack("<HHIIHH", 1, 2, it.rate, it.rate * 2 * width, 2 * width, it.bits)
-    body = (
-        b"WAVEfmt "
-        + struct.pack("<I", len(head))
-        + head
-        + b"data"
-        + struct.pack("<I", size)
-        + samples
-    )
-    return b"RIFF" + struct.pack("<I", len(body)) + body
+    return wav.file_of(wav.Form(2, it.rate, it.bits), bytes(samples))
 
 
-def peak(samples):
+def peak(samples: Sequence[int]) -> tuple[int, int, int]:
     """The greatest absolute value, the sample that has it, and the first frame of that."""
     low, high = min(samples), max(samples)
     greatest = max(-low, high)
@@ -91,7 +85,7 @@ def peak(samples):
     return greatest, samples[first], first
 
 
-def spans(samples, columns):
+def spans(samples: Sequence[int], columns: int) -> list[tuple[int, int]]:
     """The lowest and the highest sample of each of so many columns, or of each frame where there
     are fewer frames than columns."""
     count = min(columns, len(samples))
@@ -105,21 +99,22 @@ class Differences:
     have. A difference is the second sample less the first, in units of the finer of the two
     files."""
 
-    def __init__(self, first, second):
+    def __init__(self, first: Sound, second: Sound) -> None:
         self.full = max(first.full, second.full)
-        self.channels, self.other_channels = [], len(second.channels)
+        self.channels: list[list[int]] = []
+        self.other_channels = len(second.channels)
         for one, two in zip(first.channels, second.channels):
             a, b = self.full // first.full, self.full // second.full
             self.channels.append([y * b - x * a for x, y in zip(one, two)])
         self.shapes = _shapes(first, second)
         self.count = sum(len(channel) - channel.count(0) for channel in self.channels)
-        self.first = self.greatest = None
+        self.first: Difference | None = None
+        self.greatest: Difference | None = None
         if self.count:
             self._find(first, second)
 
-    def _find(self, first, second):
-        """The first and the greatest difference as (frame, channel, sample, other sample,
-        difference)."""
+    def _find(self, first: Sound, second: Sound) -> None:
+        """Finds the first and the greatest difference."""
         places, peaks = [], []
         for number, channel in enumerate(self.channels):
             frame = next((at for at, it in enumerate(channel) if it), None)
@@ -128,7 +123,7 @@ class Differences:
                 greatest, _, at = peak(channel)
                 peaks.append((-greatest, at, number))
 
-        def told(frame, number):
+        def told(frame: int, number: int) -> Difference:
             """The difference of a channel at a frame, with both samples."""
             return (
                 frame,
@@ -142,7 +137,7 @@ class Differences:
         self.greatest = told(*min(peaks)[1:])
 
 
-def _shapes(first, second):
+def _shapes(first: Sound, second: Sound) -> list[tuple[str, int, int]]:
     """What else differs, in words: pairs of what the first and the second file have."""
     pairs = [
         ("channels", len(first.channels), len(second.channels)),

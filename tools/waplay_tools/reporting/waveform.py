@@ -1,7 +1,13 @@
 """Waveforms as SVG, which are there without a script, and the marks of the time line."""
 
-from waplay_tools.reporting.text import escaped, grouped, seconds
-from waplay_tools.reporting.wav_samples import spans
+from collections.abc import Sequence
+
+from waplay_tools.reporting.following import Mark
+from waplay_tools.reporting.markup import Html, filled, joined, seconds
+from waplay_tools.reporting.text import grouped
+from waplay_tools.reporting.wav_samples import Sound, spans
+
+Placed = tuple[Mark, str]  # with where it stands, in percent of the width
 
 COLUMNS = 800
 HEIGHT = 200  # of the drawing's own units
@@ -17,13 +23,13 @@ MARKS = {
 }
 
 
-BAND = (
+BAND = Html(
     '<svg class="lone-sign" width="22" height="14" viewBox="0 -7 22 14" aria-hidden="true">'
     '<rect class="band ended" x="1" y="-3" width="20" height="6"/></svg>'
 )
 
 
-def scale_of(sounds):
+def scale_of(sounds: list[Sound]) -> float:
     """The power of two that the drawing goes up and down to: the least that holds all samples, and
     1 of silence."""
     greatest = max(
@@ -40,51 +46,55 @@ def scale_of(sounds):
     return scale
 
 
-def path_of(columns, full):
+def path_of(columns: list[tuple[int, int]], full: float) -> Html:
     """The outline of columns, each of which holds from its lowest to its highest sample."""
 
-    def height(value):
+    def height(value: int) -> str:
         """How far below the upper edge a value stands."""
         return (f"{HEIGHT / 2 - value * REACH / full:.1f}").replace(".0", "")
 
     upper, lower = [height(high) for _, high in columns], [height(low) for low, _ in columns]
     there = "V".join(f"{place}H{at}" for at, place in enumerate(upper, 1))
     back = "".join(f"V{place}H{len(lower) - at}" for at, place in enumerate(reversed(lower), 1))
-    return f"M0,{there}{back}Z"
+    return Html(f"M0,{there}{back}Z")
 
 
-def lane(samples, full, label, marks, attributes, frames):
+_LINE = '<line class="placed {kind}" data-low="{low}" x1="{place}" x2="{place}" y1="0" y2="100%"/>'
+
+_LANE = """<svg class="lane" role="img" aria-label="{label}" width="100%" height="88"><svg\
+ class="drawing" {attributes} viewBox="0 0 {width} {height}" preserveAspectRatio="none"\
+ width="100%" height="100%"><path class="envelope" d="{outline}"/><path class="zero"\
+ d="M0,{middle}H{width}"/></svg>{lines}</svg>"""
+
+
+def lane(
+    samples: Sequence[int],
+    full: float,
+    label: str,
+    marks: list[Placed],
+    attributes: Html,
+    frames: int,
+) -> Html:
     """The drawing of one channel, whose samples may be fewer than the frames that the width stands
     for. The label says in words what it shows."""
     columns = spans(samples, COLUMNS)
-    width = "%.6g" % (len(columns) * frames / len(samples))
-    lines = "".join(
-        '<line class="placed %s" data-low="%d" x1="%s" x2="%s" y1="0" y2="100%%"/>'
-        % (mark.kind, mark.low, place, place)
-        for mark, place in marks
-    )
-    return (
-        '<svg class="lane" role="img" aria-label="%s" width="100%%" height="88"><svg'
-        ' class="drawing" %s viewBox="0 0 %s %d" preserveAspectRatio="none" width="100%%"'
-        ' height="100%%"><path class="envelope" d="%s"/><path class="zero"'
-        ' d="M0,%dH%s"/></svg>%s</svg>'
-        % (
-            escaped(label),
-            attributes,
-            width,
-            HEIGHT,
-            path_of(columns, full),
-            HEIGHT // 2,
-            width,
-            lines,
-        )
+    lines = (filled(_LINE, kind=mark.kind, low=mark.low, place=place) for mark, place in marks)
+    return filled(
+        _LANE,
+        label=label,
+        attributes=attributes,
+        width="%.6g" % (len(columns) * frames / len(samples)),
+        height=HEIGHT,
+        outline=path_of(columns, full),
+        middle=HEIGHT // 2,
+        lines=joined(lines),
     )
 
 
-def placed(marks, frames):
+def placed(marks: list[Mark], frames: int) -> list[Placed]:
     """Marks with where they stand, in percent of the width; of those of a kind and a place the
     first. A mark past the length stands at the end."""
-    found = {}
+    found: dict[tuple[str, str], Placed] = {}
     for mark in marks:
         if mark.low == mark.high:
             place = f"{min(100, 100 * mark.low / frames):.3f}%"
@@ -92,67 +102,92 @@ def placed(marks, frames):
     return list(found.values())
 
 
-def time_line(marks, frames, rate):
-    """The time line: the marks, each kind in its row, and the frames and times at the ends and the
-    middle."""
-    kinds = [kind for kind in MARKS if any(mark.kind == kind for mark in marks)]
-    rows = sorted({MARKS[kind][0] for kind in kinds})
+_BAND = """<rect class="placed band {kind}" data-low="{low}" data-high="{high}" x="{begin:.3f}%"\
+ width="{width:.3f}%" y="{y}" height="6"/>"""
+
+_USE = '<use class="placed {kind}" data-low="{low}" href="#sign-{kind}" x="{place}" y="{y}"/>'
+
+
+def _drawn(marks: list[Mark], frames: int, rows: list[int]) -> list[Html]:
+    """The drawings of the marks, each in the row of its kind: first those that are spans."""
+    heights = {kind: 12 + 18 * rows.index(MARKS[kind][0]) for kind in {it.kind for it in marks}}
     drawn = []
     for mark in marks:
-        y = 12 + 18 * rows.index(MARKS[mark.kind][0])
         if mark.low != mark.high:
             low, high = (100 * min(frame, frames) / frames for frame in (mark.low, mark.high))
             drawn.append(
-                '<rect class="placed band %s" data-low="%d" data-high="%d" x="%.3f%%"'
-                ' width="%.3f%%" y="%d" height="6"/>'
-                % (mark.kind, mark.low, mark.high, low, high - low, y - 3)
+                filled(
+                    _BAND,
+                    kind=mark.kind,
+                    low=mark.low,
+                    high=mark.high,
+                    begin=low,
+                    width=high - low,
+                    y=heights[mark.kind] - 3,
+                )
             )
     for mark, place in placed(marks, frames):
-        y = 12 + 18 * rows.index(MARKS[mark.kind][0])
-        drawn.append(
-            '<use class="placed %s" data-low="%d" href="#sign-%s" x="%s" y="%d"/>'
-            % (mark.kind, mark.low, mark.kind, place, y)
-        )
+        y = heights[mark.kind]
+        drawn.append(filled(_USE, kind=mark.kind, low=mark.low, place=place, y=y))
+    return drawn
+
+
+_TICK = '<line class="tick" x1="{at}%" x2="{at}%" y1="{top}" y2="{end}"/>'
+
+_TEXTS = """<text class="at-{at}" x="{at}%" y="{upper}">{frame}</text><text class="at-{at} aside"\
+ x="{at}%" y="{lower}">{time}</text>"""
+
+_TIME_LINE = """<svg class="time" role="img" aria-label="{label}" width="100%" height="{height}">\
+<line class="axis" x1="0" x2="100%" y1="{top}" y2="{top}"/>{ticks}{texts}{drawn}</svg>"""
+
+
+def time_line(marks: list[Mark], frames: int, rate: int) -> Html:
+    """The time line: the marks, each kind in its row, and the frames and times at the ends and the
+    middle."""
+    rows = sorted({MARKS[mark.kind][0] for mark in marks})
     top = 6 + 18 * len(rows)
-    ticks = "".join(
-        '<line class="tick" x1="%d%%" x2="%d%%" y1="%d" y2="%d"/>'
-        % (at, at, top, top + (8 if at % 50 == 0 else 5))
+    ticks = (
+        filled(_TICK, at=at, top=top, end=top + (8 if at % 50 == 0 else 5))
         for at in range(0, 101, 10)
     )
-    texts = "".join(
-        '<text class="at-%d" x="%d%%" y="%d">%s</text><text class="at-%d aside" x="%d%%"'
-        ' y="%d">%s</text>'
-        % (
-            at,
-            at,
-            top + 24,
-            grouped(frames * at // 100),
-            at,
-            at,
-            top + 40,
-            seconds(frames * at // 100, rate),
+    texts = (
+        filled(
+            _TEXTS,
+            at=at,
+            upper=top + 24,
+            frame=grouped(frames * at // 100),
+            lower=top + 40,
+            time=seconds(frames * at // 100, rate),
         )
         for at in (0, 50, 100)
     )
-    label = f"Time line from frame 0 to {grouped(frames)}. The table of events has its marks."
-    return (
-        '<svg class="time" role="img" aria-label="%s" width="100%%" height="%d">'
-        '<line class="axis" x1="0" x2="100%%" y1="%d" y2="%d"/>%s%s%s</svg>'
-        % (label, top + 46, top, top, ticks, texts, "".join(drawn))
+    return filled(
+        _TIME_LINE,
+        label=f"Time line from frame 0 to {grouped(frames)}. The table of events has its marks.",
+        height=top + 46,
+        top=top,
+        ticks=joined(ticks),
+        texts=joined(texts),
+        drawn=joined(_drawn(marks, frames, rows)),
     )
 
 
-def signs():
+def signs() -> Html:
     """The definitions of the marks' signs, once in a page."""
-    paths = "".join(f'<path id="sign-{kind}" d="{path}"/>' for kind, (_, path, _) in MARKS.items())
-    return (
-        '<svg class="unseen" width="0" height="0" aria-hidden="true"><defs>%s</defs></svg>' % paths
+    paths = (
+        filled('<path id="sign-{kind}" d="{path}"/>', kind=kind, path=path)
+        for kind, (_, path, _) in MARKS.items()
+    )
+    return filled(
+        '<svg class="unseen" width="0" height="0" aria-hidden="true"><defs>{paths}</defs></svg>',
+        paths=joined(paths),
     )
 
 
-def sign(kind):
+def sign(kind: str) -> Html:
     """A mark's sign by itself."""
-    return (
-        '<svg class="lone-sign %s" width="14" height="14" viewBox="-7 -7 14 14" aria-hidden="true">'
-        '<use href="#sign-%s"/></svg>' % (kind, kind)
+    return filled(
+        '<svg class="lone-sign {kind}" width="14" height="14" viewBox="-7 -7 14 14"'
+        ' aria-hidden="true"><use href="#sign-{kind}"/></svg>',
+        kind=kind,
     )

@@ -1,5 +1,6 @@
-"""Tests of reports in a headless Chromium: how they are laid out, in the light and the dark, at 390 and at
-1,280 pixels; zooming by mouse and by keys; names for screen readers; and that nothing of a script runs.
+"""Tests of reports in a headless Chromium: how they are laid out, in the light and the dark, at 390
+and at 1,280 pixels; zooming by mouse and by keys; names for screen readers; and that nothing of a
+script runs.
 
 The variable REPORT_PICTURES may name a folder, which then gets a picture of each page.
 """
@@ -17,7 +18,18 @@ from waplay_tools.reporting.wav_samples import sound_of, spans
 
 HERE = os.path.dirname(os.path.abspath(__file__))
 GROUNDS = {"light": "rgb(255, 255, 255)", "dark": "rgb(15, 20, 25)"}
-NAMED = {"button", "textbox", "spinbutton", "radio", "image", "img", "region", "table", "Audio", "columnheader"}
+NAMED = {
+    "button",
+    "textbox",
+    "spinbutton",
+    "radio",
+    "image",
+    "img",
+    "region",
+    "table",
+    "Audio",
+    "columnheader",
+}
 
 
 def pages():
@@ -27,7 +39,9 @@ def pages():
     other[44 + 3 * 700] ^= 0x55
     other[44 + 3 * 900 + 1] ^= 0x33
     wide = fixtures.script([{"op": "startRendering"}], 32, 33554)
-    quiet = fixtures.wav([[(frame * channel) % 999 for frame in range(33554)] for channel in range(32)])
+    quiet = fixtures.wav(
+        [[(frame * channel) % 999 for frame in range(33554)] for channel in range(32)]
+    )
     yield "resumed", data, text, sound, bytes(other)
     yield "stalled", *fixtures.suspended(), None, None
     yield "hostile", *fixtures.hostile(), None
@@ -37,7 +51,9 @@ def pages():
     yield "wide", wide, "1 pending\n1 resolved\ncomplete 33554\nend completed\n", quiet, None
     yield "x" * 120, b'{"version": 1, "context": [}', "script: BadJson\n", None, None
     yield "fault", fixtures.script([{"op": "<b>" * 100}]), "script: 1 op UnknownOp\n", None, None
-    yield "idle", fixtures.script([{"op": "createGain", "as": "g" * 64}]), "1 ok\nend idle\n", None, None
+    yield "idle", fixtures.script(
+        [{"op": "createGain", "as": "g" * 64}]
+    ), "1 ok\nend idle\n", None, None
 
 
 @unittest.skipUnless(browser.PROGRAM, "chromium is not installed")
@@ -52,7 +68,10 @@ class Pages(unittest.TestCase):
             more = ["--against", fixtures.write(folder.name, "other.wav", other)] if other else []
             ran = fixtures.run("report", *paths, *more)
             assert ran.returncode == 0, ran.stderr
-            cls.paths[name], cls.sounds[name] = fixtures.write(folder.name, name[:20] + ".html", ran.stdout), sound
+            cls.paths[name], cls.sounds[name] = (
+                fixtures.write(folder.name, name[:20] + ".html", ran.stdout),
+                sound,
+            )
         cls.browser = browser.Browser()
         cls.addClassCleanup(cls.browser.close)
 
@@ -61,8 +80,11 @@ class Pages(unittest.TestCase):
         self.browser.show(self.paths[name], width, scheme, scripts)
         if scripts:
             self.browser.evaluate("new Promise(done => setTimeout(done, 50))")
-        errors = [event.params for event in self.browser.events
-                  if event.method in ("Runtime.exceptionThrown", "Log.entryAdded")]
+        errors = [
+            event.params
+            for event in self.browser.events
+            if event.method in ("Runtime.exceptionThrown", "Log.entryAdded")
+        ]
         self.assertEqual(errors, [], name)
 
     def text(self, selector):
@@ -81,15 +103,22 @@ class Pages(unittest.TestCase):
                     self.assertEqual(found["ground"], ground)
                     self.assertGreater(found["boxes"], 10)
                     if pictures:
-                        self.browser.picture(os.path.join(pictures, "%s-%d-%s.png" % (name[:20], width, scheme)))
+                        self.browser.picture(
+                            os.path.join(pictures, "%s-%d-%s.png" % (name[:20], width, scheme))
+                        )
 
     def test_the_probe_sees_what_is_wrong(self):
         with open(os.path.join(HERE, "probe.js"), encoding="utf-8") as file:
             probe = file.read()
-        for change, wanted in [("it.style.width = '5000px'", "reaches out of the window"),
-                               ("it.style.position = 'absolute'", "overlap"),
-                               ("it.style.color = '#999999'", "has a contrast of"),
-                               ("it.style.cssText = 'width: 40px; overflow: hidden; white-space: nowrap'", "is cut off")]:
+        for change, wanted in [
+            ("it.style.width = '5000px'", "reaches out of the window"),
+            ("it.style.position = 'absolute'", "overlap"),
+            ("it.style.color = '#999999'", "has a contrast of"),
+            (
+                "it.style.cssText = 'width: 40px; overflow: hidden; white-space: nowrap'",
+                "is cut off",
+            ),
+        ]:
             self.show("ended", 390)
             self.browser.evaluate("(it => { %s; })(document.querySelector('.outcome'))" % change)
             self.assertIn(wanted, " ".join(self.browser.evaluate(probe)["wrong"]))
@@ -112,26 +141,38 @@ class Pages(unittest.TestCase):
         for width in (390, 1280):
             self.show("resumed", width, scripts=False)
             self.assertEqual(self.browser.evaluate(probe)["wrong"], [])
-            self.assertFalse(self.browser.evaluate("document.querySelector('.tools').checkVisibility()"))
-            box = self.browser.evaluate("(({width, height}) => [width, height])"
-                                     "(document.querySelector('.envelope').getBoundingClientRect())")
+            self.assertFalse(
+                self.browser.evaluate("document.querySelector('.tools').checkVisibility()")
+            )
+            box = self.browser.evaluate(
+                "(({width, height}) => [width, height])"
+                "(document.querySelector('.envelope').getBoundingClientRect())"
+            )
             self.assertGreater(min(box), 40)
 
     def test_nothing_of_a_script_runs(self):
         for scripts in (True, False):
             self.show("hostile", scripts=scripts)
             self.assertEqual(self.browser.evaluate("typeof window.hurt"), "undefined")
-            self.assertEqual(self.browser.evaluate("document.querySelectorAll('img, iframe, a').length"), 0)
+            self.assertEqual(
+                self.browser.evaluate("document.querySelectorAll('img, iframe, a').length"), 0
+            )
             self.assertEqual(self.browser.evaluate("document.scripts.length"), 1)
-        requests = [event.params["request"]["url"][:5] for event in self.browser.events
-                    if event.method == "Network.requestWillBeSent"]
+        requests = [
+            event.params["request"]["url"][:5]
+            for event in self.browser.events
+            if event.method == "Network.requestWillBeSent"
+        ]
         self.assertTrue(set(requests) <= {"file:", "data:"}, requests)
 
     def test_the_policy_stops_what_is_put_in(self):
         self.show("hostile")
-        self.browser.evaluate("""document.body.insertAdjacentHTML('beforeend',
+        self.browser.evaluate(
+            """document.body.insertAdjacentHTML('beforeend',
                 '<img src="x" onerror="window.hurt = 1"><p onclick="window.hurt = 1">x</p>');
-            document.querySelector('p[onclick]').click(); new Promise(done => setTimeout(done, 50))""")
+            document.querySelector('p[onclick]').click();
+            new Promise(done => setTimeout(done, 50))"""
+        )
         self.assertEqual(self.browser.evaluate("typeof window.hurt"), "undefined")
 
     def numbers(self, path):
@@ -140,9 +181,15 @@ class Pages(unittest.TestCase):
     def assert_drawn(self, name, first, last):
         """That the first channel's drawing is that of these frames, as Python draws them."""
         sound = sound_of(self.sounds[name], "it")
-        full = sound.full * float(self.browser.evaluate("document.querySelector('.drawing').dataset.scale"))
-        wanted = self.numbers(waveform.path_of(spans(sound.channels[0][first:last], waveform.COLUMNS), full))
-        found = self.numbers(self.browser.evaluate("document.querySelector('.envelope').getAttribute('d')"))
+        full = sound.full * float(
+            self.browser.evaluate("document.querySelector('.drawing').dataset.scale")
+        )
+        wanted = self.numbers(
+            waveform.path_of(spans(sound.channels[0][first:last], waveform.COLUMNS), full)
+        )
+        found = self.numbers(
+            self.browser.evaluate("document.querySelector('.envelope').getAttribute('d')")
+        )
         self.assertEqual(len(found), len(wanted))
         self.assertLess(max(abs(a - b) for a, b in zip(found, wanted)), 0.11)
 
@@ -151,8 +198,13 @@ class Pages(unittest.TestCase):
             drawings = []
             for scripts in (True, False):
                 self.show(name, scripts=scripts)
-                drawings.append(self.browser.evaluate("""[...document.querySelectorAll('.drawing')].map(it =>
-                    it.getAttribute('viewBox') + ' ' + it.querySelector('.envelope').getAttribute('d'))"""))
+                drawings.append(
+                    self.browser.evaluate(
+                        """[...document.querySelectorAll('.drawing')].map(it =>
+                            it.getAttribute('viewBox') + ' ' +
+                            it.querySelector('.envelope').getAttribute('d'))"""
+                    )
+                )
             for one, two in zip(*(map(self.numbers, it) for it in drawings)):
                 self.assertEqual(len(one), len(two))
                 self.assertLess(max(abs(a - b) for a, b in zip(one, two)), 0.11)
@@ -165,29 +217,52 @@ class Pages(unittest.TestCase):
             if self.browser.evaluate("document.activeElement.className") == "wave":
                 break
             self.browser.key("Tab")
-        self.assertEqual(self.browser.evaluate("getComputedStyle(document.activeElement).outlineStyle"), "solid")
-        for key, first, last in [("+", 512, 1536), ("+", 768, 1280), ("ArrowRight", 896, 1408), ("ArrowLeft", 768, 1280),
-                                 ("End", 1536, 2048), ("Home", 0, 512), ("-", 0, 1024), ("0", 0, 2048)]:
+        self.assertEqual(
+            self.browser.evaluate("getComputedStyle(document.activeElement).outlineStyle"), "solid"
+        )
+        for key, first, last in [
+            ("+", 512, 1536),
+            ("+", 768, 1280),
+            ("ArrowRight", 896, 1408),
+            ("ArrowLeft", 768, 1280),
+            ("End", 1536, 2048),
+            ("Home", 0, 512),
+            ("-", 0, 1024),
+            ("0", 0, 2048),
+        ]:
             self.browser.key(key)
-            self.assertEqual(self.text(".status").replace(", the whole", ""), "Shown: frames %s to %s of 2,048" % tuple(
-                "{:,}".format(it) for it in (first, last)))
+            self.assertEqual(
+                self.text(".status").replace(", the whole", ""),
+                "Shown: frames %s to %s of 2,048"
+                % tuple("{:,}".format(it) for it in (first, last)),
+            )
             self.assert_drawn("resumed", first, last)
 
     def test_zooming_by_dragging_and_by_numbers(self):
         self.show("resumed", 1000)
         self.browser.evaluate("document.querySelector('.lane').scrollIntoView()")
         left, top, width = self.browser.evaluate(
-            "(box => [box.left, box.top, box.width])(document.querySelector('.lane').getBoundingClientRect())")
+            "(box => [box.left, box.top, box.width])"
+            "(document.querySelector('.lane').getBoundingClientRect())"
+        )
         self.browser.drag((left + width * 0.25, top + 20), (left + width * 0.5, top + 30))
-        first, last = (int(it.replace(",", "")) for it in re.findall(r"[\d,]+", self.text(".status"))[:2])
+        first, last = (
+            int(it.replace(",", "")) for it in re.findall(r"[\d,]+", self.text(".status"))[:2]
+        )
         self.assertAlmostEqual(first, 512, delta=4)
         self.assertAlmostEqual(last, 1024, delta=4)
         self.assert_drawn("resumed", first, last)
-        marks = self.browser.evaluate("[...document.querySelectorAll('use.placed')]"
-                                   ".filter(it => it.style.display !== 'none').map(it => it.dataset.low)")
-        self.assertEqual(sorted(map(int, marks)), [it for it in (512, 700, 900, 1000) if first <= it <= last])
-        self.browser.evaluate("(form => { form.elements.first.value = 690; form.elements.last.value = 710; "
-                           "form.requestSubmit(); })(document.querySelector('.range'))")
+        marks = self.browser.evaluate(
+            "[...document.querySelectorAll('use.placed')]"
+            ".filter(it => it.style.display !== 'none').map(it => it.dataset.low)"
+        )
+        self.assertEqual(
+            sorted(map(int, marks)), [it for it in (512, 700, 900, 1000) if first <= it <= last]
+        )
+        self.browser.evaluate(
+            "(form => { form.elements.first.value = 690; form.elements.last.value = 710; "
+            "form.requestSubmit(); })(document.querySelector('.range'))"
+        )
         self.assertEqual(self.text(".status"), "Shown: frames 690 to 710 of 2,048")
         self.assert_drawn("resumed", 690, 710)
         self.browser.evaluate("document.querySelector('button.frame').click()")
@@ -199,19 +274,22 @@ class Pages(unittest.TestCase):
     def test_the_sound_can_be_played(self):
         for name in ("resumed", "ended", "wide"):
             self.show(name)
-            state = self.browser.evaluate("""new Promise(done => {
+            state = self.browser.evaluate(
+                """new Promise(done => {
                 const it = document.querySelector('audio');
                 it.oncanplaythrough = () => done('plays ' + it.duration.toFixed(3));
                 it.onerror = () => done(it.error.message);
                 it.preload = 'auto';
                 it.load();
-            })""")
+            })"""
+            )
             frames = sound_of(self.sounds[name], "it").frames
             self.assertEqual(state, "plays %.3f" % (frames / 48000), name)
 
     def test_rows_can_be_chosen_without_scripts(self):
         self.show("refused", scripts=False)
-        count = "[...document.querySelectorAll('.transcript tbody tr:not(.part)')].filter(it => it.checkVisibility()).length"
+        lines = "[...document.querySelectorAll('.transcript tbody tr:not(.part)')]"
+        count = lines + ".filter(it => it.checkVisibility()).length"
         self.assertEqual(self.browser.evaluate(count), 39)
         for choice, rows in ("refusals", 18), ("events", 3), ("all", 39):
             self.browser.evaluate("document.querySelector('#only-%s').click()" % choice)
@@ -224,13 +302,20 @@ class Pages(unittest.TestCase):
                 nodes = self.browser.call("Accessibility.getFullAXTree")["nodes"]
                 roles = {}
                 for node in nodes:
-                    role, title = node.get("role", {}).get("value"), node.get("name", {}).get("value", "")
+                    role, title = node.get("role", {}).get("value"), node.get("name", {}).get(
+                        "value", ""
+                    )
                     if not node["ignored"]:
                         roles.setdefault(role, []).append(title)
                 for role in NAMED & set(roles):
-                    self.assertTrue(all(title.strip() for title in roles[role]), (name, width, role, roles[role]))
+                    self.assertTrue(
+                        all(title.strip() for title in roles[role]),
+                        (name, width, role, roles[role]),
+                    )
                 self.assertIn("Transcript and calls", roles["heading"])
-                self.assertTrue({"table", "cell", "columnheader", "rowheader"} <= set(roles), roles.keys())
+                self.assertTrue(
+                    {"table", "cell", "columnheader", "rowheader"} <= set(roles), roles.keys()
+                )
                 self.assertIn("Answer", roles["columnheader"], width)
 
 
