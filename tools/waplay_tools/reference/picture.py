@@ -29,7 +29,7 @@ Rendering
     0 cycle_order     in which order
     1 automation      parameter values
     2 delay_bank      all delays
-    3 filter_bank     all filters
+    3 filter_bank     all causal nodes
     4 quantum_blocks  128 frames each
     5 quantum_render  one pass
 The graph
@@ -41,7 +41,7 @@ One thing each
     0 param_events    timelines
     1 param_cursor    places in them
     2 sched_source    starts and stops
-    3 causal_core     filter equations
+    3 causal_core     causal equations
     4 shaper_iir      their states
     5 delay_line      a ring of frames
 Channels
