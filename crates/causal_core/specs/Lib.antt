@@ -1,3 +1,4 @@
 pub mod Curves
+pub mod Equations
 pub mod Filters
 pub mod Frames

@@ -17,7 +17,8 @@ use Rattle.script_ast.specs.declared.operations.Oversample.{Oversample}
 use Rattle.name_book.specs.Book.{object_of}
 use Rattle.name_book.specs.declared.book.Object.{Object}
 use Rattle.name_book.specs.declared.book.Object.TheVariants as object
-use Rattle.node_table.specs.declared.kinds.Kind.TheVariants.{Constant, Gain, Splitter, Merger, Shaper, Iir}
+use Rattle.causal_core.specs.declared.equation.Equation.TheVariants.{Filter}
+use Rattle.node_table.specs.declared.kinds.Kind.TheVariants.{Constant, Gain, Splitter, Merger, Shaper, Causal}
 use Rattle.conn_graph.specs.Edges.{form_node}
 use Rattle.meaning.specs.declared.automation.ParamEdit.{ParamEdit}
 use Rattle.meaning.specs.declared.automation.ParamEdit.TheVariants as line
@@ -184,7 +185,7 @@ creates_shaper_for m steady name curve oversample =
 
 creates_filter_for : (m : Machine) → IsSteady m → (name : List ℕ) (feedforward feedback : List ℤ) → IsFor m (op.CreateIIRFilter name feedforward feedback) (decided_on_shaper m (op.CreateIIRFilter name feedforward feedback))
 unfolding decided_on_shaper
-creates_filter_for m steady name feedforward feedback = edits_for m steady (op.CreateIIRFilter name feedforward feedback) (edit.Create (Iir feedforward feedback)) (refl, tt) refl
+creates_filter_for m steady name feedforward feedback = edits_for m steady (op.CreateIIRFilter name feedforward feedback) (edit.Create (Causal (Filter feedforward feedback))) (refl, tt) refl
 
 sets_oversample_for : (m : Machine) → IsSteady m → (o : Op) (node : Option NodeId) (value : Oversample) → IsFor m o (sets_oversample m node value)
 sets_oversample_for m steady o None value = tt

@@ -16,7 +16,8 @@ use Rattle.script_ast.specs.declared.call_list.Call.{Call}
 use Rattle.script_ast.specs.declared.operations.Op.{Op}
 use Rattle.script_ast.specs.declared.operations.Op.TheVariants as op
 use Rattle.script_ast.specs.declared.operations.Oversample.{Oversample}
-use Rattle.node_table.specs.declared.kinds.Kind.TheVariants.{Constant, Gain, Splitter, Merger, Shaper, Iir}
+use Rattle.causal_core.specs.declared.equation.Equation.TheVariants.{Filter}
+use Rattle.node_table.specs.declared.kinds.Kind.TheVariants.{Constant, Gain, Splitter, Merger, Shaper, Causal}
 use Rattle.meaning.specs.declared.automation.ParamEdit.{ParamEdit}
 use Rattle.meaning.specs.declared.automation.ParamEdit.TheVariants as line
 use Rattle.meaning.specs.declared.buffers.BufferEdit.TheVariants as buffer_edit
@@ -141,7 +142,7 @@ module _ (machine : Machine) (call : Call) (held : Paths) where
   op_leaves (op.CreateChannelSplitter name outputs) is = (edits_leaves (edit.Create (Splitter outputs)))
   op_leaves (op.CreateChannelMerger name inputs) is = (edits_leaves (edit.Create (Merger inputs)))
   op_leaves (op.CreateWaveShaper name curve oversample) is = (unless_refused_leaves (oversample_refusal oversample) (edits machine (edit.Create (Shaper curve (is_some curve)))) (edits_leaves (edit.Create (Shaper curve (is_some curve)))))
-  op_leaves (op.CreateIIRFilter name feedforward feedback) is = (edits_leaves (edit.Create (Iir feedforward feedback)))
+  op_leaves (op.CreateIIRFilter name feedforward feedback) is = (edits_leaves (edit.Create (Causal (Filter feedforward feedback))))
   op_leaves (op.CreateBufferSource name buffer looping loop_start loop_end rate) is =
       (with_buffer_leaves buffer (λ b. edit.CreateBufferSource (rate_of rate) b (record { on = looping; first = loop_start; end = loop_end })))
   op_leaves (op.CreateBuffer name channels frames rate) is = (edits_leaves (edit.Buffers (buffer_edit.Create channels frames rate)))

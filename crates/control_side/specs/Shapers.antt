@@ -5,7 +5,8 @@ use Rattle.wa_base.specs.declared.exceptions.Exc.TheVariants.{NotSupported, Wron
 use Rattle.wa_base.specs.declared.features.Feature.TheVariants as feature
 use Rattle.wa_base.specs.declared.graph_names.NodeId.{NodeId}
 use Rattle.node_table.specs.declared.kinds.Kind.{Kind}
-use Rattle.node_table.specs.declared.kinds.Kind.TheVariants.{Shaper, Iir}
+use Rattle.causal_core.specs.declared.equation.Equation.TheVariants.{Filter}
+use Rattle.node_table.specs.declared.kinds.Kind.TheVariants.{Shaper, Causal}
 use Rattle.script_ast.specs.declared.operations.Op.{Op}
 use Rattle.script_ast.specs.declared.operations.Op.TheVariants as op
 use Rattle.script_ast.specs.declared.operations.Oversample.{Oversample}
@@ -43,5 +44,5 @@ unfoldable pub decided_on_shaper : Machine → Op → Decided
 decided_on_shaper machine (op.CreateWaveShaper name curve oversample) = creates_shaper machine curve oversample
 decided_on_shaper machine (op.SetCurve node curve) = edits_node machine (node_named machine node) (λ n. edit.SetCurve n curve)
 decided_on_shaper machine (op.SetOversample node value) = sets_oversample machine (node_named machine node) value
-decided_on_shaper machine (op.CreateIIRFilter name feedforward feedback) = edits machine (edit.Create (Iir feedforward feedback))
+decided_on_shaper machine (op.CreateIIRFilter name feedforward feedback) = edits machine (edit.Create (Causal (Filter feedforward feedback)))
 decided_on_shaper machine other = decided_on_param machine other

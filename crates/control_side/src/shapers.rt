@@ -2,10 +2,12 @@ ghost use Rattle.std.specs.Prelude.{◌≡◌, is_some, IfOk};
 ghost use Rattle.script_ast.specs.Ranges.{IsInRange};
 ghost use Rattle.control_side.specs.Shapers as spec;
 ghost use Rattle.control_side.specs.Step.{node_named, edits, edits_node};
+ghost use Rattle.causal_core.specs.declared.equation.Equation.TheVariants as equations;
 ghost use Rattle.node_table.specs.declared.kinds.Kind.TheVariants as kinds;
 
 use crate::control::Control;
 use crate::decide::{Decided, refused};
+use causal_core::Equation;
 use meaning::Edit;
 use node_table::Kind;
 use script_ast::{Op, Oversample};
@@ -56,12 +58,13 @@ impl Control {
     }
 
     fn create_filter(&self, feedforward: &Samples, feedback: &Samples) -> Result<Decided, NoMemory>
-        ensures { IfOk result (λ decided. decided ≡ edits self.now (Edit.Create (kinds.Iir feedforward.now feedback.now))) }
+        ensures { IfOk result (λ decided. decided ≡ edits self.now (Edit.Create (kinds.Causal (equations.Filter feedforward.now feedback.now)))) }
     {
-        let kind = Kind::Iir {
+        let equation = Equation::Filter {
             forward: feedforward.copy()?,
             back: feedback.copy()?,
         };
+        let kind = Kind::Causal { equation };
         Ok(self.edits(Edit::Create { kind }))
     }
 

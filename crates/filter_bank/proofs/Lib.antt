@@ -2,3 +2,4 @@ pub mod Since
 pub mod Fresh
 pub mod Growing
 pub mod Same
+pub mod States

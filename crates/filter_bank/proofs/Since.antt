@@ -1,5 +1,5 @@
 -- The frames heard since a birth, and a block more.
-use Rattle.std.proofs.Common.{ℕ, zero, suc, ℤ, ◌≡◌, ◌+◌, ◌-◌, ◌<◌, ◌≤◌, List, ◌∷◌, refl, sym, ◌∙◌, ap, ap₂, arith, subst}
+use Rattle.std.proofs.Common.{ℕ, zero, suc, ℤ, ◌≡◌, ◌+◌, ◌-◌, ◌<◌, ◌≤◌, List, ◌∷◌, sym, ◌∙◌, ap, ap₂, arith}
 use Rattle.causal_core.specs.Frames.{item, heard}
 use Rattle.meaning.specs.Lists.{since}
 

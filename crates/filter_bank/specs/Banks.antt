@@ -1,9 +1,11 @@
 -- The filters of a graph's nodes, by node.
-use Rattle.std.specs.Prelude.{ℕ, ℤ, pos, ◌≡◌, ◌<◌, ◌≤◌, ◌+◌, ◌-◌, ◌*◌, ◌^◌, length, take, List, slice_index_or, Option, None, Some}
-use Rattle.causal_core.specs.Filters.{filter_value}
+use Rattle.std.specs.Prelude.{ℕ, ℤ, pos, ◌≡◌, ◌<◌, ◌≤◌, ◌+◌, ◌-◌, ◌*◌, ◌^◌, length, List, slice_index_or, Option, None, Some}
+use Rattle.causal_core.specs.declared.equation.Equation.{Equation}
+use Rattle.causal_core.specs.Equations.{equation_value}
+use Rattle.filter_bank.specs.States.{equation_of}
 use Rattle.causal_core.specs.Frames.{item}
 use Rattle.meaning.specs.Lists.{since}
-use Rattle.node_table.specs.declared.kinds.Kind.TheVariants.{Iir}
+use Rattle.node_table.specs.declared.kinds.Kind.TheVariants.{Causal}
 use Rattle.meaning.specs.declared.world.World.{World}
 use Rattle.meaning.specs.World.{node_at, kind_of}
 use Rattle.filter_bank.specs.Heard.{FilterView, room_of, HasHeard, Brings, IsHeard, IsSame, IsRested}
@@ -25,11 +27,11 @@ filter_at bank node = slice_index_or bank.filters node None
 
 -- Each node of a world that filters has heard its input before a frame, where at has for each node its input's frames.
 abbrev pub AreHeard : BankView → World → ℕ → (ℕ → ℕ → ℕ → ℤ) → Type 0
-AreHeard bank w now at = (n : ℕ) (forward back : List ℤ) → n < length w.nodes → kind_of w n ≡ Iir forward back → IsHeard (filter_at bank n) forward back (node_at w n).attrs.birth now (at n)
+AreHeard bank w now at = (n : ℕ) (equation : Equation) → n < length w.nodes → kind_of w n ≡ Causal equation → IsHeard (filter_at bank n) equation (node_at w n).attrs.birth now (at n)
 
 -- Those that are new have heard nothing.
 abbrev pub AreNew : BankView → World → Type 0
-AreNew bank w = (n : ℕ) (forward back : List ℤ) → bank.known ≤ n → n < length w.nodes → kind_of w n ≡ Iir forward back → IsHeard (filter_at bank n) forward back (node_at w n).attrs.birth (node_at w n).attrs.birth (λ g c. pos 0)
+AreNew bank w = (n : ℕ) (equation : Equation) → bank.known ≤ n → n < length w.nodes → kind_of w n ≡ Causal equation → IsHeard (filter_at bank n) equation (node_at w n).attrs.birth (node_at w n).attrs.birth (λ g c. pos 0)
 
 -- a filter, if it is there, is as it was
 abbrev pub IsSameIfThere : Option FilterView → Option FilterView → Type 0
@@ -54,9 +56,9 @@ pub record Hears (old new : BankView) (node : ℕ) (x y : List ℤ) : Type 0 whe
   pub count : length new.filters ≡ length old.filters
   pub others : (n : ℕ) → (n ≡ node → ⊥) → filter_at new n ≡ filter_at old n
   pub rooms : (g : FilterView) → filter_at new node ≡ Some g → (f : FilterView) × (filter_at old node ≡ Some f) × (room_of g ≡ room_of f)
-  pub heard : (f : FilterView) → filter_at old node ≡ Some f → f.time ≤ 2 ^ 62 → (at : ℕ → ℕ → ℤ) → HasHeard at f → Brings f.time x at → IsHeard (filter_at new node) f.state.forward f.state.back f.birth (f.time + 128) at
+  pub heard : (f : FilterView) → filter_at old node ≡ Some f → f.time ≤ 2 ^ 62 → (at : ℕ → ℕ → ℤ) → HasHeard at f → Brings f.time x at → IsHeard (filter_at new node) (equation_of f.state) f.birth (f.time + 128) at
   pub values : (f : FilterView) → filter_at old node ≡ Some f → (at : ℕ → ℕ → ℤ) → HasHeard at f → Brings f.time x at → (c k : ℕ) → c < room_of f → k < 128 →
-      item y (c * 128 + k) ≡ filter_value f.state.forward f.state.back (since (λ g. at g c) f.birth (f.time + k + 1 - f.birth))
+      item y (c * 128 + k) ≡ equation_value (equation_of f.state) (since (λ g. at g c) f.birth (f.time + k + 1 - f.birth))
 
 -- there is room for the channels of each node's end, which stands at the second of its two places
 abbrev pub HaveRoom : BankView → List ℕ → Type 0

@@ -1,2 +1,3 @@
 pub mod Heard
 pub mod Banks
+pub mod States

@@ -1,11 +1,12 @@
 ghost use Rattle.std.specs.Prelude.{◌≡◌, ◌<◌, ◌≤◌, ◌+◌, ◌-◌, ◌*◌, ◌^◌, ℕ, ℤ, pos, None, [], length, slice_index_or, IfOk, OnOk};
-ghost use Rattle.causal_core.specs.Filters.{filter_refusal, filter_value};
+ghost use Rattle.causal_core.specs.Equations.{equation_refusal, equation_value};
+ghost use Rattle.filter_bank.specs.States.{equation_of, first_state};
 ghost use Rattle.causal_core.specs.Frames.{item};
 ghost use Rattle.meaning.specs.Lists.{since};
 ghost use Rattle.filter_bank.specs.Heard.{room_of, HasHeard, Brings, HasOutputs, IsRested, IsSame};
 
-use causal_core::Causal;
-use shaper_iir::Iir;
+use crate::state::State;
+use causal_core::{Causal, Equation};
 use std::alloc::Global;
 use std::marker::Model;
 use wa_base::{Fix, NoMemory};
@@ -18,7 +19,7 @@ pub(crate) const QUANTUM: usize = wa_base::QUANTUM as usize;
 pub(crate) struct NodeFilter {
     birth: u64,
     time: u64,
-    state: Iir,
+    state: State,
 }
 
 impl Model for NodeFilter {
@@ -36,16 +37,15 @@ impl NodeFilter {
     pub(crate) fn new(
         alloc: Global,
         birth: u64,
-        forward: &[Fix],
-        back: &[Fix],
+        equation: &Equation,
     ) -> Result<NodeFilter, NoMemory>
-        requires { filter_refusal forward.now back.now ≡ None }
-        ensures { IfOk result (λ f. f ≡ record { birth = birth; time = birth; state = record { forward = forward.now; back = back.now; channels = [] } }) }
+        requires { equation_refusal equation.now ≡ None }
+        ensures { IfOk result (λ f. f ≡ record { birth = birth; time = birth; state = first_state equation.now }) }
     {
         Ok(NodeFilter {
             birth,
             time: birth,
-            state: Iir::new(alloc, forward, back)?,
+            state: State::new(alloc, equation)?,
         })
     }
 
@@ -74,10 +74,10 @@ impl NodeFilter {
         ensures birth { self.new.birth ≡ self.old.birth }
         ensures time { self.old.time ≤ 2 ^ 62 → self.new.time ≡ self.old.time + 128 }
         ensures room { room_of self.new ≡ room_of self.old }
-        ensures outputs { HasOutputs self.new.state self.old.state.forward self.old.state.back }
+        ensures outputs { HasOutputs self.new.state (equation_of self.old.state) }
         ensures heard { self.old.time ≤ 2 ^ 62 → (at : ℕ → ℕ → ℤ) → HasHeard at self.old → Brings self.old.time x.now at → HasHeard at self.new }
         ensures values { (at : ℕ → ℕ → ℤ) → HasHeard at self.old → Brings self.old.time x.now at → (c k : ℕ) → c < room_of self.old → k < 128 →
-            item y.new (c * 128 + k) ≡ filter_value self.old.state.forward self.old.state.back (since (λ g. at g c) self.old.birth (self.old.time + k + 1 - self.old.birth)) }
+            item y.new (c * 128 + k) ≡ equation_value (equation_of self.old.state) (since (λ g. at g c) self.old.birth (self.old.time + k + 1 - self.old.birth)) }
         ensures length { length y.new ≡ length y.old }
     {
         self.state.block(x, y, QUANTUM);

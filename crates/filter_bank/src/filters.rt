@@ -1,5 +1,6 @@
 ghost use Rattle.std.specs.Prelude.{◌≡◌, ◌<◌, ◌≤◌, ◌+◌, ◌-◌, ◌*◌, ◌^◌, ℕ, ℤ, pos, [], None, IfSome, max, take, length, slice_index_or, slice_set, Some, IfOk, OnOk};
-ghost use Rattle.causal_core.specs.Filters.{filter_value};
+ghost use Rattle.causal_core.specs.Equations.{equation_value};
+ghost use Rattle.filter_bank.specs.States.{equation_of};
 ghost use Rattle.causal_core.specs.Frames.{item};
 ghost use Rattle.meaning.specs.Validity.{IsValid};
 ghost use Rattle.meaning.specs.Lists.{since};
@@ -141,10 +142,9 @@ fn filter_of(alloc: Global, world: &World, node: NodeId) -> Result<Option<NodeFi
     ensures { IfOk result (λ filter. filter ≡ first_filter (kind_of world.now node.0) (node_at world.now node.0).attrs.birth) }
 {
     match world.nodes.kind(node) {
-        Kind::Iir { forward, back } => {
+        Kind::Causal { equation } => {
             let birth = world.nodes.attrs(node).birth;
-            let filter = NodeFilter::new(alloc, birth, forward.as_slice(), back.as_slice())?;
-            Ok(Some(filter))
+            Ok(Some(NodeFilter::new(alloc, birth, equation)?))
         }
         _ => Ok(None),
     }
@@ -180,9 +180,9 @@ fn hear_one(filter: &mut Option<NodeFilter>, x: &[Fix], y: &mut [Fix])
     requires x { IfSome filter.old (λ f. length x.now ≡ room_of f * 128) }
     requires y { length y.old ≡ length x.now }
     ensures rooms { (g : a_filter) → filter.new ≡ Some g → (f : a_filter) × (filter.old ≡ Some f) × (room_of g ≡ room_of f) }
-    ensures heard { (f : a_filter) → filter.old ≡ Some f → f.time ≤ 2 ^ 62 → (at : ℕ → ℕ → ℤ) → HasHeard at f → Brings f.time x.now at → IsHeard filter.new f.state.forward f.state.back f.birth (f.time + 128) at }
+    ensures heard { (f : a_filter) → filter.old ≡ Some f → f.time ≤ 2 ^ 62 → (at : ℕ → ℕ → ℤ) → HasHeard at f → Brings f.time x.now at → IsHeard filter.new (equation_of f.state) f.birth (f.time + 128) at }
     ensures values { (f : a_filter) → filter.old ≡ Some f → (at : ℕ → ℕ → ℤ) → HasHeard at f → Brings f.time x.now at → (c k : ℕ) → c < room_of f → k < 128 →
-        item y.new (c * 128 + k) ≡ filter_value f.state.forward f.state.back (since (λ g. at g c) f.birth (f.time + k + 1 - f.birth)) }
+        item y.new (c * 128 + k) ≡ equation_value (equation_of f.state) (since (λ g. at g c) f.birth (f.time + k + 1 - f.birth)) }
     ensures length { length y.new ≡ length y.old }
 {
     if let Some(filter) = filter {

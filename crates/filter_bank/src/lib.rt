@@ -1,7 +1,9 @@
-//! The IIR filters of a graph's nodes, each with what it has heard since its node was born.
+//! What the nodes that hear their input from their creation on remember of it, each by its equation.
 #![tactic(auto)]
 
 mod filter;
 mod filters;
+mod state;
 
 pub use filters::Filters;
+pub use state::State;

@@ -5,6 +5,7 @@ ghost use Rattle.meaning.specs.declared.change.Edit.TheVariants as edits;
 ghost use Rattle.meaning.specs.Validity.{IsValid};
 ghost use Rattle.meaning.specs.World.{plain};
 
+use causal_core::Equation;
 use conn_graph::{Edge, Target};
 use meaning::{Change, Edit, SourceEdit, World};
 use node_table::Kind;
@@ -107,11 +108,11 @@ pub(crate) fn add_filter(
     ensures valid { IsValid world.new }
     ensures spec { world.new.spec ≡ world.old.spec }
 {
-    let kind = Kind::Iir {
+    let equation = Equation::Filter {
         forward: samples(alloc, forward)?,
         back: samples(alloc, back)?,
     };
-    add(world, birth, kind)
+    add(world, birth, Kind::Causal { equation })
 }
 
 // Creates a wave shaper with a curve, at frame 0.

@@ -3,3 +3,4 @@ pub mod Tests
 pub mod Reaching
 pub mod HeightLaws
 pub mod SchemeLaws
+pub mod Places

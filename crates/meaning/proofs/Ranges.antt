@@ -13,6 +13,9 @@ use Rattle.wa_base.specs.declared.graph_names.ParamName.TheVariants as param
 use Rattle.law_base.proofs.SchemeLaws.{moment-zero}
 use Rattle.causal_core.specs.Curves.{on_way, curve_at}
 use Rattle.causal_core.specs.Filters.{dot, quotient, filtered, filter_value}
+use Rattle.causal_core.specs.declared.equation.Equation.{Equation}
+use Rattle.causal_core.specs.declared.equation.Equation.TheVariants.{Filter}
+use Rattle.causal_core.specs.Equations.{equation_value}
 use Rattle.causal_core.specs.Frames.{item}
 use Rattle.causal_core.proofs.Shares.{between_fix}
 use Rattle.buffer_store.specs.declared.buffers.Buffer.{Buffer}
@@ -28,7 +31,7 @@ use Rattle.node_table.specs.Kinds.{row, is_delay_kind, IsInLimits}
 use Rattle.node_table.proofs.NodeLists.{IsRange, is_row}
 use Rattle.node_table.specs.declared.kinds.Kind.{Kind}
 use Rattle.node_table.specs.declared.kinds.Kind.TheVariants as kinds
-use Rattle.node_table.specs.declared.kinds.Kind.TheVariants.{Destination, Constant, Gain, Delay, Splitter, Merger, Shaper, Iir}
+use Rattle.node_table.specs.declared.kinds.Kind.TheVariants.{Destination, Constant, Gain, Delay, Splitter, Merger, Shaper, Causal}
 use Rattle.node_table.specs.declared.nodes.Node.{Node}
 use Rattle.conn_graph.specs.Ends.{writer_of, reader_of, height, muted}
 use Rattle.meaning.specs.declared.world.World.{World}
@@ -143,6 +146,9 @@ filter_fix : (forward back frames : List ℤ) → IsFix (filter_value forward ba
 filter_fix forward back [] = zero_fix
 filter_fix forward back (x ∷ xs) = quotient_fix (dot forward (x ∷ xs) -ℤ dot (drop 1 back) (filtered forward back xs)) (item back 0)
 
+causal_fix : (equation : Equation) (frames : List ℤ) → IsFix (equation_value equation frames)
+causal_fix (Filter forward back) frames = filter_fix forward back frames
+
 -- ---- each end
 
 -- what a frame has at the first output of the writer of a delay
@@ -185,7 +191,7 @@ kind_fix q f past here fixes (Delay longest time capacity) points e fine asks o 
     by_end false reader = delayed_fix q f past here e.node.0 c (asks refl reader)
 kind_fix q f past here fixes (Splitter ports) points e fine asks o c = input_fix here e.node.0 0 o
 kind_fix q f past here fixes (Merger ports) points e fine asks o c = input_fix here e.node.0 c 0
-kind_fix q f past here fixes (Iir forward back) points e fine asks o c = filter_fix forward back (frames_heard f past here e.node.0 c)
+kind_fix q f past here fixes (Causal equation) points e fine asks o c = causal_fix equation (frames_heard f past here e.node.0 c)
 kind_fix q f past here fixes (Shaper None was_set) points e fine asks o c = input_fix here e.node.0 0 c
 kind_fix q f past here fixes (Shaper (Some curve) was_set) points e fine asks o c = curve_fix curve (input_value here e.node.0 0 c +ℤ pos 16777216) (all_at curve points)
 

@@ -15,11 +15,11 @@ use Rattle.law_base.proofs.Members.{same_map}
 use Rattle.channel_mix.specs.Counts.{input_count}
 use Rattle.channel_mix.specs.Mixing.{mix, fan_in}
 use Rattle.causal_core.specs.Curves.{shaper_value}
-use Rattle.causal_core.specs.Filters.{filter_value}
+use Rattle.causal_core.specs.Equations.{equation_value}
 use Rattle.node_table.specs.Delays.{frames_of}
 use Rattle.node_table.specs.Kinds.{is_delay_kind, outputs, remembers}
 use Rattle.node_table.specs.declared.kinds.Kind.{Kind}
-use Rattle.node_table.specs.declared.kinds.Kind.TheVariants.{Destination, Constant, Buffer, Gain, Delay, Splitter, Merger, Shaper, Iir}
+use Rattle.node_table.specs.declared.kinds.Kind.TheVariants.{Destination, Constant, Buffer, Gain, Delay, Splitter, Merger, Shaper, Causal}
 use Rattle.node_table.specs.declared.nodes.Node.{Node}
 use Rattle.conn_graph.specs.declared.edges.Edge.{Edge}
 use Rattle.conn_graph.specs.Graph.{edges_to_input, edges_to_param}
@@ -265,7 +265,7 @@ module _ (q : ℕ) (some : 0 < q) (w : World) (joined : IsJoined w) (f : ℕ) (p
       by_end false reader = delayed_like (ap is_delay_kind is) (reader_end e reader) c
   by_kind o c (Splitter ports) is = input_like w joined m n s t e (plain_end w joined e h (ap is_delay_kind is)) agree_counts agree 0 o
   by_kind o c (Merger ports) is = input_like w joined m n s t e (plain_end w joined e h (ap is_delay_kind is)) agree_counts agree c 0
-  by_kind o c (Iir forward back) is = ap (filter_value forward back) (heard_like (ap remembers is) (plain_end w joined e h (ap is_delay_kind is)) c)
+  by_kind o c (Causal equation) is = ap (equation_value equation) (heard_like (ap remembers is) (plain_end w joined e h (ap is_delay_kind is)) c)
   by_kind o c (Shaper curve was_set) is = ap (λ x. shaper_value curve (x ∷ [])) (input_like w joined m n s t e (plain_end w joined e h (ap is_delay_kind is)) agree_counts agree 0 c)
 
   pub equation_sees : equation q f past (here w m s) e ≡ equation q f past' (here w n t) e

@@ -8,12 +8,12 @@ use Rattle.wa_base.specs.declared.graph_names.ParamId.{ParamId}
 use Rattle.wa_base.specs.declared.graph_names.ParamName.TheVariants as param
 use Rattle.law_base.specs.Heights.{Scheme, at_moment}
 use Rattle.causal_core.specs.Curves.{shaper_value}
-use Rattle.causal_core.specs.Filters.{filter_value}
+use Rattle.causal_core.specs.Equations.{equation_value}
 use Rattle.channel_mix.specs.Mixing.{mix, fan_in}
 use Rattle.node_table.specs.Delays.{frames_of}
 use Rattle.node_table.specs.Kinds.{outputs}
 use Rattle.node_table.specs.declared.kinds.Kind.{Kind}
-use Rattle.node_table.specs.declared.kinds.Kind.TheVariants.{Destination, Constant, Buffer, Gain, Delay, Splitter, Merger, Shaper, Iir}
+use Rattle.node_table.specs.declared.kinds.Kind.TheVariants.{Destination, Constant, Buffer, Gain, Delay, Splitter, Merger, Shaper, Causal}
 use Rattle.conn_graph.specs.declared.edges.Edge.{Edge}
 use Rattle.conn_graph.specs.Graph.{edges_to_input, edges_to_param}
 use Rattle.conn_graph.specs.Ends.{writer_of, reader_of, input_end, in_cycle, height, muted}
@@ -106,8 +106,8 @@ value_by_kind q f past here (Splitter outputs) e o c = input_value here e.node.0
 value_by_kind q f past here (Merger inputs) e o c = input_value here e.node.0 c 0
 -- a shaper hears its input, of which the newest frame alone counts
 value_by_kind q f past here (Shaper curve was_set) e o c = shaper_value curve (input_value here e.node.0 0 c ∷ [])
--- a filter hears its input from its birth on
-value_by_kind q f past here (Iir forward back) e o c = filter_value forward back (frames_heard f past here e.node.0 c)
+-- a causal node hears its input from its birth on
+value_by_kind q f past here (Causal equation) e o c = equation_value equation (frames_heard f past here e.node.0 c)
 
 -- whether an end has channel c of output o
 abbrev pub has_channel : World → Counts → End → ℕ → ℕ → Bool

@@ -1,7 +1,8 @@
 -- What stays as long as a node is there.
 use Rattle.std.proofs.Common.{◌≡◌, ℕ, ℤ, Bool, true, false, Option, None, List, ◌⊎◌, inl, inr, refl, sym, ◌∙◌, ap, subst}
+use Rattle.causal_core.specs.declared.equation.Equation.{Equation}
 use Rattle.node_table.specs.declared.kinds.Kind.{Kind}
-use Rattle.node_table.specs.declared.kinds.Kind.TheVariants.{Destination, Constant, Buffer, Gain, Delay, Splitter, Merger, Shaper, Iir}
+use Rattle.node_table.specs.declared.kinds.Kind.TheVariants.{Destination, Constant, Buffer, Gain, Delay, Splitter, Merger, Shaper, Causal}
 use Rattle.node_table.specs.Kinds.{is_delay_kind, lasting, with_curve}
 
 pub record IsShaper (kind : Kind) : Type 0 where
@@ -30,7 +31,7 @@ the_delay (Delay longest time capacity) is = record { longest = longest; time = 
 the_delay (Splitter ports) is = absurd cc
 the_delay (Merger ports) is = absurd cc
 the_delay (Shaper curve was_set) is = absurd cc
-the_delay (Iir forward back) is = absurd cc
+the_delay (Causal equation) is = absurd cc
 
 -- all of a kind lasts, but for a shaper's curve
 pub lasts : (kind : Kind) → IsOther kind ⊎ IsShaper kind
@@ -41,7 +42,7 @@ lasts (Gain gain) = inl (record { same = refl; uncurved = λ curve. refl })
 lasts (Delay longest time capacity) = inl (record { same = refl; uncurved = λ curve. refl })
 lasts (Splitter ports) = inl (record { same = refl; uncurved = λ curve. refl })
 lasts (Merger ports) = inl (record { same = refl; uncurved = λ curve. refl })
-lasts (Iir forward back) = inl (record { same = refl; uncurved = λ curve. refl })
+lasts (Causal equation) = inl (record { same = refl; uncurved = λ curve. refl })
 lasts (Shaper curve was_set) = inr (record { curve = curve; was_set = was_set; is = refl })
 
 -- setting a curve changes nothing that lasts
@@ -51,11 +52,11 @@ with_curve_lasts curve kind = elim (lasts kind) [
   | inr shaper ↦ rw shaper.is refl
 ]
 
--- a filter lasts as it is
-pub lasting_filter : (kind : Kind) (forward back : List ℤ) → lasting kind ≡ Iir forward back → kind ≡ Iir forward back
-lasting_filter kind forward back is = elim (lasts kind) [
+-- an equation lasts as it is
+pub lasting_equation : (kind : Kind) (equation : Equation) → lasting kind ≡ Causal equation → kind ≡ Causal equation
+lasting_equation kind equation is = elim (lasts kind) [
   | inl other ↦ sym other.same ∙ is
-  | inr shaper ↦ let other : lasting (Shaper shaper.curve shaper.was_set) ≡ Iir forward back = subst (λ k. lasting k ≡ Iir forward back) shaper.is is in absurd cc
+  | inr shaper ↦ let other : lasting (Shaper shaper.curve shaper.was_set) ≡ Causal equation = subst (λ k. lasting k ≡ Causal equation) shaper.is is in absurd cc
 ]
 
 -- what is the same for every shaper, whatever its curve

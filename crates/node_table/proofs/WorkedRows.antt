@@ -7,13 +7,18 @@ use Rattle.wa_base.specs.declared.features.Feature.TheVariants.{PlaybackRate, Lo
 use Rattle.wa_base.specs.declared.graph_names.Interp.TheVariants.{Speakers, Discrete}
 use Rattle.wa_base.specs.declared.graph_names.Mode.TheVariants.{Max, Explicit}
 use Rattle.wa_base.specs.declared.graph_names.ParamName.TheVariants as param
+use Rattle.causal_core.specs.declared.equation.Equation.TheVariants.{Filter}
 use Rattle.node_table.specs.declared.kinds.Kind.{Kind}
-use Rattle.node_table.specs.declared.kinds.Kind.TheVariants.{Destination, Constant, Buffer, Gain, Delay, Splitter, Merger, Shaper, Iir}
+use Rattle.node_table.specs.declared.kinds.Kind.TheVariants.{Destination, Constant, Buffer, Gain, Delay, Splitter, Merger, Shaper, Causal}
 use Rattle.node_table.specs.Kinds.{row, is_destination, inputs, outputs, is_delay_kind, param_name, lasting, remembers, with_curve, set_curve_refusal}
 use Rattle.node_table.specs.Nodes.{destination_of, node_of, creation_refusal, count_refusal, kind_at, attrs_at}
 
+-- a node with the equation of a filter
+abbrev filter : (forward back : List ℤ) → Kind
+filter forward back = Causal (Filter forward back)
+
 abbrev kinds : List Kind
-kinds = Destination ∷ Constant (pos 5) ∷ Buffer 2 ∷ Gain (pos 7) ∷ Delay (pos 16777216) (pos 9) 48000 ∷ Splitter 3 ∷ Merger 4 ∷ Shaper None false ∷ Iir (pos 1 ∷ []) (pos 2 ∷ []) ∷ []
+kinds = Destination ∷ Constant (pos 5) ∷ Buffer 2 ∷ Gain (pos 7) ∷ Delay (pos 16777216) (pos 9) 48000 ∷ Splitter 3 ∷ Merger 4 ∷ Shaper None false ∷ filter (pos 1 ∷ []) (pos 2 ∷ []) ∷ []
 
 -- the ports of each kind
 inputs-kinds : map inputs kinds ≡ 1 ∷ 0 ∷ 0 ∷ 1 ∷ 1 ∷ 1 ∷ 4 ∷ 1 ∷ 1 ∷ []
@@ -109,7 +114,7 @@ lasting-shaper = refl
 -- ---- filters
 
 -- A list of no coefficient, feedforward coefficients that are all 0, and feedback[0] that is 0 are refused, in this order.
-refused-filters : map (λ kind. creation_refusal (destination_of context ∷ []) kind) (Iir [] (pos 1 ∷ []) ∷ Iir (pos 0 ∷ []) [] ∷ Iir (pos 0 ∷ []) (pos 0 ∷ []) ∷ Iir (pos 1 ∷ []) (pos 0 ∷ pos 1 ∷ []) ∷ Iir (pos 0 ∷ pos 1 ∷ []) (pos 1 ∷ []) ∷ [])
+refused-filters : map (λ kind. creation_refusal (destination_of context ∷ []) kind) (filter [] (pos 1 ∷ []) ∷ filter (pos 0 ∷ []) [] ∷ filter (pos 0 ∷ []) (pos 0 ∷ []) ∷ filter (pos 1 ∷ []) (pos 0 ∷ pos 1 ∷ []) ∷ filter (pos 0 ∷ pos 1 ∷ []) (pos 1 ∷ []) ∷ [])
     ≡ Some (NotSupported None) ∷ Some (NotSupported None) ∷ Some InvalidState ∷ Some InvalidState ∷ None ∷ []
 refused-filters = refl
 

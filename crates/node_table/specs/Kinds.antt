@@ -10,9 +10,9 @@ use Rattle.wa_base.specs.declared.graph_names.Mode.TheVariants.{Max, ClampedMax,
 use Rattle.wa_base.specs.declared.graph_names.ParamName.{ParamName}
 use Rattle.wa_base.specs.declared.graph_names.ParamName.TheVariants as param
 use Rattle.causal_core.specs.Curves as curves
-use Rattle.causal_core.specs.Filters.{filter_refusal}
+use Rattle.causal_core.specs.Equations.{equation_refusal}
 use Rattle.node_table.specs.declared.kinds.Kind.{Kind}
-use Rattle.node_table.specs.declared.kinds.Kind.TheVariants.{Destination, Constant, Buffer, Gain, Delay, Splitter, Merger, Shaper, Iir}
+use Rattle.node_table.specs.declared.kinds.Kind.TheVariants.{Destination, Constant, Buffer, Gain, Delay, Splitter, Merger, Shaper, Causal}
 use Rattle.node_table.specs.declared.rows.Row.{Row}
 use Rattle.node_table.specs.declared.rows.Channels.TheVariants.{Always, OfBuffer}
 use Rattle.node_table.specs.declared.rows.Range.TheVariants.{UpTo}
@@ -32,7 +32,7 @@ row (Delay longest time capacity) = record effect { param = Some (record { name 
 row (Splitter ports) = record effect { outputs = ports; channels = Always 1; count = ports; mode = Explicit; interp = Discrete; fixed = all_fixed }
 row (Merger ports) = record effect { inputs = ports; channels = Always ports; count = 1; mode = Explicit; fixed = fixed_mixing }
 row (Shaper curve was_set) = effect
-row (Iir forward back) = record effect { keeps = Heard }
+row (Causal equation) = record effect { keeps = Heard }
 
 abbrev pub is_destination : Kind → Bool
 is_destination Destination = true
@@ -104,7 +104,7 @@ range_refusal (Delay longest time capacity) = delay_refusal longest
 range_refusal (Splitter ports) = port_refusal ports
 range_refusal (Merger ports) = port_refusal ports
 range_refusal (Shaper curve was_set) = curves.curve_refusal curve false
-range_refusal (Iir forward back) = filter_refusal forward back
+range_refusal (Causal equation) = equation_refusal equation
 
 -- what a node was created with is not refused
 abbrev pub IsInLimits : Kind → Type 0

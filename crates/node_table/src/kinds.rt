@@ -3,7 +3,7 @@ ghost use Rattle.node_table.specs.Kinds as spec;
 ghost use Rattle.node_table.specs.Rows as rows;
 
 use crate::rows::{Channels, Fixed, Keeps, ParamRow, Plays, Range, Row};
-use causal_core::{curve_refusal, filter_refusal};
+use causal_core::{Equation, curve_refusal};
 use wa_base::{Exc, Feature, Fix, Interp, Mode, NoMemory, ParamName, Samples};
 
 /// What a node is, with what it was created with.
@@ -55,13 +55,10 @@ pub enum Kind {
         /// Whether a curve was set before. It stays so where the curve is taken away.
         was_set: bool,
     },
-    /// A node that filters its input (IIRFilterNode), by 1 to 20 coefficients of each kind, in units of
-    /// 2^-24, once the node is there.
-    Iir {
-        /// Those of the inputs (feedforward), of which one is not 0.
-        forward: Samples,
-        /// Those of the outputs (feedback), of which the first is not 0.
-        back: Samples,
+    /// A node whose output rests on all that its input took in since its creation (IIRFilterNode).
+    Causal {
+        /// What it puts out of it.
+        equation: Equation,
     },
 }
 
@@ -141,7 +138,7 @@ impl Kind {
                 ..Row::EFFECT
             },
             Kind::Shaper { .. } => Row::EFFECT,
-            Kind::Iir { .. } => Row {
+            Kind::Causal { .. } => Row {
                 keeps: Keeps::Heard,
                 ..Row::EFFECT
             },
@@ -161,7 +158,7 @@ impl Kind {
                 port_refusal(*ports)
             }
             Kind::Shaper { curve, .. } => curve_refusal(points_of(curve), false),
-            Kind::Iir { forward, back } => filter_refusal(forward.as_slice(), back.as_slice()),
+            Kind::Causal { equation } => equation.refusal(),
         }
     }
 
@@ -189,9 +186,8 @@ impl Kind {
                 curve: copy_of(curve)?,
                 was_set: *was_set,
             },
-            Kind::Iir { forward, back } => Kind::Iir {
-                forward: forward.copy()?,
-                back: back.copy()?,
+            Kind::Causal { equation } => Kind::Causal {
+                equation: equation.copy()?,
             },
         })
     }

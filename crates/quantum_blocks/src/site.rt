@@ -3,11 +3,13 @@ ghost use Rattle.node_table.specs.Kinds.{outputs as outputs_of, IsInLimits};
 ghost use Rattle.conn_graph.specs.Ends.{writer_of, reader_of, is_delay, in_cycle as cycle_of};
 ghost use Rattle.meaning.specs.World.{kind_of};
 ghost use Rattle.quantum_blocks.specs.Blocks.{slot as slot_of, counts_in};
+ghost use Rattle.quantum_blocks.specs.Sites.{IsSite};
 
 use crate::block::QUANTUM;
 use automation::Level;
 use conn_graph::Edge;
 use meaning::World;
+use node_table::Kind;
 use std::marker::Model;
 use wa_base::{End, NodeId};
 
@@ -82,12 +84,21 @@ impl Site<'_> {
         self.counts[slot(self.end)] as usize
     }
 
+    /// What the end's node is.
+    pub fn kind(&self) -> &Kind
+        ensures value { result.now ≡ kind_of self.now.world self.now.end.node.0 }
+        ensures limits { IsInLimits result.now }
+        ensures site { IsSite self.now.world self.now.end self.now.into self.now.counts self.now.levels self.now.first }
+    {
+        self.world.nodes.kind(self.end.node)
+    }
+
     /// The number of outputs of the end's node.
     pub fn outputs(&self) -> u32
         ensures count { result ≡ outputs_of (kind_of self.now.world self.now.end.node.0) }
         ensures ports { IsInLimits (kind_of self.now.world self.now.end.node.0) }
     {
-        self.world.nodes.kind(self.end.node).row().outputs
+        self.kind().row().outputs
     }
 
     /// The least number of frames that a delay lasts: in a cycle those of a quantum.

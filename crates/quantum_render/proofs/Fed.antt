@@ -33,7 +33,7 @@ use Rattle.quantum_blocks.specs.Sites.{SiteView}
 use Rattle.quantum_render.specs.Listening.{writer_in, HasKept, IsTimely}
 use Rattle.quantum_render.specs.Renders.{IsFed, IsWritten, Stores}
 use Rattle.quantum_render.proofs.Listening.{is_among, among_in, in_among, not_among, now_among, other_among}
-use Rattle.filter_bank.proofs.Growing.{this_or_other}
+use Rattle.law_base.proofs.Places.{this_or_other}
 use Rattle.quantum_blocks.proofs.Sources.{end_low}
 
 -- up to which frame the writer of a delay has written, by the ends that are done

@@ -5,10 +5,11 @@ use Rattle.std.proofs.lemmas.Bool.{cases_lt}
 use Rattle.std.proofs.lemmas.Bool.Decides.{nat_tests}
 use Rattle.std.proofs.lemmas.List.{get_or-take, get_or_past, length-take-le}
 use Rattle.channel_mix.specs.Blocks.{sample}
-use Rattle.causal_core.specs.Filters.{filter_value}
+use Rattle.causal_core.specs.Equations.{equation_value}
 use Rattle.causal_core.specs.Frames.{item}
+use Rattle.causal_core.specs.declared.equation.Equation.{Equation}
 use Rattle.node_table.specs.Kinds.{is_delay_kind}
-use Rattle.node_table.specs.declared.kinds.Kind.TheVariants.{Iir}
+use Rattle.node_table.specs.declared.kinds.Kind.TheVariants.{Causal}
 use Rattle.conn_graph.specs.Ends.{input_end, muted}
 use Rattle.meaning.specs.World.{sounding, node_at, kind_of}
 use Rattle.meaning.specs.Counts.{input_channels}
@@ -44,7 +45,7 @@ widened_front wide heard lanes room each = record {
   values = λ c m low now. get_or-take (lanes * 128) wide (c * 128 + m) (pos 0) (omega arith) ∙ each c m low now;
 }
 
-module _ (s : SiteView) (site : IsSite s.world s.end s.into s.counts s.levels s.first) (forward back : List ℤ) (kind : kind_of s.world s.end.node.0 ≡ Iir forward back) where
+module _ (s : SiteView) (site : IsSite s.world s.end s.into s.counts s.levels s.first) (equation : Equation) (kind : kind_of s.world s.end.node.0 ≡ Causal equation) where
   -- its end has the second of the node's two places
   own_slot : slot s.end ≡ 2 * s.end.node.0 + 1
   own_slot = ap slot (plain_reader (sounding s.world) (joined s.world site.valid) s.end site.there (ap is_delay_kind kind))
@@ -64,7 +65,7 @@ module _ (s : SiteView) (site : IsSite s.world s.end s.into s.counts s.levels s.
       let own = count ∙ own_count in
       grind arith
 
-module _ (s : SiteView) (site : IsSite s.world s.end s.into s.counts s.levels s.first) (memory : Memory) (old : List BlockView) (forward back : List ℤ) (kind : kind_of s.world s.end.node.0 ≡ Iir forward back)
+module _ (s : SiteView) (site : IsSite s.world s.end s.into s.counts s.levels s.first) (memory : Memory) (old : List BlockView) (equation : Equation) (kind : kind_of s.world s.end.node.0 ≡ Causal equation)
     (before : ℕ → Frame) (ready : IsReadyFor s memory old before) where
   abbrev bank : BankView
   bank = memory.filters
@@ -91,8 +92,8 @@ module _ (s : SiteView) (site : IsSite s.world s.end s.into s.counts s.levels s.
   takes_now k c = ap (λ x. taken_in x n c) (past_now k) ∙ ap (λ b. if b then pos 0 else input_value (here_of s old k) n 0 c) unmuted
 
   -- the filter has heard it so far
-  pub has_heard : IsHeard (filter_at bank n) forward back (node_at s.world n).attrs.birth s.first takes
-  has_heard = heard_like _ forward back _ s.first _ takes (λ g c low high. ap (λ x. taken_in x n c) (sym (past_before g high))) (ready.heard forward back kind)
+  pub has_heard : IsHeard (filter_at bank n) equation (node_at s.world n).attrs.birth s.first takes
+  has_heard = heard_like _ equation _ s.first _ takes (λ g c low high. ap (λ x. taken_in x n c) (sym (past_before g high))) (ready.heard equation kind)
 
   -- the block that the filter hears brings the quantum
   pub brings : (channels lanes : ℕ) (x : List ℤ) (heard : BlockView) → IsWidened heard lanes x → heard.lanes ≡ channels → channels ≤ lanes → channels ≡ input_channels (sounding s.world) (counts_in s.counts) n 0
@@ -126,17 +127,17 @@ module _ (s : SiteView) (site : IsSite s.world s.end s.into s.counts s.levels s.
     bring' = subst (λ t. Brings t x takes) (sym has_heard.time) bring
 
     -- what it puts out
-    pub puts_out : (c m : ℕ) → c < filter_room f → m < 128 → item y (c * 128 + m) ≡ filter_value forward back (frames_heard (s.first + m) (past_of s old before) (here_of s old m) n c)
+    pub puts_out : (c m : ℕ) → c < filter_room f → m < 128 → item y (c * 128 + m) ≡ equation_value equation (frames_heard (s.first + m) (past_of s old before) (here_of s old m) n c)
     puts_out c m low now =
         hears.values f has_heard.there takes has_heard.heard bring' c m low now
         ∙ has_heard.outputs _
-        ∙ ap (filter_value forward back)
+        ∙ ap (equation_value equation)
         (ap (λ b. since (λ g. takes g c) b (f.time + m + 1 - b)) has_heard.birth
         ∙ ap (λ t. since (λ g. takes g c) (node_at s.world n).attrs.birth (t + m + 1 - (node_at s.world n).attrs.birth)) has_heard.time
         ∙ all_taken m c)
 
     -- and it has heard the quantum
-    pub hears_on : IsHeard (filter_at bank' n) forward back (node_at s.world n).attrs.birth (s.first + 128) takes
+    pub hears_on : IsHeard (filter_at bank' n) equation (node_at s.world n).attrs.birth (s.first + 128) takes
     hears_on =
         let next = hears.heard f has_heard.there (subst (λ t. t ≤ 2 ^ 62) (sym has_heard.time) early) takes has_heard.heard bring' in
         record {

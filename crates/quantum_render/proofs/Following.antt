@@ -20,10 +20,10 @@ pub stands_like : (r r' : RendererView) → r'.quanta ≡ r.quanta → (k l : �
 stands_like r r' quanta k l old_filters new_filters filters old_delays new_delays delays tape stands = record {
   quanta = quanta ∙ stands.quanta;
   nodes = (new_filters ∙ sym old_filters ∙ stands.nodes.0, new_delays ∙ sym old_delays ∙ stands.nodes.1);
-  filters = λ n forward back low is.
-      subst (λ q. IsHeard (slice_index_or r'.memory.filters.filters n None) forward back (node_at (last_world tape) n).attrs.birth (128 * q) ((past 128 tape).heard n)) (sym quanta)
-      (subst (λ o. IsHeard o forward back (node_at (last_world tape) n).attrs.birth (128 * r.quanta) ((past 128 tape).heard n))
-      (sym (kept_heard r.memory.filters r'.memory.filters k filters n (subst (λ m. n < m) (sym stands.nodes.0 ∙ old_filters) low))) (stands.filters n forward back low is));
+  filters = λ n equation low is.
+      subst (λ q. IsHeard (slice_index_or r'.memory.filters.filters n None) equation (node_at (last_world tape) n).attrs.birth (128 * q) ((past 128 tape).heard n)) (sym quanta)
+      (subst (λ o. IsHeard o equation (node_at (last_world tape) n).attrs.birth (128 * r.quanta) ((past 128 tape).heard n))
+      (sym (kept_heard r.memory.filters r'.memory.filters k filters n (subst (λ m. n < m) (sym stands.nodes.0 ∙ old_filters) low))) (stands.filters n equation low is));
   delays = λ n longest time capacity low is.
       subst (λ q. IsKept (delay_at r'.memory.delays n) capacity (node_at (last_world tape) n).attrs.birth (128 * q) (past_writer (past 128 tape) n)) (sym quanta)
       (subst (λ o. IsKept o capacity (node_at (last_world tape) n).attrs.birth (128 * r.quanta) (past_writer (past 128 tape) n))

@@ -4,10 +4,11 @@ use Rattle.std.specs.Prelude.{if◌then◌else◌, nat_lt}
 use Rattle.std.proofs.lemmas.Bool.Decides.{nat_tests}
 use Rattle.wa_base.specs.declared.graph_names.End.{End}
 use Rattle.law_base.specs.Members.{IsIn}
-use Rattle.shaper_iir.specs.Filter.{FilterStands}
+use Rattle.filter_bank.specs.States.{stands}
+use Rattle.causal_core.specs.declared.equation.Equation.{Equation}
 use Rattle.node_table.specs.Kinds.{is_delay_kind}
 use Rattle.node_table.specs.declared.kinds.Kind.{Kind}
-use Rattle.node_table.specs.declared.kinds.Kind.TheVariants.{Iir}
+use Rattle.node_table.specs.declared.kinds.Kind.TheVariants.{Causal}
 use Rattle.conn_graph.specs.Ends.{same_end, reader_of, input_end, ends, muted}
 use Rattle.conn_graph.specs.Orders.{IsLegalAfter}
 use Rattle.conn_graph.proofs.EndLaws.{same_end-refl, same_end_is}
@@ -26,15 +27,15 @@ use Rattle.quantum_render.specs.declared.memory.Memory.{Memory}
 use Rattle.quantum_render.specs.Renders.{Renders, RendersWith}
 
 -- a filter has heard whatever agrees with what it has heard
-pub heard_like : (found : Option FilterView) (forward back : List ℤ) (birth now : ℕ) (at at' : ℕ → ℕ → ℤ) → ((g c : ℕ) → birth ≤ g → g < now → at g c ≡ at' g c)
-    → IsHeard found forward back birth now at → IsHeard found forward back birth now at'
-heard_like found forward back birth now at at' same is = record {
+pub heard_like : (found : Option FilterView) (equation : Equation) (birth now : ℕ) (at at' : ℕ → ℕ → ℤ) → ((g c : ℕ) → birth ≤ g → g < now → at g c ≡ at' g c)
+    → IsHeard found equation birth now at → IsHeard found equation birth now at'
+heard_like found equation birth now at at' same is = record {
   filter = is.filter;
   there = is.there;
   outputs = is.outputs;
   birth = is.birth;
   time = is.time;
-  heard = λ c. subst (FilterStands is.filter.state c) (same_since (λ g. at g c) (λ g. at' g c) is.filter.birth (is.filter.time - is.filter.birth) (λ g low high. same g c (subst (λ b. b ≤ g) is.birth low) (within g low high))) (is.heard c);
+  heard = λ c. subst (stands is.filter.state c) (same_since (λ g. at g c) (λ g. at' g c) is.filter.birth (is.filter.time - is.filter.birth) (λ g low high. same g c (subst (λ b. b ≤ g) is.birth low) (within g low high))) (is.heard c);
 }
   where
     within : (g : ℕ) → is.filter.birth ≤ g → g < is.filter.birth + (is.filter.time - is.filter.birth) → g < now
@@ -89,8 +90,8 @@ heard_until done first n = if is_done done n then first + 128 else first
 
 -- each filter of a world has heard its input, as far as the ends are done
 abbrev pub AreHeardBy : BankView → World → List World → ℕ → List End → Type 0
-AreHeardBy bank w tape first done = (n : ℕ) (forward back : List ℤ) → n < length w.nodes → kind_of w n ≡ Iir forward back
-    → IsHeard (filter_at bank n) forward back (node_at w n).attrs.birth (heard_until done first n) (λ g c. taken_in (frame 128 (tape ++ w ∷ []) g) n c)
+AreHeardBy bank w tape first done = (n : ℕ) (equation : Equation) → n < length w.nodes → kind_of w n ≡ Causal equation
+    → IsHeard (filter_at bank n) equation (node_at w n).attrs.birth (heard_until done first n) (λ g c. taken_in (frame 128 (tape ++ w ∷ []) g) n c)
 
 -- what a kind that remembers nothing renders, it renders whatever is remembered
 pub with_memory : (s : SiteView) (memory : Memory) (old new : List BlockView) (kind : Kind) → Renders s old new kind → RendersWith s memory old new kind
@@ -138,9 +139,9 @@ other_done x done n apart = other_among done x (reader_of n) (λ e. apart (ap (�
 
 -- the filter of a muted node hears silence, and the others have heard the quantum
 pub rested_heard : (w : World) → IsJoined (sounding w) → (tape : List World) (first : ℕ) → first ≡ 128 * length tape → (done : List End) → IsLegalAfter w.graph.value done [] → (n : ℕ) → IsIn (reader_of n) (ends w.graph.value)
-    → (forward back : List ℤ) → is_delay_kind (kind_of w n) ≡ false → (birth : ℕ) (old new : Option FilterView) → IsHeard old forward back birth (heard_until done first n) (λ g c. taken_in (frame 128 (tape ++ w ∷ []) g) n c)
-    → IsRestedIfThere first old new → IsHeard new forward back birth (first + 128) (λ g c. taken_in (frame 128 (tape ++ w ∷ []) g) n c)
-rested_heard w joined tape first begins done legal n in_n forward back no_delay birth old new is rested = by_test (is_done done n) refl is
+    → (equation : Equation) → is_delay_kind (kind_of w n) ≡ false → (birth : ℕ) (old new : Option FilterView) → IsHeard old equation birth (heard_until done first n) (λ g c. taken_in (frame 128 (tape ++ w ∷ []) g) n c)
+    → IsRestedIfThere first old new → IsHeard new equation birth (first + 128) (λ g c. taken_in (frame 128 (tape ++ w ∷ []) g) n c)
+rested_heard w joined tape first begins done legal n in_n equation no_delay birth old new is rested = by_test (is_done done n) refl is
   where
     -- an end that is not done is muted
     quiet : is_done done n ≡ false → muted w.graph.value (input_end w.graph.value n) ≡ true
@@ -156,12 +157,12 @@ rested_heard w joined tape first begins done legal n in_n forward back no_delay 
     there f (Some x) None at rested = absurd rested
     there f (Some x) (Some g) at rested = (g, refl, subst (λ y. IsRested first y g) (let e : x ≡ f = cc in e) rested)
 
-    by_test : (b : Bool) → is_done done n ≡ b → IsHeard old forward back birth (if b then first + 128 else first) (λ g c. taken_in (frame 128 (tape ++ w ∷ []) g) n c)
-        → IsHeard new forward back birth (first + 128) (λ g c. taken_in (frame 128 (tape ++ w ∷ []) g) n c)
+    by_test : (b : Bool) → is_done done n ≡ b → IsHeard old equation birth (if b then first + 128 else first) (λ g c. taken_in (frame 128 (tape ++ w ∷ []) g) n c)
+        → IsHeard new equation birth (first + 128) (λ g c. taken_in (frame 128 (tape ++ w ∷ []) g) n c)
     by_test true t is =
         let after = there is.filter old new is.there rested in
         let kept : after.0 ≡ is.filter = after.2.kept (λ e. let time = is.time in absurd (omega arith)) in
-        subst (λ o. IsHeard o forward back birth (first + 128) (λ g c. taken_in (frame 128 (tape ++ w ∷ []) g) n c)) (is.there ∙ sym (after.1 ∙ ap (λ x. Some x) kept)) is
+        subst (λ o. IsHeard o equation birth (first + 128) (λ g c. taken_in (frame 128 (tape ++ w ∷ []) g) n c)) (is.there ∙ sym (after.1 ∙ ap (λ x. Some x) kept)) is
     by_test false t is =
         let after = there is.filter old new is.there rested in
         let made = after.2.heard is.time (λ g c. taken_in (frame 128 (tape ++ w ∷ []) g) n c) is.heard (λ c k now. ap (λ f. taken_in (frame 128 (tape ++ w ∷ []) (f + k)) n c) begins ∙ taken_muted 128 (omega arith) w joined tape n (quiet t) k now c) in

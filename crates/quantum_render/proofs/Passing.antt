@@ -1,5 +1,5 @@
 -- Rendering a quantum along a legal order.
-use Rattle.std.proofs.Common.{ℕ, suc, ℤ, pos, ◌≡◌, ◌+◌, ◌*◌, ◌<◌, ◌≤◌, length, List, [], ◌∷◌, ◌++◌, drop, slice_index_or, Bool, true, false, Option, None, inl, inr, refl, sym, ◌∙◌, ap, arith, subst}
+use Rattle.std.proofs.Common.{ℕ, suc, pos, ◌≡◌, ◌+◌, ◌*◌, ◌<◌, ◌≤◌, length, List, [], ◌∷◌, ◌++◌, drop, slice_index_or, Bool, true, false, Option, None, inl, inr, refl, sym, ◌∙◌, ap, arith, subst}
 use mathlib.Core.Path.{fun_ext}
 use Rattle.std.specs.Prelude.{if◌then◌else◌, nat_lt}
 use Rattle.std.proofs.Math.ListN.{drop_of_length-le}
@@ -7,8 +7,9 @@ use Rattle.std.proofs.lemmas.Bool.Decides.{nat_tests}
 use Rattle.std.proofs.lemmas.List.{length-map}
 use Rattle.wa_base.specs.declared.graph_names.End.{End}
 use Rattle.law_base.specs.Members.{IsIn}
+use Rattle.causal_core.specs.declared.equation.Equation.{Equation}
 use Rattle.node_table.specs.Kinds.{outputs, is_delay_kind}
-use Rattle.node_table.specs.declared.kinds.Kind.TheVariants.{Iir}
+use Rattle.node_table.specs.declared.kinds.Kind.TheVariants.{Causal}
 use Rattle.conn_graph.specs.declared.edges.Edge.{Edge}
 use Rattle.conn_graph.specs.Ends.{ends, muted}
 use Rattle.conn_graph.specs.Orders.{IsLegalAfter}
@@ -36,7 +37,7 @@ use Rattle.quantum_render.specs.Renders.{RendersWith, Listens, Stores, IsReadyFo
 use Rattle.quantum_render.specs.Listening.{writer_in, IsTimely, IsMemory, HasRooms}
 use Rattle.quantum_render.proofs.Fed.{AreKeptBy, is_fed, kept_more, all_kept}
 use Rattle.quantum_render.proofs.Listening.{heard_like, AreHeardBy, heard_until, takes_in, not_done, now_done, other_done, rested_heard}
-use Rattle.filter_bank.proofs.Growing.{this_or_other}
+use Rattle.law_base.proofs.Places.{this_or_other}
 use Rattle.quantum_blocks.proofs.Slots.{slot_low}
 use Rattle.quantum_blocks.proofs.Sources.{IsIn-get_or, end_low, same_nodes}
 use Rattle.quantum_blocks.proofs.Connections.{lanes_kept}
@@ -125,17 +126,17 @@ module _ (w : World) (valid : IsValid w) (order : List End) (i : ℕ) (counts : 
       abbrev longer : List World
       longer = tape ++ w ∷ []
 
-      no_delay : (forward back : List ℤ) → kind_of w x.node.0 ≡ Iir forward back → is_delay_kind (kind_of w x.node.0) ≡ false
-      no_delay forward back is = ap is_delay_kind is
+      no_delay : (equation : Equation) → kind_of w x.node.0 ≡ Causal equation → is_delay_kind (kind_of w x.node.0) ≡ false
+      no_delay equation is = ap is_delay_kind is
 
       -- the end that is rendered next is ready
       ready_now : IsReadyFor (site_of edges levels) memory blocks (frame 128 longer)
       ready_now = record {
         unmuted = next.1;
-        heard = λ forward back is.
-            subst (λ b. IsHeard (filter_at memory.filters x.node.0) forward back (node_at w x.node.0).attrs.birth (if b then first + 128 else first) (λ g k. taken_in (frame 128 longer g) x.node.0 k))
-            (not_done w (joined w valid) tape blocks counts counted c.done (c.right tape begins counted timely ready) x next.0 next.3 (plain_end (sounding w) (joined w valid) x next.0 (no_delay forward back is)) (no_delay forward back is) next.2)
-            (c.heard tape begins counted timely ready x.node.0 forward back there is);
+        heard = λ equation is.
+            subst (λ b. IsHeard (filter_at memory.filters x.node.0) equation (node_at w x.node.0).attrs.birth (if b then first + 128 else first) (λ g k. taken_in (frame 128 longer g) x.node.0 k))
+            (not_done w (joined w valid) tape blocks counts counted c.done (c.right tape begins counted timely ready) x next.0 next.3 (plain_end (sounding w) (joined w valid) x next.0 (no_delay equation is)) (no_delay equation is) next.2)
+            (c.heard tape begins counted timely ready x.node.0 equation there is);
         fed = λ longest time capacity is. is_fed w valid tape first begins counts counted timely blocks c.done (c.right tape begins counted timely ready) memory.delays (c.kept tape begins counted timely ready)
             x next.0 next.1 next.2 next.3 edges levels longest time capacity is;
       }
@@ -149,25 +150,25 @@ module _ (w : World) (valid : IsValid w) (order : List End) (i : ℕ) (counts : 
           (renders (length tape) (counts_before 128 (tape ++ w ∷ []) (length tape)) begins (has_count w (joined w valid) counts tape counted x next.0 next.1) (frame 128 longer) ready_now))
 
       -- its node's filter has heard the quantum
-      own_heard : (forward back : List ℤ) → kind_of w x.node.0 ≡ Iir forward back
-          → IsHeard (filter_at memory'.filters x.node.0) forward back (node_at w x.node.0).attrs.birth (first + 128) (λ g k. taken_in (frame 128 longer g) x.node.0 k)
-      own_heard forward back is =
-          heard_like _ forward back _ (first + 128) (λ g k. taken_in (past_of (site_of edges levels) blocks (frame 128 longer) g) x.node.0 k) _
+      own_heard : (equation : Equation) → kind_of w x.node.0 ≡ Causal equation
+          → IsHeard (filter_at memory'.filters x.node.0) equation (node_at w x.node.0).attrs.birth (first + 128) (λ g k. taken_in (frame 128 longer g) x.node.0 k)
+      own_heard equation is =
+          heard_like _ equation _ (first + 128) (λ g k. taken_in (past_of (site_of edges levels) blocks (frame 128 longer) g) x.node.0 k) _
           (λ g k low high. subst (λ f. g < f + 128 → taken_in (with_drafts (frame 128 longer) f (sounding w) (counts_in counts) (drafts_of blocks counts) g) x.node.0 k ≡ taken_in (frame 128 longer g) x.node.0 k) (sym begins)
-          (λ high. takes_in w (joined w valid) tape blocks counts counted c.done (c.right tape begins counted timely ready) x next.0 next.3 (plain_end (sounding w) (joined w valid) x next.0 (no_delay forward back is)) g k high) high)
-          (listens.own forward back is (length tape) (counts_before 128 (tape ++ w ∷ []) (length tape)) begins (subst (λ kind. HasCount (site_of edges levels) (length tape) (counts_before 128 (tape ++ w ∷ []) (length tape)) kind) is (has_count w (joined w valid) counts tape counted x next.0 next.1)) (frame 128 longer) ready_now)
+          (λ high. takes_in w (joined w valid) tape blocks counts counted c.done (c.right tape begins counted timely ready) x next.0 next.3 (plain_end (sounding w) (joined w valid) x next.0 (no_delay equation is)) g k high) high)
+          (listens.own equation is (length tape) (counts_before 128 (tape ++ w ∷ []) (length tape)) begins (subst (λ kind. HasCount (site_of edges levels) (length tape) (counts_before 128 (tape ++ w ∷ []) (length tape)) kind) is (has_count w (joined w valid) counts tape counted x next.0 next.1)) (frame 128 longer) ready_now)
 
       heard_now : AreHeardBy memory'.filters w tape first (x ∷ c.done)
-      heard_now n forward back low is = elim (this_or_other n x.node.0) [
+      heard_now n equation low is = elim (this_or_other n x.node.0) [
         | inl here ↦
-            let own : kind_of w x.node.0 ≡ Iir forward back = subst (λ k. kind_of w k ≡ Iir forward back) here is in
-            subst (λ k. IsHeard (filter_at memory'.filters k) forward back (node_at w k).attrs.birth (heard_until (x ∷ c.done) first k) (λ g r. taken_in (frame 128 longer g) k r)) (sym here)
-            (subst (λ b. IsHeard (filter_at memory'.filters x.node.0) forward back (node_at w x.node.0).attrs.birth (if b then first + 128 else first) (λ g r. taken_in (frame 128 longer g) x.node.0 r))
-            (sym (now_done w (joined w valid) tape blocks counts counted c.done (c.right tape begins counted timely ready) x next.0 next.3 (plain_end (sounding w) (joined w valid) x next.0 (no_delay forward back own)) (no_delay forward back own) next.2))
-            (own_heard forward back own))
+            let own : kind_of w x.node.0 ≡ Causal equation = subst (λ k. kind_of w k ≡ Causal equation) here is in
+            subst (λ k. IsHeard (filter_at memory'.filters k) equation (node_at w k).attrs.birth (heard_until (x ∷ c.done) first k) (λ g r. taken_in (frame 128 longer g) k r)) (sym here)
+            (subst (λ b. IsHeard (filter_at memory'.filters x.node.0) equation (node_at w x.node.0).attrs.birth (if b then first + 128 else first) (λ g r. taken_in (frame 128 longer g) x.node.0 r))
+            (sym (now_done w (joined w valid) tape blocks counts counted c.done (c.right tape begins counted timely ready) x next.0 next.3 (plain_end (sounding w) (joined w valid) x next.0 (no_delay equation own)) (no_delay equation own) next.2))
+            (own_heard equation own))
         | inr apart ↦
-            subst (λ b. IsHeard (filter_at memory'.filters n) forward back (node_at w n).attrs.birth (if b then first + 128 else first) (λ g r. taken_in (frame 128 longer g) n r)) (sym (other_done x c.done n apart))
-            (subst (λ o. IsHeard o forward back (node_at w n).attrs.birth (heard_until c.done first n) (λ g r. taken_in (frame 128 longer g) n r)) (sym (listens.others n apart)) (c.heard tape begins counted timely ready n forward back low is))
+            subst (λ b. IsHeard (filter_at memory'.filters n) equation (node_at w n).attrs.birth (if b then first + 128 else first) (λ g r. taken_in (frame 128 longer g) n r)) (sym (other_done x c.done n apart))
+            (subst (λ o. IsHeard o equation (node_at w n).attrs.birth (heard_until c.done first n) (λ g r. taken_in (frame 128 longer g) n r)) (sym (listens.others n apart)) (c.heard tape begins counted timely ready n equation low is))
       ]
 
     pub passing_goes_on : Passing w order (i + 1) counts first old memory' blocks'
@@ -196,9 +197,9 @@ module _ (w : World) (valid : IsValid w) (order : List End) (i : ℕ) (counts : 
   -- once those that are muted have rested, all filters have heard the quantum, and all delays keep it
   pub all_remembered : (memory' : Memory) → ((n : ℕ) → IsRestedIfThere first (filter_at memory.filters n) (filter_at memory'.filters n)) → memory'.delays.delays ≡ memory.delays.delays → IsMemory memory' w tape (first + 128)
   all_remembered memory' rested same = record {
-    heard = λ n forward back low is.
-        rested_heard w (joined w valid) tape first begins c.done legal_end n (has_end w.graph.value n (subst (λ k. n < k) (sym (same_nodes w valid)) low)) forward back (ap is_delay_kind is) (node_at w n).attrs.birth (filter_at memory.filters n) (filter_at memory'.filters n)
-        (c.heard tape begins counted timely ready n forward back low is) (rested n);
+    heard = λ n equation low is.
+        rested_heard w (joined w valid) tape first begins c.done legal_end n (has_end w.graph.value n (subst (λ k. n < k) (sym (same_nodes w valid)) low)) equation (ap is_delay_kind is) (node_at w n).attrs.birth (filter_at memory.filters n) (filter_at memory'.filters n)
+        (c.heard tape begins counted timely ready n equation low is) (rested n);
     kept = λ n longest time capacity low is.
         subst (λ (ds : List (Option DelayView)). IsKept (slice_index_or ds n None) capacity (node_at w n).attrs.birth (first + 128) (writer_in (frame 128 (tape ++ w ∷ [])) n)) (sym same)
         (all_kept w valid tape first begins counts counted timely c.done legal_end memory.delays (c.kept tape begins counted timely ready) n longest time capacity low is);

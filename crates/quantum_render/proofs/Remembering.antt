@@ -5,8 +5,8 @@ use Rattle.std.proofs.lemmas.Bool.{cases_lt}
 use Rattle.std.proofs.lemmas.Bool.Decides.{nat_tests}
 use Rattle.law_base.proofs.Tests.{and_both}
 use Rattle.node_table.specs.Kinds.{remembers, lasting}
-use Rattle.node_table.specs.declared.kinds.Kind.TheVariants.{Iir}
-use Rattle.node_table.proofs.Lasting.{lasting_filter}
+use Rattle.node_table.specs.declared.kinds.Kind.TheVariants.{Causal}
+use Rattle.node_table.proofs.Lasting.{lasting_equation}
 use Rattle.meaning.specs.declared.world.World.{World}
 use Rattle.meaning.specs.World.{sounding, node_at, kind_of}
 use Rattle.meaning.specs.Counts.{world_in}
@@ -63,20 +63,20 @@ module _ (w : World) (tape : List World) (regular : IsRegular 128 (tape ++ w ∷
 
   -- what the filters remember of the tape is what they have heard
   pub remembered : (bank : BankView) (time : ℕ) → time ≡ 128 * length tape → bank.known ≡ length (last_world tape).nodes → AreHeard bank (last_world tape) time (past 128 tape).heard → AreNew bank w → HasHeard bank w tape time
-  remembered bank time begins known old fresh n forward back low is = elim (cases_lt n (length (last_world tape).nodes)) [
+  remembered bank time begins known old fresh n equation low is = elim (cases_lt n (length (last_world tape).nodes)) [
     | inl there ↦
         let stays = stays_last n there in
-        let kind : kind_of (last_world tape) n ≡ Iir forward back = lasting_filter _ forward back (sym stays.kind ∙ ap lasting is) in
-        subst (λ b. IsHeard (filter_at bank n) forward back b time (λ g c. taken_in (frame 128 longer g) n c)) (sym stays.birth)
-        (heard_like _ forward back _ time ((past 128 tape).heard n) _ (λ g c from to.
+        let kind : kind_of (last_world tape) n ≡ Causal equation = lasting_equation _ equation (sym stays.kind ∙ ap lasting is) in
+        subst (λ b. IsHeard (filter_at bank n) equation b time (λ g c. taken_in (frame 128 longer g) n c)) (sym stays.birth)
+        (heard_like _ equation _ time ((past 128 tape).heard n) _ (λ g c from to.
         past_heard 128 (omega arith) w tape regular n g c (ap remembers is) (subst (λ b. b ≤ g) (sym stays.birth) from) (subst (λ t. g < t) begins to)
         ∙ ap (λ x. taken_in x n c) (sym (frame_before 128 (omega arith) tape w g (subst (λ t. g < t) begins to))))
-        (old n forward back there kind))
+        (old n equation there kind))
     | inr new ↦
         let birth : (node_at w n).attrs.birth ≡ time = born_now n low new ∙ sym begins in
-        subst (λ t. IsHeard (filter_at bank n) forward back (node_at w n).attrs.birth t (λ g c. taken_in (frame 128 longer g) n c)) birth
-        (heard_like _ forward back _ (node_at w n).attrs.birth (λ g c. pos 0) _ (λ g c from to. absurd (omega arith))
-        (fresh n forward back (subst (λ k. k ≤ n) (sym known) new) low is))
+        subst (λ t. IsHeard (filter_at bank n) equation (node_at w n).attrs.birth t (λ g c. taken_in (frame 128 longer g) n c)) birth
+        (heard_like _ equation _ (node_at w n).attrs.birth (λ g c. pos 0) _ (λ g c from to. absurd (omega arith))
+        (fresh n equation (subst (λ k. k ≤ n) (sym known) new) low is))
   ]
 
   pub last_now : last_world longer ≡ sounding w
@@ -84,8 +84,8 @@ module _ (w : World) (tape : List World) (regular : IsRegular 128 (tape ++ w ∷
 
   -- and what they have heard they remember
   pub remembers_on : (bank : BankView) (time : ℕ) → time ≡ 128 * length longer → HasHeard bank w tape time → AreHeard bank (last_world longer) time (past 128 longer).heard
-  remembers_on bank time ends heard_all = subst (λ x. AreHeard bank x time (past 128 longer).heard) (sym last_now) (λ n forward back low is.
-      heard_like _ forward back _ time (λ g c. taken_in (frame 128 longer g) n c) _ (λ g c from to. sym (lived n g c (ap remembers is) from (subst (λ t. g < t) ends to))) (heard_all n forward back low is))
+  remembers_on bank time ends heard_all = subst (λ x. AreHeard bank x time (past 128 longer).heard) (sym last_now) (λ n equation low is.
+      heard_like _ equation _ time (λ g c. taken_in (frame 128 longer g) n c) _ (λ g c from to. sym (lived n g c (ap remembers is) from (subst (λ t. g < t) ends to))) (heard_all n equation low is))
     where
       at_least : (a b : ℕ) → a ≤ b → nat_le a b ≡ true
       at_least a b l = grind (arith, nat_tests)

@@ -1,16 +1,15 @@
 -- What is written where one end's block is written.
-use Rattle.std.proofs.Common.{ℕ, ℤ, ◌≡◌, ◌+◌, ◌*◌, ◌<◌, ◌≤◌, length, List, slice_index_or, slice_set, true, false, Some, refl, sym, ◌∙◌, ap, arith, subst}
+use Rattle.std.proofs.Common.{ℕ, ℤ, ◌≡◌, ◌+◌, ◌*◌, ◌<◌, ◌≤◌, length, List, slice_index_or, slice_set, true, false, refl, sym, ◌∙◌, ap, arith, subst}
 use Rattle.std.proofs.lemmas.List.{get_or_default}
 use Rattle.wa_base.specs.declared.graph_names.End.{End}
 use Rattle.node_table.specs.declared.rows.Channels.TheVariants.{Always}
 use Rattle.node_table.specs.Kinds.{row, outputs, is_delay_kind}
-use Rattle.node_table.specs.Nodes.{kind_at}
 use Rattle.node_table.specs.declared.kinds.Kind.{Kind}
-use Rattle.meaning.proofs.NodeKinds.{kind_is}
 use Rattle.conn_graph.proofs.EndLaws.{end_is}
 use Rattle.meaning.proofs.Joined.{joined}
 use Rattle.delay_bank.specs.Banks.{BankView as DelayBank}
-use Rattle.quantum_render.specs.Renders.{Stores}
+use Rattle.quantum_render.specs.Renders.{Renders, RendersWith, Stores}
+use Rattle.quantum_render.specs.declared.memory.Memory.{Memory}
 use Rattle.conn_graph.specs.declared.edges.Edge.{Edge}
 use Rattle.meaning.specs.declared.world.World.{World}
 use Rattle.meaning.specs.World.{kind_of}
@@ -32,9 +31,12 @@ pub site_is : (s : SiteView) (w : World) (e : End) (edges : List Edge) (counts :
     → (let x : SiteView = record { world = w; end = e; into = edges; counts = counts; levels = levels; first = first } in x) ≡ s → IsSite s.world s.end s.into s.counts s.levels s.first
 site_is s w e edges counts levels first site same = subst (λ (x : SiteView). IsSite x.world x.end x.into x.counts x.levels x.first) same site
 
--- the kind of a site's node is the one that the table gives
-pub site_kind : (s : SiteView) → IsSite s.world s.end s.into s.counts s.levels s.first → (kind : Kind) → kind_at s.world.nodes s.end.node.0 ≡ Some kind → kind_of s.world s.end.node.0 ≡ kind
-site_kind s site kind is = kind_is s.world s.end.node.0 kind (end_low s.world site.valid s.end site.there) is
+-- what an end renders by its node's kind
+pub by_kind : (s : SiteView) (old new : List BlockView) (kind : Kind) → kind_of s.world s.end.node.0 ≡ kind → Renders s old new kind → Renders s old new (kind_of s.world s.end.node.0)
+by_kind s old new kind is renders = subst (Renders s old new) (sym is) renders
+
+pub by_kind_with : (s : SiteView) (memory : Memory) (old new : List BlockView) (kind : Kind) → kind_of s.world s.end.node.0 ≡ kind → RendersWith s memory old new kind → RendersWith s memory old new (kind_of s.world s.end.node.0)
+by_kind_with s memory old new kind is renders = subst (RendersWith s memory old new) (sym is) renders
 
 module _ (s : SiteView) (site : IsSite s.world s.end s.into s.counts s.levels s.first) (old : List BlockView) (fit : AreFit s.world s.counts old) (k : ℕ) (here : k ≡ slot s.end) where
   pub slot_within : slot s.end < length old

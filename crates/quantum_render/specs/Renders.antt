@@ -1,8 +1,9 @@
 -- What an end carries in a quantum: the meaning of a frame, over the blocks of the ends before it in an order.
 use Rattle.std.specs.Prelude.{ℕ, ℤ, ◌+◌, ◌-◌, ◌*◌, ◌/◌, ◌≡◌, ◌<◌, ◌≤◌, ◌⊎◌, length, List, true, false}
+use Rattle.causal_core.specs.declared.equation.Equation.{Equation}
 use Rattle.node_table.specs.Kinds.{outputs}
 use Rattle.node_table.specs.declared.kinds.Kind.{Kind}
-use Rattle.node_table.specs.declared.kinds.Kind.TheVariants.{Delay, Iir}
+use Rattle.node_table.specs.declared.kinds.Kind.TheVariants.{Delay, Causal}
 use Rattle.node_table.specs.Delays.{delay_capacity}
 use Rattle.delay_line.specs.Delays.{Writer}
 use Rattle.conn_graph.specs.Ends.{writer_of, reader_of, in_cycle, muted}
@@ -53,7 +54,7 @@ pub record IsFed (s : SiteView) (bank : DelayBank) (old : List BlockView) (befor
 -- The end of a site is not muted, and the filter or the delay of its node, if it has one, has heard or kept the frames before the quantum.
 pub record IsReadyFor (s : SiteView) (memory : Memory) (old : List BlockView) (before : ℕ → Frame) : Type 0 where
   pub unmuted : muted s.world.graph.value s.end ≡ false
-  pub heard : (forward back : List ℤ) → kind_of s.world s.end.node.0 ≡ Iir forward back → IsHeard (filter_at memory.filters s.end.node.0) forward back (node_at s.world s.end.node.0).attrs.birth s.first (λ g c. taken_in (before g) s.end.node.0 c)
+  pub heard : (equation : Equation) → kind_of s.world s.end.node.0 ≡ Causal equation → IsHeard (filter_at memory.filters s.end.node.0) equation (node_at s.world s.end.node.0).attrs.birth s.first (λ g c. taken_in (before g) s.end.node.0 c)
   pub fed : (longest time : ℤ) (capacity : ℕ) → kind_of s.world s.end.node.0 ≡ Delay longest time capacity → IsFed s memory.delays old before longest capacity
 
 -- The same, where the memory is that of the frames before the quantum.
@@ -66,8 +67,8 @@ pub record Listens (s : SiteView) (old : List BlockView) (memory memory' : Memor
   pub known : memory'.filters.known ≡ memory.filters.known
   pub count : length memory'.filters.filters ≡ length memory.filters.filters
   pub others : (n : ℕ) → (n ≡ s.end.node.0 → ⊥) → filter_at memory'.filters n ≡ filter_at memory.filters n
-  pub own : (forward back : List ℤ) → kind_of s.world s.end.node.0 ≡ Iir forward back → (j : ℕ) (earlier : ℕ → Counts) → s.first ≡ 128 * j → HasCount s j earlier (Iir forward back) → (before : ℕ → Frame) → IsReadyFor s memory old before →
-      IsHeard (filter_at memory'.filters s.end.node.0) forward back (node_at s.world s.end.node.0).attrs.birth (s.first + 128) (λ g c. taken_in (past_of s old before g) s.end.node.0 c)
+  pub own : (equation : Equation) → kind_of s.world s.end.node.0 ≡ Causal equation → (j : ℕ) (earlier : ℕ → Counts) → s.first ≡ 128 * j → HasCount s j earlier (Causal equation) → (before : ℕ → Frame) → IsReadyFor s memory old before →
+      IsHeard (filter_at memory'.filters s.end.node.0) equation (node_at s.world s.end.node.0).attrs.birth (s.first + 128) (λ g c. taken_in (past_of s old before g) s.end.node.0 c)
 
 -- a writer writes in the quantum what its block has
 pub record IsWritten (s : SiteView) (new : List BlockView) (writer : Writer) : Type 0 where

@@ -115,7 +115,7 @@ impl Bench {
             at self.new.levels 0 m ≡ computed_value 128 (site.now.first + m) (past_of site.now blocks.now before) (here_of site.now blocks.now m) (param_id site.now.end.node.0 name) }
     {
         self.take_sums(blocks, site, name);
-        if let Some(param) = site.world.nodes.kind(site.end.node).row().param {
+        if let Some(param) = site.kind().row().param {
             match param.range {
                 Range::Any => {}
                 Range::UpTo(most) => self.levels.up_to(most),

@@ -1,7 +1,9 @@
 ghost use Rattle.std.specs.Prelude.{◌≡◌, ◌<◌, ◌≤◌, ◌-◌, ◌^◌, ℕ, ℤ, Bool, List, length, true, false, Some};
 ghost use Rattle.causal_core.specs.Curves.{IsCurve};
+ghost use Rattle.causal_core.specs.declared.equation.Equation.{Equation as an_equation};
 ghost use Rattle.sched_source.specs.Schedule.{is_between};
-ghost use Rattle.node_table.specs.declared.kinds.Kind.TheVariants.{Destination, Constant, Buffer, Gain, Delay, Splitter, Merger, Shaper, Iir};
+ghost use Rattle.node_table.specs.declared.kinds.Kind.TheVariants.{Destination, Constant, Buffer, Gain, Delay, Splitter, Merger, Shaper, Causal};
+ghost use Rattle.node_table.specs.Kinds.{IsInLimits};
 ghost use Rattle.meaning.specs.Validity.{IsValid};
 ghost use Rattle.meaning.specs.World.{kind_of, sounds_at};
 ghost use Rattle.quantum_blocks.specs.Blocks.{Writes};
@@ -32,16 +34,33 @@ impl Bench {
         ensures stores { Stores site.now blocks.new memory.old.delays memory.new.delays }
         ensures rooms { HasRooms memory.new site.now.world site.now.counts }
     {
-        match site.world.nodes.kind(site.end.node) {
+        match site.kind() {
+            Kind::Delay { .. } => self.render_delay(blocks, memory, site),
+            Kind::Causal { .. } => self.render_filter(blocks, memory, site),
+            kind => self.render_plain(blocks, site, kind),
+        }
+    }
+
+    // Renders an end of a node that remembers nothing.
+    fn render_plain(&mut self, blocks: &mut [Block], site: &Site, kind: &Kind)
+        requires fit { AreFit site.now.world site.now.counts blocks.old }
+        requires kind { kind.now ≡ kind_of site.now.world site.now.end.node.0 }
+        requires limits { IsInLimits kind.now }
+        requires no_delay { (longest time : ℤ) (capacity : ℕ) → kind.now ≡ Delay longest time capacity → ⊥ }
+        requires not_causal { (equation : an_equation) → kind.now ≡ Causal equation → ⊥ }
+        ensures writes { Writes blocks.old blocks.new site.now.end }
+        ensures renders { Renders site.now blocks.old blocks.new (kind_of site.now.world site.now.end.node.0) }
+    {
+        match kind {
             Kind::Destination => self.render_destination(blocks, site),
             Kind::Constant { .. } => self.render_constant(blocks, site),
             Kind::Buffer { .. } => render_buffer(blocks, site),
             Kind::Gain { .. } => self.render_gain(blocks, site),
-            Kind::Delay { .. } => self.render_delay(blocks, memory, site),
             Kind::Splitter { .. } => self.render_splitter(blocks, site),
             Kind::Merger { .. } => self.render_merger(blocks, site),
             Kind::Shaper { curve, .. } => self.render_shaper(blocks, site, curve),
-            Kind::Iir { .. } => self.render_filter(blocks, memory, site),
+            // They are rendered with what they remember.
+            Kind::Delay { .. } | Kind::Causal { .. } => {}
         }
     }
 
@@ -49,7 +68,7 @@ impl Bench {
         requires fit { AreFit site.now.world site.now.counts blocks.old }
         requires kind { kind_of site.now.world site.now.end.node.0 ≡ Destination }
         ensures writes { Writes blocks.old blocks.new site.now.end }
-        ensures renders { Renders site.now blocks.old blocks.new Destination }
+        ensures renders { Renders site.now blocks.old blocks.new (kind_of site.now.world site.now.end.node.0) }
     {
         self.take_input(blocks, site, 0, site.channels());
         blocks[slot(site.end)].copy(&self.heard);
@@ -59,7 +78,7 @@ impl Bench {
         requires fit { AreFit site.now.world site.now.counts blocks.old }
         requires kind { (offset : ℤ) × (kind_of site.now.world site.now.end.node.0 ≡ Constant offset) }
         ensures writes { Writes blocks.old blocks.new site.now.end }
-        ensures renders { (offset : ℤ) → Renders site.now blocks.old blocks.new (Constant offset) }
+        ensures renders { Renders site.now blocks.old blocks.new (kind_of site.now.world site.now.end.node.0) }
     {
         self.take_levels(blocks, site, ParamName::Offset);
         let (start, end) = span(site);
@@ -71,7 +90,7 @@ impl Bench {
         requires fit { AreFit site.now.world site.now.counts blocks.old }
         requires kind { (gain : ℤ) × (kind_of site.now.world site.now.end.node.0 ≡ Gain gain) }
         ensures writes { Writes blocks.old blocks.new site.now.end }
-        ensures renders { (gain : ℤ) → Renders site.now blocks.old blocks.new (Gain gain) }
+        ensures renders { Renders site.now blocks.old blocks.new (kind_of site.now.world site.now.end.node.0) }
     {
         self.take_input(blocks, site, 0, site.channels());
         self.take_levels(blocks, site, ParamName::Gain);
@@ -83,7 +102,7 @@ impl Bench {
         requires fit { AreFit site.now.world site.now.counts blocks.old }
         requires kind { (ports : ℕ) × (kind_of site.now.world site.now.end.node.0 ≡ Splitter ports) }
         ensures writes { Writes blocks.old blocks.new site.now.end }
-        ensures renders { (ports : ℕ) → kind_of site.now.world site.now.end.node.0 ≡ Splitter ports → Renders site.now blocks.old blocks.new (Splitter ports) }
+        ensures renders { Renders site.now blocks.old blocks.new (kind_of site.now.world site.now.end.node.0) }
     {
         self.take_input(blocks, site, 0, site.outputs() as usize);
         blocks[slot(site.end)].copy(&self.heard);
@@ -94,7 +113,7 @@ impl Bench {
         requires fit { AreFit site.now.world site.now.counts blocks.old }
         requires kind { (ports : ℕ) × (kind_of site.now.world site.now.end.node.0 ≡ Merger ports) }
         ensures writes { Writes blocks.old blocks.new site.now.end }
-        ensures renders { (ports : ℕ) → kind_of site.now.world site.now.end.node.0 ≡ Merger ports → Renders site.now blocks.old blocks.new (Merger ports) }
+        ensures renders { Renders site.now blocks.old blocks.new (kind_of site.now.world site.now.end.node.0) }
     {
         self.take_inputs(blocks, site, site.channels());
         blocks[slot(site.end)].copy(&self.merged);
@@ -106,7 +125,7 @@ impl Bench {
         requires kind { (was_set : Bool) × (kind_of site.now.world site.now.end.node.0 ≡ Shaper curve.now was_set) }
         requires curve { IsCurve curve.now }
         ensures writes { Writes blocks.old blocks.new site.now.end }
-        ensures renders { (was_set : Bool) → Renders site.now blocks.old blocks.new (Shaper curve.now was_set) }
+        ensures renders { Renders site.now blocks.old blocks.new (kind_of site.now.world site.now.end.node.0) }
     {
         self.take_input(blocks, site, 0, site.channels());
         blocks[slot(site.end)].shape(&self.heard, curve);
@@ -115,10 +134,10 @@ impl Bench {
     // Its input, filtered from its birth on.
     fn render_filter(&mut self, blocks: &mut [Block], memory: &mut Memory, site: &Site)
         requires fit { AreFit site.now.world site.now.counts blocks.old }
-        requires kind { (forward : List ℤ) × (back : List ℤ) × (kind_of site.now.world site.now.end.node.0 ≡ Iir forward back) }
+        requires kind { (equation : an_equation) × (kind_of site.now.world site.now.end.node.0 ≡ Causal equation) }
         requires rooms { HasRooms memory.old site.now.world site.now.counts }
         ensures writes { Writes blocks.old blocks.new site.now.end }
-        ensures renders { (forward back : List ℤ) → kind_of site.now.world site.now.end.node.0 ≡ Iir forward back → RendersWith site.now memory.old blocks.old blocks.new (Iir forward back) }
+        ensures renders { RendersWith site.now memory.old blocks.old blocks.new (kind_of site.now.world site.now.end.node.0) }
         ensures listens { Listens site.now blocks.old memory.old memory.new }
         ensures delays { memory.new.delays ≡ memory.old.delays }
         ensures room { HaveRoom memory.new.filters site.now.counts }
@@ -137,7 +156,7 @@ impl Bench {
         requires kind { (longest : ℤ) × (time : ℤ) × (capacity : ℕ) × (kind_of site.now.world site.now.end.node.0 ≡ Delay longest time capacity) }
         requires rooms { HasRooms memory.old site.now.world site.now.counts }
         ensures writes { Writes blocks.old blocks.new site.now.end }
-        ensures renders { (longest time : ℤ) (capacity : ℕ) → kind_of site.now.world site.now.end.node.0 ≡ Delay longest time capacity → RendersWith site.now memory.old blocks.old blocks.new (Delay longest time capacity) }
+        ensures renders { RendersWith site.now memory.old blocks.old blocks.new (kind_of site.now.world site.now.end.node.0) }
         ensures stores { Stores site.now blocks.new memory.old.delays memory.new.delays }
         ensures filters { memory.new.filters ≡ memory.old.filters }
         ensures room { HaveDelayRoom memory.new.delays site.now.counts }
@@ -157,7 +176,7 @@ impl Bench {
         requires count { length site.now.world.nodes ≤ length delays.old.delays }
         requires room { HaveDelayRoom delays.old site.now.counts }
         ensures writes { Writes blocks.old blocks.new site.now.end }
-        ensures renders { (longest time : ℤ) (capacity : ℕ) → Renders site.now blocks.old blocks.new (Delay longest time capacity) }
+        ensures renders { Renders site.now blocks.old blocks.new (kind_of site.now.world site.now.end.node.0) }
         ensures stores { Stores site.now blocks.new delays.old delays.new }
         ensures room { HaveDelayRoom delays.new site.now.counts }
     {
@@ -172,7 +191,7 @@ impl Bench {
         requires kind { (longest : ℤ) × (time : ℤ) × (capacity : ℕ) × (kind_of site.now.world site.now.end.node.0 ≡ Delay longest time capacity) }
         requires reader { site.now.end.writer ≡ false }
         ensures writes { Writes blocks.old blocks.new site.now.end }
-        ensures renders { (memory : a_memory) (longest time : ℤ) (capacity : ℕ) → memory.delays ≡ delays.now → kind_of site.now.world site.now.end.node.0 ≡ Delay longest time capacity → RendersWith site.now memory blocks.old blocks.new (Delay longest time capacity) }
+        ensures renders { (memory : a_memory) → memory.delays ≡ delays.now → RendersWith site.now memory blocks.old blocks.new (kind_of site.now.world site.now.end.node.0) }
     {
         self.take_levels(blocks, site, ParamName::DelayTime);
         self.take_spans(site.world.spec.rate, site.least_delay());
@@ -185,7 +204,7 @@ fn render_buffer(blocks: &mut [Block], site: &Site)
     requires fit { AreFit site.now.world site.now.counts blocks.old }
     requires kind { (rate : ℕ) × (kind_of site.now.world site.now.end.node.0 ≡ Buffer rate) }
     ensures writes { Writes blocks.old blocks.new site.now.end }
-    ensures renders { (rate : ℕ) → Renders site.now blocks.old blocks.new (Buffer rate) }
+    ensures renders { Renders site.now blocks.old blocks.new (kind_of site.now.world site.now.end.node.0) }
 {
     let block = &mut blocks[slot(site.end)];
     match sounding(site.world, site.end.node, site.near, site.first) {

@@ -1,6 +1,6 @@
 use Rattle.std.proofs.Common.{◌≡◌, ◌+◌, ◌∷◌, [], length, length-append, None, ◌∙◌, ap, arith}
 use Rattle.meaning.specs.World.{kind_of, node_at}
-use Rattle.filter_bank.proofs.Growing.{front_kept, more_item}
+use Rattle.law_base.proofs.Places.{front_kept, more_item}
 use Rattle.delay_bank.specs.Kept.{first_delay}
 use Rattle.delay_bank.proofs.delays.add_delays.Goals as goal
 

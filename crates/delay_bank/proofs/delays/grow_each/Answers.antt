@@ -1,7 +1,7 @@
 use Rattle.std.proofs.Common.{◌<◌, ◌≤◌, ◌*◌, length, slice_index_or, None, refl, ◌∙◌, arith, subst}
 use Rattle.std.specs.Prelude.{IfSome}
 use Rattle.std.proofs.lemmas.List.{get_or_default, length-set}
-use Rattle.filter_bank.proofs.Growing.{one_related, one_more, there_low}
+use Rattle.law_base.proofs.Places.{one_related, one_more, there_low}
 use Rattle.delay_bank.specs.Kept.{room_of, KeepSame}
 use Rattle.delay_bank.proofs.Same.{same_refl, same_after}
 use Rattle.delay_bank.proofs.delays.grow_each.Goals as goal

@@ -1,7 +1,7 @@
-use Rattle.std.proofs.Common.{ℕ, ◌≡◌, ◌<◌, ◌≤◌, ◌+◌, ◌++◌, ◌∷◌, [], length, length-append, slice_index_or, None, sym, ◌∙◌, ap, arith, subst}
+use Rattle.std.proofs.Common.{◌≡◌, ◌+◌, ◌∷◌, [], length, length-append, None, ◌∙◌, ap, arith}
 use Rattle.meaning.specs.World.{kind_of, node_at}
 use Rattle.filter_bank.specs.Heard.{first_filter}
-use Rattle.filter_bank.proofs.Growing.{front_kept, more_item}
+use Rattle.law_base.proofs.Places.{front_kept, more_item}
 use Rattle.filter_bank.proofs.filters.add_filters.Goals as goal
 
 pub loop-node-preserved : goal.loop-node-preserved

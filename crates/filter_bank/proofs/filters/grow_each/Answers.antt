@@ -3,7 +3,8 @@ use Rattle.std.specs.Prelude.{IfSome}
 use Rattle.std.proofs.lemmas.List.{get_or_default, length-set}
 use Rattle.filter_bank.specs.Heard.{room_of}
 use Rattle.filter_bank.specs.Banks.{IsSameIfThere}
-use Rattle.filter_bank.proofs.Growing.{one_related, one_more, same_after, there_low}
+use Rattle.law_base.proofs.Places.{one_related, one_more, there_low}
+use Rattle.filter_bank.proofs.Growing.{same_after}
 use Rattle.filter_bank.proofs.filters.grow_each.Goals as goal
 
 within : (c : goal.In_ok-grow_one) → c.loop-node.node < length c.loop-node.filters

@@ -1,9 +1,10 @@
-use Rattle.std.proofs.Common.{ℕ, ℤ, ◌≡◌, ◌+◌, ◌-◌, ◌*◌, ◌<◌, ◌≤◌, ◌^◌, Option, Some, List, refl, sym, ◌∙◌, ap, subst}
+use Rattle.std.proofs.Common.{ℤ, ◌≡◌, ◌+◌, ◌-◌, ◌*◌, ◌<◌, ◌≤◌, ◌^◌, Some, List, refl, sym, ◌∙◌, ap, subst}
 use Rattle.std.specs.Prelude.{unwrap_or}
-use Rattle.causal_core.specs.Filters.{filter_value}
+use Rattle.causal_core.specs.Equations.{equation_value}
+use Rattle.filter_bank.specs.States.{equation_of}
 use Rattle.causal_core.specs.Frames.{item}
 use Rattle.meaning.specs.Lists.{since}
-use Rattle.filter_bank.specs.Heard.{FilterView, HasHeard, Brings, IsHeard, room_of}
+use Rattle.filter_bank.specs.Heard.{FilterView, HasHeard, Brings, room_of}
 use Rattle.filter_bank.proofs.filters.hear_one.Goals as goal
 
 -- the filter that is there is the one that is asked for
@@ -19,7 +20,7 @@ returns-in-Some-clause-heard c f is early at heard brings =
     record {
       filter = c.hear.new.self;
       there = refl;
-      outputs = subst (λ (x : FilterView). (frames : List ℤ) → filter_value c.hear.new.self.state.forward c.hear.new.self.state.back frames ≡ filter_value x.state.forward x.state.back frames) here c.hear.ensures.outputs;
+      outputs = subst (λ (x : FilterView). (frames : List ℤ) → equation_value (equation_of c.hear.new.self.state) frames ≡ equation_value (equation_of x.state) frames) here c.hear.ensures.outputs;
       birth = c.hear.ensures.birth ∙ ap (λ (x : FilterView). x.birth) here;
       time = c.hear.ensures.time early' ∙ ap (λ (x : FilterView). x.time + 128) here;
       heard = c.hear.ensures.heard early' at heard' brings';
@@ -28,7 +29,7 @@ returns-in-Some-clause-heard c f is early at heard brings =
 pub returns-in-Some-clause-values : goal.returns-in-Some-clause-values
 returns-in-Some-clause-values c f is at heard brings channel k low now =
     let here = same c f is in
-    subst (λ (x : FilterView). item c.hear.new.y (channel * 128 + k) ≡ filter_value x.state.forward x.state.back (since (λ g. at g channel) x.birth (x.time + k + 1 - x.birth))) here
+    subst (λ (x : FilterView). item c.hear.new.y (channel * 128 + k) ≡ equation_value (equation_of x.state) (since (λ g. at g channel) x.birth (x.time + k + 1 - x.birth))) here
     (c.hear.ensures.values at (subst (HasHeard at) (sym here) heard) (subst (λ (x : FilterView). Brings x.time c.args.x.now at) (sym here) brings) channel k (subst (λ (x : FilterView). channel < room_of x) (sym here) low) now)
 
 pub returns-in-Some-clause-rooms : goal.returns-in-Some-clause-rooms

@@ -7,7 +7,7 @@ use Rattle.quantum_blocks.specs.Blocks.{slot, counts_in}
 use Rattle.quantum_blocks.specs.Heard.{SourceView, heard_source}
 use Rattle.quantum_blocks.specs.Sites.{SiteView}
 use Rattle.quantum_blocks.proofs.Heard.{heard, unheard, heard_channels}
-use Rattle.quantum_render.proofs.Rendering.{site_is, own_within, lanes_own, writes_own, renders_own}
+use Rattle.quantum_render.proofs.Rendering.{by_kind, site_is, own_within, lanes_own, writes_own, renders_own}
 use Rattle.quantum_render.proofs.kinds.render_buffer.Goals as goal
 
 pub bounds-blocks-slot : goal.bounds-blocks-slot
@@ -33,7 +33,8 @@ returns-in-None-clause-writes c =
 
 -- one that is heard has its buffer's channels, and plays them
 pub returns-in-Some-clause-renders : goal.returns-in-Some-clause-renders
-returns-in-Some-clause-renders c rate j earlier begins counted before =
+returns-in-Some-clause-renders c =
+    by_kind c.args.site.now _ _ _ c.requires.kind.1 (λ j earlier begins counted before.
     let s : SiteView = c.args.site.now in
     let site = site_is s _ _ _ _ _ _ c.site.invariant.0 c.site.view_is in
     let here = c.slot.ensures ∙ ap (λ (x : SiteView). slot x.end) c.site.view_is in
@@ -46,11 +47,12 @@ returns-in-Some-clause-renders c rate j earlier begins counted before =
     (λ channel m low now.
     c.play.ensures.values channel m (subst (λ n. channel < n) (sym (lanes_own s site c.args.blocks.now c.requires.fit c.slot.result here single c.index-blocks-slot.result)) low) (subst (λ n. channel < n) channels low) now
     ∙ ap (λ (x : SiteView). played source.sched (samples_in source.store (Some source.buffer) channel) (x.first + m)) c.site.view_is
-    ∙ sym (heard s.world s.end.node.0 s.first source found channel (s.first + m)))
+    ∙ sym (heard s.world s.end.node.0 s.first source found channel (s.first + m))))
 
 -- another one is silent
 pub returns-in-None-clause-renders : goal.returns-in-None-clause-renders
-returns-in-None-clause-renders c rate j earlier begins counted before =
+returns-in-None-clause-renders c =
+    by_kind c.args.site.now _ _ _ c.requires.kind.1 (λ j earlier begins counted before.
     let s : SiteView = c.args.site.now in
     let site = site_is s _ _ _ _ _ _ c.site.invariant.0 c.site.view_is in
     let here = c.slot.ensures ∙ ap (λ (x : SiteView). slot x.end) c.site.view_is in
@@ -59,4 +61,4 @@ returns-in-None-clause-renders c rate j earlier begins counted before =
     renders_own s site c.args.blocks.now c.requires.fit c.slot.result here single c.silence.new.self _
     (λ channel m low now.
     c.silence.ensures.values channel m (subst (λ n. channel < n) (sym (lanes_own s site c.args.blocks.now c.requires.fit c.slot.result here single c.index-blocks-slot.result)) low) now
-    ∙ sym (unheard s.world s.end.node.0 s.first none channel m now))
+    ∙ sym (unheard s.world s.end.node.0 s.first none channel m now)))

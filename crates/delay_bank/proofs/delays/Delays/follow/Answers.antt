@@ -1,7 +1,7 @@
 use Rattle.std.proofs.Common.{ℕ, ◌≡◌, ◌≤◌, length, ◌∙◌, ap, arith}
 use Rattle.std.proofs.lemmas.List.{length-take-le}
 use Rattle.meaning.specs.World.{node_at}
-use Rattle.filter_bank.proofs.Growing.{on_ok}
+use Rattle.law_base.proofs.Places.{on_ok}
 use Rattle.delay_bank.specs.Kept.{first_delay}
 use Rattle.delay_bank.proofs.Fresh.{fresh_kept}
 use Rattle.delay_bank.proofs.delays.Delays.follow.Goals as goal

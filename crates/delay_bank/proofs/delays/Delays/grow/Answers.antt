@@ -1,5 +1,5 @@
 use Rattle.std.proofs.Common.{◌≡◌, slice_index_or, Some, None, ◌∙◌, subst}
-use Rattle.filter_bank.proofs.Growing.{on_ok, rewritten}
+use Rattle.law_base.proofs.Places.{on_ok, rewritten}
 use Rattle.delay_bank.proofs.delays.Delays.grow.Goals as goal
 
 pub returns-clause-ok : goal.returns-clause-ok

@@ -1,14 +1,14 @@
-use Rattle.std.proofs.Common.{ℕ, ℤ, ◌^◌, ◌<◌, ◌≤◌, ◌+◌, ◌-◌, ◌*◌, ◌≡◌, List, length, sym, ◌∙◌, ap, arith, subst}
-use Rattle.causal_core.specs.Filters.{filter_value}
+use Rattle.std.proofs.Common.{ℤ, ◌^◌, ◌<◌, ◌≤◌, ◌+◌, ◌-◌, ◌*◌, ◌≡◌, List, sym, ◌∙◌, ap, arith, subst}
+use Rattle.causal_core.specs.Equations.{equation_value}
 use Rattle.causal_core.specs.Frames.{item}
-use Rattle.shaper_iir.specs.Filter.{FilterStands}
+use Rattle.filter_bank.specs.States.{stands, equation_of}
 use Rattle.filter_bank.specs.Heard.{FilterView, HasHeard, Brings, HasOutputs, room_of}
 use Rattle.meaning.specs.Lists.{since}
 use Rattle.filter_bank.proofs.Since.{heard_from}
 use Rattle.filter_bank.proofs.filter.NodeFilter.hear.Goals as goal
 
 pub returns-clause-outputs : goal.returns-clause-outputs
-returns-clause-outputs c = subst (λ (f : FilterView). HasOutputs c.block.new.self f.state.forward f.state.back) c.self.view_is (λ frames. ap (λ (g : List ℤ → ℤ). g frames) c.block.ensures.value)
+returns-clause-outputs c = subst (λ (f : FilterView). HasOutputs c.block.new.self (equation_of f.state)) c.self.view_is (λ frames. ap (λ (g : List ℤ → ℤ). g frames) c.block.ensures.value)
 
 -- time goes on
 unsaturated : (c : goal.After-self-1) → c.self.inside.time ≤ 2 ^ 62 → c.self.inside.time + 128 ≡ c.saturating_add-self-inside.result
@@ -21,7 +21,7 @@ returns-clause-heard c early at heard brings channel =
     let brings' = subst (λ (f : FilterView). Brings f.time c.args.x.now at) (sym c.self.view_is) brings in
     let early' = subst (λ (f : FilterView). f.time ≤ 2 ^ 62) (sym c.self.view_is) early in
     let later : c.self.inside.time + 128 ≡ c.saturating_add-self-inside.result = unsaturated c early' in
-    subst (FilterStands c.block.new.self channel)
+    subst (stands c.block.new.self channel)
     (heard_from (λ g. at g channel) c.args.x.now (channel * 128) c.self.inside.birth c.self.inside.time 128 c.self.invariant.lived (λ i l. brings' channel i l)
     ∙ ap (λ n. since (λ g. at g channel) c.self.inside.birth (n - c.self.inside.birth)) later)
     (c.block.ensures.stands channel _ (heard' channel))
@@ -31,8 +31,8 @@ returns-clause-values c at heard brings channel k low now =
     let heard' = subst (HasHeard at) (sym c.self.view_is) heard in
     let brings' = subst (λ (f : FilterView). Brings f.time c.args.x.now at) (sym c.self.view_is) brings in
     let low' = subst (λ (f : FilterView). channel < room_of f) (sym c.self.view_is) low in
-    subst (λ (f : FilterView). item c.block.new.y (channel * 128 + k) ≡ filter_value f.state.forward f.state.back (since (λ g. at g channel) f.birth (f.time + k + 1 - f.birth))) c.self.view_is
+    subst (λ (f : FilterView). item c.block.new.y (channel * 128 + k) ≡ equation_value (equation_of f.state) (since (λ g. at g channel) f.birth (f.time + k + 1 - f.birth))) c.self.view_is
     (c.block.ensures.output channel k _ low' now (heard' channel)
-    ∙ ap (filter_value c.self.inside.state.forward c.self.inside.state.back)
+    ∙ ap (equation_value (equation_of c.self.inside.state))
     (heard_from (λ g. at g channel) c.args.x.now (channel * 128) c.self.inside.birth c.self.inside.time (k + 1) c.self.invariant.lived (λ i l. brings' channel i (omega arith))
     ∙ ap (since (λ g. at g channel) c.self.inside.birth) (let e : c.self.inside.time + (k + 1) - c.self.inside.birth ≡ c.self.inside.time + k + 1 - c.self.inside.birth = omega arith in e)))

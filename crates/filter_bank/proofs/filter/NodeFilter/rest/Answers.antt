@@ -1,8 +1,8 @@
-use Rattle.std.proofs.Common.{ℕ, ℤ, pos, ◌≡◌, ◌+◌, ◌*◌, ◌<◌, ◌≤◌, ◌^◌, length, List, take, drop, slice_index_or, refl, sym, ◌∙◌, ap, arith, subst, inl, inr}
+use Rattle.std.proofs.Common.{ℕ, ℤ, pos, ◌≡◌, ◌+◌, ◌*◌, ◌≤◌, ◌^◌, List, take, slice_index_or, refl, sym, ◌∙◌, ap, arith, subst, inl, inr}
 use Rattle.std.proofs.lemmas.Bool.{cases_lt}
 use Rattle.std.proofs.lemmas.List.{get_or-take, get_or_past, length-take}
 use Rattle.causal_core.specs.Frames.{item}
-use Rattle.filter_bank.specs.Heard.{FilterView, HasHeard, Brings, IsSilentFrom, IsRested}
+use Rattle.filter_bank.specs.Heard.{FilterView}
 use Rattle.filter_bank.proofs.filter.NodeFilter.rest.Goals as goal
 
 -- a part of zeros has nothing else

@@ -1,5 +1,5 @@
-use Rattle.std.proofs.Common.{◌≡◌, slice_index_or, Some, None, sym, ◌∙◌, ap, subst}
-use Rattle.filter_bank.proofs.Growing.{on_ok, rewritten}
+use Rattle.std.proofs.Common.{◌≡◌, slice_index_or, Some, None, ◌∙◌, subst}
+use Rattle.law_base.proofs.Places.{on_ok, rewritten}
 use Rattle.filter_bank.proofs.filters.Filters.grow.Goals as goal
 
 pub returns-clause-ok : goal.returns-clause-ok

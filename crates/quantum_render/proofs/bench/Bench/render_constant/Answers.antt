@@ -6,7 +6,7 @@ use Rattle.quantum_blocks.specs.Blocks.{BlockView, at, slot, room_of}
 use Rattle.quantum_render.specs.Benches.{BenchView}
 use Rattle.quantum_blocks.specs.Sites.{SiteView}
 use Rattle.node_table.specs.Kinds.{param_name}
-use Rattle.quantum_render.proofs.Rendering.{site_is, own_within, own_room, mono_own, writes_own, renders_own}
+use Rattle.quantum_render.proofs.Rendering.{by_kind, site_is, own_within, own_room, mono_own, writes_own, renders_own}
 use Rattle.quantum_render.proofs.bench.Bench.render_constant.Goals as goal
 
 pub bounds-blocks-slot : goal.bounds-blocks-slot
@@ -29,7 +29,8 @@ returns-clause-writes c =
     (c.copy.ensures.lanes ∙ c.sound.ensures.lanes ∙ sym (mono_own c.args.site.now site c.args.blocks.now c.requires.fit c.slot.result here (ap (λ k. (row k).channels) c.requires.kind.1)))
 
 pub returns-clause-renders : goal.returns-clause-renders
-returns-clause-renders c offset j earlier begins counted before =
+returns-clause-renders c =
+    by_kind c.args.site.now _ _ _ c.requires.kind.1 (λ j earlier begins counted before.
     let s : SiteView = c.args.site.now in
     let site = site_is s _ _ _ _ _ _ c.site.invariant.0 c.site.view_is in
     let levels : c.self.inside.levels ≡ c.take_levels.new.self.levels = ap (λ (b : BenchView). b.levels) c.self.view_is in
@@ -43,7 +44,7 @@ returns-clause-renders c offset j earlier begins counted before =
     ∙ ap (λ b. if b then at c.self.inside.levels 0 m else pos 0)
     (c.span-start.ensures (c.site.inside.first + m) (omega arith) ∙ ap (λ (x : SiteView). sounds_at s.world s.end.node.0 (x.first + m)) c.site.view_is)
     ∙ ap (λ x. if sounds_at s.world s.end.node.0 (s.first + m) then x else pos 0)
-    (ap (λ (b : BlockView). at b 0 m) levels ∙ c.take_levels.ensures.levels before m now))
+    (ap (λ (b : BlockView). at b 0 m) levels ∙ c.take_levels.ensures.levels before m now)))
 
 pub take_levels-requires-clause-there : goal.take_levels-requires-clause-there
 take_levels-requires-clause-there c = ap param_name c.requires.kind.1

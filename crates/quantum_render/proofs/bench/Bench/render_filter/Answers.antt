@@ -1,8 +1,9 @@
 use Rattle.std.proofs.Common.{ℕ, ℤ, ◌≡◌, ◌<◌, ◌≤◌, ◌+◌, ◌*◌, length, List, Some, slice_index_or, true, pos, inl, inr, sym, ◌∙◌, ap, arith, subst}
 use Rattle.std.specs.Prelude.{if◌then◌else◌, nat_lt}
 use Rattle.std.proofs.lemmas.Bool.Decides.{nat_tests}
+use Rattle.causal_core.specs.declared.equation.Equation.{Equation}
 use Rattle.node_table.specs.Kinds.{outputs}
-use Rattle.node_table.specs.declared.kinds.Kind.TheVariants.{Iir}
+use Rattle.node_table.specs.declared.kinds.Kind.TheVariants.{Causal}
 use Rattle.meaning.specs.World.{sounding, kind_of}
 use Rattle.meaning.specs.Counts.{input_channels}
 use Rattle.meaning.specs.Values.{Frame}
@@ -13,21 +14,21 @@ use Rattle.quantum_render.specs.Benches.{BenchView}
 use Rattle.quantum_blocks.specs.Sites.{SiteView}
 use Rattle.quantum_render.specs.Renders.{IsReadyFor}
 use Rattle.quantum_render.proofs.Filtering.{lanes_are, takes, has_heard, brings, puts_out, hears_on}
-use Rattle.filter_bank.proofs.Growing.{this_or_other}
-use Rattle.quantum_render.proofs.Rendering.{site_is, writes_own, renders_own}
+use Rattle.law_base.proofs.Places.{this_or_other}
+use Rattle.quantum_render.proofs.Rendering.{by_kind_with, site_is, writes_own, renders_own}
 use Rattle.quantum_render.proofs.bench.Bench.render_filter.Goals as goal
 
 pub filter_heard-requires-clause-wide : goal.filter_heard-requires-clause-wide
 filter_heard-requires-clause-wide c f is =
     let s : SiteView = c.args.site.now in
     let site = site_is s _ _ _ _ _ _ c.site.invariant.0 c.site.view_is in
-    lanes_are s site c.requires.kind.0 c.requires.kind.1 c.requires.kind.2 c.args.memory.now.filters c.requires.rooms.filter_rooms f (subst (λ k. filter_at c.args.memory.now.filters k ≡ Some f) (ap (λ (x : SiteView). x.end.node.0) c.site.view_is) is)
+    lanes_are s site c.requires.kind.0 c.requires.kind.1 c.args.memory.now.filters c.requires.rooms.filter_rooms f (subst (λ k. filter_at c.args.memory.now.filters k ≡ Some f) (ap (λ (x : SiteView). x.end.node.0) c.site.view_is) is)
     c.room.result c.channels-channels.result c.max-room.result (c.room.ensures.room f is) c.channels-channels.ensures.count c.max-room.ensures
 
 pub returns-clause-writes : goal.returns-clause-writes
 returns-clause-writes c =
     let site = site_is c.args.site.now _ _ _ _ _ _ c.site.invariant.0 c.site.view_is in
-    writes_own c.args.site.now site c.args.blocks.now c.requires.fit c.slot.result (c.slot.ensures ∙ ap (λ (x : SiteView). slot x.end) c.site.view_is) (ap outputs c.requires.kind.2)
+    writes_own c.args.site.now site c.args.blocks.now c.requires.fit c.slot.result (c.slot.ensures ∙ ap (λ (x : SiteView). slot x.end) c.site.view_is) (ap outputs c.requires.kind.1)
     c.copy_output.new.self (c.copy_output.ensures.lanes ∙ c.channels-channels.ensures.count)
 
 -- the input with silent lanes behind it, which the filter hears
@@ -35,14 +36,14 @@ abbrev input_of : goal.After-copy_output → List ℤ
 input_of c = c.filter_heard.ensures.hears.0
 
 -- what is heard is what the input carries
-heard_brings : (c : goal.After-copy_output) (forward back : List ℤ) → (is : kind_of c.args.site.now.world c.args.site.now.end.node.0 ≡ Iir forward back) → (before : ℕ → Frame) → (ready : IsReadyFor c.args.site.now c.args.memory.now c.args.blocks.now before)
+heard_brings : (c : goal.After-copy_output) (equation : Equation) → (is : kind_of c.args.site.now.world c.args.site.now.end.node.0 ≡ Causal equation) → (before : ℕ → Frame) → (ready : IsReadyFor c.args.site.now c.args.memory.now c.args.blocks.now before)
     → counts_in c.args.site.now.counts c.args.site.now.end ≡ input_channels (sounding c.args.site.now.world) (counts_in c.args.site.now.counts) c.args.site.now.end.node.0 0
-    → Brings c.args.site.now.first (input_of c) (takes c.args.site.now (site_is c.args.site.now _ _ _ _ _ _ c.site.invariant.0 c.site.view_is) c.args.memory.now c.args.blocks.now forward back is before ready)
-heard_brings c forward back is before ready counted =
+    → Brings c.args.site.now.first (input_of c) (takes c.args.site.now (site_is c.args.site.now _ _ _ _ _ _ c.site.invariant.0 c.site.view_is) c.args.memory.now c.args.blocks.now equation is before ready)
+heard_brings c equation is before ready counted =
     let s : SiteView = c.args.site.now in
     let site = site_is s _ _ _ _ _ _ c.site.invariant.0 c.site.view_is in
     let channels : c.channels-channels.result ≡ counts_in s.counts s.end = c.channels-channels.ensures.count in
-    brings s site c.args.memory.now c.args.blocks.now forward back is before ready c.channels-channels.result c.max-room.result (input_of c) c.take_input.new.self.heard
+    brings s site c.args.memory.now c.args.blocks.now equation is before ready c.channels-channels.result c.max-room.result (input_of c) c.take_input.new.self.heard
     c.filter_heard.ensures.hears.1 c.take_input.ensures.lanes (within c) (channels ∙ counted)
     (λ k m low now. c.take_input.ensures.input (channels ∙ counted) k m low now)
   where
@@ -53,14 +54,17 @@ hears_own : (c : goal.After-copy_output) → Hears c.args.memory.now.filters c.f
 hears_own c = subst (λ k. Hears c.args.memory.now.filters c.filter_heard.new.filters k (input_of c) c.filter_heard.new.self.merged.values) (ap (λ (x : SiteView). x.end.node.0) c.site.view_is) c.filter_heard.ensures.hears.2
 
 pub returns-clause-renders : goal.returns-clause-renders
-returns-clause-renders c forward back is j earlier begins counted before ready =
+returns-clause-renders c =
+    by_kind_with c.args.site.now c.args.memory.now _ _ _ c.requires.kind.1 (λ j earlier begins counted before ready.
+    let equation = c.requires.kind.0 in
+    let is = c.requires.kind.1 in
     let s : SiteView = c.args.site.now in
     let site = site_is s _ _ _ _ _ _ c.site.invariant.0 c.site.view_is in
     let filters : BankView = c.args.memory.now.filters in
-    let own = has_heard s site c.args.memory.now c.args.blocks.now forward back is before ready in
+    let own = has_heard s site c.args.memory.now c.args.blocks.now equation is before ready in
     let channels : c.channels-channels.result ≡ counts_in s.counts s.end = c.channels-channels.ensures.count in
     let there : filter_at filters c.site.inside.end.node.0 ≡ Some own.filter = subst (λ k. filter_at filters k ≡ Some own.filter) (sym (ap (λ (x : SiteView). x.end.node.0) c.site.view_is)) own.there in
-    let lanes : c.max-room.result ≡ filter_room own.filter = lanes_are s site forward back is filters c.requires.rooms.filter_rooms own.filter own.there c.room.result c.channels-channels.result c.max-room.result (c.room.ensures.room own.filter there) channels c.max-room.ensures in
+    let lanes : c.max-room.result ≡ filter_room own.filter = lanes_are s site equation is filters c.requires.rooms.filter_rooms own.filter own.there c.room.result c.channels-channels.result c.max-room.result (c.room.ensures.room own.filter there) channels c.max-room.ensures in
     renders_own s site c.args.blocks.now c.requires.fit c.slot.result (c.slot.ensures ∙ ap (λ (x : SiteView). slot x.end) c.site.view_is) (ap outputs is) c.copy_output.new.self _
     (λ channel m low now.
     let low' : channel < c.channels-channels.result = subst (λ k. channel < k) (sym channels) low in
@@ -70,7 +74,7 @@ returns-clause-renders c forward back is j earlier begins counted before ready =
     c.copy_output.ensures.values channel m low' now
     ∙ carried_first c.self.inside.merged c.channels-channels.result channel m low' (subst (λ k. channel < k) (sym all) few)
     ∙ ap (λ (b : BlockView). at b channel m) merged
-    ∙ puts_out s site c.args.memory.now c.args.blocks.now forward back is before ready (input_of c) c.filter_heard.new.self.merged.values c.filter_heard.new.filters (hears_own c) (heard_brings c forward back is before ready counted) site.begun.time channel m (subst (λ k. channel < k) lanes few) now)
+    ∙ puts_out s site c.args.memory.now c.args.blocks.now equation is before ready (input_of c) c.filter_heard.new.self.merged.values c.filter_heard.new.filters (hears_own c) (heard_brings c equation is before ready counted) site.begun.time channel m (subst (λ k. channel < k) lanes few) now))
   where
     lower : (c : goal.After-copy_output) → (k : ℕ) → k < c.channels-channels.result → k < c.max-room.result
     lower c k low = let most = c.max-room.ensures in grind arith
@@ -86,10 +90,10 @@ returns-clause-listens c = record {
   known = (hears_own c).known;
   count = (hears_own c).count;
   others = (hears_own c).others;
-  own = λ forward back is j earlier begins counted before ready.
+  own = λ equation is j earlier begins counted before ready.
       let s : SiteView = c.args.site.now in
       let site = site_is s _ _ _ _ _ _ c.site.invariant.0 c.site.view_is in
-      hears_on s site c.args.memory.now c.args.blocks.now forward back is before ready (input_of c) c.filter_heard.new.self.merged.values c.filter_heard.new.filters (hears_own c) (heard_brings c forward back is before ready counted) site.begun.time;
+      hears_on s site c.args.memory.now c.args.blocks.now equation is before ready (input_of c) c.filter_heard.new.self.merged.values c.filter_heard.new.filters (hears_own c) (heard_brings c equation is before ready counted) site.begun.time;
 }
 
 pub returns-clause-room : goal.returns-clause-room

@@ -5,7 +5,7 @@ use Rattle.quantum_blocks.specs.Blocks.{BlockView, at, slot, counts_in, room_of}
 use Rattle.quantum_render.specs.Benches.{BenchView}
 use Rattle.quantum_blocks.specs.Sites.{SiteView}
 use Rattle.node_table.specs.Kinds.{param_name}
-use Rattle.quantum_render.proofs.Rendering.{site_is, own_within, own_room, writes_own, renders_own}
+use Rattle.quantum_render.proofs.Rendering.{by_kind, site_is, own_within, own_room, writes_own, renders_own}
 use Rattle.quantum_render.proofs.bench.Bench.render_gain.Goals as goal
 
 pub bounds-blocks-slot : goal.bounds-blocks-slot
@@ -28,7 +28,8 @@ returns-clause-writes c =
     c.scale.new.self (c.scale.ensures.lanes ∙ ap (λ (b : BlockView). b.lanes) heard ∙ c.take_input.ensures.lanes ∙ c.channels.ensures.count)
 
 pub returns-clause-renders : goal.returns-clause-renders
-returns-clause-renders c gain j earlier begins counted before =
+returns-clause-renders c =
+    by_kind c.args.site.now _ _ _ c.requires.kind.1 (λ j earlier begins counted before.
     let s : SiteView = c.args.site.now in
     let site = site_is s _ _ _ _ _ _ c.site.invariant.0 c.site.view_is in
     let heard : c.self.inside.heard ≡ c.take_input.new.self.heard = ap (λ (b : BenchView). b.heard) c.self.view_is ∙ c.take_levels.ensures.heard in
@@ -41,7 +42,7 @@ returns-clause-renders c gain j earlier begins counted before =
     c.scale.ensures.values channel m (subst (λ n. channel < n) (sym lanes) low') now
     ∙ ap₂ scale
     (ap (λ (b : BlockView). at b channel m) heard ∙ c.take_input.ensures.input (channels ∙ counted) channel m low' now)
-    (ap (λ (b : BlockView). at b 0 m) levels ∙ c.take_levels.ensures.levels before m now))
+    (ap (λ (b : BlockView). at b 0 m) levels ∙ c.take_levels.ensures.levels before m now)))
 
 pub take_levels-requires-clause-there : goal.take_levels-requires-clause-there
 take_levels-requires-clause-there c = ap param_name c.requires.kind.1

@@ -5,7 +5,7 @@ use Rattle.quantum_render.specs.Benches.{BenchView}
 use Rattle.quantum_blocks.specs.Sites.{SiteView}
 use Rattle.quantum_render.proofs.Ports.{merger_channels}
 use Rattle.quantum_blocks.proofs.Sources.{end_low}
-use Rattle.quantum_render.proofs.Rendering.{site_is, own_within, own_room, writes_own, renders_own}
+use Rattle.quantum_render.proofs.Rendering.{by_kind, site_is, own_within, own_room, writes_own, renders_own}
 use Rattle.quantum_render.proofs.bench.Bench.render_merger.Goals as goal
 
 pub bounds-blocks-slot : goal.bounds-blocks-slot
@@ -29,7 +29,10 @@ returns-clause-writes c =
 
 -- channel c is what input c carries
 pub returns-clause-renders : goal.returns-clause-renders
-returns-clause-renders c ports kind j earlier begins counted before =
+returns-clause-renders c =
+    by_kind c.args.site.now _ _ _ c.requires.kind.1 (λ j earlier begins counted before.
+    let ports = c.requires.kind.0 in
+    let kind = c.requires.kind.1 in
     let s : SiteView = c.args.site.now in
     let site = site_is s _ _ _ _ _ _ c.site.invariant.0 c.site.view_is in
     let merged : c.self.inside.merged ≡ c.take_inputs.new.self.merged = ap (λ (b : BenchView). b.merged) c.self.view_is in
@@ -41,4 +44,4 @@ returns-clause-renders c ports kind j earlier begins counted before =
     c.copy.ensures.values channel m (subst (λ n. channel < n) (sym lanes) low') now
     ∙ ap (λ (b : BlockView). at b channel m) merged
     ∙ c.take_inputs.ensures.inputs
-    (λ i below. sym (merger_channels s.world site.valid s.end.node.0 (end_low s.world site.valid s.end site.there) (counts_in s.counts) ports kind i)) channel m low' now)
+    (λ i below. sym (merger_channels s.world site.valid s.end.node.0 (end_low s.world site.valid s.end site.there) (counts_in s.counts) ports kind i)) channel m low' now))

@@ -17,7 +17,7 @@ use Rattle.quantum_blocks.specs.Fits.{AreFit}
 use Rattle.quantum_blocks.specs.Sites.{SiteView, IsSite}
 use Rattle.quantum_render.specs.Listening.{writer_in}
 use Rattle.quantum_render.proofs.Feeding.{is_asked, are_few, gives}
-use Rattle.quantum_render.proofs.Rendering.{site_is, own_within, lanes_own, writes_own, renders_own}
+use Rattle.quantum_render.proofs.Rendering.{by_kind_with, site_is, own_within, lanes_own, writes_own, renders_own}
 use Rattle.quantum_render.proofs.bench.Bench.render_reader.Goals as goal
 
 pub bounds-blocks-slot : goal.bounds-blocks-slot
@@ -61,7 +61,12 @@ spans_are c before k now =
     by_cycle frames false = omega arith
 
 pub returns-clause-renders : goal.returns-clause-renders
-returns-clause-renders c memory longest time capacity same kind j earlier begins counted before ready =
+returns-clause-renders c memory same =
+    by_kind_with c.args.site.now memory _ _ _ c.requires.kind.3 (λ j earlier begins counted before ready.
+    let longest = c.requires.kind.0 in
+    let time = c.requires.kind.1 in
+    let capacity = c.requires.kind.2 in
+    let kind = c.requires.kind.3 in
     let s : SiteView = c.args.site.now in
     let site = site_is s _ _ _ _ _ _ c.site.invariant.0 c.site.view_is in
     let fed = ready.fed longest time capacity kind in
@@ -74,4 +79,4 @@ returns-clause-renders c memory longest time capacity same kind j earlier begins
     c.read_delay.ensures.values d capacity (node_at s.world s.end.node.0).attrs.birth fed.now (writer_in before s.end.node.0) there fed.kept.has
     (is_asked s memory.delays c.args.blocks.now before longest time capacity kind c.requires.reader fed c.as_slice.result.now spans)
     (are_few s memory.delays c.args.blocks.now before longest time capacity kind c.requires.reader fed c.as_slice.result.now spans _ count) fed.born channel m (subst (λ n. channel < n) (sym count) low) now
-    ∙ gives s memory.delays c.args.blocks.now before longest time capacity kind c.requires.reader fed c.as_slice.result.now spans _ count m 0 channel now)
+    ∙ gives s memory.delays c.args.blocks.now before longest time capacity kind c.requires.reader fed c.as_slice.result.now spans _ count m 0 channel now))

@@ -4,7 +4,7 @@ use Rattle.node_table.specs.Kinds.{outputs}
 use Rattle.quantum_blocks.specs.Blocks.{BlockView, at, slot, counts_in, room_of}
 use Rattle.quantum_render.specs.Benches.{BenchView}
 use Rattle.quantum_blocks.specs.Sites.{SiteView}
-use Rattle.quantum_render.proofs.Rendering.{site_is, own_within, own_room, writes_own, renders_own}
+use Rattle.quantum_render.proofs.Rendering.{by_kind, site_is, own_within, own_room, writes_own, renders_own}
 use Rattle.quantum_render.proofs.bench.Bench.render_shaper.Goals as goal
 
 pub bounds-blocks-slot : goal.bounds-blocks-slot
@@ -27,7 +27,8 @@ returns-clause-writes c =
     c.shape.new.self (c.shape.ensures.lanes ∙ ap (λ (b : BlockView). b.lanes) heard ∙ c.take_input.ensures.lanes ∙ c.channels.ensures.count)
 
 pub returns-clause-renders : goal.returns-clause-renders
-returns-clause-renders c was_set j earlier begins counted before =
+returns-clause-renders c =
+    by_kind c.args.site.now _ _ _ c.requires.kind.1 (λ j earlier begins counted before.
     let s : SiteView = c.args.site.now in
     let site = site_is s _ _ _ _ _ _ c.site.invariant.0 c.site.view_is in
     let heard : c.self.inside.heard ≡ c.take_input.new.self.heard = ap (λ (b : BenchView). b.heard) c.self.view_is in
@@ -37,4 +38,4 @@ returns-clause-renders c was_set j earlier begins counted before =
     (λ channel m low now.
     let low' : channel < c.channels.result = subst (λ n. channel < n) (sym channels) low in
     c.shape.ensures.values channel m (subst (λ n. channel < n) (sym lanes) low') now
-    ∙ ap (λ x. shaper_value c.args.curve.now (x ∷ [])) (ap (λ (b : BlockView). at b channel m) heard ∙ c.take_input.ensures.input (channels ∙ counted) channel m low' now))
+    ∙ ap (λ x. shaper_value c.args.curve.now (x ∷ [])) (ap (λ (b : BlockView). at b channel m) heard ∙ c.take_input.ensures.input (channels ∙ counted) channel m low' now)))

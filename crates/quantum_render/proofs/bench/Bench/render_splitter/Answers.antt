@@ -7,7 +7,7 @@ use Rattle.quantum_render.specs.Benches.{BenchView}
 use Rattle.quantum_blocks.specs.Sites.{SiteView}
 use Rattle.quantum_render.proofs.Ports.{splitter_channels}
 use Rattle.quantum_blocks.proofs.Sources.{end_low}
-use Rattle.quantum_render.proofs.Rendering.{site_is, own_within, mono_own, all_room, writes_all, lane_own}
+use Rattle.quantum_render.proofs.Rendering.{by_kind, site_is, own_within, mono_own, all_room, writes_all, lane_own}
 use Rattle.quantum_render.proofs.bench.Bench.render_splitter.Goals as goal
 
 pub take_input-requires-clause-low : goal.take_input-requires-clause-low
@@ -51,7 +51,10 @@ returns-clause-writes c =
 
 -- lane o of what the input carries is its channel o
 pub returns-clause-renders : goal.returns-clause-renders
-returns-clause-renders c ports kind j earlier begins counted before output channel m low below now =
+returns-clause-renders c =
+    by_kind c.args.site.now _ _ _ c.requires.kind.1 (λ j earlier begins counted before output channel m low below now.
+    let ports = c.requires.kind.0 in
+    let kind = c.requires.kind.1 in
     let s : SiteView = c.args.site.now in
     let site = site_is s _ _ _ _ _ _ c.site.invariant.0 c.site.view_is in
     let here = c.slot.ensures ∙ ap (λ (x : SiteView). slot x.end) c.site.view_is in
@@ -65,4 +68,4 @@ returns-clause-renders c ports kind j earlier begins counted before output chann
     ∙ lane_own s site c.args.blocks.now c.requires.fit c.slot.result here c.copy.new.self output m
     ∙ c.copy.ensures.values output m (omega (arith, lanes)) now
     ∙ ap (λ (b : BlockView). at b output m) heard
-    ∙ c.take_input.ensures.input (are ∙ sym (splitter_channels s.world site.valid s.end.node.0 (end_low s.world site.valid s.end site.there) (counts_in s.counts) ports kind)) output m there now
+    ∙ c.take_input.ensures.input (are ∙ sym (splitter_channels s.world site.valid s.end.node.0 (end_low s.world site.valid s.end site.there) (counts_in s.counts) ports kind)) output m there now)

@@ -11,9 +11,9 @@ use Rattle.quantum_blocks.specs.Blocks.{BlockView, at, shown, slot, counts_in, r
 use Rattle.quantum_render.specs.Benches.{BenchView}
 use Rattle.quantum_blocks.specs.Sites.{SiteView}
 use Rattle.quantum_render.specs.Renders.{past_of, here_of}
-use Rattle.filter_bank.proofs.Growing.{this_or_other}
+use Rattle.law_base.proofs.Places.{this_or_other}
 use Rattle.quantum_blocks.proofs.Sources.{end_low, site_slot}
-use Rattle.quantum_render.proofs.Rendering.{site_is, own_within, own_room, writes_own, renders_own, lane_own}
+use Rattle.quantum_render.proofs.Rendering.{by_kind, site_is, own_within, own_room, writes_own, renders_own, lane_own}
 use Rattle.quantum_render.proofs.bench.Bench.render_writer.Goals as goal
 
 pub bounds-blocks-slot : goal.bounds-blocks-slot
@@ -55,7 +55,8 @@ write_heard-requires-clause-there c =
     omega arith
 
 pub returns-clause-renders : goal.returns-clause-renders
-returns-clause-renders c longest time capacity j earlier begins counted before =
+returns-clause-renders c =
+    by_kind c.args.site.now _ _ _ c.requires.kind.3 (λ j earlier begins counted before.
     let s : SiteView = c.args.site.now in
     let site = site_is s _ _ _ _ _ _ c.site.invariant.0 c.site.view_is in
     let heard : c.self.inside.heard ≡ c.take_input.new.self.heard = ap (λ (b : BenchView). b.heard) c.self.view_is ∙ c.write_heard.ensures.heard in
@@ -68,7 +69,7 @@ returns-clause-renders c longest time capacity j earlier begins counted before =
     c.copy.ensures.values channel m (subst (λ n. channel < n) (sym lanes) low') now
     ∙ ap (λ (b : BlockView). at b channel m) heard
     ∙ c.take_input.ensures.input (channels ∙ own) channel m low' now
-    ∙ ap (λ b. if b then input_value (here_of s c.args.blocks.now m) s.end.node.0 0 channel else delayed 128 (s.first + m) (past_of s c.args.blocks.now before) (here_of s c.args.blocks.now m) s.end.node.0 channel) (sym c.requires.writer))
+    ∙ ap (λ b. if b then input_value (here_of s c.args.blocks.now m) s.end.node.0 0 channel else delayed 128 (s.first + m) (past_of s c.args.blocks.now before) (here_of s c.args.blocks.now m) s.end.node.0 channel) (sym c.requires.writer)))
 
 -- the lanes of the input, which are written
 abbrev input_of : goal.After-copy → List ℤ

@@ -5,7 +5,7 @@ use Rattle.quantum_blocks.specs.Blocks.{BlockView}
 use Rattle.quantum_render.specs.Benches.{BenchView}
 use Rattle.quantum_blocks.specs.Held.{IsWidened}
 use Rattle.quantum_render.proofs.Filtering.{widened_front}
-use Rattle.filter_bank.proofs.Growing.{rewritten}
+use Rattle.law_base.proofs.Places.{rewritten}
 use Rattle.quantum_render.proofs.bench.Bench.write_heard.Goals as goal
 
 pub returns-in-None-clause-writes : goal.returns-in-None-clause-writes

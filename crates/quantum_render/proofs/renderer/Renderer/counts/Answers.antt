@@ -4,7 +4,7 @@ use Rattle.meaning.specs.declared.world.World.{World}
 use Rattle.meaning.specs.Pasts.{last_world, past}
 use Rattle.automation.specs.Ready.{IsReady}
 use Rattle.delay_bank.specs.Banks.{AreKept}
-use Rattle.filter_bank.proofs.Growing.{rewritten}
+use Rattle.law_base.proofs.Places.{rewritten}
 use Rattle.quantum_blocks.specs.Fits.{AreInRange}
 use Rattle.quantum_render.specs.Plans.{IsPlan, AreCycles, AreCounted}
 use Rattle.quantum_render.specs.Stands.{RendererView, past_writer, StandsFor, HasMemory}

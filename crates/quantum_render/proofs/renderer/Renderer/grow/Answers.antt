@@ -4,7 +4,7 @@ use Rattle.meaning.specs.Pasts.{last_world}
 use Rattle.filter_bank.specs.Banks.{HaveRoom, AreSame}
 use Rattle.delay_bank.specs.Banks.{HaveRoom as HaveDelayRoom, AreSame as AreSameDelays}
 use Rattle.quantum_render.specs.declared.memory.Memory.{Memory}
-use Rattle.filter_bank.proofs.Growing.{on_ok}
+use Rattle.law_base.proofs.Places.{on_ok}
 use Rattle.filter_bank.proofs.Same.{still_heard, was_heard, still_new}
 use Rattle.delay_bank.proofs.Same.{same_refl}
 use Rattle.quantum_blocks.specs.Blocks.{BlockView}

@@ -18,7 +18,7 @@ use Rattle.delay_bank.specs.Banks.{AreKept}
 use Rattle.quantum_render.specs.Listening.{IsMemory, HasRooms}
 use Rattle.quantum_render.proofs.Kept.{remembered_delays, remember_delays, timely}
 use Rattle.quantum_render.proofs.Remembering.{remembered, remembers_on, last_few, last_now}
-use Rattle.filter_bank.proofs.Growing.{rewritten}
+use Rattle.law_base.proofs.Places.{rewritten}
 use Rattle.quantum_render.proofs.OutLaws.{destination_lanes, out_is}
 use Rattle.quantum_render.proofs.renderer.Renderer.pass.Goals as goal
 

@@ -1,0 +1,44 @@
+ghost use Rattle.std.specs.Prelude.{◌≡◌, IfOk};
+ghost use Rattle.causal_core.specs.Equations as spec;
+
+use crate::refusals::filter_refusal;
+use wa_base::{Exc, NoMemory, Samples};
+
+/// What a node puts out on a channel at each frame, from all frames that the channel took in since the
+/// node's creation.
+#[derive(Drop)]
+pub enum Equation {
+    /// An IIR filter (IIRFilterNode), by 1 to 20 coefficients of each kind, in units of 2^-24.
+    Filter {
+        /// Those of the inputs (feedforward), of which one is not 0.
+        forward: Samples,
+        /// Those of the outputs (feedback), of which the first is not 0.
+        back: Samples,
+    },
+}
+
+impl Equation {
+    /// The exception with which a node of this equation is refused at its creation, as `filter_refusal`
+    /// says.
+    pub fn refusal(&self) -> Option<Exc>
+        ensures { result ≡ spec.equation_refusal self.now }
+    {
+        match self {
+            Equation::Filter { forward, back } => {
+                filter_refusal(forward.as_slice(), back.as_slice())
+            }
+        }
+    }
+
+    /// An equal equation with memory of its own.
+    pub fn copy(&self) -> Result<Equation, NoMemory>
+        ensures { IfOk result (λ copy. copy ≡ self.now) }
+    {
+        Ok(match self {
+            Equation::Filter { forward, back } => Equation::Filter {
+                forward: forward.copy()?,
+                back: back.copy()?,
+            },
+        })
+    }
+}

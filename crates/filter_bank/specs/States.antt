@@ -1,0 +1,23 @@
+-- What nodes remember of all that their inputs took in, by their equations.
+use Rattle.std.specs.Prelude.{ℕ, ℤ, length, List, []}
+use Rattle.causal_core.specs.declared.equation.Equation.{Equation}
+use Rattle.causal_core.specs.declared.equation.Equation.TheVariants as equation
+use Rattle.shaper_iir.specs.Filter.{FilterStands}
+use Rattle.filter_bank.specs.declared.state.State.{State}
+use Rattle.filter_bank.specs.declared.state.State.TheVariants.{Filter}
+
+-- a state stands for the frames that a channel has heard, the newest first
+abbrev pub stands : State → ℕ → List ℤ → Type 0
+stands (Filter filter) channel frames = FilterStands filter channel frames
+
+-- the equation that it goes by
+abbrev pub equation_of : State → Equation
+equation_of (Filter filter) = equation.Filter filter.forward filter.back
+
+-- for so many channels there is room
+abbrev pub room : State → ℕ
+room (Filter filter) = length filter.channels
+
+-- the state of a node that has heard nothing
+abbrev pub first_state : Equation → State
+first_state (equation.Filter forward back) = Filter (record { forward = forward; back = back; channels = [] })
