@@ -111,7 +111,10 @@ TROUBLES = {
     "not_resumed": Trouble(
         script(SOUND + "context.suspend(0.01).then(() => { none.gain = 1; context.resume(); });"
                "context.startRendering();"),
-        "context 1: not-finished is refused", status=1, words=("--timeout", "20")),
+        "context 1: not-finished is refused", status=1),
+    "never_resumed": Trouble(
+        script(SOUND + "context.suspend(0.01);context.startRendering();"),
+        "context 1: not-finished is refused", status=1),
     "waits_for_a_click": Trouble(
         "<button id=start>play</button>" + script(f"start.onclick = () => {{ {CONTEXT} }};"),
         f"{NONE} within N seconds; perhaps it waits for a click, as --click '#start'."),
