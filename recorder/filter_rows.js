@@ -6,7 +6,7 @@
 import {biquadCoefficients, coefficientError, putCoefficients} from './filters.js';
 import {levelsOf} from './levels.js';
 import {native} from './native.js';
-import {feedbackError} from './responses.js';
+import {feedbackError, floatError} from './responses.js';
 import {rowOf, sectionsOf} from './sections.js';
 import {ONE, fixedValue} from './values.js';
 
@@ -14,6 +14,7 @@ const MOST_GUARD = 32;
 const ROOM = 120;              // the loudest that is let be inside; waplay saturates at 128
 const ENOUGH = ROOM / 8;       // a level that leaves room for a guard of 8
 const LEAST_TOLD = 2 ** -20;   // errors of what is fed back below this are not told
+const LEAST_OF_FLOATS = 2 ** -16; // and of what the browser feeds back
 
 // A biquad with steady parameters: {gain}, or {row, gain, kind}.
 function planOfBiquad({node}, rate) {
@@ -104,8 +105,20 @@ function errorsOf({sections, lead, trailing}) {
   return {error: error * factor, isLost, fedBack: feedbackError(sections, 1 / ONE) * trailing};
 }
 
+// Tells what rounding does to the page's filters in Chromium.
+function loseOfFloats(recording) {
+  const known = new Map();
+  for (const {coefficients} of recording.filters) {
+    if (!coefficients || recording.outcomes.has(coefficients.call)) continue;
+    const {feedforward, feedback} = coefficients, key = JSON.stringify([feedforward, feedback]);
+    if (!known.has(key)) known.set(key, floatError({feedforward, feedback}));
+    if (known.get(key) > LEAST_OF_FLOATS) recording.lose('single-floats', null, known.get(key));
+  }
+}
+
 // Tells what rounding does to the filters that the script has.
 export function loseOfFilters(recording) {
+  loseOfFloats(recording);
   const inScript = new Set(), known = new Map();
   recording.eachCall(call => inScript.add(call));
   for (const row of recording.rows) {

@@ -3,7 +3,7 @@
 import assert from 'node:assert/strict';
 import {test} from 'node:test';
 import {biquadCoefficients, roundedCoefficients} from '../filters.js';
-import {feedbackError, impulseSum, peakOf, responseError} from '../responses.js';
+import {feedbackError, floatError, impulseSum, peakOf, responseError} from '../responses.js';
 import {sectionsOf} from '../sections.js';
 
 const product = (one, other) => {
@@ -66,4 +66,10 @@ test('coefficients that are whole stay as they are', () => {
 test('rounding keeps the response of a low filter', () => {
   const exact = lowpass(20, 0), {feedforward, feedback} = roundedCoefficients(exact.feedforward.map(term => term * 32), exact.feedback);
   assert.ok(responseError([{...exact, feedforward: exact.feedforward.map(term => term * 32)}], [{feedforward, feedback}]) < 32 * 2e-4);
+});
+
+test('single floats are enough for a filter that forgets soon, and not for equal poles near the unit circle', () => {
+  const soon = {feedforward: [1], feedback: [1, -0.5]}, late = joined(Array(4).fill(lowpass(200, 3)));
+  assert.ok(floatError(soon) < 2 ** -22);
+  assert.ok(floatError(late) > 2 ** -10);
 });

@@ -337,7 +337,6 @@ class Departures(unittest.TestCase):
             ([*gains, *loop], "a cycle without a delay is not muted"),
             ([{"op": "createDelay", "as": "d", "delayTime": 9, "maxDelayTime": 9}], "newest frame"),
             ([{"op": "createConstantSource", "as": "c"}], "not connected stands still"),
-            ([{"op": "createIIRFilter", "as": "f"}], "single floats"),
             ([{"op": "createChannelMerger", "as": "m"}], "inputs are all silent"),
             ([{"op": "cancelAndHoldAtTime"}], "cancelled on its way"),
             ([{"op": "suspend", "time": 0}], "at frame 0 or at the length"),
@@ -349,9 +348,54 @@ class Departures(unittest.TestCase):
                 self.assertEqual(len(found), 1, found)
                 self.assertIn(word, found[0])
 
+    # A stereo source that begins later, and a node that it leads to.
+    STEREO = ({"op": "createBuffer", "as": "b", "channels": 2, "length": 9, "rate": 8000},
+              {"op": "createBufferSource", "as": "s", "buffer": "b"},
+              {"op": "start", "node": "s", "when": 200})
+    FED = ({"op": "connect", "from": "s", "to": "n"}, {"op": "connect", "from": "n", "to": "m"})
+    EXPLICIT = {"op": "setChannelCountMode", "node": "n", "value": "explicit"}
+    DISCRETE = {"op": "setChannelInterpretation", "node": "n", "value": "discrete"}
+
+    def node(self, op: str) -> dict:
+        return {"op": op, "as": "n"}
+
+    def test_by_numbers_of_channels(self) -> None:
+        delay, gain = self.node("createDelay"), self.node("createGain")
+        fewer = "a delay whose input comes to have fewer channels mixes down in Chromium"
+        anew = "Chromium begins the history of an IIR filter anew where its channels change"
+        unplayed = ("a buffer source that does not play yet has the channels of its buffer in "
+                    "Chromium")
+        behind = {"op": "createIIRFilter", "as": "m"}
+        for calls, wanted in [
+            ([delay], [fewer]),
+            ([delay, self.EXPLICIT], []),
+            ([gain], []),
+            ([gain, self.DISCRETE], [unplayed]),
+            ([self.node("createChannelSplitter")], [unplayed]),
+            ([self.node("createIIRFilter")], [anew]),
+            # A filter behind a gain that always has two channels. Where it is taken away from it
+            # at times, the filter has one.
+            ([gain, self.EXPLICIT, behind], []),
+            ([gain, self.EXPLICIT, behind, {"op": "disconnect", "from": "n"}], [anew]),
+            # What a suspension sets does not hold from the beginning on.
+            ([delay, {"op": "suspend", "time": 128, "then": [self.EXPLICIT]}],
+             [fewer, departures.LATE_CHANGE]),
+        ]:
+            with self.subTest(calls):
+                self.assertEqual(self.found(*self.STEREO, *calls, *self.FED), wanted)
+
+    def test_channels_of_assets(self) -> None:
+        script = {"context": {"length": 256}, "calls": [
+            {"op": "decodeAudioData", "as": "b", "path": "1-b1.wav"}, *self.STEREO[1:],
+            self.node("createDelay"), *self.FED]}
+        self.assertEqual(departures.known_departures(script, set(), {"1-b1.wav": 1}), [])
+        self.assertEqual(len(departures.known_departures(script, set(), {"1-b1.wav": 2})), 1)
+
     def test_by_losses(self) -> None:
-        self.assertEqual(self.found(losses=("lowered-biquad",)),
-                         ["Chromium ends biquads at an estimated tail"])
+        for kind, text in [("lowered-biquad", "Chromium ends biquads at an estimated tail"),
+                           ("single-floats",
+                            "Chromium keeps the history of IIR filters in single floats")]:
+            self.assertEqual(self.found(losses=(kind,)), [text])
 
     def test_none(self) -> None:
         self.assertEqual(self.found({"op": "createGain", "as": "g"},

@@ -3,9 +3,9 @@
 from collections.abc import Iterator
 from typing import Any
 
-QUANTUM = 128
+from waplay_tools.recorder.channels import Call, Channels
 
-Call = dict[str, Any]
+QUANTUM = 128
 
 
 def all_calls(calls: list[Call]) -> Iterator[Call]:
@@ -76,10 +76,29 @@ def graph_departures(calls: list[Call]) -> Iterator[str]:
         yield "a source that is not connected stands still in Chromium"
 
 
+def channel_departures(script: dict[str, Any], of_path: dict[str, int]) -> Iterator[str]:
+    """Departures of nodes whose number of channels changes."""
+    calls = script["calls"]
+    channels = Channels(calls, of_path)
+    changing = {node.creation["op"] for node in channels.nodes.values()
+                if channels.is_changing(node)}
+    if "createDelay" in changing:
+        yield "a delay whose input comes to have fewer channels mixes down in Chromium"
+    if "createIIRFilter" in changing:
+        yield "Chromium begins the history of an IIR filter anew where its channels change"
+    if not channels.tell_silence(script["context"].get("channels", 1)):
+        return
+    nodes = channels.nodes.items()
+    if any(node.creation["op"] == "createChannelMerger" and channels.most[name] > 1
+           for name, node in nodes):
+        yield "a merger whose inputs are all silent has one channel in Chromium"
+    at_once = {call["node"] for call in calls if call["op"] == "start" and not call.get("when")}
+    if any(node.creation["op"] == "createBufferSource" and channels.most[name] > 1
+           and name not in at_once for name, node in nodes):
+        yield "a buffer source that does not play yet has the channels of its buffer in Chromium"
+
+
 BY_OPERATION = {
-    "createIIRFilter": "Chromium keeps the history of IIR filters in single floats, and begins it "
-                       "anew where their channels change",
-    "createChannelMerger": "a merger whose inputs are all silent has one channel in Chromium",
     "cancelScheduledValues": "Chromium holds the value of a ramp that is cancelled on its way, and "
                              "keeps a curve that ends at a cancel",
 }
@@ -90,15 +109,21 @@ BY_LOSS = {
     "lowered-target": "a target is late in Chromium where another event lies in the same quantum",
     "time-near-frame": "a time that is by a rounding behind a frame counts from the next one in "
                        "Chromium",
+    "single-floats": "Chromium keeps the history of IIR filters in single floats",
     "buffer-written": "Chromium plays what is written into a buffer after a source acquired it",
 }
 
+LATE_CHANGE = ("a change at a suspension may come one quantum late in Chromium, in one run and not "
+               "in the next")
 
-def known_departures(script: dict[str, Any], losses: set[str]) -> list[str]:
-    """Where Chromium is known to differ from the profile, as far as the calls show it."""
+
+def known_departures(script: dict[str, Any], losses: set[str],
+                     of_path: dict[str, int] | None = None) -> list[str]:
+    """Where Chromium is known to differ from the profile, as far as the calls show it. `of_path`
+    has the number of channels of each asset."""
     calls = list(all_calls(script["calls"]))
     ops = {call["op"] for call in calls}
-    found = list(graph_departures(calls))
+    found = [*graph_departures(calls), *channel_departures(script, of_path or {})]
     found += [text for kind, text in BY_LOSS.items() if kind in losses]
     found += [text for op, text in BY_OPERATION.items() if op in ops]
     suspensions = [call for call in calls if call["op"] == "suspend"]
@@ -106,6 +131,5 @@ def known_departures(script: dict[str, Any], losses: set[str]) -> list[str]:
     if any(is_at_an_edge(call["time"], length) for call in suspensions):
         found.append("a suspension at frame 0 or at the length is accepted by Chromium")
     if any(changes_at_once(inner) for call in suspensions for inner in call.get("then", [])):
-        found.append("a change at a suspension may come one quantum late in Chromium, in one run "
-                     "and not in the next")
+        found.append(LATE_CHANGE)
     return list(dict.fromkeys(found))

@@ -1,0 +1,146 @@
+"""Judges a random session: how far its replay is from its page, and whether the take says so.
+
+The browser also plays the script. Where that sounds like the page, the script is right, and what
+differs is how the program and the browser perform it. Where that sounds like the replay, the script
+is not what the page did. So a line of the take tells of a difference only where it is about the side
+on which the two part.
+"""
+
+import array
+import dataclasses
+from collections.abc import Iterator, Sequence
+
+from waplay_tools.recorder.departures import BY_LOSS, BY_OPERATION, LATE_CHANGE
+from waplay_tools.recorder.playing import difference
+from waplay_tools.recorder.replaying import FULL, Replay, greatest_difference
+from waplay_tools.recorder.results import Recorded, greatest
+
+TOLERANCE = 1e-4
+# How far a script that the browser plays may be from its page. Without lowering nothing is rounded.
+# With it there are targets, which Chromium takes for reached some 4e-5 of their step too early.
+APART = {False: 1e-6, True: TOLERANCE}
+LOUDER = 16.0  # how much louder than a filter what is heard of it may be, by several connections
+
+EXACT, NEAR = "exact", "within 0.0001"
+TOLD, NOT_TOLD = "off and told", "off and not told"
+SILENT, SILENT_NOT_TOLD = "silent and told", "silent and not told"
+FAILED = "failed"
+CLASSES = (EXACT, NEAR, TOLD, NOT_TOLD, SILENT, SILENT_NOT_TOLD, FAILED)
+BAD = (NOT_TOLD, SILENT_NOT_TOLD, FAILED)
+
+DEPARTURE = "known departure: "
+FLOATS = BY_LOSS["single-floats"]
+# What sets a page apart from its script, which has no targets and no biquads any more.
+OF_PAGES = {*BY_LOSS.values(), *BY_OPERATION.values()}
+# What both may have: a script has filters, cancels and holds of its own.
+OF_BOTH = {FLOATS, *BY_OPERATION.values()}
+# Sessions let what has a history hear a hum all the time, so no biquad comes to its end.
+NEVER = {BY_LOSS["lowered-biquad"]}
+
+
+@dataclasses.dataclass
+class Run:
+    """A session that was recorded once, and what its script sounds like."""
+
+    recorded: Recorded
+    played: list[array.array]  # by the browser
+    replay: Replay  # by the program
+    replayed: list[list[int]]  # whole numbers of 2^-23
+
+    @property
+    def rendered(self) -> Sequence[array.array]:
+        """What the browser rendered of the page."""
+        return self.recorded.rendered or []
+
+
+@dataclasses.dataclass
+class Judgement:
+    """What came of a session."""
+
+    kind: str  # one of CLASSES
+    words: str
+
+
+class Distances:
+    """How far the runs of one session are apart. What Chromium renders may change from run to run
+    by a quantum, so the least distance of any two runs counts."""
+
+    def __init__(self, runs: Sequence[Run]) -> None:
+        pairs = [(one, other) for one in runs for other in runs]
+        self.replay, self.channel, self.frame = min(
+            greatest_difference(one.replayed, other.rendered) for one, other in pairs)
+        self.page = min(difference(one.played, other.rendered) for one, other in pairs)
+        self.script = min(greatest_difference(one.replayed, other.played)[0]
+                          for one, other in pairs)
+        self.changes = max(difference(one.rendered, other.rendered) for one, other in pairs)
+
+    def is_off(self, lower: bool) -> bool:
+        """Whether a line of the take has to tell of it."""
+        return self.replay > TOLERANCE or self.page > APART[lower]
+
+    def greatest(self) -> float:
+        """The greater one of what a line has to tell of."""
+        return max(self.replay, self.page)
+
+
+def is_large(run: Run, kind: str, apart: float) -> bool:
+    """Whether the error that a loss tells is large enough for a difference."""
+    error = next((loss["error"] for loss in run.recorded.kinds if loss["kind"] == kind), 0.0)
+    # What is infinite in the page is null here.
+    return error is None or error * LOUDER * max(1.0, greatest(list(run.rendered))) >= apart
+
+
+def losses_that_tell(run: Run, apart: float) -> Iterator[str]:
+    """Losses that may be the cause. Of what is measured the error has to be large enough."""
+    for loss in run.recorded.kinds:
+        kind, grade = loss["kind"], loss["grade"]
+        if grade == "refused" or (grade == "heard" and (
+                kind == "delay-fraction" or is_large(run, kind, apart))):
+            yield f"{grade} {kind}"
+
+
+def departures_that_tell(run: Run, distances: Distances) -> Iterator[str]:
+    """Departures of the browser that may be the cause."""
+    for line in run.replay.lines:
+        text = line.removeprefix(DEPARTURE)
+        if text == line or text in NEVER:
+            continue
+        if text == LATE_CHANGE and distances.changes <= TOLERANCE:
+            continue
+        if text == FLOATS and not is_large(run, "single-floats", distances.greatest()):
+            continue
+        is_of_page = text in OF_PAGES and distances.page > TOLERANCE
+        is_of_script = (text not in OF_PAGES or text in OF_BOTH) and distances.script > TOLERANCE
+        if is_of_page or is_of_script:
+            yield f"departure: {text}"
+
+
+def tells(run: Run, distances: Distances) -> list[str]:
+    """What the take says of a difference."""
+    found = list(losses_that_tell(run, distances.greatest()))
+    found += [line for line in run.replay.lines if "ended otherwise" in line]
+    return found + list(departures_that_tell(run, distances))
+
+
+def is_silence_told(run: Run) -> bool:
+    """Whether a line names each silence."""
+    lines = [*run.recorded.lines, *run.replay.lines]
+    of_page = any(line.startswith("silent silent:") for line in lines)
+    of_replay = any(line.startswith("silent: every sample of the replay") for line in lines)
+    return (of_page or not run.recorded.is_silent) and (of_replay or not run.replay.is_silent)
+
+
+def judge(runs: Sequence[Run], lower: bool) -> Judgement:
+    """Judges a session by its runs, the last of which is the one that is spoken of."""
+    run = runs[-1]
+    if run.replay.outcome == "fails" or not run.replayed:
+        return Judgement(FAILED, run.replay.lines[0])
+    distances = Distances(runs)
+    words = f"{distances.replay:.3g} at frame {distances.frame} of channel {distances.channel}"
+    if run.recorded.is_silent or run.replay.is_silent:
+        return Judgement(SILENT if is_silence_told(run) else SILENT_NOT_TOLD, words)
+    if distances.is_off(lower):
+        told = tells(run, distances)
+        words += f", {distances.page:.3g} when it is played again"
+        return Judgement(TOLD if told else NOT_TOLD, "; ".join([words, *told]))
+    return Judgement(EXACT if distances.replay < 1 / FULL else NEAR, words)
