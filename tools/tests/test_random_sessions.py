@@ -60,9 +60,11 @@ class Judging(unittest.TestCase):
 
     def test_what_is_off_has_to_be_told(self) -> None:
         self.assertEqual(self.kind(run(0.5, 0.5, 0.25)), judging.NOT_TOLD)
-        for made in (loss("lowering-failed", "refused"), loss("delay-fraction", "heard", 0.5),
-                     loss("feedback-rounded", "heard", 0.02)):
-            found = judge([run(0.5, 0.5, 0.25, kinds=(made,))], True)
+        for made, script in [(loss("lowering-failed", "refused"), 0.5),
+                             (loss("delay-fraction", "heard", 0.5), 0.25),
+                             (loss("coefficients-rounded", "heard", 0.02), 0.25),
+                             (loss("feedback-rounded", "heard", 0.02), 0.5)]:
+            found = judge([run(0.5, script, 0.25, kinds=(made,))], True)
             self.assertEqual(found.kind, judging.TOLD)
             self.assertTrue(found.words.endswith(f"{made['grade']} {made['kind']}"), found.words)
         told = "replay: 1 calls ended otherwise than in the browser: 3 (ok for x)"
@@ -70,7 +72,8 @@ class Judging(unittest.TestCase):
 
     def test_losses_that_are_no_cause(self) -> None:
         for made in (loss("lowered-target", "lowered"), loss("value-rounded", "rounded", 2**-25),
-                     loss("feedback-rounded", "heard", 0.01), loss("single-floats", "exact", 1)):
+                     loss("feedback-rounded", "heard", 0.01), loss("single-floats", "exact", 1),
+                     loss("delay-fraction", "heard", 0.5)):
             self.assertEqual(self.kind(run(0.5, 0.5, 0.25, kinds=(made,))), judging.NOT_TOLD)
 
     def test_a_departure_tells_of_the_side_on_which_it_is(self) -> None:

@@ -384,6 +384,35 @@ class Departures(unittest.TestCase):
             with self.subTest(calls):
                 self.assertEqual(self.found(*self.STEREO, *calls, *self.FED), wanted)
 
+    def test_timelines_before_the_start(self) -> None:
+        def calls(when: int, place: int, op: str) -> list[dict]:
+            told = {"node": "c", "param": "offset", "time": place}
+            return [{"op": "createConstantSource", "as": "c"},
+                    {"op": "connect", "from": "c", "to": "g"},
+                    {"op": "start", "node": "c", "when": when}, {"op": "setValueAtTime", **told},
+                    {"op": op, **told, "time": place + 200}]
+
+        for when, place, op, is_late in [
+            (300, 255, "linearRampToValueAtTime", True), (300, 255, "setValueCurveAtTime", True),
+            (300, 256, "linearRampToValueAtTime", False), (300, 255, "setValueAtTime", False),
+        ]:
+            found = self.found(*calls(when, place, op))
+            self.assertEqual(found, [departures.LATE_TIMELINE] if is_late else [])
+
+    def test_timelines_before_something_is_heard(self) -> None:
+        told = {"node": "h", "param": "gain"}
+        event = {"op": "setValueCurveAtTime", **told, "time": 0}
+        source = [{"op": "createConstantSource", "as": "c"}, {"op": "start", "node": "c"}]
+        links = [{"op": "connect", "from": one, "to": other} for one, other in ("cg", "gh")]
+        later = {"op": "suspend", "time": 128, "then": [links[1]]}
+        for calls, wanted in [
+            ([event, *source, *links], []),
+            ([event, *source, links[0], later],
+             [departures.LATE_TIMELINE, departures.LATE_CHANGE]),
+            ([event, *source[:1], *links], []),
+        ]:
+            self.assertEqual(self.found(*calls), wanted)
+
     def test_channels_of_assets(self) -> None:
         script = {"context": {"length": 256}, "calls": [
             {"op": "decodeAudioData", "as": "b", "path": "1-b1.wav"}, *self.STEREO[1:],

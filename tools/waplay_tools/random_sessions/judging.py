@@ -90,12 +90,19 @@ def is_large(run: Run, kind: str, apart: float) -> bool:
     return error is None or error * LOUDER * max(1.0, greatest(list(run.rendered))) >= apart
 
 
-def losses_that_tell(run: Run, apart: float) -> Iterator[str]:
-    """Losses that may be the cause. Of what is measured the error has to be large enough."""
+def may_be_heard(run: Run, kind: str, distances: Distances) -> bool:
+    """Whether a number that is rounded so far that it may be heard may be the cause. What is fed
+    back is rounded by the program alone, and other numbers are rounded in the script."""
+    side = distances.script if kind == "feedback-rounded" else distances.page
+    is_enough = kind == "delay-fraction" or is_large(run, kind, distances.greatest())
+    return side > TOLERANCE and is_enough
+
+
+def losses_that_tell(run: Run, distances: Distances) -> Iterator[str]:
+    """Losses that may be the cause."""
     for loss in run.recorded.kinds:
         kind, grade = loss["kind"], loss["grade"]
-        if grade == "refused" or (grade == "heard" and (
-                kind == "delay-fraction" or is_large(run, kind, apart))):
+        if grade == "refused" or (grade == "heard" and may_be_heard(run, kind, distances)):
             yield f"{grade} {kind}"
 
 
@@ -117,7 +124,7 @@ def departures_that_tell(run: Run, distances: Distances) -> Iterator[str]:
 
 def tells(run: Run, distances: Distances) -> list[str]:
     """What the take says of a difference."""
-    found = list(losses_that_tell(run, distances.greatest()))
+    found = list(losses_that_tell(run, distances))
     found += [line for line in run.replay.lines if "ended otherwise" in line]
     return found + list(departures_that_tell(run, distances))
 
@@ -139,8 +146,8 @@ def judge(runs: Sequence[Run], lower: bool) -> Judgement:
     words = f"{distances.replay:.3g} at frame {distances.frame} of channel {distances.channel}"
     if run.recorded.is_silent or run.replay.is_silent:
         return Judgement(SILENT if is_silence_told(run) else SILENT_NOT_TOLD, words)
+    words += f", {distances.page:.3g} when it is played again"
     if distances.is_off(lower):
         told = tells(run, distances)
-        words += f", {distances.page:.3g} when it is played again"
         return Judgement(TOLD if told else NOT_TOLD, "; ".join([words, *told]))
     return Judgement(EXACT if distances.replay < 1 / FULL else NEAR, words)
