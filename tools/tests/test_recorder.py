@@ -388,30 +388,48 @@ class Departures(unittest.TestCase):
         def calls(when: int, place: int, op: str) -> list[dict]:
             told = {"node": "c", "param": "offset", "time": place}
             return [{"op": "createConstantSource", "as": "c"},
-                    {"op": "connect", "from": "c", "to": "g"},
+                    {"op": "connect", "from": "c", "to": "destination"},
                     {"op": "start", "node": "c", "when": when}, {"op": "setValueAtTime", **told},
                     {"op": op, **told, "time": place + 200}]
 
-        for when, place, op, is_late in [
+        for when, place, op, is_idle in [
             (300, 255, "linearRampToValueAtTime", True), (300, 255, "setValueCurveAtTime", True),
             (300, 256, "linearRampToValueAtTime", False), (300, 255, "setValueAtTime", False),
         ]:
             found = self.found(*calls(when, place, op))
-            self.assertEqual(found, [departures.LATE_TIMELINE] if is_late else [])
+            self.assertEqual(found, [departures.IDLE_TIMELINE] if is_idle else [])
 
-    def test_timelines_before_something_is_heard(self) -> None:
-        told = {"node": "h", "param": "gain"}
-        event = {"op": "setValueCurveAtTime", **told, "time": 0}
-        source = [{"op": "createConstantSource", "as": "c"}, {"op": "start", "node": "c"}]
-        links = [{"op": "connect", "from": one, "to": other} for one, other in ("cg", "gh")]
-        later = {"op": "suspend", "time": 128, "then": [links[1]]}
-        for calls, wanted in [
-            ([event, *source, *links], []),
-            ([event, *source, links[0], later],
-             [departures.LATE_TIMELINE, departures.LATE_CHANGE]),
-            ([event, *source[:1], *links], []),
+    def test_timelines_of_what_hears_nothing_or_is_not_heard(self) -> None:
+        event = {"op": "setValueCurveAtTime", "node": "h", "param": "gain", "time": 0,
+                 "duration": 129}
+        source = {"op": "createConstantSource", "as": "c"}
+        start = {"op": "start", "node": "c"}
+        links = [{"op": "connect", "from": one, "to": other} for one, other in
+                 [("c", "g"), ("g", "h"), ("h", "destination")]]
+
+        def at(time: int, *calls: dict) -> dict:
+            return {"op": "suspend", "time": time, "then": list(calls)}
+
+        def parted(name: str) -> dict:
+            return {"op": "disconnect", "from": name}
+
+        for calls, is_idle in [
+            ([start, *links], False),
+            (links, False),  # nothing plays
+            ([start, *links[:2]], False),  # nothing is heard
+            ([start, links[0], links[2], at(128, links[1])], True),
+            ([start, *links[:2], at(128, links[2])], True),
+            ([start, *links, at(128, parted("g"))], False),  # nothing is heard any more
+            ([start, *links, at(128, parted("g")), at(256, links[1])], True),
+            ([start, *links, at(128, parted("h")), at(256, links[2])], True),
+            ([start, *links, at(128, {**parted("h"), "to": "x"}), at(256, links[2])], False),
+            ([start, *links, at(256, parted("h")), at(384, links[2])], False),  # it is over
+            ([start, *links, at(128, parted("g"), links[1])], False),
+            ([start, {"op": "stop", "node": "c", "when": 100}, *links], False),
         ]:
-            self.assertEqual(self.found(*calls), wanted)
+            with self.subTest(calls):
+                found = self.found(source, event, *calls)
+                self.assertEqual(departures.IDLE_TIMELINE in found, is_idle)
 
     def test_channels_of_assets(self) -> None:
         script = {"context": {"length": 256}, "calls": [

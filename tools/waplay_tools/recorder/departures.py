@@ -4,8 +4,7 @@ from collections.abc import Iterator
 from typing import Any
 
 from waplay_tools.recorder.channels import Call, Channels
-
-QUANTUM = 128
+from waplay_tools.recorder.hearing import QUANTUM, has_idle_timeline
 
 
 def all_calls(calls: list[Call]) -> Iterator[Call]:
@@ -98,50 +97,8 @@ def channel_departures(script: dict[str, Any], of_path: dict[str, int]) -> Itera
         yield "a buffer source that does not play yet has the channels of its buffer in Chromium"
 
 
-def dated(calls: list[Call], now: int = 0) -> Iterator[tuple[Call, int]]:
-    """The calls, each with the frame at which it is made."""
-    for call in calls:
-        yield call, now
-        yield from dated(call.get("then", []), call.get("time", now))
-
-
-def first_frames(calls: list[Call]) -> dict[str, float]:
-    """From which frame on each node plays or hears something. Those that never do are left out."""
-    first: dict[str, float] = {}
-    for call, now in dated(calls):
-        if call["op"] == "start":
-            first[call["node"]] = max(now, call.get("when", 0))
-    links = [(call["from"], call["to"], now) for call, now in dated(calls)
-             if call["op"] == "connect"]
-    while True:
-        found = dict(first)
-        for start, end, now in links:
-            if start in found:
-                found[end] = min(found.get(end, float("inf")), max(now, found[start]))
-        if found == first:
-            return first
-        first = found
-
-
-MOVING = ("linearRampToValueAtTime", "setValueCurveAtTime")
-
-
-def has_late_timeline(calls: list[Call]) -> bool:
-    """Whether a parameter is to move before its node plays or hears something."""
-    first = first_frames(calls)
-    begins: dict[tuple[str, str], int] = {}  # when the first event of a parameter comes
-    moving = set()
-    for call, now in dated(calls):
-        if "param" in call and "time" in call:
-            key = (call["node"], call["param"])
-            begins[key] = min(begins.get(key, call["time"]), max(now, call["time"]))
-            if call["op"] in MOVING:
-                moving.add(key)
-    return any(begins[key] < first.get(key[0], 0) // QUANTUM * QUANTUM for key in moving)
-
-
-LATE_TIMELINE = ("what a parameter was to do before its node plays or hears something begins with "
-                 "that in Chromium")
+IDLE_TIMELINE = ("a timeline stands still in Chromium while its node plays or hears nothing, or is "
+                 "not heard")
 
 BY_OPERATION = {
     "cancelScheduledValues": "Chromium holds the value of a ramp that is cancelled on its way, and "
@@ -171,8 +128,8 @@ def known_departures(script: dict[str, Any], losses: set[str],
     found = [*graph_departures(calls), *channel_departures(script, of_path or {})]
     found += [text for kind, text in BY_LOSS.items() if kind in losses]
     found += [text for op, text in BY_OPERATION.items() if op in ops]
-    if has_late_timeline(script["calls"]):
-        found.append(LATE_TIMELINE)
+    if has_idle_timeline(script["calls"]):
+        found.append(IDLE_TIMELINE)
     suspensions = [call for call in calls if call["op"] == "suspend"]
     length = script["context"]["length"]
     if any(is_at_an_edge(call["time"], length) for call in suspensions):
