@@ -40,8 +40,8 @@ export const LOSS_KINDS = {
   'feedback-rounded': {grade: 'rounded', isMeasured: true,
     says: 'filters that feed back what is rounded to 2^-24; the error is the most that this can add up to'},
 
-  'single-floats': {grade: 'exact',
-    says: 'filters whose history Chromium keeps in single floats; the error is its own, for a noise of full scale'},
+  'browser-rounded': {grade: 'exact',
+    says: 'filters that Chromium is less exact in than the script; the error is its own, for a sound of full scale'},
 
   // Rewritten calls.
   'lowered-ramp': {grade: 'lowered', says: 'linear ramps between frames; curves and values'},

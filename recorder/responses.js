@@ -5,7 +5,7 @@
 const ANGLES = 2048;
 const LONGEST = 2 ** 20; // frames after which what is left of an impulse is taken to go on for ever
 const BLOCK = 4096;
-const NOISE = 16384; // frames
+const TRIED = 8192; // frames of a noise, and of a step
 
 // The value of a polynomial in 1 / z, at an angle of the unit circle.
 function valueAt(terms, angle) {
@@ -95,16 +95,24 @@ export function feedbackError(row, step) {
     sum + step / 2 * impulseSum([{feedforward: [feedback[0]], feedback}, ...row.slice(place + 1)]), 0);
 }
 
-// How far a filter is off in Chromium, which keeps what is fed back in single floats: seen in a noise of full scale. It
-// is 1 at most, which stands for a filter that does not come to rest there.
-export function floatError(filter) {
-  const exact = runner(filter), single = runner(filter, Math.fround);
+// How far what comes out of `filter` is from what comes out of `exact`, both of which take one sample after the other: for a
+// noise and for a step of full scale. It is 1 at most, which stands for a filter that does not come to rest.
+function distance(filter, exact) {
   let noise = 1, most = 0;
-  for (let frame = 0; frame < NOISE; frame++) {
+  for (let frame = 0; frame < 2 * TRIED; frame++) {
     noise = (Math.imul(noise, 1664525) + 1013904223) >>> 0;
-    const sample = noise / 2 ** 31 - 1;
-    most = Math.max(most, Math.abs(exact(sample) - single(sample)));
+    const sample = frame < TRIED ? noise / 2 ** 31 - 1 : 1;
+    most = Math.max(most, Math.abs(filter(sample) - exact(sample)));
     if (!(most < 1)) return 1;
   }
   return most;
+}
+
+// How far a biquad is off in Chromium, which feeds back single floats.
+export const biquadErrorOfBrowser = biquad => distance(runner(biquad, Math.fround), runner(biquad));
+
+// How far an IIR filter is off there, which feeds back double ones in one section. A row of sections is exact.
+export function filterErrorOfBrowser(filter, {row, gain}) {
+  const runners = row.map(section => runner(section));
+  return distance(runner(filter), sample => gain * runners.reduce((sum, run) => run(sum), sample));
 }

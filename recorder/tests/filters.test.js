@@ -3,7 +3,7 @@
 import assert from 'node:assert/strict';
 import {test} from 'node:test';
 import {biquadCoefficients, roundedCoefficients} from '../filters.js';
-import {feedbackError, floatError, impulseSum, peakOf, responseError} from '../responses.js';
+import {biquadErrorOfBrowser, feedbackError, filterErrorOfBrowser, impulseSum, peakOf, responseError} from '../responses.js';
 import {squareFreeOf} from '../polynomials.js';
 import {sectionsOf} from '../sections.js';
 
@@ -87,8 +87,14 @@ test('rounding keeps the response of a low filter', () => {
   assert.ok(responseError([{...exact, feedforward: exact.feedforward.map(term => term * 32)}], [{feedforward, feedback}]) < 32 * 2e-4);
 });
 
-test('single floats are enough for a filter that forgets soon, and not for equal poles near the unit circle', () => {
-  const soon = {feedforward: [1], feedback: [1, -0.5]}, late = joined(Array(4).fill(lowpass(200, 3)));
-  assert.ok(floatError(soon) < 2 ** -22);
-  assert.ok(floatError(late) > 2 ** -10);
+test('Chromium is less exact in low biquads and in filters of high orders', () => {
+  assert.ok(biquadErrorOfBrowser(lowpass(3000, 3)) < 2 ** -20);
+  assert.ok(biquadErrorOfBrowser(lowpass(30, 3)) > 2 ** -11);
+  const errorOf = (section, times) => {
+    const filter = joined(Array(times).fill(section));
+    return filterErrorOfBrowser(filter, sectionsOf(filter.feedforward, filter.feedback));
+  };
+  assert.ok(errorOf(lowpass(200, 1), 2) < 2 ** -20);
+  assert.ok(errorOf(lowpass(30, 1), 3) > 2 ** -10);
+  assert.equal(errorOf(lowpass(30, 1), 4), 1);
 });

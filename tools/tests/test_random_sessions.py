@@ -72,7 +72,7 @@ class Judging(unittest.TestCase):
 
     def test_losses_that_are_no_cause(self) -> None:
         for made in (loss("lowered-target", "lowered"), loss("value-rounded", "rounded", 2**-25),
-                     loss("feedback-rounded", "heard", 0.01), loss("single-floats", "exact", 1),
+                     loss("feedback-rounded", "heard", 0.01), loss("browser-rounded", "exact", 1),
                      loss("delay-fraction", "heard", 0.5)):
             self.assertEqual(self.kind(run(0.5, 0.5, 0.25, kinds=(made,))), judging.NOT_TOLD)
 
@@ -82,10 +82,10 @@ class Judging(unittest.TestCase):
             found = [self.kind(run(0.5, 0.25, 0.25, text)), self.kind(run(0.5, 0.5, 0.25, text))]
             self.assertEqual([kind == judging.TOLD for kind in found], [of_page, of_script], text)
 
-    def test_single_floats_tell_of_what_is_large_enough(self) -> None:
+    def test_rounding_of_the_browser_tells_of_what_is_large_enough(self) -> None:
         for error, kind in [(0.02, judging.TOLD), (0.01, judging.NOT_TOLD), (None, judging.TOLD)]:
-            made = loss("single-floats", "exact", error)
-            self.assertEqual(self.kind(run(0.5, 0.25, 0.25, judging.FLOATS, kinds=(made,))), kind)
+            made = loss("browser-rounded", "exact", error)
+            self.assertEqual(self.kind(run(0.5, 0.25, 0.25, judging.ROUNDED, kinds=(made,))), kind)
 
     def test_a_late_change_tells_where_runs_differ(self) -> None:
         one = run(0.5, 0.5, 0.25, departures.LATE_CHANGE)
@@ -99,7 +99,7 @@ class Judging(unittest.TestCase):
     def test_a_script_that_is_not_its_page(self) -> None:
         self.assertEqual(self.kind(run(0.5, 0.50001, 0.5), lower=False), judging.NOT_TOLD)
         self.assertEqual(self.kind(run(0.5, 0.50001, 0.5)), judging.EXACT)
-        self.assertEqual(self.kind(run(0.5, 0.501, 0.5)), judging.NOT_TOLD)
+        self.assertEqual(self.kind(run(0.5, 0.75, 0.5)), judging.EXACT)
 
     def test_silence(self) -> None:
         page, replay = "silent silent: count 1", "silent: every sample of the replay is 0"

@@ -336,7 +336,6 @@ class Departures(unittest.TestCase):
         for calls, word in [
             ([*gains, *loop], "a cycle without a delay is not muted"),
             ([{"op": "createDelay", "as": "d", "delayTime": 9, "maxDelayTime": 9}], "newest frame"),
-            ([{"op": "createConstantSource", "as": "c"}], "not connected stands still"),
             ([{"op": "createChannelMerger", "as": "m"}], "inputs are all silent"),
             ([{"op": "cancelAndHoldAtTime"}], "cancelled on its way"),
             ([{"op": "suspend", "time": 0}], "at frame 0 or at the length"),
@@ -431,6 +430,30 @@ class Departures(unittest.TestCase):
                 found = self.found(source, event, *calls)
                 self.assertEqual(departures.IDLE_TIMELINE in found, is_idle)
 
+    def test_nodes_that_are_not_heard(self) -> None:
+        start = {"op": "start", "node": "c", "when": 100}
+        link, end = ({"op": "connect", "from": one, "to": other} for one, other in
+                     [("c", "g"), ("g", "destination")])
+        parted = {"op": "disconnect", "from": "g"}
+
+        def at(time: int, *calls: dict) -> dict:
+            return {"op": "suspend", "time": time, "then": list(calls)}
+
+        for source, node, calls, is_idle in [
+            ("createBufferSource", "createGain", [link, at(256, end)], True),
+            ("createConstantSource", "createGain", [link, at(256, end)], False),
+            ("createConstantSource", "createDelay", [link, at(256, end)], True),
+            ("createConstantSource", "createIIRFilter", [link, at(256, end)], True),
+            ("createBufferSource", "createGain", [link, end], False),
+            ("createBufferSource", "createGain", [link], False),
+            ("createBufferSource", "createGain", [link, end, at(256, parted)], False),
+            ("createBufferSource", "createGain", [link, end, at(256, parted), at(384, end)], True),
+            ("createConstantSource", "createDelay", [end, at(256, link)], False),
+        ]:
+            with self.subTest(node=node, calls=calls):
+                found = self.found({"op": source, "as": "c"}, {"op": node, "as": "g"}, start, *calls)
+                self.assertEqual(departures.IDLE_NODE in found, is_idle)
+
     def test_channels_of_assets(self) -> None:
         script = {"context": {"length": 256}, "calls": [
             {"op": "decodeAudioData", "as": "b", "path": "1-b1.wav"}, *self.STEREO[1:],
@@ -440,8 +463,7 @@ class Departures(unittest.TestCase):
 
     def test_by_losses(self) -> None:
         for kind, text in [("lowered-biquad", "Chromium ends biquads at an estimated tail"),
-                           ("single-floats",
-                            "Chromium keeps the history of IIR filters in single floats")]:
+                           ("browser-rounded", departures.BY_LOSS["browser-rounded"])]:
             self.assertEqual(self.found(losses=(kind,)), [text])
 
     def test_none(self) -> None:

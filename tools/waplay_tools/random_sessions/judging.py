@@ -16,9 +16,7 @@ from waplay_tools.recorder.replaying import FULL, Replay, greatest_difference
 from waplay_tools.recorder.results import Recorded, greatest
 
 TOLERANCE = 1e-4
-# How far a script that the browser plays may be from its page. Without lowering nothing is rounded.
-# With it there are targets, which Chromium takes for reached some 4e-5 of their step too early.
-APART = {False: 1e-6, True: TOLERANCE}
+APART = 1e-6  # how far a script that the browser plays may be from its page, where nothing is rounded
 LOUDER = 16.0  # how much louder than a filter what is heard of it may be, by several connections
 
 EXACT, NEAR = "exact", "within 0.0001"
@@ -29,11 +27,11 @@ CLASSES = (EXACT, NEAR, TOLD, NOT_TOLD, SILENT, SILENT_NOT_TOLD, FAILED)
 BAD = (NOT_TOLD, SILENT_NOT_TOLD, FAILED)
 
 DEPARTURE = "known departure: "
-FLOATS = BY_LOSS["single-floats"]
+ROUNDED = BY_LOSS["browser-rounded"]
 # What sets a page apart from its script, which has no targets and no biquads any more.
 OF_PAGES = {*BY_LOSS.values(), *BY_OPERATION.values()}
-# What both may have: a script has filters, cancels and holds of its own.
-OF_BOTH = {FLOATS, *BY_OPERATION.values()}
+# What both may have: a script has cancels and holds of its own.
+OF_BOTH = set(BY_OPERATION.values())
 # Sessions let what has a history hear a hum all the time, so no biquad comes to its end.
 NEVER = {BY_LOSS["lowered-biquad"]}
 
@@ -75,8 +73,9 @@ class Distances:
         self.changes = max(difference(one.rendered, other.rendered) for one, other in pairs)
 
     def is_off(self, lower: bool) -> bool:
-        """Whether a line of the take has to tell of it."""
-        return self.replay > TOLERANCE or self.page > APART[lower]
+        """Whether a line of the take has to tell of it. What the browser makes of a lowered script
+        has faults of its own, as where curves touch, so that is not asked by itself."""
+        return self.replay > TOLERANCE or (self.page > APART and not lower)
 
     def greatest(self) -> float:
         """The greater one of what a line has to tell of."""
@@ -114,7 +113,7 @@ def departures_that_tell(run: Run, distances: Distances) -> Iterator[str]:
             continue
         if text == LATE_CHANGE and distances.changes <= TOLERANCE:
             continue
-        if text == FLOATS and not is_large(run, "single-floats", distances.greatest()):
+        if text == ROUNDED and not is_large(run, "browser-rounded", distances.greatest()):
             continue
         is_of_page = text in OF_PAGES and distances.page > TOLERANCE
         is_of_script = (text not in OF_PAGES or text in OF_BOTH) and distances.script > TOLERANCE

@@ -4,7 +4,7 @@ from collections.abc import Iterator
 from typing import Any
 
 from waplay_tools.recorder.channels import Call, Channels
-from waplay_tools.recorder.hearing import QUANTUM, has_idle_timeline
+from waplay_tools.recorder.hearing import QUANTUM, Spans, has_idle_node, has_idle_timeline
 
 
 def all_calls(calls: list[Call]) -> Iterator[Call]:
@@ -70,9 +70,6 @@ def graph_departures(calls: list[Call]) -> Iterator[str]:
         yield "a cycle without a delay is not muted in Chromium"
     if any(is_at_its_most(calls, delay) for delay in delays):
         yield "a delay equal to maxDelayTime may leak the newest frame in Chromium"
-    sources = ("createConstantSource", "createBufferSource")
-    if any(call["op"] in sources and call["as"] not in edges for call in calls):
-        yield "a source that is not connected stands still in Chromium"
 
 
 def channel_departures(script: dict[str, Any], of_path: dict[str, int]) -> Iterator[str]:
@@ -97,6 +94,7 @@ def channel_departures(script: dict[str, Any], of_path: dict[str, int]) -> Itera
         yield "a buffer source that does not play yet has the channels of its buffer in Chromium"
 
 
+IDLE_NODE = "a source, a delay or a filter stands still in Chromium while it is not heard"
 IDLE_TIMELINE = ("a timeline stands still in Chromium while its node plays or hears nothing, or is "
                  "not heard")
 
@@ -111,7 +109,8 @@ BY_LOSS = {
     "lowered-target": "a target is late in Chromium where another event lies in the same quantum",
     "time-near-frame": "a time that is by a rounding behind a frame counts from the next one in "
                        "Chromium",
-    "single-floats": "Chromium keeps the history of IIR filters in single floats",
+    "browser-rounded": "Chromium rounds what filters feed back: to single floats in biquads, to double "
+                       "ones in IIR filters",
     "buffer-written": "Chromium plays what is written into a buffer after a source acquired it",
 }
 
@@ -128,8 +127,11 @@ def known_departures(script: dict[str, Any], losses: set[str],
     found = [*graph_departures(calls), *channel_departures(script, of_path or {})]
     found += [text for kind, text in BY_LOSS.items() if kind in losses]
     found += [text for op, text in BY_OPERATION.items() if op in ops]
-    if has_idle_timeline(script["calls"]):
+    spans = Spans(script["calls"])
+    if has_idle_timeline(script["calls"], spans):
         found.append(IDLE_TIMELINE)
+    if has_idle_node(script["calls"], spans):
+        found.append(IDLE_NODE)
     suspensions = [call for call in calls if call["op"] == "suspend"]
     length = script["context"]["length"]
     if any(is_at_an_edge(call["time"], length) for call in suspensions):

@@ -101,26 +101,56 @@ def reached(begin: Iterable[str], links: Iterable[tuple[str, str]]) -> set[str]:
     return seen
 
 
-def has_idle_timeline(calls: list[Call]) -> bool:
+# Nodes whose output hangs on how far they have come.
+GOING_ON = ("createBufferSource", "createDelay", "createIIRFilter")
+
+
+class Spans:
+    """What plays or hears something, and what is heard, between the frames at which that changes."""
+
+    def __init__(self, calls: list[Call]) -> None:
+        self.links, self.sources = links_of(calls), sources_of(calls)
+        times = {0.0, NEVER, *(now for _, now in dated(calls))}
+        times |= {at for source in self.sources.values() for at in (source.since, source.until)}
+        self.bounds = sorted(times)
+        self.is_too_much = len(times) * len(self.links) > MOST_WORK
+
+    def __iter__(self) -> Iterator[tuple[float, float, set[str], set[str]]]:
+        for begin, end in zip(self.bounds, self.bounds[1:]):
+            here = [link for link in self.links if link.since <= begin < link.until]
+            playing = reached([name for name, source in self.sources.items()
+                               if source.since <= begin < source.until],
+                              ((link.start, link.end) for link in here))
+            heard = reached(["destination"], ((link.end, link.start) for link in here))
+            yield begin, end, playing, heard
+
+
+def has_idle_timeline(calls: list[Call], spans: Spans) -> bool:
     """Whether a parameter is to move while its node plays or hears nothing, or is not heard, and
     does both later."""
-    links, sources, timelines = links_of(calls), sources_of(calls), timelines_of(calls)
-    times = {0.0, *(now for _, now in dated(calls))}
-    times |= {frame for source in sources.values() for frame in (source.since, source.until)}
-    if not timelines or len(times) * len(links) > MOST_WORK:
-        return bool(timelines)
+    timelines = timelines_of(calls)
     idle: set[int] = set()  # numbers of timelines that stood still
-    bounds = sorted(times | {NEVER})
-    for begin, end in zip(bounds, bounds[1:]):
-        here = [link for link in links if link.since <= begin < link.until]
-        playing = reached([name for name, source in sources.items()
-                           if source.since <= begin < source.until],
-                          ((link.start, link.end) for link in here))
-        heard = reached(["destination"], ((link.end, link.start) for link in here))
+    if not timelines or spans.is_too_much:
+        return bool(timelines)
+    for begin, end, playing, heard in spans:
         for number, line in enumerate(timelines):
             if line.node in playing and line.node in heard:
                 if number in idle:
                     return True
             elif line.first < end and line.last > begin:
                 idle.add(number)
+    return False
+
+
+def has_idle_node(calls: list[Call], spans: Spans) -> bool:
+    """Whether a source, a delay or a filter plays or hears something while it is not heard, and is
+    heard later."""
+    going = {call["as"] for call, _ in dated(calls) if call["op"] in GOING_ON}
+    idle: set[str] = set()  # those that stood still
+    if not going or spans.is_too_much:
+        return bool(going)
+    for _, _, playing, heard in spans:
+        if idle & heard:
+            return True
+        idle |= going & playing - heard
     return False
