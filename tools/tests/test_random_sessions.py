@@ -111,7 +111,8 @@ class Judging(unittest.TestCase):
     def test_a_replay_that_failed(self) -> None:
         failed = run(0.5, 0.5, 0.5)
         failed.replay = Replay(["replay: failed, no file"], "fails")
-        self.assertEqual(judge([failed], True), Judgement(judging.FAILED, "replay: failed, no file"))
+        found = judge([failed], True)
+        self.assertEqual(found, Judgement(judging.FAILED, "replay: failed, no file"))
 
     def test_departures_are_named_as_replays_name_them(self) -> None:
         self.assertLessEqual(judging.NEVER | judging.OF_BOTH, judging.OF_PAGES)
@@ -138,7 +139,7 @@ class Runs(unittest.TestCase):
                 mock.patch.object(command, "find_program", lambda _: (Path("program"), "")), \
                 mock.patch.object(command, "find_chromium", lambda _: "chromium"), \
                 contextlib.redirect_stdout(told):
-            return command.main(list(words)), told.getvalue().splitlines()[-1]
+            return command.run(command.parser().parse_args(words)), told.getvalue().splitlines()[-1]
 
     def test_a_line_for_each_and_counts(self) -> None:
         status, last = self.run_of("3", "7", s4=judging.TOLD, s5=judging.SILENT)

@@ -451,7 +451,8 @@ class Departures(unittest.TestCase):
             ("createConstantSource", "createDelay", [end, at(256, link)], False),
         ]:
             with self.subTest(node=node, calls=calls):
-                found = self.found({"op": source, "as": "c"}, {"op": node, "as": "g"}, start, *calls)
+                made = [{"op": source, "as": "c"}, {"op": node, "as": "g"}]
+                found = self.found(*made, start, *calls)
                 self.assertEqual(departures.IDLE_NODE in found, is_idle)
 
     def test_channels_of_assets(self) -> None:

@@ -135,9 +135,10 @@ class RandomSessions(unittest.TestCase):
         for words, last in SESSIONS:
             with self.subTest(words=words):
                 told = io.StringIO()
+                asked = random_sessions.parser().parse_args(
+                    ["1", str(last), "--chromium", str(CHROMIUM), *words])
                 with contextlib.redirect_stdout(told):
-                    status = random_sessions.main(["1", str(last), "--chromium", str(CHROMIUM),
-                                                   *words])
+                    status = random_sessions.run(asked)
                 lines = [line for line in told.getvalue().splitlines()
                          if re.search("not told|failed", line)]
                 self.assertEqual(status, 0, "\n".join(lines))

@@ -8,6 +8,7 @@ failed.
 """
 
 import argparse
+import array
 import collections
 import os
 import queue
@@ -18,6 +19,7 @@ import tempfile
 import threading
 from collections.abc import Iterator
 from pathlib import Path
+from typing import Any
 
 from waplay_tools.chromium import Browser, BrowserFault, find_chromium
 from waplay_tools.random_sessions import judging
@@ -64,11 +66,11 @@ class Sessions:
         wishes = Wishes(page="", lower=words.lower, realtime=LENGTH if words.realtime else 0)
         browser.inject(wishes.options() + recorder_text())
 
-    def ask(self, expression: str) -> object:
+    def ask(self, expression: str) -> Any:
         """The value of an expression in the page."""
         return self.browser.evaluate(expression, timeout=WAIT)
 
-    def recorded(self, seed: int) -> tuple[Recorded, list]:
+    def recorded(self, seed: int) -> tuple[Recorded, list[array.array]]:
         """Records a session in a page of its own, and plays its script."""
         open_modules(self.browser, self.served, ["random_sessions.js"])
         options = f"{str(self.words.lower).lower()}, {str(self.words.realtime).lower()}"
@@ -92,7 +94,7 @@ class Sessions:
     def judged(self, seed: int) -> Judgement:
         """Judges a session. One that is off is run again, as Chromium may render it otherwise."""
         with tempfile.TemporaryDirectory(prefix="waplay-session-") as name:
-            folder, runs = Path(name), []
+            folder, runs = Path(name), list[Run]()
             while len(runs) < MOST_RUNS:
                 runs.append(self.run(seed, folder))
                 found = judging.judge(runs, self.words.lower)
@@ -104,7 +106,7 @@ class Sessions:
 
 
 def judgements(words: argparse.Namespace, program: Path, chromium: str,
-               seeds: "queue.Queue[int]") -> Iterator[tuple[int, Judgement]]:
+               seeds: queue.Queue[int]) -> Iterator[tuple[int, Judgement]]:
     """Judges seeds until there are none left. What a browser failed at is tried in another one."""
     failed: collections.Counter[int] = collections.Counter()
     while not seeds.empty():
@@ -132,7 +134,8 @@ class Lines:
 
     def __init__(self, words: argparse.Namespace) -> None:
         self.path, self.lock = words.log, threading.Lock()
-        self.head = "random sessions" + ", lowered" * words.lower + ", in real time" * words.realtime
+        self.head = "random sessions"
+        self.head += ", lowered" * words.lower + ", in real time" * words.realtime
         self.kinds: dict[int, str] = {}
         if self.path and self.path.exists():
             head, *lines = self.path.read_text(encoding="utf-8").splitlines() or [""]
@@ -163,14 +166,14 @@ def summary(kinds: list[str]) -> str:
         f"{counts[kind]} {kind}" for kind in judging.CLASSES)
 
 
-def main(arguments: list[str] | None = None) -> int:
-    """Runs the command, and gives its status."""
-    words = parser().parse_args(arguments)
+def run(words: argparse.Namespace) -> int:
+    """Judges what is asked for, and gives the status."""
     program, reason = find_program(words.waplay)
     chromium = find_chromium(words.chromium)
     if program is None or not chromium:
         raise SystemExit(f"tools/random-sessions: {reason or 'there is no Chromium'}")
-    lines, seeds = Lines(words), queue.Queue()
+    lines = Lines(words)
+    seeds: queue.Queue[int] = queue.Queue()
     wanted = range(words.first, words.last + 1)
     for seed in wanted:
         if seed not in lines.kinds:
@@ -188,6 +191,11 @@ def main(arguments: list[str] | None = None) -> int:
     kinds = [lines.kinds.get(seed, judging.FAILED) for seed in wanted]
     print(summary(kinds))
     return 1 if any(kind in judging.BAD for kind in kinds) else 0
+
+
+def main() -> int:
+    """Does what the command line asks for."""
+    return run(parser().parse_args())
 
 
 if __name__ == "__main__":

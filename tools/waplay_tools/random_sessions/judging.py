@@ -2,8 +2,8 @@
 
 The browser also plays the script. Where that sounds like the page, the script is right, and what
 differs is how the program and the browser perform it. Where that sounds like the replay, the script
-is not what the page did. So a line of the take tells of a difference only where it is about the side
-on which the two part.
+is not what the page did. So a line of the take tells of a difference only where it is about the
+side on which the two part.
 """
 
 import array
@@ -16,7 +16,7 @@ from waplay_tools.recorder.replaying import FULL, Replay, greatest_difference
 from waplay_tools.recorder.results import Recorded, greatest
 
 TOLERANCE = 1e-4
-APART = 1e-6  # how far a script that the browser plays may be from its page, where nothing is rounded
+APART = 1e-6  # how far a script that is not lowered may be from its page where the browser plays it
 LOUDER = 16.0  # how much louder than a filter what is heard of it may be, by several connections
 
 EXACT, NEAR = "exact", "within 0.0001"

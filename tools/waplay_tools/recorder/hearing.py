@@ -106,7 +106,7 @@ GOING_ON = ("createBufferSource", "createDelay", "createIIRFilter")
 
 
 class Spans:
-    """What plays or hears something, and what is heard, between the frames at which that changes."""
+    """What plays or hears something and what is heard, between the frames where that changes."""
 
     def __init__(self, calls: list[Call]) -> None:
         self.links, self.sources = links_of(calls), sources_of(calls)

@@ -1,4 +1,4 @@
-"""Lets the browser play scripts, by recorder/playback.js, to compare that with what was recorded."""
+"""Lets the browser play scripts (recorder/playback.js), to compare that with what was recorded."""
 
 import array
 import shutil
