@@ -98,8 +98,22 @@ function cutTarget(parameter, place) {
   return [];
 }
 
+// A value that is put into a rewritten ramp, behind which nothing comes: the ramp begins there, and what was there before
+// it comes back up to then. Gives the calls, or null where it is none.
+function bendRamp(parameter, {place, value}) {
+  const {timeline, recording} = parameter, index = timeline.indexAt(place), ramp = timeline.events[index + 1];
+  const isWithin = ramp && isRamp(ramp) && ramp.isLowered && ramp.begin <= place && index + 2 === timeline.events.length;
+  if (!isWithin) return null;
+  const frame = Math.ceil(place), from = Math.max(ramp.first, recording.now);
+  const before = from < frame ? [setCall(parameter, from, ramp.startValue)] : [];
+  const calls = rampCalls(parameter, ramp, place, value);
+  Object.assign(ramp, {calls, startValue: value, begin: place, first: frame});
+  return [holdCall(parameter, from), ...before, setCall(parameter, frame, value), ...calls];
+}
+
 function lowerSet(parameter, event) {
-  const cut = cutTarget(parameter, event.place);
+  const cut = cutTarget(parameter, event.place), bent = cut && bendRamp(parameter, event);
+  if (bent) return {calls: [...cut, ...bent], keepsCall: false, kind: 'lowered-ramp'};
   return {calls: cut || [], keepsCall: true, failed: !cut || bendsCurve(parameter, event.place)};
 }
 

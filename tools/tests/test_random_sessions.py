@@ -82,6 +82,12 @@ class Judging(unittest.TestCase):
             found = [self.kind(run(0.5, 0.25, 0.25, text)), self.kind(run(0.5, 0.5, 0.25, text))]
             self.assertEqual([kind == judging.TOLD for kind in found], [of_page, of_script], text)
 
+    def test_both_sides_may_have_a_part(self) -> None:
+        script = 0.5 + 0.8 * judging.TOLERANCE
+        for text in (TARGET, DELAY):
+            found = self.kind(run(0.5, script, 0.5 + 1.2 * judging.TOLERANCE, text))
+            self.assertEqual(found, judging.TOLD, text)
+
     def test_rounding_of_the_browser_tells_of_what_is_large_enough(self) -> None:
         for error, kind in [(0.02, judging.TOLD), (0.01, judging.NOT_TOLD), (None, judging.TOLD)]:
             made = loss("browser-rounded", "exact", error)

@@ -81,6 +81,11 @@ class Distances:
         """The greater one of what a line has to tell of."""
         return max(self.replay, self.page)
 
+    def part(self, distance: float) -> bool:
+        """Whether one of the two sides has so much of the difference that its cause may lie there.
+        One of them has at least a half of it."""
+        return distance >= self.greatest() / 4
+
 
 def is_large(run: Run, kind: str, apart: float) -> bool:
     """Whether the error that a loss tells is large enough for a difference."""
@@ -94,7 +99,7 @@ def may_be_heard(run: Run, kind: str, distances: Distances) -> bool:
     back is rounded by the program alone, and other numbers are rounded in the script."""
     side = distances.script if kind == "feedback-rounded" else distances.page
     is_enough = kind == "delay-fraction" or is_large(run, kind, distances.greatest())
-    return side > TOLERANCE and is_enough
+    return distances.part(side) and is_enough
 
 
 def losses_that_tell(run: Run, distances: Distances) -> Iterator[str]:
@@ -115,8 +120,9 @@ def departures_that_tell(run: Run, distances: Distances) -> Iterator[str]:
             continue
         if text == ROUNDED and not is_large(run, "browser-rounded", distances.greatest()):
             continue
-        is_of_page = text in OF_PAGES and distances.page > TOLERANCE
-        is_of_script = (text not in OF_PAGES or text in OF_BOTH) and distances.script > TOLERANCE
+        is_of_page = text in OF_PAGES and distances.part(distances.page)
+        is_of_script = (text not in OF_PAGES or text in OF_BOTH) and distances.part(
+            distances.script)
         if is_of_page or is_of_script:
             yield f"departure: {text}"
 
