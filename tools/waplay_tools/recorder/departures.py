@@ -4,7 +4,8 @@ from collections.abc import Iterator
 from typing import Any
 
 from waplay_tools.recorder.channels import Call, Channels
-from waplay_tools.recorder.hearing import QUANTUM, Spans, has_idle_node, has_idle_timeline
+from waplay_tools.recorder.hearing import (QUANTUM, Spans, Ways, has_idle_node,
+                                           has_idle_timeline, reached, ways_of)
 
 
 def all_calls(calls: list[Call]) -> Iterator[Call]:
@@ -14,25 +15,10 @@ def all_calls(calls: list[Call]) -> Iterator[Call]:
         yield from all_calls(call.get("then", []))
 
 
-def reached(start: str, links: dict[str, set[str]]) -> set[str]:
-    """What is reached from a node by at least one link."""
-    seen: set[str] = set()
-    left = [start]
-    while left:
-        for to in links.get(left.pop(), ()):
-            if to not in seen:
-                seen.add(to)
-                left.append(to)
-    return seen
-
-
-def cycles_of(edges: dict[str, set[str]]) -> list[set[str]]:
+def cycles_of(edges: Ways) -> list[set[str]]:
     """For each node the nodes that lie on ways from it back to itself."""
-    back: dict[str, set[str]] = {}
-    for start, ends in edges.items():
-        for end in ends:
-            back.setdefault(end, set()).add(start)
-    return [reached(node, edges) & reached(node, back) for node in edges]
+    back = ways_of((end, start) for start, ends in edges.items() for end in ends)
+    return [reached(edges[node], edges) & reached(back.get(node, ()), back) for node in edges]
 
 
 def changes_at_once(call: Call) -> bool:
@@ -57,10 +43,8 @@ def is_at_its_most(calls: list[Call], delay: Call) -> bool:
 
 def graph_departures(calls: list[Call]) -> Iterator[str]:
     """Departures that the nodes and connections show."""
-    edges: dict[str, set[str]] = {}
-    for call in calls:
-        if call["op"] in ("connect", "connectParam"):
-            edges.setdefault(call["from"], set()).add(call["to"])
+    edges = ways_of((call["from"], call["to"]) for call in calls
+                    if call["op"] in ("connect", "connectParam"))
     delays = [call for call in calls if call["op"] == "createDelay"]
     names = {call["as"] for call in delays}
     cycles = cycles_of(edges)

@@ -11,6 +11,8 @@ NEVER = float("inf")
 MOVING = ("linearRampToValueAtTime", "setValueCurveAtTime")
 MOST_WORK = 5_000_000  # links that are looked at; where there are more, anything may be
 
+Ways = dict[str, set[str]]
+
 
 @dataclasses.dataclass
 class Link:
@@ -87,12 +89,18 @@ def timelines_of(calls: list[Call]) -> list[Timeline]:
     return [line for line in found.values() if line.is_moving]
 
 
-def reached(begin: Iterable[str], links: Iterable[tuple[str, str]]) -> set[str]:
-    """These nodes, and all that links lead to from them."""
-    ways: dict[str, list[str]] = {}
+def ways_of(links: Iterable[tuple[str, str]]) -> Ways:
+    """Where links lead to from each node."""
+    ways: Ways = {}
     for start, end in links:
-        ways.setdefault(start, []).append(end)
-    seen, left = set(begin), list(begin)
+        ways.setdefault(start, set()).add(end)
+    return ways
+
+
+def reached(begin: Iterable[str], ways: Ways) -> set[str]:
+    """These nodes, and all that ways lead to from them."""
+    seen = set(begin)
+    left = list(seen)
     while left:
         for end in ways.get(left.pop(), ()):
             if end not in seen:
@@ -118,10 +126,10 @@ class Spans:
     def __iter__(self) -> Iterator[tuple[float, float, set[str], set[str]]]:
         for begin, end in zip(self.bounds, self.bounds[1:]):
             here = [link for link in self.links if link.since <= begin < link.until]
-            playing = reached([name for name, source in self.sources.items()
-                               if source.since <= begin < source.until],
-                              ((link.start, link.end) for link in here))
-            heard = reached(["destination"], ((link.end, link.start) for link in here))
+            sounding = [name for name, source in self.sources.items()
+                        if source.since <= begin < source.until]
+            playing = reached(sounding, ways_of((link.start, link.end) for link in here))
+            heard = reached(["destination"], ways_of((link.end, link.start) for link in here))
             yield begin, end, playing, heard
 
 
