@@ -6,6 +6,8 @@ import array
 import contextlib
 import io
 import json
+import signal
+import time
 import unittest
 from pathlib import Path
 from unittest import mock
@@ -167,6 +169,20 @@ class Runs(unittest.TestCase):
         self.assertIn("5 sessions: 3 exact, 1 within 0.0001, 0 off and told, 1 off and not", last)
         status, _ = self.run_of("3", "5", "--log", log)
         self.assertEqual((status, self.seen), (0, []))
+
+    def test_one_that_is_stopped_leaves_no_seeds(self) -> None:
+        def judged(words: argparse.Namespace, program: Path, chromium: str, seeds) -> object:
+            while not seeds.empty():
+                self.seen.append(seeds.get())
+                time.sleep(0.2)
+                yield self.seen[-1], Judgement(judging.EXACT, "0")
+
+        with mock.patch.object(self, "judged", judged):
+            signal.signal(signal.SIGALRM, command.stop_at)
+            signal.setitimer(signal.ITIMER_REAL, 0.1)
+            with self.assertRaises(SystemExit):
+                self.run_of("1", "100")
+        self.assertEqual(self.seen, [1])
 
     def test_a_log_of_other_sessions(self) -> None:
         log = str(temporary_folder(self) / "log")

@@ -10,15 +10,18 @@ failed.
 import argparse
 import array
 import collections
+import contextlib
 import os
 import queue
 import re
 import shutil
+import signal
 import sys
 import tempfile
 import threading
 from collections.abc import Iterator
 from pathlib import Path
+from types import FrameType
 from typing import Any
 
 from waplay_tools.chromium import Browser, BrowserFault, find_chromium
@@ -186,16 +189,31 @@ def run(words: argparse.Namespace) -> int:
     threads = [threading.Thread(target=work) for _ in range(words.browsers)]
     for thread in threads:
         thread.start()
-    for thread in threads:
-        thread.join()
+    try:
+        for thread in threads:
+            thread.join()
+    finally:
+        with contextlib.suppress(queue.Empty):  # where it is stopped, each browser ends its session
+            while True:
+                seeds.get_nowait()
+        for thread in threads:
+            thread.join()
     kinds = [lines.kinds.get(seed, judging.FAILED) for seed in wanted]
     print(summary(kinds))
     return 1 if any(kind in judging.BAD for kind in kinds) else 0
 
 
+def stop_at(number: int, _: FrameType | None) -> None:
+    """Ends the program once the sessions that are being recorded are over."""
+    signal.signal(number, signal.SIG_IGN)
+    raise SystemExit(128 + number)
+
+
 def main() -> int:
     """Does what the command line asks for."""
-    return run(parser().parse_args())
+    words = parser().parse_args()
+    signal.signal(signal.SIGTERM, stop_at)
+    return run(words)
 
 
 if __name__ == "__main__":
