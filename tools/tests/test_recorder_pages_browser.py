@@ -59,6 +59,10 @@ SPECIAL: dict[str, tuple[Any, Look]] = {
 # Random sessions: the options, and the last seed.
 SESSIONS = [([], 150), (["--lower"], 150), (["--realtime"], 30), (["--realtime", "--lower"], 30)]
 
+# Where a replay of an example differs, its cause: the echo of the bells feeds back.
+LOOP = "known departure: a loop through a delay is one quantum longer in Chromium"
+DEPARTURES = {"bells": LOOP}
+
 # Of the examples: options, number of files, verdict, greatest difference when played again.
 EXAMPLES = {
     "bells": (["--lower"], 10, "lowered", 3e-7),
@@ -169,7 +173,10 @@ class Examples(unittest.TestCase):
             with self.subTest(name):
                 folder = temporary_folder(self)
                 run = run_record(RECORDER / "examples" / f"{name}.html", folder, *words, "--replay")
-                self.assertEqual((run.returncode, run.stderr), (0, ""))
+                wanted = DEPARTURES.get(name)
+                self.assertEqual(run.returncode, 4 if wanted else 0, run.stderr)
+                if wanted:
+                    self.assertIn(wanted, run.stdout)
 
 
 if __name__ == "__main__":
