@@ -352,6 +352,8 @@ class Departures(unittest.TestCase):
               {"op": "createBufferSource", "as": "s", "buffer": "b"},
               {"op": "start", "node": "s", "when": 200})
     FED = ({"op": "connect", "from": "s", "to": "n"}, {"op": "connect", "from": "n", "to": "m"})
+    HUM = ({"op": "createConstantSource", "as": "h"}, {"op": "start", "node": "h"},
+           {"op": "connect", "from": "h", "to": "n"})
     EXPLICIT = {"op": "setChannelCountMode", "node": "n", "value": "explicit"}
     DISCRETE = {"op": "setChannelInterpretation", "node": "n", "value": "discrete"}
 
@@ -370,6 +372,8 @@ class Departures(unittest.TestCase):
             ([delay, self.EXPLICIT], []),
             ([gain], []),
             ([gain, self.DISCRETE], [unplayed]),
+            ([gain, self.EXPLICIT, self.DISCRETE], [departures.SILENT_INPUTS, unplayed]),
+            ([gain, self.EXPLICIT, self.DISCRETE, *self.HUM], [unplayed]),
             ([self.node("createChannelSplitter")], [unplayed]),
             ([self.node("createIIRFilter")], [anew]),
             # A filter behind a gain that always has two channels. Where it is taken away from it
@@ -454,6 +458,13 @@ class Departures(unittest.TestCase):
                 made = [{"op": source, "as": "c"}, {"op": node, "as": "g"}]
                 found = self.found(*made, start, *calls)
                 self.assertEqual(departures.IDLE_NODE in found, is_idle)
+
+    def test_calls_that_were_refused(self) -> None:
+        script = {"context": {"length": 256}, "calls": [
+            *self.STEREO, self.node("createDelay"), *self.FED]}
+        number = script["calls"].index(self.FED[0]) + 1
+        self.assertEqual(len(departures.known_departures(script, set())), 1)
+        self.assertEqual(departures.known_departures(script, set(), None, {number: "x"}), [])
 
     def test_channels_of_assets(self) -> None:
         script = {"context": {"length": 256}, "calls": [

@@ -95,6 +95,20 @@ class Channels:
         self.most, self.least = dict.fromkeys(self.nodes, 1), dict.fromkeys(self.nodes, 1)
         while self._grow():
             pass
+        self.fed = self._always_fed(calls)
+
+    def _always_fed(self, calls: list[Call]) -> set[str]:
+        """The nodes that a source without an end feeds all the time."""
+        stopped = {call["node"] for inside in lists_of(calls) for call in inside
+                   if call["op"] == "stop"}
+        fed = {call["node"] for call in calls if call["op"] == "start" and not call.get("when")}
+        fed = {name for name in fed - stopped if name in self.nodes
+               and self.nodes[name].creation["op"] == "createConstantSource"}
+        while True:
+            more = {name for name, node in self.nodes.items() if node.lasting & fed} - fed
+            if not more:
+                return fed
+            fed |= more
 
     def _grow(self) -> bool:
         """Goes once through all nodes, from the numbers that are known to greater ones."""
@@ -123,6 +137,13 @@ class Channels:
     def is_changing(self, node: Node) -> bool:
         """Whether the number of channels of a node's input may change."""
         return self.input(node) > self.least_input(node)
+
+    def may_fall_silent(self, name: str) -> bool:
+        """Whether a node that has several channels by itself may be without an input that plays."""
+        node = self.nodes[name]
+        has_own = node.creation["op"] == "createChannelMerger" or (
+            node.creation["op"] in PASSING and "explicit" in node.modes)
+        return has_own and self.most[name] > 1 and name not in self.fed
 
     def tell_silence(self, of_context: int) -> bool:
         """Whether a silent output of several channels is heard beside what has one: where that is

@@ -1,6 +1,7 @@
 """Where Chromium is known to depart from the profile, as far as the calls of a script show it."""
 
-from collections.abc import Iterator
+import itertools
+from collections.abc import Iterable, Iterator
 from typing import Any
 
 from waplay_tools.recorder.channels import Call, Channels
@@ -56,6 +57,22 @@ def graph_departures(calls: list[Call]) -> Iterator[str]:
         yield "a delay equal to maxDelayTime may leak the newest frame in Chromium"
 
 
+SILENT_INPUTS = ("a merger, or a node with a number of channels of its own, has one channel in "
+                 "Chromium while its inputs are all silent")
+
+
+def accepted(calls: list[Call], refused: set[int], numbers: Iterator[int]) -> list[Call]:
+    """The calls without those that were refused, by their ordinals."""
+    kept = []
+    for call in calls:
+        number = next(numbers)
+        if "then" in call:
+            call = {**call, "then": accepted(call["then"], refused, numbers)}
+        if number not in refused:
+            kept.append(call)
+    return kept
+
+
 def channel_departures(script: dict[str, Any], of_path: dict[str, int]) -> Iterator[str]:
     """Departures of nodes whose number of channels changes."""
     calls = script["calls"]
@@ -69,9 +86,8 @@ def channel_departures(script: dict[str, Any], of_path: dict[str, int]) -> Itera
     if not channels.tell_silence(script["context"].get("channels", 1)):
         return
     nodes = channels.nodes.items()
-    if any(node.creation["op"] == "createChannelMerger" and channels.most[name] > 1
-           for name, node in nodes):
-        yield "a merger whose inputs are all silent has one channel in Chromium"
+    if any(map(channels.may_fall_silent, channels.nodes)):
+        yield SILENT_INPUTS
     at_once = {call["node"] for call in calls if call["op"] == "start" and not call.get("when")}
     if any(node.creation["op"] == "createBufferSource" and channels.most[name] > 1
            and name not in at_once for name, node in nodes):
@@ -103,9 +119,12 @@ LATE_CHANGE = ("a change at a suspension may come one quantum late in Chromium, 
 
 
 def known_departures(script: dict[str, Any], losses: set[str],
-                     of_path: dict[str, int] | None = None) -> list[str]:
+                     of_path: dict[str, int] | None = None,
+                     refused: Iterable[int] = ()) -> list[str]:
     """Where Chromium is known to differ from the profile, as far as the calls show it. `of_path`
-    has the number of channels of each asset."""
+    has the number of channels of each asset, and `refused` the ordinals of the calls that it
+    refused."""
+    script = {**script, "calls": accepted(script["calls"], set(refused), itertools.count(1))}
     calls = list(all_calls(script["calls"]))
     ops = {call["op"] for call in calls}
     found = [*graph_departures(calls), *channel_departures(script, of_path or {})]

@@ -141,7 +141,7 @@ def compare(replayed: bytes, transcript: str, recorded: Recorded, script: dict,
         losses = {loss["kind"] for loss in recorded.kinds}
         channels = {asset.path: asset.channels for asset in recorded.assets}
         lines += [f"known departure: {text}"
-                  for text in known_departures(script, losses, channels)]
+                  for text in known_departures(script, losses, channels, recorded.outcomes)]
     outcome = "differs" if difference > tolerance or recorded_otherwise(lines) else "agrees"
     return Replay(lines, outcome, difference, is_silent)
 
