@@ -4,7 +4,7 @@
 // share a rendering: each has channels of its own, and sources that do not sound at one time may have the same
 // ones. What the page did to a source at a suspension or a timer is done to its copy at the same frame.
 
-import {contentOf} from './buffers.js';
+import {contentOf, gatesOf} from './buffers.js';
 import {endOfSource} from './endings.js';
 import {BUFFER_LIMIT} from './limits.js';
 import {native} from './native.js';
@@ -33,16 +33,18 @@ function framesOf(recording, source) {
   return {first, last: Math.max(first, last), end: Math.min(recording.length, Math.max(first, last) + QUANTUM)};
 }
 
-// The sources that are baked: {source, first, last, end, channels}. Sizes are looked at first: what has no room in the
-// buffers of a script is not baked.
+// The sources that are baked: {source, first, last, end, channels, gates}. The channels are those of the copy, of which the
+// last one may be a gate, see buffers.js. Sizes are looked at first: what has no room in the buffers of a script is not
+// baked.
 function planOf(recording) {
   const names = namesToBake(recording), parts = [];
   let samples = 0;
   for (const source of recording.sources) {
     if (!source.isBakeable || (source.kind !== 'OscillatorNode' && !names.has(source.name))) continue;
-    const part = {source, first: 0, last: 0, end: 0, channels: source.kind === 'OscillatorNode' ? 1 : source.channels || 1};
+    const count = source.kind === 'OscillatorNode' ? 1 : source.channels || 1;
+    const part = {source, first: 0, last: 0, end: 0, channels: count + gatesOf(count), gates: gatesOf(count)};
     if (source.startCall) Object.assign(part, framesOf(recording, source));
-    const size = part.channels * (part.end - part.first);
+    const size = count * (part.end - part.first);
     if (samples + size > BUFFER_LIMIT) {
       recording.lose('buffer-limit', source.creation);
       continue;
@@ -138,12 +140,18 @@ async function render(recording, tracks) {
   return rendered;
 }
 
+// How many of its samples a source needs. What is silent at the end needs none, but for the number of channels, which is
+// heard up to the source's end: there the gate ends, too.
+function leastLength({first, last, gates}, channels) {
+  if (gates) return channels[channels.length - 1].findLastIndex(sample => sample !== 0) + 1;
+  return channels.length > 1 ? Math.min(last - first, channels[0].length) : 0;
+}
+
 // The calls that come in the place of a source: a buffer of these samples that plays from its first frame on.
-// What is silent at the end needs no samples, but for the number of channels, which is heard.
-function callsOf(recording, {source, first, last}, channels) {
-  const creation = {op: 'createBufferSource', as: source.name};
-  const lists = channels.map(nearestFixedList), least = channels.length > 1 ? Math.min(last - first, channels[0].length) : 0;
-  const length = Math.max(least, ...lists.map(({wholes}) => wholes.findLastIndex(sample => sample !== 0) + 1));
+function callsOf(recording, part, channels) {
+  const {source, first} = part, creation = {op: 'createBufferSource', as: source.name};
+  const lists = channels.slice(0, channels.length - part.gates).map(nearestFixedList);
+  const length = Math.max(leastLength(part, channels), ...lists.map(({wholes}) => wholes.findLastIndex(sample => sample !== 0) + 1));
   recording.lose('baked-source', creation);
   if (length === 0) return [creation];
   const call = {op: 'createBuffer', as: recording.newName('baked'), channels: lists.length, length, rate: recording.rate};

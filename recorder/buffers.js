@@ -50,6 +50,18 @@ export function contentOf(buffer) {
   return isWhole ? channels : channels.map(() => new Float32Array(buffer.length));
 }
 
+// The copy of a source of several channels has one more, a gate: its samples are 1, so it says where the source ends. A
+// source of one channel needs none, and a buffer has 32 at most.
+export const gatesOf = channels => channels > 1 && channels < 32 ? 1 : 0;
+
+// A buffer with the content that a source acquired, for its copy.
+export function bufferOfCopy({length, sampleRate}, floats) {
+  const channels = gatesOf(floats.length) ? [...floats, new Float32Array(length).fill(1)] : floats;
+  const buffer = new native.AudioBuffer({length, numberOfChannels: channels.length, sampleRate});
+  channels.forEach((samples, number) => native.getChannelData.call(buffer, number).set(samples));
+  return buffer;
+}
+
 export function equalSamples(one, other) {
   return one.length === other.length && one.every((samples, channel) => {
     const others = other[channel];

@@ -6,7 +6,7 @@
 import {biquadCoefficients, coefficientError, putCoefficients} from './filters.js';
 import {levelsOf} from './levels.js';
 import {native} from './native.js';
-import {feedbackError} from './responses.js';
+import {biquadErrorOfBrowser, feedbackError, filterErrorOfBrowser} from './responses.js';
 import {rowOf, sectionsOf} from './sections.js';
 import {ONE, fixedValue} from './values.js';
 
@@ -14,21 +14,23 @@ const MOST_GUARD = 32;
 const ROOM = 120;              // the loudest that is let be inside; waplay saturates at 128
 const ENOUGH = ROOM / 8;       // a level that leaves room for a guard of 8
 const LEAST_TOLD = 2 ** -20;   // errors of what is fed back below this are not told
+const LEAST_OF_BROWSER = 2 ** -16; // and of what the browser feeds back
 
-// A biquad with steady parameters: {gain}, or {row, gain, kind}.
+// A biquad with steady parameters: {gain}, or {row, gain, kind, page}, where `page` has the coefficients as they were.
 function planOfBiquad({node}, rate) {
   const valueOf = name => native.value.call(node[name]);
   const found = biquadCoefficients({type: node.type, frequency: valueOf('frequency'), Q: valueOf('Q'),
     gain: valueOf('gain'), detune: valueOf('detune')}, rate);
   if (found.gain !== undefined) return found;
-  return {...rowOf([found]), kind: 'lowered-biquad'};
+  return {...rowOf([found]), kind: 'lowered-biquad', page: found};
 }
 
-// An IIR filter: {row, gain, kind}. One that is of order 2 at most is none of the lowered kinds. Null where it is
+// An IIR filter: {row, gain, kind, page}. One that is of order 2 at most is none of the lowered kinds. Null where it is
 // no filter.
 function planOfFilter({coefficients: {feedforward, feedback}}) {
   const found = sectionsOf(feedforward, feedback);
-  return found && {...found, kind: Math.max(feedforward.length, feedback.length) > 3 ? 'lowered-sections' : null};
+  const kind = Math.max(feedforward.length, feedback.length) > 3 ? 'lowered-sections' : null;
+  return found && {...found, kind, page: {feedforward, feedback}};
 }
 
 // How much louder a row may be inside: a power of two.
@@ -77,6 +79,18 @@ function replaceByGain(recording, entry, gain, replacements) {
   replacements.put(entry, [call]);
 }
 
+// Tells where Chromium is less exact in a filter than what comes in its place.
+function loseOfBrowser(recording, plans) {
+  const known = new Map();
+  for (const {row, gain, kind, page} of plans) {
+    if (!kind) continue;
+    const key = JSON.stringify([kind, page.feedforward, page.feedback]);
+    if (!known.has(key))
+      known.set(key, kind === 'lowered-biquad' ? biquadErrorOfBrowser(page) : filterErrorOfBrowser(page, {row, gain}));
+    if (known.get(key) > LEAST_OF_BROWSER) recording.lose('browser-rounded', null, known.get(key));
+  }
+}
+
 // Lowers the filters of a recording that is complete.
 export async function lowerFilters(recording, replacements) {
   const plans = new Map();
@@ -86,6 +100,7 @@ export async function lowerFilters(recording, replacements) {
     else if (plan) replaceByGain(recording, entry, plan.gain, replacements);
   }
   if (!plans.size) return;
+  loseOfBrowser(recording, plans.values());
   const levels = await levelsOf(recording, new Map([...plans].map(([{name}, plan]) => [name, plan])), ENOUGH);
   for (const [entry, plan] of plans) {
     const {level, isTooLoud} = levels.get(entry.name) || {level: ROOM, isTooLoud: false}, guard = guardOf(level);

@@ -40,6 +40,9 @@ export const LOSS_KINDS = {
   'feedback-rounded': {grade: 'rounded', isMeasured: true,
     says: 'filters that feed back what is rounded to 2^-24; the error is the most that this can add up to'},
 
+  'browser-rounded': {grade: 'exact',
+    says: 'filters that Chromium is less exact in than the script; the error is its own, for a sound of full scale'},
+
   // Rewritten calls.
   'lowered-ramp': {grade: 'lowered', says: 'linear ramps between frames; curves and values'},
   'lowered-curve': {grade: 'lowered', says: 'curves between frames; curves with one point for each frame'},

@@ -98,24 +98,57 @@ function cutTarget(parameter, place) {
   return [];
 }
 
+// A value that is put into a rewritten ramp, behind which nothing comes: the ramp begins there, and what was there before
+// it comes back up to then. Gives the calls, or null where it is none.
+function bendRamp(parameter, {place, value}) {
+  const {timeline, recording} = parameter, index = timeline.indexAt(place), ramp = timeline.events[index + 1];
+  const isWithin = ramp && isRamp(ramp) && ramp.isLowered && ramp.begin <= place && index + 2 === timeline.events.length;
+  if (!isWithin) return null;
+  const frame = Math.ceil(place), from = Math.max(ramp.first, recording.now);
+  const before = from < frame ? [setCall(parameter, from, ramp.startValue)] : [];
+  const calls = rampCalls(parameter, ramp, place, value);
+  Object.assign(ramp, {calls, startValue: value, begin: place, first: frame});
+  return [holdCall(parameter, from), ...before, setCall(parameter, frame, value), ...calls];
+}
+
 function lowerSet(parameter, event) {
-  const cut = cutTarget(parameter, event.place);
+  const cut = cutTarget(parameter, event.place), bent = cut && bendRamp(parameter, event);
+  if (bent) return {calls: [...cut, ...bent], keepsCall: false, kind: 'lowered-ramp'};
   return {calls: cut || [], keepsCall: true, failed: !cut || bendsCurve(parameter, event.place)};
+}
+
+// A ramp that comes next takes the place of a target: from its first frame on, or from now on where it is under way. The
+// target becomes the value that it has there; one without a time constant is a value from its place on. Gives the calls
+// for that, or null where there is no way.
+function endTarget(parameter, index) {
+  const {timeline, recording} = parameter, event = timeline.events[index];
+  if (!(event.timeConstant > 0)) {
+    timeline.events[index] = {kind: 'set', place: event.place, value: event.value};
+    return [];
+  }
+  const place = Math.max(Math.ceil(event.place), recording.now), value = timeline.valueAfter(index, place);
+  const cut = cutTarget(parameter, place);
+  if (!cut) return null;
+  timeline.events[index] = {kind: 'set', place, value};
+  const call = setCall(parameter, place, value);
+  recording.lose('lowered-target', call);
+  return [...cut, call];
 }
 
 function lowerRamp(parameter, event) {
   const {timeline, recording} = parameter;
-  const index = timeline.indexAt(event.place), previous = timeline.events[index];
-  if (previous && previous.kind === 'target') return {calls: [], keepsCall: true, failed: true};
-  const begin = previous ? Timeline.endOf(previous) : recording.now;
+  const index = timeline.indexAt(event.place), isBehindTarget = index >= 0 && timeline.events[index].kind === 'target';
+  const ended = isBehindTarget ? endTarget(parameter, index) : [];
+  if (!ended) return {calls: [], keepsCall: true, failed: true};
+  const begin = index >= 0 ? Timeline.endOf(timeline.events[index]) : recording.now;
   const startValue = timeline.valueAfter(index, begin);
   const failed = bendsCurve(parameter, event.place);
   event.begin = begin;
   event.isLowered = event.kind === 'exponential' || !Number.isInteger(begin) || !Number.isInteger(event.place);
-  if (!event.isLowered) return failed ? {calls: [], keepsCall: true, failed} : CALL_ALONE;
+  if (!event.isLowered) return failed || ended.length ? {calls: ended, keepsCall: true, failed} : CALL_ALONE;
   const calls = rampCalls(parameter, event, begin, startValue);
   Object.assign(event, {calls, startValue, first: Math.max(Math.ceil(begin), recording.now), last: Math.ceil(event.place)});
-  return {calls, keepsCall: false, kind: event.kind === 'ramp' ? 'lowered-ramp' : 'lowered-exponential', failed};
+  return {calls: [...ended, ...calls], keepsCall: false, kind: event.kind === 'ramp' ? 'lowered-ramp' : 'lowered-exponential', failed};
 }
 
 // A ramp as curves up to its last whole frame, and as a value at the next one where it ends between two.

@@ -148,6 +148,23 @@ const PLAYED = {
   startRendering(player) { player.rendering = player.rendering || player.context.startRendering(); },
 };
 
+// What the browser renders for a script. `assets` has an AudioBuffer for each path.
+export function play(script, assets) {
+  const player = new Player(script, assets);
+  player.perform(script.calls);
+  return player.rendering;
+}
+
+// The floats of each channel as base64.
+export function textsOf(rendered) {
+  return Array.from({length: rendered.numberOfChannels}, (_, channel) => {
+    const bytes = new Uint8Array(rendered.getChannelData(channel).slice().buffer);
+    let text = '';
+    for (let place = 0; place < bytes.length; place += 32768) text += String.fromCharCode(...bytes.subarray(place, place + 32768));
+    return btoa(text);
+  });
+}
+
 // Plays the script at a path. Gives the floats of each channel as base64.
 export async function playScript(path) {
   const script = await (await fetch(path)).json();
@@ -159,13 +176,5 @@ export async function playScript(path) {
       const reader = new OfflineAudioContext(1, 1, script.context.rate);
       assets.set(call.path, await reader.decodeAudioData(bytes));
     }
-  const player = new Player(script, assets);
-  player.perform(script.calls);
-  const rendered = await player.rendering;
-  return Array.from({length: rendered.numberOfChannels}, (_, channel) => {
-    const bytes = new Uint8Array(rendered.getChannelData(channel).slice().buffer);
-    let text = '';
-    for (let place = 0; place < bytes.length; place += 32768) text += String.fromCharCode(...bytes.subarray(place, place + 32768));
-    return btoa(text);
-  });
+  return textsOf(await play(script, assets));
 }

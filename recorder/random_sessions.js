@@ -1,15 +1,14 @@
-// Random sessions: the recorder and the player (playback.js) against each other, for the tests.
+// Random sessions: pages that nobody wrote, for the tests. tools/random-sessions records and judges them.
 //
 // A session makes nodes of most kinds, connects them without cycles, starts its sources, automates parameters,
-// and changes some of all this later: at suspensions, or in a real-time piece at timers. It is recorded while
-// the browser renders it; then the browser plays the script, and both have to sound alike.
+// and changes some of all this later: at suspensions, or in a real-time piece at timers.
 //
 // Without lowering all times lie on frames and all values on multiples of 2^-10, so that nothing is rounded.
 // With it there are oscillators, biquads, filters of high orders, targets, exponential ramps, cancels and holds,
 // and times between frames. Browsers let nodes that hear nothing, or that nothing hears, stand still: so what is
 // automated or has a history hears a hum all the time, and is heard by a silent gain.
 
-import {Player} from './playback.js';
+import {play, textsOf} from './playback.js';
 
 const SESSION_RATE = 32768; // a power of two: every frame is a time without rounding
 const SESSION_LENGTH = 8192;
@@ -289,8 +288,8 @@ export class RandomSession {
   }
 }
 
-// A real-time piece that changes at timers of several kinds.
-export function beginRealTimeSession(seed, canLower) {
+// Makes a real-time piece that changes at timers of several kinds.
+function beginRealTimeSession(seed, canLower) {
   const context = new AudioContext({sampleRate: SESSION_RATE}), session = new RandomSession(seed, canLower, context);
   session.begin();
   const change = () => session.changeAt(Math.round(context.currentTime * SESSION_RATE));
@@ -302,49 +301,17 @@ export function beginRealTimeSession(seed, canLower) {
   }, 40 + session.draw(20));
 }
 
-// The greatest difference of two rendered buffers.
-export function differenceOf(one, other) {
-  let greatest = 0;
-  for (let channel = 0; channel < one.numberOfChannels; channel++) {
-    const samples = other.getChannelData(channel);
-    one.getChannelData(channel).forEach((sample, frame) => { greatest = Math.max(greatest, Math.abs(sample - samples[frame])); });
-  }
-  return greatest;
-}
-
-// Records a session. Gives the number of its context and what it sounds like.
-export async function recordRandomSession(seed, canLower) {
+// Records a session, and gives the number of its context.
+export async function recordRandomSession(seed, canLower, isRealTime) {
   const number = globalThis.waplayRecorder.progress().contexts + 1;
-  return {number, rendered: await new RandomSession(seed, canLower).render()};
+  if (isRealTime) {
+    beginRealTimeSession(seed, canLower);
+    await globalThis.waplayRecorder.go();
+  } else await new RandomSession(seed, canLower).render();
+  return number;
 }
 
-// Records a session and plays its script. What a session sounds like may change from run to run in Chromium by a
-// quantum: a change at a suspension may come late, and so may the end of a source. So up to five runs are compared
-// with each other. Gives the least of their differences, and the report.
-export async function tryRandomSession(seed, canLower, tolerance) {
-  const wanted = [], found = [];
-  let least = Infinity, report = '';
-  while (wanted.length < 5 && least > tolerance) {
-    const {number, rendered} = await recordRandomSession(seed, canLower);
-    wanted.push(rendered);
-    const script = JSON.parse(await globalThis.waplayRecorder.text(number));
-    report = await globalThis.waplayRecorder.report(number);
-    const player = new Player(script, new Map());
-    player.perform(script.calls);
-    found.push(await player.rendering);
-    least = Math.min(...wanted.flatMap(one => found.map(other => differenceOf(one, other))));
-  }
-  return {least, report};
-}
-
-// Tries sessions of these seeds. Gives one line on each that is not as wanted, and the greatest difference.
-export async function tryRandomSessions(first, last, canLower, tolerance) {
-  const wrong = [];
-  let greatest = 0;
-  for (let seed = first; seed <= last; seed++) {
-    const {least, report} = await tryRandomSession(seed, canLower, tolerance);
-    greatest = Math.max(greatest, least);
-    if (least > tolerance) wrong.push(`seed ${seed}: ${least}, ${report.split('\n')[1]}`);
-  }
-  return {wrong, greatest};
+// Plays the script of a context. Gives the floats of each channel as base64.
+export async function playRecorded(number) {
+  return textsOf(await play(JSON.parse(await globalThis.waplayRecorder.text(number)), new Map()));
 }

@@ -5,6 +5,7 @@
 const ANGLES = 2048;
 const LONGEST = 2 ** 20; // frames after which what is left of an impulse is taken to go on for ever
 const BLOCK = 4096;
+const TRIED = 8192; // frames of a noise, and of a step
 
 // The value of a polynomial in 1 / z, at an angle of the unit circle.
 function valueAt(terms, angle) {
@@ -55,8 +56,8 @@ export function responseError(row, other) {
   }, 0);
 }
 
-// A filter that takes one sample after the other.
-function runner({feedforward, feedback}) {
+// A filter that takes one sample after the other. What is fed back is what `kept` makes of it.
+function runner({feedforward, feedback}, kept = Number) {
   const before = new Float64Array(feedforward.length), after = new Float64Array(feedback.length);
   return sample => {
     before.copyWithin(1, 0);
@@ -64,7 +65,7 @@ function runner({feedforward, feedback}) {
     let sum = 0;
     for (let place = 0; place < before.length; place++) sum += feedforward[place] * before[place];
     for (let place = 1; place < after.length; place++) sum -= feedback[place] * after[place - 1];
-    const result = sum / feedback[0];
+    const result = kept(sum / feedback[0]);
     after.copyWithin(1, 0);
     after[0] = result;
     return result;
@@ -73,7 +74,7 @@ function runner({feedforward, feedback}) {
 
 // The sum of the sizes of all that an impulse leaves behind in a row. Infinity where it does not come to rest.
 export function impulseSum(row) {
-  const runners = row.map(runner);
+  const runners = row.map(section => runner(section));
   let sum = 0, greatestBlock = 0;
   for (let frame = 0; frame < LONGEST;) {
     let block = 0;
@@ -92,4 +93,26 @@ export function impulseSum(row) {
 export function feedbackError(row, step) {
   return row.reduce((sum, {feedback}, place) =>
     sum + step / 2 * impulseSum([{feedforward: [feedback[0]], feedback}, ...row.slice(place + 1)]), 0);
+}
+
+// How far what comes out of `filter` is from what comes out of `exact`, both of which take one sample after the other: for a
+// noise and for a step of full scale. It is 1 at most, which stands for a filter that does not come to rest.
+function distance(filter, exact) {
+  let noise = 1, most = 0;
+  for (let frame = 0; frame < 2 * TRIED; frame++) {
+    noise = (Math.imul(noise, 1664525) + 1013904223) >>> 0;
+    const sample = frame < TRIED ? noise / 2 ** 31 - 1 : 1;
+    most = Math.max(most, Math.abs(filter(sample) - exact(sample)));
+    if (!(most < 1)) return 1;
+  }
+  return most;
+}
+
+// How far a biquad is off in Chromium, which feeds back single floats.
+export const biquadErrorOfBrowser = biquad => distance(runner(biquad, Math.fround), runner(biquad));
+
+// How far an IIR filter is off there, which feeds back double ones in one section. A row of sections is exact.
+export function filterErrorOfBrowser(filter, {row, gain}) {
+  const runners = row.map(section => runner(section));
+  return distance(runner(filter), sample => gain * runners.reduce((sum, run) => run(sum), sample));
 }

@@ -1,7 +1,9 @@
 // Sections: a filter of a high order as a row of filters of order 2.
 //
-// The roots of both polynomials are found in whole numbers of 2^-BITS, as roots that lie together need many bits.
+// The roots of both polynomials are found in whole numbers of 2^-BITS, as roots that lie together need many bits. Equal
+// ones are taken apart before, see polynomials.js.
 
+import {squareFreeOf} from './polynomials.js';
 import {peakOf} from './responses.js';
 
 const BITS = 256n, UNIT = 1n << BITS;
@@ -65,26 +67,13 @@ function rootsOf(terms) {
   return roots;
 }
 
-// Takes the roots at 1 and -1 out of a polynomial, which many filters have several times.
-function withoutUnitRoots(terms) {
-  const roots = [];
-  let left = terms;
-  for (const root of [1n, -1n])
-    while (left.length > 1 && left.reduce((sum, term) => sum * root + term, 0n) === 0n) {
-      let carried = 0n;
-      left = left.slice(0, -1).map(term => (carried = carried * root + term));
-      roots.push([root * UNIT, 0n]);
-    }
-  return {roots, left};
-}
-
 // A polynomial as factors of order 2, and one of order 1 where the order is odd. Their first term is 1. Roots of
 // a factor are a pair of conjugates, or two real ones.
 function factorsOf(terms) {
-  if (terms.length < 2) return [];
-  const first = wideOf(terms[0]);
-  const unit = withoutUnitRoots(terms.map(term => (wideOf(term) << BITS) / first));
-  const roots = [...unit.roots, ...(unit.left.length > 1 ? rootsOf(unit.left) : [])];
+  const roots = squareFreeOf(terms).flatMap(({wholes, times}) => {
+    const found = rootsOf(wholes.map(term => (term << BITS) / wholes[0]));
+    return Array(times).fill(found).flat();
+  });
   const real = roots.filter(root => sizeOf(root[1]) < NEARLY_REAL).map(root => root[0]);
   const pairs = roots.filter(root => root[1] >= NEARLY_REAL);
   const factors = pairs.map(([part, other]) => [1, numberOf(-2n * part), numberOf(times(part, part) + times(other, other))]);

@@ -1,8 +1,7 @@
 // Sources: start and stop, and the buffer and the loop of a buffer source.
 
-import {acquireBuffer, bufferName} from './buffers.js';
+import {acquireBuffer, bufferName, bufferOfCopy} from './buffers.js';
 import {scheduleEnding} from './endings.js';
-import {native} from './native.js';
 import {journal} from './journal.js';
 import {entryOfNode} from './recording.js';
 import {frameOf, isGiven} from './values.js';
@@ -53,11 +52,7 @@ function sourceAcquires(entry) {
   const {recording, buffer} = entry;
   const {floats} = acquireBuffer(recording, entry, buffer);
   entry.channels = buffer.numberOfChannels;
-  journal(entry, copy => {
-    const same = new native.AudioBuffer({length: buffer.length, numberOfChannels: floats.length, sampleRate: buffer.sampleRate});
-    floats.forEach((channel, number) => native.getChannelData.call(same, number).set(channel));
-    copy.buffer = same;
-  });
+  journal(entry, copy => { copy.buffer = bufferOfCopy(buffer, floats); });
 }
 
 function sourceStarted(node, [when, offset, duration], result, exception) {

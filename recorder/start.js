@@ -84,9 +84,9 @@ const waplayRecorder = {
 
   // What tools/record asks. This and `result`, `assetChunk` and `renderedChunk` are all that it knows of the recorder.
   //
-  // What has happened so far: counts of contexts, of those that started rendering and are complete, of real-time
-  // contexts with and without the option realtime, and of what is waited for; the seconds of sound of the contexts
-  // that started; a number that grows while `result` works; and faults of the recorder.
+  // What has happened so far: counts of contexts, of those that started rendering, are complete, and stand at a
+  // suspension of the page, of real-time contexts with and without the option realtime, and of what is waited for; the
+  // seconds of sound of the contexts that started; a number that grows while `result` works; and faults of the recorder.
   progress() {
     const started = recordings.filter(recording => recording.start);
     return {
@@ -96,6 +96,7 @@ const waplayRecorder = {
       waiting: realTime.waiting,
       started: started.length,
       complete: recordings.filter(recording => recording.phase === 'complete').length,
+      suspended: recordings.filter(recording => recording.phase === 'suspended' && !recording.isRealTime).length,
       seconds: started.reduce((sum, {length, rate}) => sum + length / rate, 0),
       work: recordings.reduce((sum, {work}) => sum + work, 0),
       faults: faults.slice(0, 20),

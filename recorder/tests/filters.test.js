@@ -3,7 +3,8 @@
 import assert from 'node:assert/strict';
 import {test} from 'node:test';
 import {biquadCoefficients, roundedCoefficients} from '../filters.js';
-import {feedbackError, impulseSum, peakOf, responseError} from '../responses.js';
+import {biquadErrorOfBrowser, feedbackError, filterErrorOfBrowser, impulseSum, peakOf, responseError} from '../responses.js';
+import {squareFreeOf} from '../polynomials.js';
 import {sectionsOf} from '../sections.js';
 
 const product = (one, other) => {
@@ -21,6 +22,24 @@ const whole = ({row, gain}) => row.map((section, place) =>
 
 const joined = sections => ({feedforward: sections.reduce((terms, {feedforward}) => product(terms, feedforward), [1]),
                              feedback: sections.reduce((terms, {feedback}) => product(terms, feedback), [1])});
+
+const power = (terms, times) => Array(times).fill(terms).reduce(product, [1]);
+
+test('equal roots are taken apart by how often they come', () => {
+  const terms = [power([1, 2, -1], 3), power([1, -0.5], 5), [1, 0.75], power([1, 0, 1], 2)].reduce(product, [0.375]);
+  const found = squareFreeOf(terms).map(({wholes, times}) => [times, ...wholes.map(Number)]);
+  assert.deepEqual(found, [[1, 4, 3], [2, 1, 0, 1], [3, 1, 2, -1], [5, 2, -1]]);
+  assert.deepEqual(squareFreeOf([0.1]), []);
+  assert.deepEqual(squareFreeOf([0.25, 0, -1]), [{wholes: [1n, 0n, -4n], times: 1}]);
+});
+
+test('filters with equal zeros keep all of them', () => {
+  for (const zeros of [[1, 2, -1], [1, -0.5], [1, 1], [1, 0.25, 0.5]])
+    for (let times = 2; times < 9; times++) {
+      const filter = {feedforward: power(zeros, times), feedback: power([1, -0.25], 3)};
+      assert.ok(responseError([filter], whole(sectionsOf(filter.feedforward, filter.feedback))) < 1e-9 * peakOf([filter]));
+    }
+});
 
 test('a lowpass lets 0 through and keeps half the rate back', () => {
   const {feedforward, feedback} = lowpass(1000, 0), sum = terms => terms.reduce((total, term) => total + term, 0);
@@ -66,4 +85,16 @@ test('coefficients that are whole stay as they are', () => {
 test('rounding keeps the response of a low filter', () => {
   const exact = lowpass(20, 0), {feedforward, feedback} = roundedCoefficients(exact.feedforward.map(term => term * 32), exact.feedback);
   assert.ok(responseError([{...exact, feedforward: exact.feedforward.map(term => term * 32)}], [{feedforward, feedback}]) < 32 * 2e-4);
+});
+
+test('Chromium is less exact in low biquads and in filters of high orders', () => {
+  assert.ok(biquadErrorOfBrowser(lowpass(3000, 3)) < 2 ** -20);
+  assert.ok(biquadErrorOfBrowser(lowpass(30, 3)) > 2 ** -11);
+  const errorOf = (section, times) => {
+    const filter = joined(Array(times).fill(section));
+    return filterErrorOfBrowser(filter, sectionsOf(filter.feedforward, filter.feedback));
+  };
+  assert.ok(errorOf(lowpass(200, 1), 2) < 2 ** -20);
+  assert.ok(errorOf(lowpass(30, 1), 3) > 2 ** -10);
+  assert.equal(errorOf(lowpass(30, 1), 4), 1);
 });

@@ -336,8 +336,6 @@ class Departures(unittest.TestCase):
         for calls, word in [
             ([*gains, *loop], "a cycle without a delay is not muted"),
             ([{"op": "createDelay", "as": "d", "delayTime": 9, "maxDelayTime": 9}], "newest frame"),
-            ([{"op": "createConstantSource", "as": "c"}], "not connected stands still"),
-            ([{"op": "createIIRFilter", "as": "f"}], "single floats"),
             ([{"op": "createChannelMerger", "as": "m"}], "inputs are all silent"),
             ([{"op": "cancelAndHoldAtTime"}], "cancelled on its way"),
             ([{"op": "suspend", "time": 0}], "at frame 0 or at the length"),
@@ -349,9 +347,136 @@ class Departures(unittest.TestCase):
                 self.assertEqual(len(found), 1, found)
                 self.assertIn(word, found[0])
 
+    # A stereo source that begins later, and a node that it leads to.
+    STEREO = ({"op": "createBuffer", "as": "b", "channels": 2, "length": 9, "rate": 8000},
+              {"op": "createBufferSource", "as": "s", "buffer": "b"},
+              {"op": "start", "node": "s", "when": 200})
+    FED = ({"op": "connect", "from": "s", "to": "n"}, {"op": "connect", "from": "n", "to": "m"})
+    HUM = ({"op": "createConstantSource", "as": "h"}, {"op": "start", "node": "h"},
+           {"op": "connect", "from": "h", "to": "n"})
+    EXPLICIT = {"op": "setChannelCountMode", "node": "n", "value": "explicit"}
+    DISCRETE = {"op": "setChannelInterpretation", "node": "n", "value": "discrete"}
+
+    def node(self, op: str) -> dict:
+        return {"op": op, "as": "n"}
+
+    def test_by_numbers_of_channels(self) -> None:
+        delay, gain = self.node("createDelay"), self.node("createGain")
+        fewer = "a delay whose input comes to have fewer channels mixes down in Chromium"
+        anew = "Chromium begins the history of an IIR filter anew where its channels change"
+        unplayed = ("a buffer source that does not play yet has the channels of its buffer in "
+                    "Chromium")
+        behind = {"op": "createIIRFilter", "as": "m"}
+        for calls, wanted in [
+            ([delay], [fewer]),
+            ([delay, self.EXPLICIT], []),
+            ([gain], []),
+            ([gain, self.DISCRETE], [unplayed]),
+            ([gain, self.EXPLICIT, self.DISCRETE], [departures.SILENT_INPUTS, unplayed]),
+            ([gain, self.EXPLICIT, self.DISCRETE, *self.HUM], [unplayed]),
+            ([self.node("createChannelSplitter")], [unplayed]),
+            ([self.node("createIIRFilter")], [anew]),
+            # A filter behind a gain that always has two channels. Where it is taken away from it
+            # at times, the filter has one.
+            ([gain, self.EXPLICIT, behind], []),
+            ([gain, self.EXPLICIT, behind, {"op": "disconnect", "from": "n"}], [anew]),
+            # What a suspension sets does not hold from the beginning on.
+            ([delay, {"op": "suspend", "time": 128, "then": [self.EXPLICIT]}],
+             [fewer, departures.LATE_CHANGE]),
+        ]:
+            with self.subTest(calls):
+                self.assertEqual(self.found(*self.STEREO, *calls, *self.FED), wanted)
+
+    def test_timelines_before_the_start(self) -> None:
+        def calls(when: int, place: int, op: str) -> list[dict]:
+            told = {"node": "c", "param": "offset", "time": place}
+            return [{"op": "createConstantSource", "as": "c"},
+                    {"op": "connect", "from": "c", "to": "destination"},
+                    {"op": "start", "node": "c", "when": when}, {"op": "setValueAtTime", **told},
+                    {"op": op, **told, "time": place + 200}]
+
+        for when, place, op, is_idle in [
+            (300, 255, "linearRampToValueAtTime", True), (300, 255, "setValueCurveAtTime", True),
+            (300, 256, "linearRampToValueAtTime", False), (300, 255, "setValueAtTime", False),
+        ]:
+            found = self.found(*calls(when, place, op))
+            self.assertEqual(found, [departures.IDLE_TIMELINE] if is_idle else [])
+
+    def test_timelines_of_what_hears_nothing_or_is_not_heard(self) -> None:
+        event = {"op": "setValueCurveAtTime", "node": "h", "param": "gain", "time": 0,
+                 "duration": 129}
+        source = {"op": "createConstantSource", "as": "c"}
+        start = {"op": "start", "node": "c"}
+        links = [{"op": "connect", "from": one, "to": other} for one, other in
+                 [("c", "g"), ("g", "h"), ("h", "destination")]]
+
+        def at(time: int, *calls: dict) -> dict:
+            return {"op": "suspend", "time": time, "then": list(calls)}
+
+        def parted(name: str) -> dict:
+            return {"op": "disconnect", "from": name}
+
+        for calls, is_idle in [
+            ([start, *links], False),
+            (links, False),  # nothing plays
+            ([start, *links[:2]], False),  # nothing is heard
+            ([start, links[0], links[2], at(128, links[1])], True),
+            ([start, *links[:2], at(128, links[2])], True),
+            ([start, *links, at(128, parted("g"))], False),  # nothing is heard any more
+            ([start, *links, at(128, parted("g")), at(256, links[1])], True),
+            ([start, *links, at(128, parted("h")), at(256, links[2])], True),
+            ([start, *links, at(128, {**parted("h"), "to": "x"}), at(256, links[2])], False),
+            ([start, *links, at(256, parted("h")), at(384, links[2])], False),  # it is over
+            ([start, *links, at(128, parted("g"), links[1])], False),
+            ([start, {"op": "stop", "node": "c", "when": 100}, *links], False),
+        ]:
+            with self.subTest(calls):
+                found = self.found(source, event, *calls)
+                self.assertEqual(departures.IDLE_TIMELINE in found, is_idle)
+
+    def test_nodes_that_are_not_heard(self) -> None:
+        start = {"op": "start", "node": "c", "when": 100}
+        link, end = ({"op": "connect", "from": one, "to": other} for one, other in
+                     [("c", "g"), ("g", "destination")])
+        parted = {"op": "disconnect", "from": "g"}
+
+        def at(time: int, *calls: dict) -> dict:
+            return {"op": "suspend", "time": time, "then": list(calls)}
+
+        for source, node, calls, is_idle in [
+            ("createBufferSource", "createGain", [link, at(256, end)], True),
+            ("createConstantSource", "createGain", [link, at(256, end)], False),
+            ("createConstantSource", "createDelay", [link, at(256, end)], True),
+            ("createConstantSource", "createIIRFilter", [link, at(256, end)], True),
+            ("createBufferSource", "createGain", [link, end], False),
+            ("createBufferSource", "createGain", [link], False),
+            ("createBufferSource", "createGain", [link, end, at(256, parted)], False),
+            ("createBufferSource", "createGain", [link, end, at(256, parted), at(384, end)], True),
+            ("createConstantSource", "createDelay", [end, at(256, link)], False),
+        ]:
+            with self.subTest(node=node, calls=calls):
+                made = [{"op": source, "as": "c"}, {"op": node, "as": "g"}]
+                found = self.found(*made, start, *calls)
+                self.assertEqual(departures.IDLE_NODE in found, is_idle)
+
+    def test_calls_that_were_refused(self) -> None:
+        script = {"context": {"length": 256}, "calls": [
+            *self.STEREO, self.node("createDelay"), *self.FED]}
+        number = script["calls"].index(self.FED[0]) + 1
+        self.assertEqual(len(departures.known_departures(script, set())), 1)
+        self.assertEqual(departures.known_departures(script, set(), None, {number: "x"}), [])
+
+    def test_channels_of_assets(self) -> None:
+        script = {"context": {"length": 256}, "calls": [
+            {"op": "decodeAudioData", "as": "b", "path": "1-b1.wav"}, *self.STEREO[1:],
+            self.node("createDelay"), *self.FED]}
+        self.assertEqual(departures.known_departures(script, set(), {"1-b1.wav": 1}), [])
+        self.assertEqual(len(departures.known_departures(script, set(), {"1-b1.wav": 2})), 1)
+
     def test_by_losses(self) -> None:
-        self.assertEqual(self.found(losses=("lowered-biquad",)),
-                         ["Chromium ends biquads at an estimated tail"])
+        for kind, text in [("lowered-biquad", "Chromium ends biquads at an estimated tail"),
+                           ("browser-rounded", departures.BY_LOSS["browser-rounded"])]:
+            self.assertEqual(self.found(losses=(kind,)), [text])
 
     def test_none(self) -> None:
         self.assertEqual(self.found({"op": "createGain", "as": "g"},

@@ -243,8 +243,7 @@ class Replays(unittest.TestCase):
     def test_a_replay_that_differs(self) -> None:
         status, lines, told = self.replayed(2**13, "end completed")
         self.assertEqual((status, lines), (4, [
-            "replay: greatest difference from the browser 0.000977 at frame 7 of channel 1",
-            "known departure: a merger whose inputs are all silent has one channel in Chromium"]))
+            "replay: greatest difference from the browser 0.000977 at frame 7 of channel 1"]))
         self.assertEqual(told, [f"tools/record: context 1: {lines[0]}"])
 
     def test_a_tolerance(self) -> None:

@@ -5,19 +5,22 @@ compared. That sees faults of the recorder, and none of waplay.
 """
 
 import contextlib
+import io
 import json
 import os
+import re
 import unittest
 from collections.abc import Callable
 from typing import Any
 
 from recorder_pages import PAGES, Page
-from recording import (CHROMIUM, RECORDER, difference, floats_of, needs_browser, open_modules,
-                       played, run_record, temporary_folder)
+from recording import (CHROMIUM, RECORDER, floats_of, needs_browser, run_record,
+                       temporary_folder)
 
 from waplay_tools.chromium import Browser
-from waplay_tools.recorder.bundle import recorder_text
+from waplay_tools.random_sessions import __main__ as random_sessions
 from waplay_tools.recorder.driving import Wishes, open_recorded
+from waplay_tools.recorder.playing import difference, played
 from waplay_tools.recorder.replaying import find_program
 from waplay_tools.recorder.results import Recorded
 from waplay_tools.recorder.serving import Folder
@@ -53,10 +56,12 @@ SPECIAL: dict[str, tuple[Any, Look]] = {
         call["time"] for call in calls if call["op"] == "suspend"]),
 }
 
-# Of the random sessions with and without lowering: the last seed, and the greatest difference when
-# they are played again.
-SESSIONS = [(False, 150, 1e-6), (True, 150, 2e-5)]
-TOGETHER = 10  # that are tried with one call
+# Random sessions: the options, and the last seed.
+SESSIONS = [([], 150), (["--lower"], 150), (["--realtime"], 30), (["--realtime", "--lower"], 30)]
+
+# Where a replay of an example differs, its cause: the echo of the bells feeds back.
+LOOP = "known departure: a loop through a delay is one quantum longer in Chromium"
+DEPARTURES = {"bells": LOOP}
 
 # Of the examples: options, number of files, verdict, greatest difference when played again.
 EXAMPLES = {
@@ -125,25 +130,22 @@ add_pages()
 
 
 @needs_browser
+@unittest.skipUnless(find_program(os.environ.get("WAPLAY"))[0], "waplay is not built")
 class RandomSessions(unittest.TestCase):
-    """Random sessions are made, recorded and played again in one page."""
+    """Random sessions are recorded, played again and replayed. Where one is off, its take has to
+    say so."""
 
     def test_random_sessions(self) -> None:
-        for lower, last, tolerance in SESSIONS:
-            with self.subTest(lower=lower):
-                wrong = self.wrong(lower, last, tolerance)
-                self.assertEqual(wrong, [], f"{len(wrong)} of {last}")
-
-    def wrong(self, lower: bool, last: int, tolerance: float) -> list[str]:
-        with Browser(str(CHROMIUM)) as browser, Folder(temporary_folder(self)) as served:
-            browser.inject(Wishes(page="", lower=lower).options() + recorder_text())
-            open_modules(browser, served, ["random_sessions.js"])
-            found = []
-            for first in range(1, last + 1, TOGETHER):
-                words = f"{first}, {min(last, first + TOGETHER - 1)}, {json.dumps(lower)}"
-                told = browser.evaluate(f"tryRandomSessions({words}, {tolerance})", timeout=600)
-                found += told["wrong"]
-            return found
+        for words, last in SESSIONS:
+            with self.subTest(words=words):
+                told = io.StringIO()
+                asked = random_sessions.parser().parse_args(
+                    ["1", str(last), "--chromium", str(CHROMIUM), *words])
+                with contextlib.redirect_stdout(told):
+                    status = random_sessions.run(asked)
+                lines = [line for line in told.getvalue().splitlines()
+                         if re.search("not told|failed", line)]
+                self.assertEqual(status, 0, "\n".join(lines))
 
 
 @needs_browser
@@ -171,7 +173,10 @@ class Examples(unittest.TestCase):
             with self.subTest(name):
                 folder = temporary_folder(self)
                 run = run_record(RECORDER / "examples" / f"{name}.html", folder, *words, "--replay")
-                self.assertEqual((run.returncode, run.stderr), (0, ""))
+                wanted = DEPARTURES.get(name)
+                self.assertEqual(run.returncode, 4 if wanted else 0, run.stderr)
+                if wanted:
+                    self.assertIn(wanted, run.stdout)
 
 
 if __name__ == "__main__":

@@ -111,7 +111,23 @@ TROUBLES = {
     "not_resumed": Trouble(
         script(SOUND + "context.suspend(0.01).then(() => { none.gain = 1; context.resume(); });"
                "context.startRendering();"),
-        "context 1: not-finished is refused", status=1, words=("--timeout", "20")),
+        "context 1: not-finished is refused", status=1),
+    "never_resumed": Trouble(
+        script(SOUND + "context.suspend(0.01);context.startRendering();"),
+        "context 1: not-finished is refused", status=1),
+    # The audio waits for the worker, so the piece stands still for longer than a page is left calm
+    # where something went wrong in it.
+    "busy_worker": Trouble(
+        script("const context = new AudioContext();"
+               "const source = new ConstantSourceNode(context, {offset: 0.5});"
+               "source.connect(context.destination);"
+               "source.start();"
+               "const code = 'onmessage = () => { const end = +new Date() + 4000; "
+               "while (+new Date() < end); }';"
+               "const worker = new Worker(URL.createObjectURL(new Blob([code])));"
+               "setTimeout(() => { worker.postMessage(0); draw(); }, 100);"),
+        "the page threw ReferenceError: draw is not defined (busy_worker.html, line 1)", status=1,
+        words=("--realtime", "0.5")),
     "waits_for_a_click": Trouble(
         "<button id=start>play</button>" + script(f"start.onclick = () => {{ {CONTEXT} }};"),
         f"{NONE} within N seconds; perhaps it waits for a click, as --click '#start'."),

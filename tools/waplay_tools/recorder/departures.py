@@ -1,11 +1,12 @@
 """Where Chromium is known to depart from the profile, as far as the calls of a script show it."""
 
-from collections.abc import Iterator
+import itertools
+from collections.abc import Iterable, Iterator
 from typing import Any
 
-QUANTUM = 128
-
-Call = dict[str, Any]
+from waplay_tools.recorder.channels import Call, Channels
+from waplay_tools.recorder.hearing import (QUANTUM, Spans, Ways, has_idle_node,
+                                           has_idle_timeline, reached, ways_of)
 
 
 def all_calls(calls: list[Call]) -> Iterator[Call]:
@@ -15,25 +16,10 @@ def all_calls(calls: list[Call]) -> Iterator[Call]:
         yield from all_calls(call.get("then", []))
 
 
-def reached(start: str, links: dict[str, set[str]]) -> set[str]:
-    """What is reached from a node by at least one link."""
-    seen: set[str] = set()
-    left = [start]
-    while left:
-        for to in links.get(left.pop(), ()):
-            if to not in seen:
-                seen.add(to)
-                left.append(to)
-    return seen
-
-
-def cycles_of(edges: dict[str, set[str]]) -> list[set[str]]:
+def cycles_of(edges: Ways) -> list[set[str]]:
     """For each node the nodes that lie on ways from it back to itself."""
-    back: dict[str, set[str]] = {}
-    for start, ends in edges.items():
-        for end in ends:
-            back.setdefault(end, set()).add(start)
-    return [reached(node, edges) & reached(node, back) for node in edges]
+    back = ways_of((end, start) for start, ends in edges.items() for end in ends)
+    return [reached(edges[node], edges) & reached(back.get(node, ()), back) for node in edges]
 
 
 def changes_at_once(call: Call) -> bool:
@@ -58,10 +44,8 @@ def is_at_its_most(calls: list[Call], delay: Call) -> bool:
 
 def graph_departures(calls: list[Call]) -> Iterator[str]:
     """Departures that the nodes and connections show."""
-    edges: dict[str, set[str]] = {}
-    for call in calls:
-        if call["op"] in ("connect", "connectParam"):
-            edges.setdefault(call["from"], set()).add(call["to"])
+    edges = ways_of((call["from"], call["to"]) for call in calls
+                    if call["op"] in ("connect", "connectParam"))
     delays = [call for call in calls if call["op"] == "createDelay"]
     names = {call["as"] for call in delays}
     cycles = cycles_of(edges)
@@ -71,15 +55,50 @@ def graph_departures(calls: list[Call]) -> Iterator[str]:
         yield "a cycle without a delay is not muted in Chromium"
     if any(is_at_its_most(calls, delay) for delay in delays):
         yield "a delay equal to maxDelayTime may leak the newest frame in Chromium"
-    sources = ("createConstantSource", "createBufferSource")
-    if any(call["op"] in sources and call["as"] not in edges for call in calls):
-        yield "a source that is not connected stands still in Chromium"
 
+
+SILENT_INPUTS = ("a merger, or a node with a number of channels of its own, has one channel in "
+                 "Chromium while its inputs are all silent")
+
+
+def accepted(calls: list[Call], refused: set[int], numbers: Iterator[int]) -> list[Call]:
+    """The calls without those that were refused, by their ordinals."""
+    kept = []
+    for call in calls:
+        number = next(numbers)
+        if "then" in call:
+            call = {**call, "then": accepted(call["then"], refused, numbers)}
+        if number not in refused:
+            kept.append(call)
+    return kept
+
+
+def channel_departures(script: dict[str, Any], of_path: dict[str, int]) -> Iterator[str]:
+    """Departures of nodes whose number of channels changes."""
+    calls = script["calls"]
+    channels = Channels(calls, of_path)
+    changing = {node.creation["op"] for node in channels.nodes.values()
+                if channels.is_changing(node)}
+    if "createDelay" in changing:
+        yield "a delay whose input comes to have fewer channels mixes down in Chromium"
+    if "createIIRFilter" in changing:
+        yield "Chromium begins the history of an IIR filter anew where its channels change"
+    if not channels.tell_silence(script["context"].get("channels", 1)):
+        return
+    nodes = channels.nodes.items()
+    if any(map(channels.may_fall_silent, channels.nodes)):
+        yield SILENT_INPUTS
+    at_once = {call["node"] for call in calls if call["op"] == "start" and not call.get("when")}
+    if any(node.creation["op"] == "createBufferSource" and channels.most[name] > 1
+           and name not in at_once for name, node in nodes):
+        yield "a buffer source that does not play yet has the channels of its buffer in Chromium"
+
+
+IDLE_NODE = "a source, a delay or a filter stands still in Chromium while it is not heard"
+IDLE_TIMELINE = ("a timeline stands still in Chromium while its node plays or hears nothing, or is "
+                 "not heard")
 
 BY_OPERATION = {
-    "createIIRFilter": "Chromium keeps the history of IIR filters in single floats, and begins it "
-                       "anew where their channels change",
-    "createChannelMerger": "a merger whose inputs are all silent has one channel in Chromium",
     "cancelScheduledValues": "Chromium holds the value of a ramp that is cancelled on its way, and "
                              "keeps a curve that ends at a cancel",
 }
@@ -90,22 +109,36 @@ BY_LOSS = {
     "lowered-target": "a target is late in Chromium where another event lies in the same quantum",
     "time-near-frame": "a time that is by a rounding behind a frame counts from the next one in "
                        "Chromium",
+    "browser-rounded": "Chromium rounds what filters feed back: to single floats in biquads, to "
+                       "double ones in IIR filters",
     "buffer-written": "Chromium plays what is written into a buffer after a source acquired it",
 }
 
+LATE_CHANGE = ("a change at a suspension may come one quantum late in Chromium, in one run and not "
+               "in the next")
 
-def known_departures(script: dict[str, Any], losses: set[str]) -> list[str]:
-    """Where Chromium is known to differ from the profile, as far as the calls show it."""
+
+def known_departures(script: dict[str, Any], losses: set[str],
+                     of_path: dict[str, int] | None = None,
+                     refused: Iterable[int] = ()) -> list[str]:
+    """Where Chromium is known to differ from the profile, as far as the calls show it. `of_path`
+    has the number of channels of each asset, and `refused` the ordinals of the calls that it
+    refused."""
+    script = {**script, "calls": accepted(script["calls"], set(refused), itertools.count(1))}
     calls = list(all_calls(script["calls"]))
     ops = {call["op"] for call in calls}
-    found = list(graph_departures(calls))
+    found = [*graph_departures(calls), *channel_departures(script, of_path or {})]
     found += [text for kind, text in BY_LOSS.items() if kind in losses]
     found += [text for op, text in BY_OPERATION.items() if op in ops]
+    spans = Spans(script["calls"])
+    if has_idle_timeline(script["calls"], spans):
+        found.append(IDLE_TIMELINE)
+    if has_idle_node(script["calls"], spans):
+        found.append(IDLE_NODE)
     suspensions = [call for call in calls if call["op"] == "suspend"]
     length = script["context"]["length"]
     if any(is_at_an_edge(call["time"], length) for call in suspensions):
         found.append("a suspension at frame 0 or at the length is accepted by Chromium")
     if any(changes_at_once(inner) for call in suspensions for inner in call.get("then", [])):
-        found.append("a change at a suspension may come one quantum late in Chromium, in one run "
-                     "and not in the next")
+        found.append(LATE_CHANGE)
     return list(dict.fromkeys(found))

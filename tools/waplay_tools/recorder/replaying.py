@@ -139,7 +139,9 @@ def compare(replayed: bytes, transcript: str, recorded: Recorded, script: dict,
     lines.append(f"replay: greatest difference from the browser {difference:.3g}{where}")
     if difference > tolerance:
         losses = {loss["kind"] for loss in recorded.kinds}
-        lines += [f"known departure: {text}" for text in known_departures(script, losses)]
+        channels = {asset.path: asset.channels for asset in recorded.assets}
+        lines += [f"known departure: {text}"
+                  for text in known_departures(script, losses, channels, recorded.outcomes)]
     outcome = "differs" if difference > tolerance or recorded_otherwise(lines) else "agrees"
     return Replay(lines, outcome, difference, is_silent)
 
