@@ -1,4 +1,4 @@
-ghost use Rattle.std.specs.Prelude.{◌≡◌, ◌<◌, ◌≤◌, ◌+◌, ◌^◌, ℕ, length, slice_index_or, OnOk};
+ghost use Rattle.std.specs.Prelude.{max, ◌≡◌, ◌<◌, ◌≤◌, ◌+◌, ◌^◌, ℕ, length, slice_index_or, OnOk};
 ghost use Rattle.std.specs.List.{sum_by};
 ghost use Rattle.law_base.specs.Members.{IsIn};
 ghost use Rattle.meaning.specs.declared.params.Param.{Param as a_param};
@@ -44,7 +44,8 @@ impl Automation {
         }
     }
 
-    /// Takes the memory for parameters of so many nodes, and moves to a frame in each timeline. It
+    /// Takes the memory for parameters of so many nodes, a level for each that has none yet, and moves to
+    /// a frame in each timeline. It
     /// looks at no more events of a timeline than their number has binary digits.
     pub fn prepare<L: Ledger>(
         &mut self,
@@ -55,6 +56,7 @@ impl Automation {
     ) -> Result<(), NoMemory>
         requires { AreOfNodes nodes params.now }
         ensures ready { OnOk result (IsReady params.now first self.new) }
+        ensures levels { OnOk result (length self.new.levels ≡ max (length self.old.levels) nodes) }
         ensures cost { (digits : a_param → ℕ) → ((p : a_param) → IsIn p params.now → length p.line.events < 2 ^ digits p) → steps.new ≤ steps.old + sum_by digits params.now }
     {
         self.cursors.resize(params.len(), Cursor::new())?;
@@ -92,7 +94,7 @@ impl Automation {
 
 // Makes a level for each node.
 fn extend(alloc: Global, levels: &mut Vec<Level>, nodes: usize) -> Result<(), NoMemory>
-    ensures { OnOk result (nodes ≤ length levels.new.items) }
+    ensures { OnOk result (length levels.new.items ≡ max (length levels.old.items) nodes) }
 {
     for _ in levels.len()..nodes {
         levels.push(Level::empty(alloc))?;

@@ -20,6 +20,12 @@ IsFetchedOf (Some held) (Bytes bytes) = bytes ≡ held
 IsFetchedOf (Some held) Missing = ⊥
 IsFetchedOf (Some held) (TooLong n) = n ≤ length held
 
+-- bytes are all that was left to read
+abbrev pub HasAll : List ℕ → Fetched → Type 0
+HasAll left (Bytes bytes) = bytes ≡ left
+HasAll left Missing = ⊤
+HasAll left (TooLong n) = ⊤
+
 -- the answer of a store in memory, which tells the whole length of a file that is too long
 abbrev pub fetched_of : ℕ → Option (List ℕ) → Fetched
 fetched_of limit None = Missing

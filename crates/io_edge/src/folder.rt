@@ -1,6 +1,6 @@
 ghost use Rattle.std.specs.Prelude.{◌≡◌, [], Some, IfOk, IfSome};
 ghost use Rattle.std.specs.IoError.{error_kind};
-ghost use Rattle.io_edge.specs.Fetch.{IsWithin, IsFetchedOf};
+ghost use Rattle.io_edge.specs.Fetch.{IsWithin, IsFetchedOf, HasAll};
 ghost use Rattle.io_edge.specs.Folder as folder_spec;
 
 use crate::errors::EdgeErr;
@@ -58,6 +58,7 @@ fn fetch_open<F: Read + OpenFile + Drop>(
     limit: u64,
 ) -> Result<Fetched, EdgeErr>
     ensures within { IfOk result (λ fetched. IsWithin limit fetched) }
+    ensures found { IfSome (F.remaining file) (λ left. IfOk result (λ fetched. HasAll left fetched)) }
 {
     let Ok(metadata) = file.metadata() else {
         return Err(EdgeErr::Failed);

@@ -110,6 +110,7 @@ impl Renderer {
         ensures spec { self.new.spec ≡ self.old.spec }
         ensures tie { self.new.tie ≡ self.old.tie }
         ensures quanta { self.new.quanta ≡ self.old.quanta }
+        ensures out { self.new.out ≡ self.old.out }
     {
         self.plan.follow(self.alloc, world, steps)?;
         self.memory.filters.follow(world)?;
@@ -132,8 +133,10 @@ impl Renderer {
         ensures counted { IsCounted self.new world.now }
         ensures stands { (tape : List a_world) → StandsFor self.old tape ↔ StandsFor self.new tape }
         ensures spec { self.new.spec ≡ self.old.spec }
+        ensures plan { (self.new.order ≡ self.old.order) × (self.new.muted ≡ self.old.muted) × (self.new.into ≡ self.old.into) × (self.new.cycles ≡ self.old.cycles) }
         ensures tie { self.new.tie ≡ self.old.tie }
         ensures quanta { self.new.quanta ≡ self.old.quanta }
+        ensures out { self.new.out ≡ self.old.out }
     {
         let census = Census {
             world,
@@ -154,8 +157,10 @@ impl Renderer {
         ensures ok { OnOk result (IsGrown self.new world.now) }
         ensures stands { (tape : List a_world) → StandsFor self.old tape ↔ StandsFor self.new tape }
         ensures spec { self.new.spec ≡ self.old.spec }
+        ensures plan { (self.new.order ≡ self.old.order) × (self.new.muted ≡ self.old.muted) × (self.new.into ≡ self.old.into) × (self.new.cycles ≡ self.old.cycles) }
         ensures tie { self.new.tie ≡ self.old.tie }
         ensures quanta { self.new.quanta ≡ self.old.quanta }
+        ensures out { self.new.out ≡ self.old.out }
     {
         let counts = self.counts.as_slice();
         fit_blocks(self.alloc, &mut self.blocks, world, counts)?;
@@ -174,6 +179,7 @@ impl Renderer {
         ensures stands { (tape : List a_world) → StandsFor self.old tape → IsRegular (quantum_of self.old.spec) (tape ++ world.now ∷ []) → StandsFor self.new (tape ++ world.now ∷ []) }
         ensures shows { (tape : List a_world) → StandsFor self.old tape → IsRegular (quantum_of self.old.spec) (tape ++ world.now ∷ []) → Shows self.new (tape ++ world.now ∷ []) }
         ensures spec { self.new.spec ≡ self.old.spec }
+        ensures plan { (self.new.order ≡ self.old.order) × (self.new.muted ≡ self.old.muted) × (self.new.into ≡ self.old.into) × (self.new.cycles ≡ self.old.cycles) }
         ensures tie { self.new.tie ≡ self.old.tie }
         ensures quanta { self.new.quanta ≡ self.old.quanta + 1 }
         ensures cost { steps.new ≤ steps.old + sum_by (looks_at first) world.now.params.items }

@@ -110,7 +110,7 @@ answer words bytes folder = answer_to_reading (reading_by_word words) folder byt
 
 -- the session of a script looks into the folder
 abbrev pub Decodes : Folder → Result Script ScriptErr → Type 0
-Decodes folder (Ok script) = session.Decodes folder script.calls (session.first_told script.context)
+Decodes folder (Ok script) = session.SessionDecodes folder script
 Decodes folder (Err fault) = ⊥
 
 -- the session of the script that is asked for does

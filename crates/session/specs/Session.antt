@@ -178,3 +178,7 @@ Decodes folder calls told =
     let list = held_by 0 calls in
     let told = after_calls folder told list in
     HasDecode list ⊎ (IsSome told.machine.context.started × TurnsDecode (quanta_left told.machine) folder calls told)
+
+-- The session of a script looks into the folder. That of a context that is not supported calls nothing.
+abbrev pub SessionDecodes : Folder → Script → Type 0
+SessionDecodes folder script = IsTrue (is_supported script.context) × Decodes folder script.calls (first_told script.context)

@@ -4,7 +4,7 @@ ghost use Rattle.io_edge.specs.Paths.{SamePaths};
 ghost use Rattle.script_ast.specs.WellFormed.{AreCallsAfter};
 ghost use Rattle.session.specs.Folders.{Folder, IsFolderOf, AgreeBetween};
 ghost use Rattle.session.specs.Rendering.{IsOutcomeOf};
-ghost use Rattle.session.specs.Session.{after_calls, first_told, held_by, is_running as runs, session_of, HasDecode, Decodes};
+ghost use Rattle.session.specs.Session.{after_calls, held_by, is_running as runs, session_of, HasDecode, Decodes, SessionDecodes};
 ghost use Rattle.control_side.specs.Step.{KeepsTime, RunsOnceStarted};
 ghost use Rattle.session.specs.Lists.{AreLengths};
 ghost use Rattle.session.specs.View.{Stands, IsPlayed, IsReplayed, ComesToDecode};
@@ -53,7 +53,7 @@ pub fn run<F: Files>(
     ensures later { F.read_faults files.old ≤ F.read_faults files.new }
     ensures writes { F.write_faults files.new ≡ F.write_faults files.old }
     ensures cause { IsErrOf result Stop.AssetFault → Rose (F.read_faults files.old) (F.read_faults files.new)
-        × ((folder : Folder) × IsFolderOf (F.tells files.old) (F.paths files.old) folder × Decodes folder script.now.calls (first_told script.now.context)) }
+        × ((folder : Folder) × IsFolderOf (F.tells files.old) (F.paths files.old) folder × SessionDecodes folder script.now) }
 {
     match Session::new(alloc, script.context, options) {
         Ok(mut session) => match replay_calls(alloc, &mut session, script.calls.as_slice(), files) {

@@ -183,6 +183,7 @@ def run(words: argparse.Namespace) -> int:
             seeds.put(seed)
 
     def work() -> None:
+        """Judges one seed after another, as long as there is one."""
         for seed, found in judgements(words, program, chromium, seeds):
             lines.add(seed, found)
 

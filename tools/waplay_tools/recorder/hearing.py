@@ -45,6 +45,7 @@ class Timeline:
 def dated(calls: list[Call]) -> list[tuple[Call, int]]:
     """The calls, each with the frame at which it is made, in order of these."""
     def each(inside: list[Call], now: int) -> Iterator[tuple[Call, int]]:
+        """Those of a list that begins at a frame."""
         for call in inside:
             yield call, now
             yield from each(call.get("then", []), call.get("time", now))

@@ -1,5 +1,5 @@
 use Rattle.std.proofs.Common.{◌≡◌, ◌∙◌, ◌++◌, ◌∷◌, [], List, pos, replicate, refl, sym, ap, subst, inl, inr}
-use Rattle.std.specs.Prelude.{◌*◌, IsTrue, IsSome, IsNone, IfSome, is_some, option_map}
+use Rattle.std.specs.Prelude.{◌*◌, IsTrue, IsSome, IsNone, is_some, option_map}
 use Rattle.std.proofs.lemmas.Bool.{cases_Bool}
 use Rattle.transcript.specs.declared.lines.Line.{Line}
 use Rattle.transcript.specs.declared.lines.Line.TheVariants as line
@@ -7,7 +7,7 @@ use Rattle.meaning.specs.Changes.{Grows}
 use Rattle.control_side.specs.Machine.{Machine, caught_up}
 use Rattle.session.specs.Session.{after_call}
 use Rattle.control_side.specs.Step.{is_start, KeepsTime}
-use Rattle.session.specs.View.{SessionView, SideView, KeepsUp, MakesRoom, CatchesUp}
+use Rattle.session.specs.View.{SessionView, SideView, MakesRoom, CatchesUp}
 use Rattle.session.proofs.CatchingUp.{over_call, told_called}
 use Rattle.session.proofs.Sides.{heard_accepted, call_renderer, call_audio, same_audio, catches_up_keeps, catches_up_renderer}
 use Rattle.session.proofs.Standing.{Stands-kept, Stands-begun, some_unless_none}
