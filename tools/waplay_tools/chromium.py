@@ -43,6 +43,10 @@ class NoAnswer(BrowserFault):
     """The browser did not answer in time."""
 
 
+# What the browser says of a document that is not there any more.
+GONE = ("context", "session with given id not found", "target navigated or closed")
+
+
 class FrameGone(BrowserFault):
     """The document in which an expression was to be evaluated is not there any more."""
 
@@ -226,7 +230,7 @@ class Browser:
         message = self._answers.pop(number)
         if "error" in message:
             text = message["error"].get("message", "")
-            if "context" in text.lower() or "Session with given id not found" in text:
+            if any(words in text.lower() for words in GONE):
                 raise FrameGone(f"The browser refused {method}: {text}.")
             raise BrowserFault(f"The browser refused {method}: {text}.")
         return message["result"]
