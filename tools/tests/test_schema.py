@@ -49,17 +49,6 @@ def some_value(kind):
     return VALUES.get(kind, kind.split()[0])
 
 
-def value_of(data):
-    """The value of a JSON text. Numbers that are whole to the reader are integers, and no
-    others."""
-    return json.loads(
-        data.decode(),
-        parse_int=reading.whole,
-        parse_float=reading.fraction,
-        parse_constant=reading.bad_json,
-    )
-
-
 def stricter(value, key=None):
     """The value with a fraction in place of each number that is whole to a schema alone, and with a
     path that is too long in place of one of too many bytes."""
@@ -155,7 +144,7 @@ class Schema(unittest.TestCase):
             if fault == "BadJson":
                 counts["no JSON"] += 1
                 continue
-            value = value_of(data)
+            value = reading.json_of(data)
             is_good = validator.is_valid(stricter(value))
             self.assertEqual(is_good, fault is None, (fault, data))
             counts["faulty" if fault else "good"] += 1

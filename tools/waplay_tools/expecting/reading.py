@@ -2,6 +2,7 @@
 
 import json
 import re
+from collections.abc import Callable, Mapping
 from typing import Any, NoReturn
 
 from waplay_tools.expecting.numbers import ONE
@@ -110,11 +111,19 @@ OPERATIONS: dict[str, list[Field]] = {
     "readTime": [],
 }
 
+# Those that are left out are read too; none of their fields is.
+READ: dict[str, list[Field]] = OPERATIONS | {op: [] for op in LEFT_OUT}
+
+# The ranges of the kinds that are whole numbers.
 RANGES = {
     "fix": (-(2**31), 2**31 - 1),
     "time": (-(2**40), 2**40),
     "count": (0, 2**32 - 1),
 }
+
+
+MOST_NESTED = 127  # arrays and objects, one in another
+TOO_DEEP = f"arrays and objects nest deeper than {MOST_NESTED}"
 
 
 class Fault(Exception):
@@ -126,51 +135,57 @@ class Members(list):
 
 
 def bad_json(*_: object) -> NoReturn:
-    """Raises the fault of bytes that are no JSON; a hook of the reader, whatever it is given."""
-    raise Fault("BadJson")
+    """Refuses NaN and the infinities, which Python reads and JSON does not have; a hook of the
+    reader, whatever it is given."""
+    raise ValueError("a word that JSON does not have")
 
 
-def fraction(text: str) -> float:
-    """The floating-point number that a text of JSON is, in the range of binary64."""
-    value = float(text)
-    return value if abs(value) < float("inf") else bad_json()
+def in_binary64(text: str) -> str:
+    """The text of a number that a binary64 floating-point number can hold."""
+    if abs(float(text)) == float("inf"):
+        raise ValueError("a number that is too large")
+    return text
 
 
-def whole(text: str) -> int | float:
-    """The number of a text without fraction or exponent; a floating-point number past 64 bits, as
-    `-0` is."""
-    value = fraction(text)
-    is_whole = text != "-0" and len(text) <= 20 and -(2**63) <= int(text) < 2**64
-    return int(text) if is_whole else value
+def is_whole(text: str) -> bool:
+    """Whether a text without fraction or exponent is a whole number of 64 bits, which `-0` is
+    not."""
+    return text != "-0" and len(text) <= 20 and -(2**63) <= int(text) < 2**64
 
 
 def looked_through(value: Any, room: int) -> Any:
-    """The value with objects for members. There is room for so many arrays and objects, one in
-    another."""
+    """The value with objects for members, of which the last of a name counts. There is room for so
+    many arrays and objects, one in another. It refuses lone surrogates."""
     if isinstance(value, list) and room == 0:
-        bad_json()
+        raise ValueError(TOO_DEEP)
     if isinstance(value, Members):
         return {looked_through(key, 0): looked_through(it, room - 1) for key, it in value}
     if isinstance(value, list):
         return [looked_through(it, room - 1) for it in value]
     if isinstance(value, str):
-        value.encode()  # fails where there is a lone surrogate
+        try:
+            value.encode()
+        except UnicodeEncodeError:
+            raise ValueError("an escape of a lone surrogate") from None
     return value
 
 
-def json_of(data: bytes) -> Any:
-    """The JSON value that the bytes are, where of repeated members the last counts."""
+def json_of(data: bytes, number: Callable[[str], Any] = float) -> Any:
+    """The JSON value that the bytes are; it raises ValueError with a reason where they are none. A
+    number that is not whole is what `number` makes of its text."""
     try:
         value = json.loads(
             data.decode(),
             object_pairs_hook=Members,
             parse_constant=bad_json,
-            parse_float=fraction,
-            parse_int=whole,
+            parse_float=lambda text: number(in_binary64(text)),
+            parse_int=lambda text: int(text) if is_whole(text) else number(in_binary64(text)),
         )
-        return looked_through(value, 127)
-    except (ValueError, RecursionError):
-        bad_json()
+        return looked_through(value, MOST_NESTED)
+    except UnicodeDecodeError as error:
+        raise ValueError(f"byte {error.start} is not UTF-8") from None
+    except RecursionError:
+        raise ValueError(TOO_DEEP) from None
 
 
 def cause(value: Any, kind: str) -> str | None:
@@ -202,7 +217,7 @@ def cause(value: Any, kind: str) -> str | None:
         is_name = re.fullmatch("[A-Za-z0-9_-]{1,64}", value) is not None
         fits = is_name and value != "destination"
     else:
-        fits = kind == "name" or value in kind.split()
+        fits = kind in ("name", "param") or value in kind.split()
     return None if fits else "OutOfRange"
 
 
@@ -219,31 +234,33 @@ def look_at(ordinal: int, members: dict[str, Any], field: str, kind: str, *defau
         raise Fault(f"{ordinal} {field} {wrong}")
 
 
+def look_at_call(ordinal: int, call: Any, operations: Mapping[str, list[Field]]) -> None:
+    """Raises the first fault of a call that is to be one of the operations, if it has one."""
+    if not isinstance(call, dict):
+        raise Fault(f"{ordinal} call WrongKind")
+    op = call.get("op")
+    if not isinstance(op, str) or op not in operations:
+        raise Fault(f"{ordinal} op UnknownOp")
+    for field in operations[op]:
+        look_at(ordinal, call, *field)
+    if op == "disconnect" and call.get("input") is not None:
+        for needed in ("to", "output"):
+            if call.get(needed) is None:
+                raise Fault(f"{ordinal} {needed} MissingField")
+
+
 def look_at_calls(calls: list[Any], first: int) -> int:
     """Looks at the calls of a list, and at those that they hold. The answer is the next ordinal."""
     for call in calls:
-        ordinal = first
+        look_at_call(first, call, READ)
         first += 1
-        if not isinstance(call, dict):
-            raise Fault(f"{ordinal} call WrongKind")
-        op = call.get("op")
-        if not isinstance(op, str) or op not in OPERATIONS and op not in LEFT_OUT:
-            raise Fault(f"{ordinal} op UnknownOp")
-        fields = OPERATIONS.get(op, [])
-        for field in fields:
-            look_at(ordinal, call, *field)
-        if op == "disconnect" and call.get("input") is not None:
-            for needed in ("to", "output"):
-                if call.get(needed) is None:
-                    raise Fault(f"{ordinal} {needed} MissingField")
-        if HELD in fields:
+        if HELD in READ[call["op"]]:
             first = look_at_calls(call.get("then", []), first)
     return first
 
 
-def script_of(data: bytes) -> dict[str, Any]:
-    """The script that the bytes are."""
-    script = json_of(data)
+def look_at_head(script: Any) -> None:
+    """Raises the first fault of what stands around the calls of a script, if it has one."""
     if not isinstance(script, dict):
         raise Fault("0 script WrongKind")
     look_at(0, script, "version", "count")
@@ -253,6 +270,15 @@ def script_of(data: bytes) -> dict[str, Any]:
     for field in ("channels", "length", "rate"):
         look_at(0, script["context"], field, "count")
     look_at(0, script, "calls", "calls")
+
+
+def script_of(data: bytes) -> dict[str, Any]:
+    """The script that the bytes are."""
+    try:
+        script = json_of(data)
+    except ValueError:
+        raise Fault("BadJson") from None
+    look_at_head(script)
     look_at_calls(script["calls"], 1)
     return script
 

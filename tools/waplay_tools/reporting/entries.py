@@ -8,18 +8,13 @@ words. Null is a value of a field whose default is null, and of one whose kind e
 
 from typing import Any
 
-Field = tuple[str, str] | tuple[str, str, Any]
+from waplay_tools.expecting.reading import RANGES, Field
+
 Fields = dict[str, list[Field]]  # of an operation
 
 ONE = 2**24
 QUANTUM = 128
 
-# The ranges of the kinds that are whole numbers.
-RANGES = {
-    "fix": (-(2**31), 2**31 - 1),
-    "time": (-(2**40), 2**40),
-    "count": (0, 2**32 - 1),
-}
 KINDS = (*RANGES, "bool", "list", "name", "param", "new name", "path", "calls", "object")
 
 PARAMETERS = ("offset", "gain", "delayTime", "playbackRate", "detune")
