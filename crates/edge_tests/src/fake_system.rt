@@ -1,5 +1,5 @@
 use io_edge::DirFiles;
-use std::alloc::Allocator;
+use std::alloc::{Allocator, Global};
 use std::fs::{Metadata, OpenFile, OpenOptions, Permissions};
 use std::io::{ErrorKind, PipeReader, PipeWriter, Read, Seek, SeekFrom, Write};
 use std::os::fd::BorrowedFd;
@@ -80,6 +80,14 @@ impl<F: OpenFile> OpenFile for FakeFile<F> {
 
     fn sync_data(&self) -> io::Result<()> {
         self.file.sync_data()
+    }
+}
+
+impl<R: AllocGlobal> Alloc for Fake<R> {
+    type A = Global;
+
+    fn alloc(&self) -> Global {
+        self.system.alloc()
     }
 }
 

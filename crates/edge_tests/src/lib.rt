@@ -13,6 +13,8 @@ mod fetch_memory;
 #[cfg(test)]
 mod fetched;
 #[cfg(test)]
+mod kept_open;
+#[cfg(test)]
 mod memory;
 #[cfg(test)]
 mod on_disk;

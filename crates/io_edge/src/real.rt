@@ -113,17 +113,27 @@ impl<W: Write> Sink for WriteSink<W> {
     }
 }
 
-/// The files of a folder of the system. It tells nothing of what the files hold. Contracts see it as the
-/// numbers of faults so far, at reads and at writes. Each error of the system is a fault, but for that of
-/// a `fetch` where the system finds no file. A write that takes no byte where there are some is a fault too.
+/// The files of a folder of the system. It tells nothing of what the files hold. The file that `create`
+/// made last stays open, so that what is appended to its path goes into that file, whatever the path
+/// names by then. Contracts see it as the numbers of faults so far, at reads and at writes. Each error of
+/// the system is a fault, but for that of a `fetch` where the system finds no file. A write that takes no
+/// byte where there are some is a fault too.
 #[derive(Drop)]
-pub struct DirFiles<R> {
+pub struct DirFiles<R: rt::Files> {
     system: R,
+    created: Option<Created<R::File>>,
     read_faults: u64,
     write_faults: u64,
 }
 
-impl<R> Model for DirFiles<R> {
+// A file that was created, and stays open.
+#[derive(Drop)]
+struct Created<F> {
+    path: String,
+    file: F,
+}
+
+impl<R: rt::Files> Model for DirFiles<R> {
     ghost use Rattle.io_edge.specs.Folder.{FolderFaults};
 
     ghost Value = { FolderFaults };
@@ -139,13 +149,14 @@ impl<R: rt::Files> DirFiles<R> {
     {
         DirFiles {
             system,
+            created: None,
             read_faults: 0,
             write_faults: 0,
         }
     }
 }
 
-impl<R: rt::Files> Files for DirFiles<R> {
+impl<R: rt::Files + AllocGlobal> Files for DirFiles<R> {
     ghost tells = { λ _. false };
 
     ghost paths = { λ _ _. None };
@@ -178,18 +189,24 @@ impl<R: rt::Files> Files for DirFiles<R> {
         }
     }
 
+    /// Keeps the file open, and lets go of the one before. `NoMemory` comes before the system is asked.
     fn create(&mut self, path: &str) -> Result<(), EdgeErr>
         ensures later { self.old.writes ≤ self.new.writes }
         ensures cause { IsErrOf result EdgeErr.Failed → Rose self.old.writes self.new.writes }
-        ensures failed { IfErr result (λ e. e ≡ EdgeErr.Failed) }
-        ensures counted { self.new.writes ≡ count_faults self.old.writes (is_err result) }
+        ensures counted { self.new.writes ≡ count_faults self.old.writes (is_fault result) }
         ensures reads { self.new.reads ≡ self.old.reads }
     {
-        if File::create(&self.system, path).is_ok() {
-            return Ok(());
+        let name = String::from_str(self.system.alloc(), path)?;
+        match File::create(&self.system, path) {
+            Ok(file) => {
+                self.created = Some(Created { path: name, file });
+                Ok(())
+            }
+            Err(_) => {
+                self.write_faults = self.write_faults.saturating_add(1);
+                Err(EdgeErr::Failed)
+            }
         }
-        self.write_faults = self.write_faults.saturating_add(1);
-        Err(EdgeErr::Failed)
     }
 
     fn append(&mut self, path: &str, piece: &[u8]) -> Result<usize, EdgeErr>
@@ -201,7 +218,13 @@ impl<R: rt::Files> Files for DirFiles<R> {
         ensures counted { self.new.writes ≡ count_faults self.old.writes (is_err result) }
         ensures reads { self.new.reads ≡ self.old.reads }
     {
-        if let Some(count) = append_through(&self.system, path, piece) {
+        let written = match &mut self.created {
+            Some(created) if created.path.as_str() == path => {
+                write_through(&mut created.file, piece)
+            }
+            _ => append_through(&self.system, path, piece),
+        };
+        if let Some(count) = written {
             return Ok(count);
         }
         self.write_faults = self.write_faults.saturating_add(1);
