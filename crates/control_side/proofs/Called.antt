@@ -5,6 +5,7 @@ use Rattle.wa_base.specs.declared.exceptions.Exc.TheVariants.{InvalidState}
 use Rattle.wa_base.specs.declared.memory.NoMemory.{NoMemory}
 use Rattle.transcript.specs.declared.lines.Answer.{Answer}
 use Rattle.io_edge.specs.Paths.{Paths}
+use Rattle.script_ast.specs.Operations.{new_name}
 use Rattle.script_ast.specs.declared.call_list.Call.{Call}
 use Rattle.script_ast.specs.declared.operations.Op.{Op}
 use Rattle.script_ast.specs.declared.operations.Op.TheVariants as op
@@ -17,7 +18,7 @@ use Rattle.control_side.specs.declared.decide.Decided.{Decided}
 use Rattle.control_side.specs.declared.decide.Decided.TheVariants as comes_to
 use Rattle.control_side.specs.Machine.{Machine}
 use Rattle.control_side.specs.Steady.{IsSteady}
-use Rattle.control_side.specs.Step.{decided_with, new_name, promises, decided, with_edit, settled, is_start, KeepsTime, RunsOnceStarted, IsFor, Steps}
+use Rattle.control_side.specs.Step.{decided_with, promises, decided, with_edit, settled, is_start, KeepsTime, RunsOnceStarted, IsFor, Steps}
 
 edit_world : (m : Machine) (e : Edit) (name : Option (List ℕ)) → (with_edit m e name).world ≡ edited m.world m.context.time e
 edit_world m e None = refl

@@ -4,13 +4,14 @@ use Rattle.std.specs.Prelude.{is_some, unwrap_or, if◌then◌else◌, IfSome}
 use Rattle.wa_base.specs.declared.exceptions.Exc.{Exc}
 use Rattle.wa_base.specs.Contexts.{quantum_of}
 use Rattle.wa_base.specs.declared.exceptions.Exc.TheVariants.{NotSupported, InvalidState, WrongType}
-use Rattle.ctx_state.specs.Context.{ContextView, start_refusal, resume_refusal, quantised, frame_refusal, suspend_refusal, suspend_frame, may_suspend}
-use Rattle.wa_base.specs.declared.features.Feature.TheVariants.{ExponentialRamp, SetTarget}
+use Rattle.wa_base.specs.declared.features.Feature.TheVariants as feature
 use Rattle.wa_base.specs.declared.graph_names.BufId.{BufId}
 use Rattle.wa_base.specs.declared.graph_names.ParamId.{ParamId}
 use Rattle.wa_base.specs.declared.graph_names.NodeId.{NodeId}
+use Rattle.ctx_state.specs.Context.{ContextView, start_refusal, resume_refusal, quantised, frame_refusal, suspend_refusal, suspend_frame, may_suspend}
 use Rattle.transcript.specs.declared.lines.Answer.TheVariants as answer
-use Rattle.script_ast.specs.Ranges.{IsInRange, IsNewName}
+use Rattle.script_ast.specs.Operations.{IsInRange, new_name}
+use Rattle.script_ast.specs.Ranges.{IsNewName}
 use Rattle.script_ast.specs.declared.operations.Op.{Op}
 use Rattle.script_ast.specs.declared.operations.Op.TheVariants as op
 use Rattle.script_ast.specs.declared.operations.Oversample.{Oversample}
@@ -33,11 +34,11 @@ use Rattle.meaning.specs.Sources.{IsBufferOf}
 use Rattle.meaning.specs.Changes.{creates, refusal, IsNamed}
 use Rattle.control_side.specs.declared.decide.Decided.{Decided}
 use Rattle.control_side.specs.declared.decide.Decided.TheVariants as comes_to
-use Rattle.control_side.specs.Machine.{Machine}
-use Rattle.control_side.specs.Params.{param_at, name_refusal, lead_refusal, unless_refused, on_param, edits_param, leads, edge_to_param, form_of_param, decided_on_line, decided_on_param}
-use Rattle.control_side.specs.Shapers.{oversample_refusal, is_shaper, sets_oversample, decided_on_shaper}
+use Rattle.control_side.specs.Machine.{Machine, IsAccepted}
+use Rattle.control_side.specs.Params.{param_at, name_refusal, lead_refusal, unless_refused, on_param, edits_param, leads, edge_to_param, form_of_param}
+use Rattle.control_side.specs.Shapers.{oversample_refusal, is_shaper, sets_oversample}
 use Rattle.control_side.specs.Steady.{IsSteady}
-use Rattle.control_side.specs.Step.{node_bound, node_named, buffer_bound, buffer_named, new_name, refused, unless, edits, edits_node, edits_nodes, edits_buffer, edits_with_buffer, sets_buffer, rate_of, delay_of, edge_of, form_to, form_from, promises, decided, IsFor}
+use Rattle.control_side.specs.Step.{node_bound, node_named, buffer_bound, buffer_named, refused, unless, edits, edits_node, edits_nodes, edits_buffer, edits_with_buffer, sets_buffer, rate_of, delay_of, edge_of, form_to, form_from, promises, decided, is_start, is_resume, IsFor}
 use Rattle.control_side.proofs.Named.{named_there}
 use Rattle.control_side.proofs.Parameters.{param_there, param_low, lead_kept}
 
@@ -59,58 +60,83 @@ bound_buffer (Some (object.Buffer other)) buffer is = ap (λ (x : Option BufId).
 buffer_there : (m : Machine) → IsSteady m → (name : List ℕ) (buffer : BufId) → buffer_named m name ≡ Some buffer → buffer.0 < length m.world.store
 buffer_there m steady name buffer is = named_there m.bindings name m.world (object.Buffer buffer) steady.valid.nodes.some steady.bound (bound_buffer (object_of m.bindings name) buffer is)
 
--- ---- edits
+-- ---- what an operation may come to
 
-module _ (m : Machine) (steady : IsSteady m) (o : Op) where
-  edits_for : (e : Edit) → IsNamed m.world e → creates e ≡ is_some (new_name o) → IsFor m o (edits m e)
-  edits_for e named new = by_refusal (refusal m.world m.context.time e) refl
+-- the operation schedules a suspension
+abbrev pub is_suspension : Op → Bool
+is_suspension (op.Suspend time) = true
+is_suspension other = false
+
+-- What an operation comes to, whatever the machine is; an edit is one that the world of a steady machine accepts.
+abbrev pub Comes : Machine → Op → Decided → Type 0
+Comes m o (comes_to.Answer said) = Unit {0}
+Comes m o comes_to.Start = (is_start o ≡ true) × (start_refusal m.context ≡ None)
+Comes m o (comes_to.Suspend frame) = (is_suspension o ≡ true) × (may_suspend m.context frame ≡ true)
+Comes m o comes_to.Resume = (is_resume o ≡ true) × (resume_refusal m.context ≡ None)
+Comes m o (comes_to.Change e) = (IsSteady m → IsAccepted m e) × (creates e ≡ is_some (new_name o))
+
+module _ (m : Machine) (o : Op) where
+  -- an edit names what is there, and creates what gets a name
+  abbrev IsOwn : Edit → Type 0
+  IsOwn e = (IsSteady m → IsNamed m.world e) × (creates e ≡ is_some (new_name o))
+
+  unless_comes : (r : Option Exc) (e : Edit) → refusal m.world m.context.time e ≡ r → IsOwn e → Comes m o (unless r e)
+  unless_comes None e fine own = ((λ steady. record { time = let low = steady.time in omega arith; named = own.0 steady; accepted = fine }), own.1)
+  unless_comes (Some exc) e thrown own = tt
+
+  edits_come : (e : Edit) → IsOwn e → Comes m o (edits m e)
+  edits_come e own = unless_comes (refusal m.world m.context.time e) e refl own
+
+  node_comes : (node : Option NodeId) (e : NodeId → Edit) → ((n : NodeId) → node ≡ Some n → IsOwn (e n)) → Comes m o (edits_node m node e)
+  node_comes None e own = tt
+  node_comes (Some n) e own = edits_come (e n) (own n refl)
+
+  nodes_come : (from to : Option NodeId) (e : NodeId → NodeId → Edit) → ((a b : NodeId) → from ≡ Some a → to ≡ Some b → IsOwn (e a b)) → Comes m o (edits_nodes m from to e)
+  nodes_come None to e own = tt
+  nodes_come (Some a) to e own = node_comes to (e a) (λ b is. own a b refl is)
+
+  buffer_comes : (buffer : Option BufId) (e : BufId → Edit) → ((b : BufId) → buffer ≡ Some b → IsOwn (e b)) → Comes m o (edits_buffer m buffer e)
+  buffer_comes None e own = tt
+  buffer_comes (Some b) e own = edits_come (e b) (own b refl)
+
+  with_buffer_comes : (name : Option (List ℕ)) (e : Option BufId → Edit) → ((b : Option BufId) → (IsSteady m → IsBufferOf m.world.store b) → IsOwn (e b)) → Comes m o (edits_with_buffer m name e)
+  with_buffer_comes None e own = edits_come (e None) (own None (λ steady. tt))
+  with_buffer_comes (Some name) e own = buffer_comes (buffer_named m name) (λ b. e (Some b)) (λ b is. own (Some b) (λ steady. buffer_there m steady name b is))
+
+  sets_buffer_comes : new_name o ≡ None → (node : Option NodeId) (name : Option (List ℕ)) → Comes m o (sets_buffer m node name)
+  sets_buffer_comes none None name = tt
+  sets_buffer_comes none (Some n) name = with_buffer_comes name (λ b. edit.Source n (source.SetBuffer b)) (λ b there. (there, sym (ap is_some none)))
+
+  unless_refused_comes : (r : Option Exc) (d : Decided) → (r ≡ None → Comes m o d) → Comes m o (unless_refused r d)
+  unless_refused_comes None d kept = kept refl
+  unless_refused_comes (Some exc) d kept = tt
+
+  on_param_comes : (id : Option ParamId) (what : ParamId → Decided) → ((i : ParamId) → id ≡ Some i → name_refusal i.name ≡ None → Comes m o (what i)) → Comes m o (on_param id what)
+  on_param_comes None what kept = tt
+  on_param_comes (Some i) what kept = unless_refused_comes (name_refusal i.name) (what i) (kept i refl)
+
+  edits_param_comes : new_name o ≡ None → (node word : List ℕ) (e : ParamEdit) → Comes m o (edits_param m node word e)
+  edits_param_comes none node word e =
+      on_param_comes (param_at m (node_named m node) word) (λ i. edits m (edit.Param i e))
+      (λ i is kept. edits_come (edit.Param i e) ((λ steady. param_there m steady (node_named m node) word (λ n found. node_there m steady node n found) i is kept), sym (ap is_some none)))
+
+  lead_comes : (from : Option NodeId) (to : Option ParamId) (what : NodeId → ParamId → Decided)
+      → ((n : NodeId) (i : ParamId) → from ≡ Some n → to ≡ Some i → lead_refusal n i ≡ None → Comes m o (what n i)) → Comes m o (leads from to what)
+  lead_comes None to what kept = tt
+  lead_comes (Some n) None what kept = tt
+  lead_comes (Some n) (Some i) what kept = unless_refused_comes (lead_refusal n i) (what n i) (kept n i refl refl)
+
+  oversample_comes : (node : Option NodeId) (value : Oversample) → Comes m o (sets_oversample m node value)
+  oversample_comes None value = tt
+  oversample_comes (Some n) value = by_kind (is_shaper (kind_of m.world n.0))
     where
-      by_refusal : (r : Option Exc) → refusal m.world m.context.time e ≡ r → IsFor m o (unless r e)
-      by_refusal None fine = (record { time = let low = steady.time in omega arith; named = named; accepted = fine }, new)
-      by_refusal (Some exc) thrown = tt
+      by_kind : (b : Bool) → Comes m o (if b then unless_refused (oversample_refusal value) (comes_to.Answer answer.Ok) else refused WrongType)
+      by_kind true = unless_refused_comes (oversample_refusal value) (comes_to.Answer answer.Ok) (λ fine. tt)
+      by_kind false = tt
 
-  node_for : (node : Option NodeId) (e : NodeId → Edit) → ((n : NodeId) → node ≡ Some n → IsNamed m.world (e n) × (creates (e n) ≡ is_some (new_name o))) → IsFor m o (edits_node m node e)
-  node_for None e there = tt
-  node_for (Some n) e there = let named = there n refl in edits_for (e n) named.0 named.1
-
-  nodes_for : (from to : Option NodeId) (e : NodeId → NodeId → Edit)
-      → ((a b : NodeId) → from ≡ Some a → to ≡ Some b → IsNamed m.world (e a b) × (creates (e a b) ≡ is_some (new_name o))) → IsFor m o (edits_nodes m from to e)
-  nodes_for None to e there = tt
-  nodes_for (Some a) to e there = node_for to (e a) (λ b is. there a b refl is)
-
-  buffer_for : (buffer : Option BufId) (e : BufId → Edit) → ((b : BufId) → buffer ≡ Some b → IsNamed m.world (e b) × (creates (e b) ≡ is_some (new_name o))) → IsFor m o (edits_buffer m buffer e)
-  buffer_for None e there = tt
-  buffer_for (Some b) e there = let named = there b refl in edits_for (e b) named.0 named.1
-
-  with_buffer_for : (name : Option (List ℕ)) (e : Option BufId → Edit) → ((b : Option BufId) → IsBufferOf m.world.store b → IsNamed m.world (e b) × (creates (e b) ≡ is_some (new_name o))) → IsFor m o (edits_with_buffer m name e)
-  with_buffer_for None e there = let named = there None tt in edits_for (e None) named.0 named.1
-  with_buffer_for (Some name) e there = buffer_for (buffer_named m name) (λ b. e (Some b)) (λ b is. there (Some b) (buffer_there m steady name b is))
-
-  sets_buffer_for : new_name o ≡ None → (node : Option NodeId) (name : Option (List ℕ)) → IsFor m o (sets_buffer m node name)
-  sets_buffer_for none None name = tt
-  sets_buffer_for none (Some n) name = with_buffer_for name (λ b. edit.Source n (source.SetBuffer b)) (λ b there. (there, sym (ap is_some none)))
-
--- ---- what is done on parameters
-
-module _ (m : Machine) (steady : IsSteady m) (o : Op) where
-  unless_for : (r : Option Exc) (d : Decided) → (r ≡ None → IsFor m o d) → IsFor m o (unless_refused r d)
-  unless_for None d kept = kept refl
-  unless_for (Some exc) d kept = tt
-
-  on_param_for : (id : Option ParamId) (what : ParamId → Decided) → ((i : ParamId) → id ≡ Some i → name_refusal i.name ≡ None → IsFor m o (what i)) → IsFor m o (on_param id what)
-  on_param_for None what kept = tt
-  on_param_for (Some i) what kept = unless_for (name_refusal i.name) (what i) (kept i refl)
-
-  edits_param_for : new_name o ≡ None → (node word : List ℕ) (e : ParamEdit) → IsFor m o (edits_param m node word e)
-  edits_param_for none node word e =
-      on_param_for (param_at m (node_named m node) word) (λ i. edits m (edit.Param i e))
-      (λ i is kept. edits_for m steady o (edit.Param i e) (param_there m steady (node_named m node) word (λ n found. node_there m steady node n found) i is kept) (sym (ap is_some none)))
-
-  lead_for : (from : Option NodeId) (to : Option ParamId) (what : NodeId → ParamId → Decided)
-      → ((n : NodeId) (i : ParamId) → from ≡ Some n → to ≡ Some i → lead_refusal n i ≡ None → IsFor m o (what n i)) → IsFor m o (leads from to what)
-  lead_for None to what kept = tt
-  lead_for (Some n) None what kept = tt
-  lead_for (Some n) (Some i) what kept = unless_for (lead_refusal n i) (what n i) (kept n i refl refl)
+  promise_comes : (r : Option Exc) (d : Decided) → (r ≡ None → Comes m o d) → Comes m o (promises r d)
+  promise_comes None d kept = kept refl
+  promise_comes (Some exc) d kept = tt
 
 form_from_names : (count : ℕ) (output : Option ℕ) → IfSome (form_node (form_from output)) (λ node. node < count)
 form_from_names count None = tt
@@ -121,9 +147,9 @@ form_to_names count None input to there = there
 form_to_names count (Some output) None to there = there
 form_to_names count (Some output) (Some input) to there = there
 
-promise_for : (m : Machine) (o : Op) (r : Option Exc) (d : Decided) → (r ≡ None → IsFor m o d) → IsFor m o (promises r d)
-promise_for m o None d kept = kept refl
-promise_for m o (Some exc) d kept = tt
+form_of_param_names : (count : ℕ) (output : Option ℕ) (to : ParamId) → to.node.0 < count → IfSome (form_node (form_of_param output to)) (λ node. node < count)
+form_of_param_names count None to there = there
+form_of_param_names count (Some output) to there = there
 
 -- a suspend that is not refused may be scheduled
 may_be : (c : ContextView) (time : ℤ) → suspend_refusal c time ≡ None → may_suspend c (suspend_frame c time) ≡ true
@@ -137,128 +163,112 @@ may_be c time fine = by_frame (quantised (quantum_of c.spec) time) fine
         by_test true fine = refl
         by_test false fine = absurd cc
 
-form_of_param_names : (count : ℕ) (output : Option ℕ) (to : ParamId) → to.node.0 < count → IfSome (form_node (form_of_param output to)) (λ node. node < count)
-form_of_param_names count None to there = there
-form_of_param_names count (Some output) to there = there
-
-on_line_for : (m : Machine) → IsSteady m → (o : Op) → new_name o ≡ None → IsFor m o (decided_on_line m o)
-unfolding decided_on_line
-on_line_for m steady (op.SetValue node param value) none = edits_param_for m steady (op.SetValue node param value) none node param (line.SetNow value)
-on_line_for m steady (op.SetValueAtTime node param value time) none = edits_param_for m steady (op.SetValueAtTime node param value time) none node param (line.Set value time)
-on_line_for m steady (op.LinearRampToValueAtTime node param value time) none = edits_param_for m steady (op.LinearRampToValueAtTime node param value time) none node param (line.Ramp value time)
-on_line_for m steady (op.SetValueCurveAtTime node param values time duration) none =
-    edits_param_for m steady (op.SetValueCurveAtTime node param values time duration) none node param (line.Curve values time duration)
-on_line_for m steady (op.CancelScheduledValues node param time) none = edits_param_for m steady (op.CancelScheduledValues node param time) none node param (line.Cancel time)
-on_line_for m steady (op.CancelAndHoldAtTime node param time) none = edits_param_for m steady (op.CancelAndHoldAtTime node param time) none node param (line.Hold time)
-on_line_for m steady other none = tt
-
-on_param_op_for : (m : Machine) → IsSteady m → (o : Op) → new_name o ≡ None → IsFor m o (decided_on_param m o)
-unfolding decided_on_param
-on_param_op_for m steady (op.ConnectParam from output to param) none =
-    lead_for m steady (op.ConnectParam from output to param) (node_named m from) (param_at m (node_named m to) param) (λ n i. edits m (edit.Connect (edge_to_param output n i)))
-    (λ n i from_is to_is kept.
-    edits_for m steady (op.ConnectParam from output to param) (edit.Connect (edge_to_param output n i))
-    (node_there m steady from n from_is, param_there m steady (node_named m to) param (λ k found. node_there m steady to k found) i to_is (lead_kept n i kept)) refl)
-on_param_op_for m steady (op.DisconnectParam from to param output) none =
-    lead_for m steady (op.DisconnectParam from to param output) (node_named m from) (param_at m (node_named m to) param) (λ n i. edits m (edit.Disconnect n (form_of_param output i)))
-    (λ n i from_is to_is kept.
-    edits_for m steady (op.DisconnectParam from to param output) (edit.Disconnect n (form_of_param output i))
-    (node_there m steady from n from_is, form_of_param_names (length m.world.nodes) output i (param_low m (node_named m to) param (λ k found. node_there m steady to k found) i to_is)) refl)
-on_param_op_for m steady (op.SetAutomationRate node param value) none = edits_param_for m steady (op.SetAutomationRate node param value) none node param (line.Rate value)
-on_param_op_for m steady (op.ExponentialRampToValueAtTime node param) none =
-    on_param_for m steady (op.ExponentialRampToValueAtTime node param) (param_at m (node_named m node) param) (λ i. refused (NotSupported (Some ExponentialRamp))) (λ i is kept. tt)
-on_param_op_for m steady (op.SetTargetAtTime node param) none =
-    on_param_for m steady (op.SetTargetAtTime node param) (param_at m (node_named m node) param) (λ i. refused (NotSupported (Some SetTarget))) (λ i is kept. tt)
-on_param_op_for m steady (op.ReadValue node param) none =
-    on_param_for m steady (op.ReadValue node param) (param_at m (node_named m node) param) (λ i. comes_to.Answer (answer.Value (slot_of m.world i))) (λ i is kept. tt)
-on_param_op_for m steady other none = on_line_for m steady other none
-
--- ---- what is done on wave shapers
-
-creates_shaper_for : (m : Machine) → IsSteady m → (name : List ℕ) (curve : Option (List ℤ)) (oversample : Oversample)
-    → IsFor m (op.CreateWaveShaper name curve oversample) (decided_on_shaper m (op.CreateWaveShaper name curve oversample))
-unfolding decided_on_shaper
-creates_shaper_for m steady name curve oversample =
-    let o : Op = op.CreateWaveShaper name curve oversample in
-    let e : Edit = edit.Create (Shaper curve (is_some curve)) in
-    unless_for m steady o (oversample_refusal oversample) (edits m e) (λ fine. edits_for m steady o e (refl, tt) refl)
-
-creates_filter_for : (m : Machine) → IsSteady m → (name : List ℕ) (feedforward feedback : List ℤ) → IsFor m (op.CreateIIRFilter name feedforward feedback) (decided_on_shaper m (op.CreateIIRFilter name feedforward feedback))
-unfolding decided_on_shaper
-creates_filter_for m steady name feedforward feedback = edits_for m steady (op.CreateIIRFilter name feedforward feedback) (edit.Create (Causal (Filter feedforward feedback))) (refl, tt) refl
-
-sets_oversample_for : (m : Machine) → IsSteady m → (o : Op) (node : Option NodeId) (value : Oversample) → IsFor m o (sets_oversample m node value)
-sets_oversample_for m steady o None value = tt
-sets_oversample_for m steady o (Some n) value = by_kind (is_shaper (kind_of m.world n.0))
-  where
-    by_kind : (b : Bool) → IsFor m o (if b then unless_refused (oversample_refusal value) (comes_to.Answer answer.Ok) else refused WrongType)
-    by_kind true = unless_for m steady o (oversample_refusal value) (comes_to.Answer answer.Ok) (λ fine. tt)
-    by_kind false = tt
-
-on_shaper_for : (m : Machine) → IsSteady m → (o : Op) → new_name o ≡ None → IsFor m o (decided_on_shaper m o)
-unfolding decided_on_shaper
-on_shaper_for m steady (op.CreateWaveShaper name curve oversample) none = absurd cc
-on_shaper_for m steady (op.CreateIIRFilter name feedforward feedback) none = absurd cc
-on_shaper_for m steady (op.SetCurve node curve) none =
-    node_for m steady (op.SetCurve node curve) (node_named m node) (λ n. edit.SetCurve n curve) (λ a is. (node_there m steady node a is, refl))
-on_shaper_for m steady (op.SetOversample node value) none = sets_oversample_for m steady (op.SetOversample node value) (node_named m node) value
-on_shaper_for m steady other none = on_param_op_for m steady other none
-
-decoding_for : (m : Machine) (name path : List ℕ) → IsFor m (op.DecodeAudioData name path) (decided_on_shaper m (op.DecodeAudioData name path))
-unfolding decided_on_shaper decided_on_param decided_on_line
-decoding_for m name path = tt
-
-pub decided_for : (m : Machine) → IsSteady m → (o : Op) → IsInRange o → IsFor m o (decided m o)
+-- what each operation comes to is what it may come to
+pub comes : (m : Machine) (o : Op) → Comes m o (decided m o)
 unfolding decided
-decided_for m steady (op.CreateConstantSource name offset) in_range = edits_for m steady (op.CreateConstantSource name offset) (edit.Create (Constant offset)) (refl, tt) refl
-decided_for m steady (op.CreateGain name gain) in_range = edits_for m steady (op.CreateGain name gain) (edit.Create (Gain gain)) (refl, tt) refl
-decided_for m steady (op.CreateDelay name longest time) in_range = edits_for m steady (op.CreateDelay name longest time) (edit.Create (delay_of m.world.spec longest time)) (refl, refl) refl
-decided_for m steady (op.CreateChannelSplitter name outputs) in_range = edits_for m steady (op.CreateChannelSplitter name outputs) (edit.Create (Splitter outputs)) (refl, tt) refl
-decided_for m steady (op.CreateChannelMerger name inputs) in_range = edits_for m steady (op.CreateChannelMerger name inputs) (edit.Create (Merger inputs)) (refl, tt) refl
-decided_for m steady (op.CreateBufferSource name buffer looping loop_start loop_end rate) in_range =
-    with_buffer_for m steady (op.CreateBufferSource name buffer looping loop_start loop_end rate) buffer (λ b. edit.CreateBufferSource (rate_of rate) b (record { on = looping; first = loop_start; end = loop_end }))
+comes m (op.CreateConstantSource name offset) = edits_come m (op.CreateConstantSource name offset) (edit.Create (Constant offset)) ((λ steady. (refl, tt)), refl)
+comes m (op.CreateGain name gain) = edits_come m (op.CreateGain name gain) (edit.Create (Gain gain)) ((λ steady. (refl, tt)), refl)
+comes m (op.CreateDelay name max_delay_time delay_time) =
+    edits_come m (op.CreateDelay name max_delay_time delay_time) (edit.Create (delay_of m.world.spec max_delay_time delay_time))
+    ((λ steady. (refl, refl)), refl)
+comes m (op.CreateChannelSplitter name number_of_outputs) =
+    edits_come m (op.CreateChannelSplitter name number_of_outputs) (edit.Create (Splitter number_of_outputs))
+    ((λ steady. (refl, tt)), refl)
+comes m (op.CreateChannelMerger name number_of_inputs) =
+    edits_come m (op.CreateChannelMerger name number_of_inputs) (edit.Create (Merger number_of_inputs))
+    ((λ steady. (refl, tt)), refl)
+comes m (op.Connect from output to input) =
+    nodes_come m (op.Connect from output to input) (node_named m from) (node_named m to) (λ node target. edit.Connect (edge_of output input node target))
+    (λ a b from_is to_is. ((λ steady. (node_there m steady from a from_is, node_there m steady to b to_is)), refl))
+comes m (op.Disconnect from output None input) =
+    node_comes m (op.Disconnect from output None input) (node_named m from) (λ node. edit.Disconnect node (form_from output))
+    (λ a from_is. ((λ steady. (node_there m steady from a from_is, form_from_names (length m.world.nodes) output)), refl))
+comes m (op.Disconnect from output (Some to) input) =
+    nodes_come m (op.Disconnect from output (Some to) input) (node_named m from) (node_named m to) (λ node target. edit.Disconnect node (form_to output input target))
+    (λ a b from_is to_is. ((λ steady. (node_there m steady from a from_is, form_to_names (length m.world.nodes) output input b (node_there m steady to b to_is))), refl))
+comes m (op.SetChannelCount node value) =
+    node_comes m (op.SetChannelCount node value) (node_named m node) (λ n. edit.Attribute n (attribute.Count value))
+    (λ a is. ((λ steady. node_there m steady node a is), refl))
+comes m (op.SetChannelCountMode node value) =
+    node_comes m (op.SetChannelCountMode node value) (node_named m node) (λ n. edit.Attribute n (attribute.Mode value))
+    (λ a is. ((λ steady. node_there m steady node a is), refl))
+comes m (op.SetChannelInterpretation node value) =
+    node_comes m (op.SetChannelInterpretation node value) (node_named m node) (λ n. edit.Attribute n (attribute.Interp value))
+    (λ a is. ((λ steady. node_there m steady node a is), refl))
+comes m (op.Start node when offset duration) =
+    node_comes m (op.Start node when offset duration) (node_named m node) (λ n. edit.Source n (source.Start when offset duration))
+    (λ a is. ((λ steady. tt), refl))
+comes m (op.Stop node when) = node_comes m (op.Stop node when) (node_named m node) (λ n. edit.Source n (source.Stop when)) (λ a is. ((λ steady. tt), refl))
+comes m (op.SetBuffer node buffer) = sets_buffer_comes m (op.SetBuffer node buffer) refl (node_named m node) buffer
+comes m (op.SetLoop node value) = node_comes m (op.SetLoop node value) (node_named m node) (λ n. edit.Source n (source.SetLoop (part.On value))) (λ a is. ((λ steady. tt), refl))
+comes m (op.SetLoopStart node value) =
+    node_comes m (op.SetLoopStart node value) (node_named m node) (λ n. edit.Source n (source.SetLoop (part.First value)))
+    (λ a is. ((λ steady. tt), refl))
+comes m (op.SetLoopEnd node value) =
+    node_comes m (op.SetLoopEnd node value) (node_named m node) (λ n. edit.Source n (source.SetLoop (part.End value)))
+    (λ a is. ((λ steady. tt), refl))
+comes m (op.CreateBufferSource name buffer looping loop_start loop_end playback_rate) =
+    with_buffer_comes m (op.CreateBufferSource name buffer looping loop_start loop_end playback_rate) buffer (λ source. edit.CreateBufferSource (rate_of playback_rate) source (record { on = looping; first = loop_start; end = loop_end }))
     (λ b there. (there, refl))
-decided_for m steady (op.CreateBuffer name channels frames rate) in_range =
-    edits_for m steady (op.CreateBuffer name channels frames rate) (edit.Buffers (buffer_edit.Create channels frames rate)) tt refl
-decided_for m steady (op.LeftOut left_out) in_range = tt
-decided_for m steady (op.Connect from output to input) in_range =
-    nodes_for m steady (op.Connect from output to input) (node_named m from) (node_named m to) (λ node target. edit.Connect (edge_of output input node target))
-    (λ a b from_is to_is. ((node_there m steady from a from_is, node_there m steady to b to_is), refl))
-decided_for m steady (op.Disconnect from output None input) in_range =
-    node_for m steady (op.Disconnect from output None input) (node_named m from) (λ node. edit.Disconnect node (form_from output))
-    (λ a from_is. ((node_there m steady from a from_is, form_from_names (length m.world.nodes) output), refl))
-decided_for m steady (op.Disconnect from output (Some to) input) in_range =
-    nodes_for m steady (op.Disconnect from output (Some to) input) (node_named m from) (node_named m to) (λ node target. edit.Disconnect node (form_to output input target))
-    (λ a b from_is to_is. ((node_there m steady from a from_is, form_to_names (length m.world.nodes) output input b (node_there m steady to b to_is)), refl))
-decided_for m steady (op.Start node when offset duration) in_range =
-    node_for m steady (op.Start node when offset duration) (node_named m node) (λ n. edit.Source n (source.Start when offset duration)) (λ a is. (tt, refl))
-decided_for m steady (op.Stop node when) in_range = node_for m steady (op.Stop node when) (node_named m node) (λ n. edit.Source n (source.Stop when)) (λ a is. (tt, refl))
-decided_for m steady (op.SetChannelCount node value) in_range =
-    node_for m steady (op.SetChannelCount node value) (node_named m node) (λ n. edit.Attribute n (attribute.Count value)) (λ a is. (node_there m steady node a is, refl))
-decided_for m steady (op.SetChannelCountMode node value) in_range =
-    node_for m steady (op.SetChannelCountMode node value) (node_named m node) (λ n. edit.Attribute n (attribute.Mode value)) (λ a is. (node_there m steady node a is, refl))
-decided_for m steady (op.SetChannelInterpretation node value) in_range =
-    node_for m steady (op.SetChannelInterpretation node value) (node_named m node) (λ n. edit.Attribute n (attribute.Interp value)) (λ a is. (node_there m steady node a is, refl))
-decided_for m steady (op.SetBuffer node buffer) in_range = sets_buffer_for m steady (op.SetBuffer node buffer) refl (node_named m node) buffer
-decided_for m steady (op.SetLoop node value) in_range =
-    node_for m steady (op.SetLoop node value) (node_named m node) (λ n. edit.Source n (source.SetLoop (part.On value))) (λ a is. (tt, refl))
-decided_for m steady (op.SetLoopStart node value) in_range =
-    node_for m steady (op.SetLoopStart node value) (node_named m node) (λ n. edit.Source n (source.SetLoop (part.First value))) (λ a is. (tt, refl))
-decided_for m steady (op.SetLoopEnd node value) in_range =
-    node_for m steady (op.SetLoopEnd node value) (node_named m node) (λ n. edit.Source n (source.SetLoop (part.End value))) (λ a is. (tt, refl))
-decided_for m steady (op.CopyToChannel buffer channel samples first) in_range =
-    buffer_for m steady (op.CopyToChannel buffer channel samples first) (buffer_named m buffer) (λ b. edit.Buffers (buffer_edit.Write b channel samples first))
-    (λ b is. (buffer_there m steady buffer b is, refl))
-decided_for m steady op.StartRendering in_range = promise_for m op.StartRendering (start_refusal m.context) comes_to.Start (λ fine. (refl, fine))
-decided_for m steady (op.Suspend time) in_range =
-    promise_for m (op.Suspend time) (suspend_refusal m.context time) (comes_to.Suspend (suspend_frame m.context time)) (may_be m.context time)
-decided_for m steady op.Resume in_range = promise_for m op.Resume (resume_refusal m.context) comes_to.Resume (λ fine. fine)
-decided_for m steady op.ReadState in_range = tt
-decided_for m steady op.ReadTime in_range = tt
-decided_for m steady (op.DecodeAudioData name path) in_range = decoding_for m name path
-decided_for m steady (op.CreateWaveShaper name curve oversample) in_range = creates_shaper_for m steady name curve oversample
-decided_for m steady (op.CreateIIRFilter name feedforward feedback) in_range = creates_filter_for m steady name feedforward feedback
-decided_for m steady other in_range = on_shaper_for m steady other refl
+comes m (op.CreateBuffer name channels frames rate) =
+    edits_come m (op.CreateBuffer name channels frames rate) (edit.Buffers (buffer_edit.Create channels frames rate))
+    ((λ steady. tt), refl)
+comes m (op.CopyToChannel buffer channel samples first) =
+    buffer_comes m (op.CopyToChannel buffer channel samples first) (buffer_named m buffer) (λ written. edit.Buffers (buffer_edit.Write written channel samples first))
+    (λ b is. ((λ steady. buffer_there m steady buffer b is), refl))
+comes m (op.CreateWaveShaper name curve oversample) =
+    let e : Edit = edit.Create (Shaper curve (is_some curve)) in
+    unless_refused_comes m (op.CreateWaveShaper name curve oversample) (oversample_refusal oversample) (edits m e) (λ fine. edits_come m (op.CreateWaveShaper name curve oversample) e ((λ steady. (refl, tt)), refl))
+comes m (op.CreateIIRFilter name feedforward feedback) =
+    edits_come m (op.CreateIIRFilter name feedforward feedback) (edit.Create (Causal (Filter feedforward feedback)))
+    ((λ steady. (refl, tt)), refl)
+comes m (op.SetCurve node curve) = node_comes m (op.SetCurve node curve) (node_named m node) (λ n. edit.SetCurve n curve) (λ a is. ((λ steady. node_there m steady node a is), refl))
+comes m (op.SetOversample node value) = oversample_comes m (op.SetOversample node value) (node_named m node) value
+comes m (op.SetValue node param value) = edits_param_comes m (op.SetValue node param value) refl node param (line.SetNow value)
+comes m (op.SetValueAtTime node param value time) = edits_param_comes m (op.SetValueAtTime node param value time) refl node param (line.Set value time)
+comes m (op.LinearRampToValueAtTime node param value time) = edits_param_comes m (op.LinearRampToValueAtTime node param value time) refl node param (line.Ramp value time)
+comes m (op.SetValueCurveAtTime node param values time duration) = edits_param_comes m (op.SetValueCurveAtTime node param values time duration) refl node param (line.Curve values time duration)
+comes m (op.CancelScheduledValues node param time) = edits_param_comes m (op.CancelScheduledValues node param time) refl node param (line.Cancel time)
+comes m (op.CancelAndHoldAtTime node param time) = edits_param_comes m (op.CancelAndHoldAtTime node param time) refl node param (line.Hold time)
+comes m (op.ConnectParam from output to param) =
+    lead_comes m (op.ConnectParam from output to param) (node_named m from) (param_at m (node_named m to) param) (λ node id. edits m (edit.Connect (edge_to_param output node id)))
+    (λ n i from_is to_is kept.
+    edits_come m (op.ConnectParam from output to param) (edit.Connect (edge_to_param output n i))
+    ((λ steady. (node_there m steady from n from_is, param_there m steady (node_named m to) param (λ k found. node_there m steady to k found) i to_is (lead_kept n i kept))), refl))
+comes m (op.DisconnectParam from to param output) =
+    lead_comes m (op.DisconnectParam from to param output) (node_named m from) (param_at m (node_named m to) param) (λ node id. edits m (edit.Disconnect node (form_of_param output id)))
+    (λ n i from_is to_is kept.
+    edits_come m (op.DisconnectParam from to param output) (edit.Disconnect n (form_of_param output i))
+    ((λ steady. (node_there m steady from n from_is, form_of_param_names (length m.world.nodes) output i (param_low m (node_named m to) param (λ k found. node_there m steady to k found) i to_is))), refl))
+comes m (op.SetAutomationRate node param value) = edits_param_comes m (op.SetAutomationRate node param value) refl node param (line.Rate value)
+comes m (op.ExponentialRampToValueAtTime node param) =
+    on_param_comes m (op.ExponentialRampToValueAtTime node param) (param_at m (node_named m node) param) (λ id. refused (NotSupported (Some feature.ExponentialRamp)))
+    (λ i is kept. tt)
+comes m (op.SetTargetAtTime node param) =
+    on_param_comes m (op.SetTargetAtTime node param) (param_at m (node_named m node) param) (λ id. refused (NotSupported (Some feature.SetTarget)))
+    (λ i is kept. tt)
+comes m (op.ReadValue node param) =
+    on_param_comes m (op.ReadValue node param) (param_at m (node_named m node) param) (λ id. comes_to.Answer (answer.Value (slot_of m.world id)))
+    (λ i is kept. tt)
+comes m op.StartRendering = promise_comes m op.StartRendering (start_refusal m.context) comes_to.Start (λ fine. (refl, fine))
+comes m (op.Suspend time) =
+    promise_comes m (op.Suspend time) (suspend_refusal m.context time) (comes_to.Suspend (suspend_frame m.context time))
+    (λ fine. (refl, may_be m.context time fine))
+comes m op.Resume = promise_comes m op.Resume (resume_refusal m.context) comes_to.Resume (λ fine. (refl, fine))
+comes m op.ReadState = tt
+comes m op.ReadTime = tt
+comes m (op.LeftOut left_out) = tt
+comes m (op.DecodeAudioData name path) = tt
+
+comes_for : (m : Machine) → IsSteady m → (o : Op) (d : Decided) → Comes m o d → IsFor m o d
+comes_for m steady o (comes_to.Answer said) may = tt
+comes_for m steady o comes_to.Start may = may
+comes_for m steady o (comes_to.Suspend frame) may = may.1
+comes_for m steady o comes_to.Resume may = may.1
+comes_for m steady o (comes_to.Change e) may = (may.0 steady, may.1)
+
+pub decided_for : (m : Machine) → IsSteady m → (o : Op) → IsFor m o (decided m o)
+decided_for m steady o = comes_for m steady o (decided m o) (comes m o)
 
 -- a new name is one that may be given
 pub is_new : (o : Op) (name : List ℕ) → IsInRange o → new_name o ≡ Some name → IsNewName name

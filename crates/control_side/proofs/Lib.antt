@@ -6,6 +6,5 @@ mod Marks
 mod Named
 mod NewNames
 mod Parameters
-mod Remaining
 pub mod Starting
 pub mod Stepping

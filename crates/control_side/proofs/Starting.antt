@@ -8,6 +8,7 @@ use Rattle.wa_base.specs.declared.exceptions.Exc.TheVariants.{InvalidState}
 use Rattle.wa_base.specs.declared.contexts.State.{State}
 use Rattle.wa_base.specs.declared.contexts.State.TheVariants as state
 use Rattle.ctx_state.specs.Context.{ContextView, is_closed, start_refusal, with_start, resume_refusal, resumed, suspend_refusal, suspend_frame, with_suspension}
+use Rattle.script_ast.specs.Operations.{new_name}
 use Rattle.script_ast.specs.declared.call_list.Call.{Call}
 use Rattle.script_ast.specs.declared.operations.Op.{Op}
 use Rattle.script_ast.specs.declared.operations.Op.TheVariants as op
@@ -19,7 +20,7 @@ use Rattle.control_side.specs.declared.decide.Decided.{Decided}
 use Rattle.control_side.specs.declared.decide.Decided.TheVariants as comes_to
 use Rattle.control_side.specs.Contexts.{changed_unless, operated, context_after_calls}
 use Rattle.control_side.specs.Machine.{Machine}
-use Rattle.control_side.specs.Step.{is_start, is_resume, promises, decided, decided_with, settled, with_edit, new_name}
+use Rattle.control_side.specs.Step.{is_start, is_resume, promises, decided, decided_with, settled, with_edit}
 use Rattle.control_side.proofs.Leaving.{op_leaves}
 
 -- ---- from a machine to its context

@@ -1,7 +1,6 @@
 pub mod Assets
 pub mod Contexts
 pub mod Deciding
-pub mod Interfaces
 pub mod Machine
 pub mod Params
 pub mod Shapers

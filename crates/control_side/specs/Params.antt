@@ -19,15 +19,10 @@ use Rattle.conn_graph.specs.declared.edges.Edge.{Edge}
 use Rattle.conn_graph.specs.declared.edges.Form.{Form}
 use Rattle.conn_graph.specs.declared.edges.Form.TheVariants as form
 use Rattle.conn_graph.specs.declared.edges.Target.TheVariants.{Param}
-use Rattle.script_ast.specs.declared.operations.Op.{Op}
-use Rattle.script_ast.specs.declared.operations.Op.TheVariants as op
-use Rattle.transcript.specs.declared.lines.Answer.TheVariants as answer
-use Rattle.meaning.specs.World.{kind_of, param_id, slot_of}
+use Rattle.meaning.specs.World.{kind_of, param_id}
 use Rattle.meaning.specs.declared.automation.ParamEdit.{ParamEdit}
-use Rattle.meaning.specs.declared.automation.ParamEdit.TheVariants as line
 use Rattle.meaning.specs.declared.change.Edit.TheVariants as edit
 use Rattle.control_side.specs.declared.decide.Decided.{Decided}
-use Rattle.control_side.specs.declared.decide.Decided.TheVariants as comes_to
 use Rattle.control_side.specs.Deciding.{refused, edits, node_named}
 use Rattle.control_side.specs.Machine.{Machine}
 
@@ -107,28 +102,3 @@ edge_to_param output from to = record { from = from; output = output; to = Param
 abbrev pub form_of_param : Option ℕ → ParamId → Form
 form_of_param None to = form.Param to
 form_of_param (Some output) to = form.ParamOutput to output
-
--- what an operation on a timeline comes to; one that is not built is in no script that was read
-unfoldable pub decided_on_line : Machine → Op → Decided
-decided_on_line machine (op.SetValue node param value) = edits_param machine node param (line.SetNow value)
-decided_on_line machine (op.SetValueAtTime node param value time) = edits_param machine node param (line.Set value time)
-decided_on_line machine (op.LinearRampToValueAtTime node param value time) = edits_param machine node param (line.Ramp value time)
-decided_on_line machine (op.SetValueCurveAtTime node param values time duration) = edits_param machine node param (line.Curve values time duration)
-decided_on_line machine (op.CancelScheduledValues node param time) = edits_param machine node param (line.Cancel time)
-decided_on_line machine (op.CancelAndHoldAtTime node param time) = edits_param machine node param (line.Hold time)
-decided_on_line machine other = refused (NotSupported None)
-
--- what an operation on a parameter comes to
-unfoldable pub decided_on_param : Machine → Op → Decided
-decided_on_param machine (op.ConnectParam from output to param) =
-    leads (node_named machine from) (param_at machine (node_named machine to) param) (λ node id. edits machine (edit.Connect (edge_to_param output node id)))
-decided_on_param machine (op.DisconnectParam from to param output) =
-    leads (node_named machine from) (param_at machine (node_named machine to) param) (λ node id. edits machine (edit.Disconnect node (form_of_param output id)))
-decided_on_param machine (op.SetAutomationRate node param value) = edits_param machine node param (line.Rate value)
-decided_on_param machine (op.ExponentialRampToValueAtTime node param) =
-    on_param (param_at machine (node_named machine node) param) (λ id. refused (NotSupported (Some feature.ExponentialRamp)))
-decided_on_param machine (op.SetTargetAtTime node param) =
-    on_param (param_at machine (node_named machine node) param) (λ id. refused (NotSupported (Some feature.SetTarget)))
-decided_on_param machine (op.ReadValue node param) =
-    on_param (param_at machine (node_named machine node) param) (λ id. comes_to.Answer (answer.Value (slot_of machine.world id)))
-decided_on_param machine other = decided_on_line machine other

@@ -5,10 +5,7 @@ use Rattle.wa_base.specs.declared.exceptions.Exc.TheVariants.{NotSupported, Wron
 use Rattle.wa_base.specs.declared.features.Feature.TheVariants as feature
 use Rattle.wa_base.specs.declared.graph_names.NodeId.{NodeId}
 use Rattle.node_table.specs.declared.kinds.Kind.{Kind}
-use Rattle.causal_core.specs.declared.equation.Equation.TheVariants.{Filter}
-use Rattle.node_table.specs.declared.kinds.Kind.TheVariants.{Shaper, Causal}
-use Rattle.script_ast.specs.declared.operations.Op.{Op}
-use Rattle.script_ast.specs.declared.operations.Op.TheVariants as op
+use Rattle.node_table.specs.declared.kinds.Kind.TheVariants.{Shaper}
 use Rattle.script_ast.specs.declared.operations.Oversample.{Oversample}
 use Rattle.script_ast.specs.declared.operations.Oversample.TheVariants.{Off, Two, Four}
 use Rattle.transcript.specs.declared.lines.Answer.TheVariants as answer
@@ -16,9 +13,9 @@ use Rattle.meaning.specs.World.{kind_of}
 use Rattle.meaning.specs.declared.change.Edit.TheVariants as edit
 use Rattle.control_side.specs.declared.decide.Decided.{Decided}
 use Rattle.control_side.specs.declared.decide.Decided.TheVariants as comes_to
-use Rattle.control_side.specs.Deciding.{refused, edits, edits_node, node_named}
+use Rattle.control_side.specs.Deciding.{refused, edits}
 use Rattle.control_side.specs.Machine.{Machine}
-use Rattle.control_side.specs.Params.{unless_refused, decided_on_param}
+use Rattle.control_side.specs.Params.{unless_refused}
 
 -- the profile has no oversampling
 abbrev pub oversample_refusal : Oversample → Option Exc
@@ -38,11 +35,3 @@ is_shaper other = false
 abbrev pub sets_oversample : Machine → Option NodeId → Oversample → Decided
 sets_oversample machine None value = refused WrongType
 sets_oversample machine (Some node) value = if is_shaper (kind_of machine.world node.0) then unless_refused (oversample_refusal value) (comes_to.Answer answer.Ok) else refused WrongType
-
--- what an operation on a shaper or a filter comes to, or any that is in no table above
-unfoldable pub decided_on_shaper : Machine → Op → Decided
-decided_on_shaper machine (op.CreateWaveShaper name curve oversample) = creates_shaper machine curve oversample
-decided_on_shaper machine (op.SetCurve node curve) = edits_node machine (node_named machine node) (λ n. edit.SetCurve n curve)
-decided_on_shaper machine (op.SetOversample node value) = sets_oversample machine (node_named machine node) value
-decided_on_shaper machine (op.CreateIIRFilter name feedforward feedback) = edits machine (edit.Create (Causal (Filter feedforward feedback)))
-decided_on_shaper machine other = decided_on_param machine other

@@ -5,9 +5,11 @@ use Rattle.wa_base.specs.declared.contexts.ContextSpec.{ContextSpec}
 use Rattle.wa_base.specs.declared.contexts.State.TheVariants.{Running}
 use Rattle.wa_base.specs.declared.exceptions.Exc.{Exc}
 use Rattle.wa_base.specs.declared.exceptions.Exc.TheVariants.{NotSupported}
+use Rattle.wa_base.specs.declared.features.Feature.TheVariants as feature
 use Rattle.wa_base.specs.declared.graph_names.NodeId.{NodeId}
 use Rattle.io_edge.specs.Paths.{Paths}
 use Rattle.ctx_state.specs.Context.{ContextView, start_refusal, with_start, resume_refusal, resumed, suspend_refusal, suspend_frame, may_suspend, with_suspension}
+use Rattle.script_ast.specs.Operations.{new_name}
 use Rattle.script_ast.specs.declared.call_list.Call.{Call}
 use Rattle.script_ast.specs.declared.operations.Op.{Op}
 use Rattle.script_ast.specs.declared.operations.Op.TheVariants as op
@@ -18,11 +20,14 @@ use Rattle.name_book.specs.declared.book.Object.TheVariants as object
 use Rattle.name_book.specs.Book.{bound, first_named}
 use Rattle.node_table.specs.Delays.{delay_capacity}
 use Rattle.node_table.specs.declared.kinds.Kind.{Kind}
-use Rattle.node_table.specs.declared.kinds.Kind.TheVariants.{Constant, Gain, Delay, Splitter, Merger}
+use Rattle.causal_core.specs.declared.equation.Equation.TheVariants.{Filter}
+use Rattle.node_table.specs.declared.kinds.Kind.TheVariants.{Constant, Gain, Delay, Splitter, Merger, Causal}
 use Rattle.conn_graph.specs.declared.edges.Edge.{Edge}
 use Rattle.conn_graph.specs.declared.edges.Form.{Form}
 use Rattle.conn_graph.specs.declared.edges.Form.TheVariants as form
 use Rattle.conn_graph.specs.declared.edges.Target.TheVariants.{Input}
+use Rattle.meaning.specs.World.{slot_of}
+use Rattle.meaning.specs.declared.automation.ParamEdit.TheVariants as line
 use Rattle.meaning.specs.declared.buffers.BufferEdit.TheVariants as buffer_edit
 use Rattle.meaning.specs.declared.change.AttributeEdit.TheVariants as attribute
 use Rattle.meaning.specs.declared.change.Edit.{Edit}
@@ -36,22 +41,9 @@ use Rattle.control_side.specs.declared.decide.Decided.{Decided}
 use Rattle.control_side.specs.declared.decide.Decided.TheVariants as comes_to
 use Rattle.control_side.specs.Assets.{decodes}
 use Rattle.control_side.specs.Machine.{Machine, IsAccepted}
-use Rattle.control_side.specs.Shapers.{decided_on_shaper}
+use Rattle.control_side.specs.Params.{param_at, on_param, edits_param, leads, edge_to_param, form_of_param}
+use Rattle.control_side.specs.Shapers.{creates_shaper, sets_oversample}
 pub use Rattle.control_side.specs.Deciding.{node_bound, node_named, buffer_bound, buffer_named, refused, unless, edits, edits_node, edits_nodes, edits_buffer, edits_with_buffer, sets_buffer}
-
--- the name that an operation gives to what it creates
-abbrev pub new_name : Op → Option (List ℕ)
-new_name (op.CreateConstantSource name offset) = Some name
-new_name (op.CreateGain name gain) = Some name
-new_name (op.CreateDelay name max_delay_time delay_time) = Some name
-new_name (op.CreateChannelSplitter name number_of_outputs) = Some name
-new_name (op.CreateChannelMerger name number_of_inputs) = Some name
-new_name (op.CreateWaveShaper name curve oversample) = Some name
-new_name (op.CreateIIRFilter name feedforward feedback) = Some name
-new_name (op.CreateBufferSource name buffer looping loop_start loop_end playback_rate) = Some name
-new_name (op.CreateBuffer name channels frames rate) = Some name
-new_name (op.DecodeAudioData name path) = Some name
-new_name other = None
 
 -- ---- what an operation comes to
 
@@ -88,34 +80,65 @@ promises (Some exception) decided = comes_to.Answer (answer.Rejected exception)
 
 -- what an operation comes to that looks at nothing outside
 unfoldable pub decided : Machine → Op → Decided
+-- nodes are created (BaseAudioContext)
 decided machine (op.CreateConstantSource name offset) = edits machine (edit.Create (Constant offset))
 decided machine (op.CreateGain name gain) = edits machine (edit.Create (Gain gain))
 decided machine (op.CreateDelay name max_delay_time delay_time) = edits machine (edit.Create (delay_of machine.world.spec max_delay_time delay_time))
 decided machine (op.CreateChannelSplitter name number_of_outputs) = edits machine (edit.Create (Splitter number_of_outputs))
 decided machine (op.CreateChannelMerger name number_of_inputs) = edits machine (edit.Create (Merger number_of_inputs))
-decided machine (op.CreateBufferSource name buffer looping loop_start loop_end playback_rate) =
-    edits_with_buffer machine buffer (λ source. edit.CreateBufferSource (rate_of playback_rate) source (record { on = looping; first = loop_start; end = loop_end }))
-decided machine (op.CreateBuffer name channels frames rate) = edits machine (edit.Buffers (buffer_edit.Create channels frames rate))
-decided machine (op.LeftOut left_out) = refused (NotSupported (Some left_out))
+-- on any node (AudioNode)
 decided machine (op.Connect from output to input) = edits_nodes machine (node_named machine from) (node_named machine to) (λ node target. edit.Connect (edge_of output input node target))
 decided machine (op.Disconnect from output to input) = disconnects machine (node_named machine from) output to input
-decided machine (op.Start node when offset duration) = edits_node machine (node_named machine node) (λ n. edit.Source n (source.Start when offset duration))
-decided machine (op.Stop node when) = edits_node machine (node_named machine node) (λ n. edit.Source n (source.Stop when))
 decided machine (op.SetChannelCount node value) = edits_node machine (node_named machine node) (λ n. edit.Attribute n (attribute.Count value))
 decided machine (op.SetChannelCountMode node value) = edits_node machine (node_named machine node) (λ n. edit.Attribute n (attribute.Mode value))
 decided machine (op.SetChannelInterpretation node value) = edits_node machine (node_named machine node) (λ n. edit.Attribute n (attribute.Interp value))
+-- on sources (AudioScheduledSourceNode, AudioBufferSourceNode)
+decided machine (op.Start node when offset duration) = edits_node machine (node_named machine node) (λ n. edit.Source n (source.Start when offset duration))
+decided machine (op.Stop node when) = edits_node machine (node_named machine node) (λ n. edit.Source n (source.Stop when))
 decided machine (op.SetBuffer node buffer) = sets_buffer machine (node_named machine node) buffer
 decided machine (op.SetLoop node value) = edits_node machine (node_named machine node) (λ n. edit.Source n (source.SetLoop (part.On value)))
 decided machine (op.SetLoopStart node value) = edits_node machine (node_named machine node) (λ n. edit.Source n (source.SetLoop (part.First value)))
 decided machine (op.SetLoopEnd node value) = edits_node machine (node_named machine node) (λ n. edit.Source n (source.SetLoop (part.End value)))
+-- on buffers, and what plays them (AudioBuffer)
+decided machine (op.CreateBufferSource name buffer looping loop_start loop_end playback_rate) =
+    edits_with_buffer machine buffer (λ source. edit.CreateBufferSource (rate_of playback_rate) source (record { on = looping; first = loop_start; end = loop_end }))
+decided machine (op.CreateBuffer name channels frames rate) = edits machine (edit.Buffers (buffer_edit.Create channels frames rate))
 decided machine (op.CopyToChannel buffer channel samples first) =
     edits_buffer machine (buffer_named machine buffer) (λ written. edit.Buffers (buffer_edit.Write written channel samples first))
+-- on wave shapers and filters (WaveShaperNode, IIRFilterNode)
+decided machine (op.CreateWaveShaper name curve oversample) = creates_shaper machine curve oversample
+decided machine (op.CreateIIRFilter name feedforward feedback) = edits machine (edit.Create (Causal (Filter feedforward feedback)))
+decided machine (op.SetCurve node curve) = edits_node machine (node_named machine node) (λ n. edit.SetCurve n curve)
+decided machine (op.SetOversample node value) = sets_oversample machine (node_named machine node) value
+-- on the timelines of parameters (AudioParam)
+decided machine (op.SetValue node param value) = edits_param machine node param (line.SetNow value)
+decided machine (op.SetValueAtTime node param value time) = edits_param machine node param (line.Set value time)
+decided machine (op.LinearRampToValueAtTime node param value time) = edits_param machine node param (line.Ramp value time)
+decided machine (op.SetValueCurveAtTime node param values time duration) = edits_param machine node param (line.Curve values time duration)
+decided machine (op.CancelScheduledValues node param time) = edits_param machine node param (line.Cancel time)
+decided machine (op.CancelAndHoldAtTime node param time) = edits_param machine node param (line.Hold time)
+-- on parameters otherwise (AudioParam, AudioNode)
+decided machine (op.ConnectParam from output to param) =
+    leads (node_named machine from) (param_at machine (node_named machine to) param) (λ node id. edits machine (edit.Connect (edge_to_param output node id)))
+decided machine (op.DisconnectParam from to param output) =
+    leads (node_named machine from) (param_at machine (node_named machine to) param) (λ node id. edits machine (edit.Disconnect node (form_of_param output id)))
+decided machine (op.SetAutomationRate node param value) = edits_param machine node param (line.Rate value)
+decided machine (op.ExponentialRampToValueAtTime node param) =
+    on_param (param_at machine (node_named machine node) param) (λ id. refused (NotSupported (Some feature.ExponentialRamp)))
+decided machine (op.SetTargetAtTime node param) =
+    on_param (param_at machine (node_named machine node) param) (λ id. refused (NotSupported (Some feature.SetTarget)))
+decided machine (op.ReadValue node param) =
+    on_param (param_at machine (node_named machine node) param) (λ id. comes_to.Answer (answer.Value (slot_of machine.world id)))
+-- on the context (BaseAudioContext, OfflineAudioContext)
 decided machine op.StartRendering = promises (start_refusal machine.context) comes_to.Start
 decided machine (op.Suspend time) = promises (suspend_refusal machine.context time) (comes_to.Suspend (suspend_frame machine.context time))
 decided machine op.Resume = promises (resume_refusal machine.context) comes_to.Resume
 decided machine op.ReadState = comes_to.Answer (answer.State machine.context.state)
 decided machine op.ReadTime = comes_to.Answer (answer.Time machine.context.time)
-decided machine other = decided_on_shaper machine other
+-- what the profile leaves out
+decided machine (op.LeftOut left_out) = refused (NotSupported (Some left_out))
+-- where the folder holds nothing
+decided machine (op.DecodeAudioData name path) = decodes machine None
 
 -- and one that looks into the folder of assets, where the paths hold this
 abbrev pub decided_with : Machine → Paths → Op → Decided

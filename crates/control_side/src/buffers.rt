@@ -1,23 +1,23 @@
-ghost use Rattle.std.specs.Prelude.{◌≡◌, Option, is_some, IfOk, IfSome};
+ghost use Rattle.std.specs.Prelude.{◌≡◌, Option, IfOk};
+ghost use Rattle.script_ast.specs.Operations.{interface_of};
 ghost use Rattle.meaning.specs.Sources.{IsBufferOf};
 ghost use Rattle.control_side.specs.Deciding.{by_found};
-ghost use Rattle.control_side.specs.Interfaces as interface;
 ghost use Rattle.control_side.specs.Step as spec;
 
 use crate::control::Control;
 use crate::decide::{Decided, refused};
 use meaning::{BufferEdit, Edit};
 use sched_source::Loop;
-use script_ast::Op;
+use script_ast::{Interface, Op};
 use wa_base::{BufId, Exc, Fix, Name, NoMemory, ONE, Samples};
 
 // What the operations on buffers come to, and the creation of a source that plays one (the AudioBuffer
 // interface).
 impl Control {
     #[tactic(auto, unfolding(crate::specs::Step::decided))]
-    pub(crate) fn decide_on_buffer(&self, op: &Op) -> Result<Option<Decided>, NoMemory>
-        ensures which { IfOk result (λ found. is_some found ≡ interface.is_on_buffer op.now) }
-        ensures decided { IfOk result (λ found. IfSome found (λ decided. decided ≡ spec.decided self.now op.now)) }
+    pub(crate) fn decide_on_buffer(&self, op: &Op) -> Result<Decided, NoMemory>
+        requires { interface_of op.now ≡ Interface.Buffer }
+        ensures { IfOk result (λ decided. decided ≡ spec.decided self.now op.now) }
     {
         match op {
             Op::CreateBufferSource {
@@ -33,21 +33,21 @@ impl Control {
                     first: *loop_start,
                     end: *loop_end,
                 };
-                Ok(Some(self.create_source(buffer, *playback_rate, points)))
+                Ok(self.create_source(buffer, *playback_rate, points))
             }
             Op::CreateBuffer {
                 channels,
                 length,
                 rate,
                 ..
-            } => Ok(Some(self.create_buffer(*channels, *length, *rate))),
+            } => Ok(self.create_buffer(*channels, *length, *rate)),
             Op::CopyToChannel {
                 buffer,
                 channel,
                 samples,
                 at,
-            } => Ok(Some(self.write(buffer, *channel, samples, *at)?)),
-            _ => Ok(None),
+            } => self.write(buffer, *channel, samples, *at),
+            _ => unreachable!(),
         }
     }
 

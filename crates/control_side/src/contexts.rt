@@ -1,28 +1,28 @@
-ghost use Rattle.std.specs.Prelude.{◌≡◌, is_some, IfSome};
+ghost use Rattle.std.specs.Prelude.{◌≡◌};
 ghost use Rattle.ctx_state.specs.Context.{suspend_refusal, suspend_frame};
-ghost use Rattle.control_side.specs.Interfaces as interface;
+ghost use Rattle.script_ast.specs.Operations.{interface_of};
 ghost use Rattle.control_side.specs.Step as spec;
 
 use crate::control::Control;
 use crate::decide::Decided;
-use script_ast::Op;
+use script_ast::{Interface, Op};
 use transcript::Answer;
 use wa_base::Exc;
 
 // What the operations on the context come to (the BaseAudioContext and OfflineAudioContext interfaces).
 impl Control {
     #[tactic(auto, unfolding(crate::specs::Step::decided))]
-    pub(crate) fn decide_on_context(&self, op: &Op) -> Option<Decided>
-        ensures which { is_some result ≡ interface.is_on_context op.now }
-        ensures decided { IfSome result (λ decided. decided ≡ spec.decided self.now op.now) }
+    pub(crate) fn decide_on_context(&self, op: &Op) -> Decided
+        requires { interface_of op.now ≡ Interface.Context }
+        ensures { result ≡ spec.decided self.now op.now }
     {
         match op {
-            Op::StartRendering => Some(promise(self.context.start_refusal(), Decided::Start)),
-            Op::Suspend { time } => Some(self.suspend(*time)),
-            Op::Resume => Some(promise(self.context.resume_refusal(), Decided::Resume)),
-            Op::ReadState => Some(Decided::Answer(Answer::State(self.context.state()))),
-            Op::ReadTime => Some(Decided::Answer(Answer::Time(self.context.now()))),
-            _ => None,
+            Op::StartRendering => promise(self.context.start_refusal(), Decided::Start),
+            Op::Suspend { time } => self.suspend(*time),
+            Op::Resume => promise(self.context.resume_refusal(), Decided::Resume),
+            Op::ReadState => Decided::Answer(Answer::State(self.context.state())),
+            Op::ReadTime => Decided::Answer(Answer::Time(self.context.now())),
+            _ => unreachable!(),
         }
     }
 

@@ -2,7 +2,8 @@ ghost use Rattle.std.specs.Prelude.{◌≡◌, ◌<◌, ◌≤◌, ◌+◌, fals
 ghost use Rattle.io_edge.specs.Faults.{Rose};
 ghost use Rattle.io_edge.specs.Paths.{Paths, SamePaths};
 ghost use Rattle.wa_base.specs.Contexts.{IsSupported};
-ghost use Rattle.script_ast.specs.Ranges.{IsInRange, IsNewName};
+ghost use Rattle.script_ast.specs.Operations.{IsInRange, new_name};
+ghost use Rattle.script_ast.specs.Ranges.{IsNewName};
 ghost use Rattle.meaning.specs.World.{plain};
 ghost use Rattle.meaning.specs.Validity.{IsValid};
 ghost use Rattle.meaning.specs.Changes.{Accepts, Grows, creates};
@@ -123,7 +124,7 @@ impl Control {
                 Ok(answered(Answer::Resolved))
             }
             Decided::Change(edit) => {
-                let change = self.make(new_name(&call.op), edit)?;
+                let change = self.make(call.op.new_name(), edit)?;
                 Ok(Stepped {
                     answer: done(&call.op),
                     change: Some(change),
@@ -291,25 +292,6 @@ fn answered(answer: Answer) -> Stepped
     Stepped {
         answer,
         change: None,
-    }
-}
-
-// The name that an operation gives to what it creates.
-fn new_name(op: &Op) -> Option<&Name>
-    ensures { option_map (λ name. name.now) result ≡ spec.new_name op.now }
-{
-    match op {
-        Op::CreateConstantSource { name, .. }
-        | Op::CreateGain { name, .. }
-        | Op::CreateDelay { name, .. }
-        | Op::CreateChannelSplitter { name, .. }
-        | Op::CreateChannelMerger { name, .. }
-        | Op::CreateWaveShaper { name, .. }
-        | Op::CreateIIRFilter { name, .. }
-        | Op::CreateBufferSource { name, .. }
-        | Op::CreateBuffer { name, .. }
-        | Op::DecodeAudioData { name, .. } => Some(name),
-        _ => None,
     }
 }
 

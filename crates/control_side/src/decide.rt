@@ -1,7 +1,7 @@
-ghost use Rattle.std.specs.Prelude.{◌≡◌, ◌≤◌, ◌<◌, true, length, IsTrue, IfOk, IfSome, IsErrOf};
+ghost use Rattle.std.specs.Prelude.{◌≡◌, ◌≢◌, ◌≤◌, ◌<◌, true, length, IsTrue, IfOk, IfSome, IsErrOf};
 ghost use Rattle.io_edge.specs.Faults.{Rose};
 ghost use Rattle.io_edge.specs.Paths.{Paths, SamePaths};
-ghost use Rattle.script_ast.specs.Ranges.{IsInRange};
+ghost use Rattle.script_ast.specs.Operations.{IsInRange, interface_of};
 ghost use Rattle.meaning.specs.Changes.{IsNamed};
 ghost use Rattle.control_side.specs.Assets.{IsHeld};
 ghost use Rattle.control_side.specs.Steady.{IsSteady};
@@ -12,7 +12,7 @@ use crate::stop::Stop;
 use io_edge::Files;
 use meaning::Edit;
 use name_book::Object;
-use script_ast::Op;
+use script_ast::{Interface, Op};
 use transcript::Answer;
 use wa_base::{BufId, Exc, Name, NoMemory, NodeId};
 
@@ -53,29 +53,33 @@ impl Control {
     }
 
     // What any other operation comes to.
-    #[tactic(auto, unfolding(crate::specs::Step::decided))]
     fn decide(&self, op: &Op) -> Result<Decided, NoMemory>
-        requires { IsInRange op.now }
-        ensures decided { IfOk result (λ decided. decided ≡ spec.decided self.now op.now) }
+        requires { interface_of op.now ≢ Interface.Asset }
+        ensures { IfOk result (λ decided. decided ≡ spec.decided self.now op.now) }
     {
-        if let Some(decided) = self.decide_creation(op) {
-            return Ok(decided);
+        match op.interface() {
+            Interface::Creation => Ok(self.decide_creation(op)),
+            Interface::Node => Ok(self.decide_on_node(op)),
+            Interface::Source => Ok(self.decide_on_source(op)),
+            Interface::Buffer => self.decide_on_buffer(op),
+            Interface::Shaper => self.decide_on_shaper(op),
+            Interface::Timeline => self.decide_on_timeline(op),
+            Interface::Param => Ok(self.decide_on_param(op)),
+            Interface::Context => Ok(self.decide_on_context(op)),
+            Interface::Asset => unreachable!(),
+            Interface::LeftOut => Ok(self.decide_left_out(op)),
         }
-        if let Some(decided) = self.decide_on_node(op) {
-            return Ok(decided);
-        }
-        if let Some(decided) = self.decide_on_source(op) {
-            return Ok(decided);
-        }
-        if let Some(decided) = self.decide_on_buffer(op)? {
-            return Ok(decided);
-        }
-        if let Some(decided) = self.decide_on_context(op) {
-            return Ok(decided);
-        }
+    }
+
+    // What the profile leaves out is refused.
+    #[tactic(auto, unfolding(crate::specs::Step::decided))]
+    fn decide_left_out(&self, op: &Op) -> Decided
+        requires { interface_of op.now ≡ Interface.LeftOut }
+        ensures { result ≡ spec.decided self.now op.now }
+    {
         match op {
-            Op::LeftOut { feature } => Ok(refused(Exc::NotSupported(Some(*feature)))),
-            _ => self.decide_on_shaper(op),
+            Op::LeftOut { feature } => refused(Exc::NotSupported(Some(*feature))),
+            _ => unreachable!(),
         }
     }
 }

@@ -1,6 +1,6 @@
-ghost use Rattle.std.specs.Prelude.{◌≡◌, is_some, IfSome};
+ghost use Rattle.std.specs.Prelude.{◌≡◌};
 ghost use Rattle.meaning.specs.Changes.{IsNamed};
-ghost use Rattle.control_side.specs.Interfaces as interface;
+ghost use Rattle.script_ast.specs.Operations.{interface_of};
 ghost use Rattle.control_side.specs.Step as spec;
 
 use crate::control::Control;
@@ -8,41 +8,41 @@ use crate::decide::{Decided, refused};
 use conn_graph::{Edge, Form, Target};
 use meaning::{AttributeEdit, Edit};
 use node_table::{Kind, delay_capacity};
-use script_ast::Op;
+use script_ast::{Interface, Op};
 use wa_base::{Exc, Fix, Name, NodeId, QUANTUM};
 
 // What the operations on nodes come to, whatever their kind (the BaseAudioContext and AudioNode
 // interfaces).
 impl Control {
-    // What the creation of a node comes to that has neither a buffer nor a curve.
+    // What the creation of a node comes to that has neither a list nor a buffer.
     #[tactic(auto, unfolding(crate::specs::Step::decided))]
-    pub(crate) fn decide_creation(&self, op: &Op) -> Option<Decided>
-        ensures which { is_some result ≡ interface.is_creation op.now }
-        ensures decided { IfSome result (λ decided. decided ≡ spec.decided self.now op.now) }
+    pub(crate) fn decide_creation(&self, op: &Op) -> Decided
+        requires { interface_of op.now ≡ Interface.Creation }
+        ensures { result ≡ spec.decided self.now op.now }
     {
         match op {
             Op::CreateConstantSource { offset, .. } => {
-                Some(self.create_node(Kind::Constant { offset: *offset }))
+                self.create_node(Kind::Constant { offset: *offset })
             }
-            Op::CreateGain { gain, .. } => Some(self.create_node(Kind::Gain { gain: *gain })),
+            Op::CreateGain { gain, .. } => self.create_node(Kind::Gain { gain: *gain }),
             Op::CreateDelay {
                 max_delay_time,
                 delay_time,
                 ..
-            } => Some(self.create_delay(*max_delay_time, *delay_time)),
+            } => self.create_delay(*max_delay_time, *delay_time),
             Op::CreateChannelSplitter {
                 number_of_outputs,
                 ..
-            } => Some(self.create_node(Kind::Splitter {
+            } => self.create_node(Kind::Splitter {
                 outputs: *number_of_outputs,
-            })),
+            }),
             Op::CreateChannelMerger {
                 number_of_inputs,
                 ..
-            } => Some(self.create_node(Kind::Merger {
+            } => self.create_node(Kind::Merger {
                 inputs: *number_of_inputs,
-            })),
-            _ => None,
+            }),
+            _ => unreachable!(),
         }
     }
 
@@ -65,9 +65,9 @@ impl Control {
 
     // What is done to any node.
     #[tactic(auto, unfolding(crate::specs::Step::decided))]
-    pub(crate) fn decide_on_node(&self, op: &Op) -> Option<Decided>
-        ensures which { is_some result ≡ interface.is_on_node op.now }
-        ensures decided { IfSome result (λ decided. decided ≡ spec.decided self.now op.now) }
+    pub(crate) fn decide_on_node(&self, op: &Op) -> Decided
+        requires { interface_of op.now ≡ Interface.Node }
+        ensures { result ≡ spec.decided self.now op.now }
     {
         match op {
             Op::Connect {
@@ -75,23 +75,23 @@ impl Control {
                 output,
                 to,
                 input,
-            } => Some(self.connect(from, *output, to, *input)),
+            } => self.connect(from, *output, to, *input),
             Op::Disconnect {
                 from,
                 output,
                 to,
                 input,
-            } => Some(self.disconnect(from, *output, to, *input)),
+            } => self.disconnect(from, *output, to, *input),
             Op::SetChannelCount { node, value } => {
-                Some(self.set_attribute(node, AttributeEdit::Count(*value)))
+                self.set_attribute(node, AttributeEdit::Count(*value))
             }
             Op::SetChannelCountMode { node, value } => {
-                Some(self.set_attribute(node, AttributeEdit::Mode(*value)))
+                self.set_attribute(node, AttributeEdit::Mode(*value))
             }
             Op::SetChannelInterpretation { node, value } => {
-                Some(self.set_attribute(node, AttributeEdit::Interp(*value)))
+                self.set_attribute(node, AttributeEdit::Interp(*value))
             }
-            _ => None,
+            _ => unreachable!(),
         }
     }
 

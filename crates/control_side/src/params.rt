@@ -1,6 +1,6 @@
 ghost use Rattle.std.specs.Prelude.{◌≡◌, ◌<◌, length, option_map, is_some, IfOk, IfSome};
 ghost use Rattle.law_base.specs.Members.{IsIn};
-ghost use Rattle.script_ast.specs.Ranges.{IsInRange};
+ghost use Rattle.script_ast.specs.Operations.{interface_of};
 ghost use Rattle.meaning.specs.Validity.{param_ids};
 ghost use Rattle.control_side.specs.Deciding.{by_found};
 ghost use Rattle.control_side.specs.Params as spec;
@@ -13,7 +13,7 @@ use crate::decide::{Decided, refused};
 use conn_graph::{Edge, Form, Target};
 use meaning::{Edit, ParamEdit};
 use node_table::{Kind, Plays};
-use script_ast::Op;
+use script_ast::{Interface, Op};
 use transcript::Answer;
 use wa_base::{Exc, Feature, Name, NoMemory, NodeId, ParamId, ParamName, Samples};
 
@@ -28,11 +28,11 @@ const PARAM_NAMES: [ParamName; 5] = [
 // What the operations on parameters come to (the AudioParam interface, and the calls of AudioNode that
 // connect to parameters).
 impl Control {
-    // Nothing is changed.
-    #[tactic(auto, unfolding(crate::specs::Params::decided_on_param))]
-    pub(crate) fn decide_on_param(&self, op: &Op) -> Result<Decided, NoMemory>
-        requires { IsInRange op.now }
-        ensures decided { IfOk result (λ decided. decided ≡ spec.decided_on_param self.now op.now) }
+    // What the operations on parameters come to, but for those on their timelines.
+    #[tactic(auto, unfolding(crate::specs::Step::decided))]
+    pub(crate) fn decide_on_param(&self, op: &Op) -> Decided
+        requires { interface_of op.now ≡ Interface.Param }
+        ensures { result ≡ step.decided self.now op.now }
     {
         match op {
             Op::ConnectParam {
@@ -40,32 +40,32 @@ impl Control {
                 output,
                 to,
                 param,
-            } => Ok(self.connect_param(from, *output, to, param)),
+            } => self.connect_param(from, *output, to, param),
             Op::DisconnectParam {
                 from,
                 to,
                 param,
                 output,
-            } => Ok(self.disconnect_param(from, *output, to, param)),
+            } => self.disconnect_param(from, *output, to, param),
             Op::SetAutomationRate { node, param, value } => {
-                Ok(self.edit_param(node, param, ParamEdit::Rate(*value)))
+                self.edit_param(node, param, ParamEdit::Rate(*value))
             }
             Op::ExponentialRampToValueAtTime { node, param } => {
-                Ok(self.leave_out(node, param, Feature::ExponentialRamp))
+                self.leave_out(node, param, Feature::ExponentialRamp)
             }
             Op::SetTargetAtTime { node, param } => {
-                Ok(self.leave_out(node, param, Feature::SetTarget))
+                self.leave_out(node, param, Feature::SetTarget)
             }
-            Op::ReadValue { node, param } => Ok(self.read_value(node, param)),
-            _ => self.decide_on_line(op),
+            Op::ReadValue { node, param } => self.read_value(node, param),
+            _ => unreachable!(),
         }
     }
 
     // What the operations on timelines come to.
-    #[tactic(auto, unfolding(crate::specs::Params::decided_on_line))]
-    fn decide_on_line(&self, op: &Op) -> Result<Decided, NoMemory>
-        requires { IsInRange op.now }
-        ensures decided { IfOk result (λ decided. decided ≡ spec.decided_on_line self.now op.now) }
+    #[tactic(auto, unfolding(crate::specs::Step::decided))]
+    pub(crate) fn decide_on_timeline(&self, op: &Op) -> Result<Decided, NoMemory>
+        requires { interface_of op.now ≡ Interface.Timeline }
+        ensures { IfOk result (λ decided. decided ≡ step.decided self.now op.now) }
     {
         match op {
             Op::SetValue { node, param, value } => {
@@ -102,7 +102,7 @@ impl Control {
             Op::CancelAndHoldAtTime { node, param, time } => {
                 Ok(self.edit_param(node, param, ParamEdit::Hold { time: *time }))
             }
-            _ => Ok(refused(Exc::NotSupported(None))),
+            _ => unreachable!(),
         }
     }
 

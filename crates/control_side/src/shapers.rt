@@ -1,7 +1,7 @@
 ghost use Rattle.std.specs.Prelude.{◌≡◌, is_some, IfOk};
-ghost use Rattle.script_ast.specs.Ranges.{IsInRange};
+ghost use Rattle.script_ast.specs.Operations.{interface_of};
 ghost use Rattle.control_side.specs.Shapers as spec;
-ghost use Rattle.control_side.specs.Step.{node_named, edits, edits_node};
+ghost use Rattle.control_side.specs.Step.{node_named, edits, edits_node, decided};
 ghost use Rattle.causal_core.specs.declared.equation.Equation.TheVariants as equations;
 ghost use Rattle.node_table.specs.declared.kinds.Kind.TheVariants as kinds;
 
@@ -10,18 +10,17 @@ use crate::decide::{Decided, refused};
 use causal_core::Equation;
 use meaning::Edit;
 use node_table::Kind;
-use script_ast::{Op, Oversample};
+use script_ast::{Interface, Op, Oversample};
 use transcript::Answer;
 use wa_base::{Exc, Feature, Name, NoMemory, Samples};
 
 // What the operations on wave shapers and IIR filters come to (the WaveShaperNode and IIRFilterNode
 // interfaces).
 impl Control {
-    // Nothing is changed.
-    #[tactic(auto, unfolding(crate::specs::Shapers::decided_on_shaper))]
+    #[tactic(auto, unfolding(crate::specs::Step::decided))]
     pub(crate) fn decide_on_shaper(&self, op: &Op) -> Result<Decided, NoMemory>
-        requires { IsInRange op.now }
-        ensures decided { IfOk result (λ decided. decided ≡ spec.decided_on_shaper self.now op.now) }
+        requires { interface_of op.now ≡ Interface.Shaper }
+        ensures { IfOk result (λ found. found ≡ decided self.now op.now) }
     {
         match op {
             Op::CreateWaveShaper {
@@ -36,7 +35,7 @@ impl Control {
                 feedback,
                 ..
             } => self.create_filter(feedforward, feedback),
-            _ => self.decide_on_param(op),
+            _ => unreachable!(),
         }
     }
 

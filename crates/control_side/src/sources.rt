@@ -1,21 +1,21 @@
-ghost use Rattle.std.specs.Prelude.{◌≡◌, is_some, IfSome};
+ghost use Rattle.std.specs.Prelude.{◌≡◌};
+ghost use Rattle.script_ast.specs.Operations.{interface_of};
 ghost use Rattle.meaning.specs.Sources.{IsNamedBy};
-ghost use Rattle.control_side.specs.Interfaces as interface;
 ghost use Rattle.control_side.specs.Step as spec;
 
 use crate::control::Control;
 use crate::decide::{Decided, refused};
 use meaning::{Edit, LoopPart, SourceEdit};
-use script_ast::Op;
+use script_ast::{Interface, Op};
 use wa_base::{Exc, Name};
 
 // What the operations on sources come to (the AudioScheduledSourceNode and AudioBufferSourceNode
 // interfaces).
 impl Control {
     #[tactic(auto, unfolding(crate::specs::Step::decided))]
-    pub(crate) fn decide_on_source(&self, op: &Op) -> Option<Decided>
-        ensures which { is_some result ≡ interface.is_on_source op.now }
-        ensures decided { IfSome result (λ decided. decided ≡ spec.decided self.now op.now) }
+    pub(crate) fn decide_on_source(&self, op: &Op) -> Decided
+        requires { interface_of op.now ≡ Interface.Source }
+        ensures { result ≡ spec.decided self.now op.now }
     {
         match op {
             Op::Start {
@@ -23,13 +23,13 @@ impl Control {
                 when,
                 offset,
                 duration,
-            } => Some(self.start_source(node, *when, *offset, *duration)),
-            Op::Stop { node, when } => Some(self.stop_source(node, *when)),
-            Op::SetBuffer { node, buffer } => Some(self.set_buffer(node, buffer)),
-            Op::SetLoop { node, value } => Some(self.set_loop(node, LoopPart::On(*value))),
-            Op::SetLoopStart { node, value } => Some(self.set_loop(node, LoopPart::First(*value))),
-            Op::SetLoopEnd { node, value } => Some(self.set_loop(node, LoopPart::End(*value))),
-            _ => None,
+            } => self.start_source(node, *when, *offset, *duration),
+            Op::Stop { node, when } => self.stop_source(node, *when),
+            Op::SetBuffer { node, buffer } => self.set_buffer(node, buffer),
+            Op::SetLoop { node, value } => self.set_loop(node, LoopPart::On(*value)),
+            Op::SetLoopStart { node, value } => self.set_loop(node, LoopPart::First(*value)),
+            Op::SetLoopEnd { node, value } => self.set_loop(node, LoopPart::End(*value)),
+            _ => unreachable!(),
         }
     }
 

@@ -2,7 +2,8 @@
 use Rattle.std.proofs.Common.{◌≡◌, ◌≤◌, ◌<◌, ℕ, suc, zero, List, [], ◌∷◌, ◌++◌, ◌+◌, ◌*◌, ◌%◌, ◌==◌, refl, subst, length, arith, Bool, true, false, if◌then◌else◌, pos, None}
 use Rattle.std.proofs.lemmas.Int.{ints}
 use Rattle.std.specs.Prelude.{codes}
-use Rattle.script_ast.specs.Ranges.{IsInRange, IsCount}
+use Rattle.script_ast.specs.Operations.{IsInRange}
+use Rattle.script_ast.specs.Ranges.{IsCount}
 use Rattle.script_ast.specs.WellFormed.{IsWellFormed, AreCallsAfter}
 use Rattle.script_ast.specs.declared.call_list.Call.{Call}
 use Rattle.script_ast.specs.declared.operations.Op.{Op}

@@ -1,4 +1,4 @@
-ghost use Rattle.script_ast.specs.Ranges.{IsInRange};
+ghost use Rattle.script_ast.specs.Operations.{IsInRange};
 
 use io_edge::MemFiles;
 use script_ast::{Call, Op};

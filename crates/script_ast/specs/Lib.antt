@@ -3,6 +3,7 @@ pub mod Fallbacks
 pub mod Fields
 pub mod Holders
 pub mod OpNames
+pub mod Operations
 pub mod Ranges
 pub mod WellFormed
 pub mod Words

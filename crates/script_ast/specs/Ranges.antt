@@ -3,8 +3,6 @@ use Rattle.std.specs.Prelude.{ℕ, ◌≤◌, ◌==◌, ◌&&◌, ◌||◌, List
 use Rattle.std.specs.List.{list_all}
 use Rattle.std.specs.Char.{is_ascii_alphanumeric}
 use Rattle.wa_base.specs.Numbers.{IsFix}
-use Rattle.script_ast.specs.declared.operations.Op.{Op}
-use Rattle.script_ast.specs.declared.operations.Op.TheVariants as op
 
 -- a number of frames, from -2^40 to 2^40
 abbrev pub IsTime : ℤ → Type 0
@@ -66,48 +64,3 @@ IsPath path = (1 ≤ length path) × (length path ≤ 255)
 abbrev pub IsDisconnectForm : Option ℕ → Option (List ℕ) → Option ℕ → Type 0
 IsDisconnectForm output to None = Unit {0}
 IsDisconnectForm output to (Some input) = IsSome output × IsSome to
-
--- each field of an operation is in its range, and a disconnect has one of its forms
-abbrev pub IsInRange : Op → Type 0
-IsInRange (op.CreateConstantSource name offset) = IsNewName name × IsFix offset
-IsInRange (op.CreateGain name gain) = IsNewName name × IsFix gain
-IsInRange (op.CreateDelay name max_delay_time delay_time) = IsNewName name × IsFix max_delay_time × IsFix delay_time
-IsInRange (op.CreateChannelSplitter name number_of_outputs) = IsNewName name × IsCount number_of_outputs
-IsInRange (op.CreateChannelMerger name number_of_inputs) = IsNewName name × IsCount number_of_inputs
-IsInRange (op.CreateWaveShaper name curve oversample) = IsNewName name × AreFixesIfSome curve
-IsInRange (op.CreateIIRFilter name feedforward feedback) = IsNewName name × AreFixes feedforward × AreFixes feedback
-IsInRange (op.CreateBufferSource name buffer looping loop_start loop_end playback_rate) = IsNewName name × IsTime loop_start × IsTime loop_end × IsFix playback_rate
-IsInRange (op.CreateBuffer name channels frames rate) = IsNewName name × IsCount channels × IsCount frames × IsCount rate
-IsInRange (op.LeftOut feature) = Unit {0}
-IsInRange (op.Connect from output to input) = IsCount output × IsCount input
-IsInRange (op.ConnectParam from output to param) = IsCount output
-IsInRange (op.Disconnect from output to input) = IsCountIfSome output × IsCountIfSome input × IsDisconnectForm output to input
-IsInRange (op.DisconnectParam from to param output) = IsCountIfSome output
-IsInRange (op.SetChannelCount node value) = IsCount value
-IsInRange (op.SetChannelCountMode node value) = Unit {0}
-IsInRange (op.SetChannelInterpretation node value) = Unit {0}
-IsInRange (op.SetCurve node curve) = AreFixesIfSome curve
-IsInRange (op.SetOversample node value) = Unit {0}
-IsInRange (op.SetBuffer node buffer) = Unit {0}
-IsInRange (op.SetLoop node value) = Unit {0}
-IsInRange (op.SetLoopStart node value) = IsTime value
-IsInRange (op.SetLoopEnd node value) = IsTime value
-IsInRange (op.CopyToChannel buffer channel samples at) = IsCount channel × AreFixes samples × IsCount at
-IsInRange (op.Start node when offset duration) = IsTime when × IsTime offset × IsTimeIfSome duration
-IsInRange (op.Stop node when) = IsTime when
-IsInRange (op.SetValue node param value) = IsFix value
-IsInRange (op.SetValueAtTime node param value time) = IsFix value × IsTime time
-IsInRange (op.LinearRampToValueAtTime node param value time) = IsFix value × IsTime time
-IsInRange (op.SetValueCurveAtTime node param values time duration) = AreFixes values × IsTime time × IsTime duration
-IsInRange (op.CancelScheduledValues node param time) = IsTime time
-IsInRange (op.CancelAndHoldAtTime node param time) = IsTime time
-IsInRange (op.SetAutomationRate node param value) = Unit {0}
-IsInRange (op.ExponentialRampToValueAtTime node param) = Unit {0}
-IsInRange (op.SetTargetAtTime node param) = Unit {0}
-IsInRange (op.ReadValue node param) = Unit {0}
-IsInRange (op.Suspend time) = IsTime time
-IsInRange op.StartRendering = Unit {0}
-IsInRange op.Resume = Unit {0}
-IsInRange (op.DecodeAudioData name path) = IsNewName name × IsPath path
-IsInRange op.ReadState = Unit {0}
-IsInRange op.ReadTime = Unit {0}

@@ -1,6 +1,7 @@
 -- What holds of every script that was read.
 use Rattle.std.specs.Prelude.{ℕ, ◌≡◌, ◌+◌, ◌≤◌, List, [], ◌∷◌}
-use Rattle.script_ast.specs.Ranges.{IsCount, IsInRange}
+use Rattle.script_ast.specs.Operations.{IsInRange}
+use Rattle.script_ast.specs.Ranges.{IsCount}
 use Rattle.script_ast.specs.declared.call_list.Call.{Call}
 use Rattle.script_ast.specs.declared.call_list.Script.{Script}
 

@@ -16,7 +16,7 @@ pub use clocks::Clock;
 pub use entries::{Fallback, Kind, Row, fallback_in};
 pub use fields::Field;
 pub use op_names::{LeftOutName, OP_NAMES, OpName, is_built};
-pub use operations::{Op, Oversample};
+pub use operations::{Interface, Op, Oversample};
 pub use param_ops::ParamOpName;
 pub use paths::Path;
 pub use words::{interp_named, mode_named, oversample_named, rate_named};

@@ -1,4 +1,5 @@
-ghost use Rattle.std.specs.Prelude.{◌≡◌};
+ghost use Rattle.std.specs.Prelude.{◌≡◌, option_map};
+ghost use Rattle.script_ast.specs.Operations as spec;
 ghost use Rattle.script_ast.specs.Words.{oversample_word};
 
 use crate::paths::Path;
@@ -259,4 +260,96 @@ pub enum Op {
     ReadState,
     /// The BaseAudioContext Interface, currentTime, in frames.
     ReadTime,
+}
+
+/// What an operation is done to, or reads. Operations with the same one are decided together.
+#[derive(Clone, Copy, PartialEq, Eq)]
+pub enum Interface {
+    /// A node is created that has neither a list nor a buffer (BaseAudioContext).
+    Creation,
+    /// A node of any kind (AudioNode).
+    Node,
+    /// A source (AudioScheduledSourceNode, AudioBufferSourceNode).
+    Source,
+    /// A buffer, or what plays one (AudioBuffer, BaseAudioContext).
+    Buffer,
+    /// A wave shaper or a filter (WaveShaperNode, IIRFilterNode).
+    Shaper,
+    /// The timeline of a parameter (AudioParam).
+    Timeline,
+    /// A parameter, its connections included (AudioParam, AudioNode).
+    Param,
+    /// The context (BaseAudioContext, OfflineAudioContext).
+    Context,
+    /// A file of the folder of assets (BaseAudioContext, decodeAudioData).
+    Asset,
+    /// Nothing: the profile leaves the operation out.
+    LeftOut,
+}
+
+impl Op {
+    /// What the operation is done to.
+    pub fn interface(&self) -> Interface
+        ensures { result ≡ spec.interface_of self.now }
+    {
+        match self {
+            Op::CreateConstantSource { .. }
+            | Op::CreateGain { .. }
+            | Op::CreateDelay { .. }
+            | Op::CreateChannelSplitter { .. }
+            | Op::CreateChannelMerger { .. } => Interface::Creation,
+            Op::Connect { .. }
+            | Op::Disconnect { .. }
+            | Op::SetChannelCount { .. }
+            | Op::SetChannelCountMode { .. }
+            | Op::SetChannelInterpretation { .. } => Interface::Node,
+            Op::SetBuffer { .. }
+            | Op::SetLoop { .. }
+            | Op::SetLoopStart { .. }
+            | Op::SetLoopEnd { .. }
+            | Op::Start { .. }
+            | Op::Stop { .. } => Interface::Source,
+            Op::CreateBufferSource { .. } | Op::CreateBuffer { .. } | Op::CopyToChannel { .. } =>
+                Interface::Buffer,
+            Op::CreateWaveShaper { .. }
+            | Op::CreateIIRFilter { .. }
+            | Op::SetCurve { .. }
+            | Op::SetOversample { .. } => Interface::Shaper,
+            Op::SetValue { .. }
+            | Op::SetValueAtTime { .. }
+            | Op::LinearRampToValueAtTime { .. }
+            | Op::SetValueCurveAtTime { .. }
+            | Op::CancelScheduledValues { .. }
+            | Op::CancelAndHoldAtTime { .. } => Interface::Timeline,
+            Op::ConnectParam { .. }
+            | Op::DisconnectParam { .. }
+            | Op::SetAutomationRate { .. }
+            | Op::ExponentialRampToValueAtTime { .. }
+            | Op::SetTargetAtTime { .. }
+            | Op::ReadValue { .. } => Interface::Param,
+            Op::Suspend { .. } | Op::StartRendering | Op::Resume | Op::ReadState | Op::ReadTime =>
+                Interface::Context,
+            Op::DecodeAudioData { .. } => Interface::Asset,
+            Op::LeftOut { .. } => Interface::LeftOut,
+        }
+    }
+
+    /// The name that the operation gives to what it creates.
+    pub fn new_name(&self) -> Option<&Name>
+        ensures { option_map (λ name. name.now) result ≡ spec.new_name self.now }
+    {
+        match self {
+            Op::CreateConstantSource { name, .. }
+            | Op::CreateGain { name, .. }
+            | Op::CreateDelay { name, .. }
+            | Op::CreateChannelSplitter { name, .. }
+            | Op::CreateChannelMerger { name, .. }
+            | Op::CreateWaveShaper { name, .. }
+            | Op::CreateIIRFilter { name, .. }
+            | Op::CreateBufferSource { name, .. }
+            | Op::CreateBuffer { name, .. }
+            | Op::DecodeAudioData { name, .. } => Some(name),
+            _ => None,
+        }
+    }
 }

@@ -11,7 +11,8 @@ use Rattle.serde_json.specs.Data.{Data, Items, no_items, item}
 use Rattle.serde_json.specs.Find.{as_object, as_array, as_str}
 use Rattle.wa_base.specs.declared.contexts.ContextSpec.{ContextSpec}
 use Rattle.wa_base.specs.Numbers.{IsFix}
-use Rattle.script_ast.specs.Ranges.{IsTime, IsTimeIfSome, IsCount, IsCountIfSome, AreFixes, AreFixesIfSome, IsNewName, IsPath, IsInRange, is_new_name, is_path}
+use Rattle.script_ast.specs.Operations.{IsInRange}
+use Rattle.script_ast.specs.Ranges.{IsTime, IsTimeIfSome, IsCount, IsCountIfSome, AreFixes, AreFixesIfSome, IsNewName, IsPath, is_new_name, is_path}
 use Rattle.script_ast.specs.WellFormed.{IsCallAt, AreCallsAfter, IsWellFormed}
 use Rattle.script_ast.specs.declared.call_list.Call.{Call}
 use Rattle.script_ast.specs.declared.clocks.Clock.{Clock}

@@ -1,7 +1,7 @@
 ghost use Rattle.std.specs.Prelude.{◌≡◌, ◌↔◌, ◌≤◌, ◌<◌, ◌*◌, ◌/◌, Some, None, is_some, ◌⊎◌, ◌∷◌, ◌++◌, [], List, true, false, length, replicate, pos, IsTrue, IsSome, IsNone, IfOk, IfSome, IfErr, IsErrOf, OnOk, OnErr, Ok, ◌&&◌, if◌then◌else◌};
 ghost use Rattle.io_edge.specs.Faults.{Rose};
 ghost use Rattle.io_edge.specs.Paths.{Paths, SamePaths};
-ghost use Rattle.script_ast.specs.Ranges.{IsInRange};
+ghost use Rattle.script_ast.specs.Operations.{IsInRange};
 ghost use Rattle.ctx_state.specs.Context.{IsInState, turn_of, is_closed};
 ghost use Rattle.wa_base.specs.Contexts.{IsSupported, quantum_of};
 ghost use Rattle.control_msgs.specs.Messages.{IsAcceptedBy};

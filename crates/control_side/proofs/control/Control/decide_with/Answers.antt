@@ -8,8 +8,8 @@ use Rattle.control_side.proofs.control.Control.decide_with.Goals as goal
 pub returns-in_ok-decide-in_default-clause-decided : goal.returns-in_ok-decide-in_default-clause-decided
 returns-in_ok-decide-in_default-clause-decided g c =
     let held = g.F.Files.paths c.args.files.now in
-    (held, (λ told q. refl), c.in_ok-decide-in_default.ensures.decided ∙ sym (looks_away c.args.self.now held c.args.op.now c.in_default.not-DecodeAudioData))
+    (held, (λ told q. refl), c.in_ok-decide-in_default.ensures ∙ sym (looks_away c.args.self.now held c.args.op.now c.in_default.not-DecodeAudioData))
 
 pub returns-in_ok-decide-in_default-clause-fits : goal.returns-in_ok-decide-in_default-clause-fits
 returns-in_ok-decide-in_default-clause-fits g c =
-    subst (IsFor c.args.self.now c.args.op.now) (sym c.in_ok-decide-in_default.ensures.decided) (decided_for c.args.self.now (subst IsSteady c.self.view_is c.self.invariant) c.args.op.now c.requires)
+    subst (IsFor c.args.self.now c.args.op.now) (sym c.in_ok-decide-in_default.ensures) (decided_for c.args.self.now (subst IsSteady c.self.view_is c.self.invariant) c.args.op.now)
