@@ -8,3 +8,7 @@ pub mod EndArrows
 pub mod Placing
 pub mod LegalChoices
 pub mod LegalityLaws
+pub mod Counts
+pub mod Tallies
+pub mod Placed
+pub mod Sums

@@ -3,3 +3,4 @@ pub mod Arrows
 pub mod Surveys
 pub mod Choices
 pub mod Legality
+pub mod Counts
