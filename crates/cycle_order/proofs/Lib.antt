@@ -12,3 +12,7 @@ pub mod Counts
 pub mod Tallies
 pub mod Placed
 pub mod Sums
+pub mod Ways
+pub mod Finishing
+pub mod Leading
+pub mod Turning

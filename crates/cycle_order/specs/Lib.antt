@@ -1,4 +1,5 @@
 pub mod Reach
+pub mod Passes
 pub mod Arrows
 pub mod Surveys
 pub mod Choices

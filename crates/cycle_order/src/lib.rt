@@ -5,6 +5,7 @@
 mod arrows;
 mod legality;
 mod orders;
+mod passes;
 mod places;
 mod reaching;
 mod surveys;
