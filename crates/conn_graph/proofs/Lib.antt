@@ -10,4 +10,5 @@ pub mod Rows
 pub mod WalkLaws
 mod Sameness
 mod OutWalks
+mod Leaving
 pub mod FormRows

@@ -38,18 +38,25 @@ pub(crate) fn next_entering(edges: &[Edge], node: NodeId, first: usize) -> Optio
     None
 }
 
+// The connections of a node, which stand side by side in the order of the sources. Both ends are
+// looked for by halving.
+fn leaving(edges: &[Edge], node: NodeId) -> &[Edge]
+    requires { AreFrom 0 edges.now }
+    ensures { result.now ≡ filter (leaves node.0) edges.now }
+{
+    let first = edges.partition_point(|edge| edge.from.0 < node.0);
+    let last = edges.partition_point(|edge| edge.from.0 <= node.0);
+    &edges[first..last]
+}
+
 // The place at which a connection from a node is put in: behind those from this node and from
-// nodes before it.
-pub(crate) fn place_behind(edges: &[Edge], from: NodeId) -> usize
+// nodes before it. It is looked for by halving.
+fn place_behind(edges: &[Edge], from: NodeId) -> usize
+    requires { AreFrom 0 edges.now }
     ensures place { result ≡ place edges.now from.0 }
     ensures within { result ≤ length edges.now }
 {
-    for i in 0..edges.len() {
-        if from.0 < edges[i].from.0 {
-            return i;
-        }
-    }
-    edges.len()
+    edges.partition_point(|edge| edge.from.0 <= from.0)
 }
 
 // Puts a connection in behind the others of its source. After `NoMemory` the list is as before.
@@ -63,15 +70,30 @@ pub(crate) fn put_edge(edges: &mut Vec<Edge>, edge: Edge) -> Result<(), NoMemory
     Ok(())
 }
 
-// Whether an identical connection is there.
+// Whether an identical connection is there. Only those of its source are looked at.
 pub(crate) fn has_edge(edges: &[Edge], edge: &Edge) -> bool
+    requires { AreFrom 0 edges.now }
+    ensures { result ≡ list_any (same_edge edge.now) edges.now }
+{
+    is_among(leaving(edges, edge.from), edge)
+}
+
+fn is_among(edges: &[Edge], edge: &Edge) -> bool
     ensures { result ≡ list_any (same_edge edge.now) edges.now }
 {
     edges.iter().any(|other| same_edge(edge, other))
 }
 
-// Whether a disconnect from a node names one of the connections.
+// Whether a disconnect from a node names one of the connections. Only those of the node are looked
+// at.
 pub(crate) fn names_one(edges: &[Edge], from: NodeId, form: Form) -> bool
+    requires { AreFrom 0 edges.now }
+    ensures { result ≡ list_any (is_named from.0 form) edges.now }
+{
+    names_any(leaving(edges, from), from, form)
+}
+
+fn names_any(edges: &[Edge], from: NodeId, form: Form) -> bool
     ensures { result ≡ list_any (is_named from.0 form) edges.now }
 {
     edges.iter().any(|edge| is_named(from, form, edge))

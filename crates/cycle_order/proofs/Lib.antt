@@ -8,3 +8,11 @@ pub mod EndArrows
 pub mod Placing
 pub mod LegalChoices
 pub mod LegalityLaws
+pub mod Counts
+pub mod Tallies
+pub mod Placed
+pub mod Sums
+pub mod Ways
+pub mod Finishing
+pub mod Leading
+pub mod Turning

@@ -58,3 +58,8 @@ range_rest i n l = ap (range_with_len i) (let e : n - i ≡ suc (n - (i + 1)) = 
 pub numbers_are : (i : ℕ) (ns : List Ports) → numbers_from i ns ≡ range_with_len i (length ns)
 numbers_are i [] = refl
 numbers_are i (n ∷ ns) = ap (λ xs. i ∷ xs) (numbers_are (suc i) ns ∙ ap (λ j. range_with_len j (length ns)) (omega arith))
+
+pub IsIn-dropped : {X : Type 0} (xs : List X) (i : ℕ) (x : X) → IsIn x (drop i xs) → IsIn x xs
+IsIn-dropped xs zero x h = h
+IsIn-dropped [] (suc i) x h = absurd h
+IsIn-dropped (y ∷ ys) (suc i) x h = inr (IsIn-dropped ys i x h)

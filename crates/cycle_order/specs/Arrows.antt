@@ -1,6 +1,6 @@
 -- The connections of a graph by the node that they leave, and the graphs of numbered vertices that they make.
 use Rattle.std.specs.Prelude.{ℕ, List, [], ◌∷◌, ◌+◌, ◌*◌, ◌==◌, ◌&&◌, not, Bool, length, map, filter, if◌then◌else◌}
-use Rattle.std.specs.List.{flat_map, list_any, range_with_len}
+use Rattle.std.specs.List.{flat_map, range_with_len}
 use Rattle.wa_base.specs.declared.graph_names.End.{End}
 use Rattle.conn_graph.specs.declared.edges.Edge.{Edge}
 use Rattle.conn_graph.specs.Edges.{target_node}
@@ -49,7 +49,3 @@ end_arrows g = flat_map (targets_of_node g) (range_with_len 0 (length g.nodes))
 -- the arrows between ends, as those between their vertices
 abbrev pub leads_to_end : List (List ℕ) → End → End → Bool
 leads_to_end arrows d e = leads arrows (vertex_of d) (vertex_of e)
-
--- whether an arrow from one of some ends leads to a vertex
-abbrev pub is_entered : List (List ℕ) → List End → ℕ → Bool
-is_entered arrows from v = list_any (λ d. leads arrows (vertex_of d) v) from

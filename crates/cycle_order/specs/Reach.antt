@@ -1,5 +1,5 @@
 -- Reaching in a graph of numbered vertices, which is told by a list: for each vertex, those that its arrows lead to.
-use Rattle.std.specs.Prelude.{ℕ, ◌≡◌, ◌+◌, ◌<◌, ◌⊎◌, List, [], length, slice_index_or, filter, Bool, true, false, not, ◌==◌}
+use Rattle.std.specs.Prelude.{ℕ, ◌≡◌, ◌+◌, ◌<◌, ◌⊎◌, List, [], ◌++◌, length, slice_index_or, filter, Bool, true, false, not, ◌==◌}
 use Rattle.std.specs.List.{list_any, range_with_len}
 use Rattle.law_base.specs.Members.{IsIn}
 use Rattle.law_base.specs.Reaching.{reaches}
@@ -24,15 +24,14 @@ IsWithin arrows = (a b : ℕ) → leads arrows a b ≡ true → b < length arrow
 abbrev pub is_marked : List Bool → ℕ → Bool
 is_marked marks v = slice_index_or marks v false
 
--- Vertices are marked, and each that was not marked before goes onto a pile of waiting ones.
-pub record IsMarking (vs : List ℕ) (marks : List Bool) (waiting : List ℕ) (marks' : List Bool) (waiting' : List ℕ) : Type 0 where
+-- Vertices are marked, and each that was not marked before goes onto the end of a list.
+pub record IsMarking (vs : List ℕ) (marks : List Bool) (found : List ℕ) (marks' : List Bool) (found' : List ℕ) : Type 0 where
   -- these are marked, with those that were
   pub targets : (v : ℕ) → IsIn v vs → is_marked marks' v ≡ true
   pub kept : (v : ℕ) → is_marked marks v ≡ true → is_marked marks' v ≡ true
-  pub only : (v : ℕ) → is_marked marks' v ≡ true → (is_marked marks v ≡ true) ⊎ IsIn v vs
-  -- what waited waits, and so do those that are marked now
-  pub waits : (v : ℕ) → IsIn v waiting → IsIn v waiting'
-  pub fresh : (v : ℕ) → is_marked marks' v ≡ true → (is_marked marks v ≡ true) ⊎ IsIn v waiting'
-  pub from : (v : ℕ) → IsIn v waiting' → IsIn v waiting ⊎ IsIn v vs
-  -- no other does
-  pub number : length (filter not marks') + length waiting' ≡ length (filter not marks) + length waiting
+  pub fresh : (v : ℕ) → is_marked marks' v ≡ true → (is_marked marks v ≡ true) ⊎ IsIn v found'
+  pub from : (v : ℕ) → IsIn v found' → IsIn v found ⊎ (IsIn v vs × (is_marked marks v ≡ false))
+  -- what was found stays in front
+  pub more : List ℕ
+  pub goes_on : found' ≡ found ++ more
+  pub number : length (filter not marks') + length found' ≡ length (filter not marks) + length found

@@ -1,5 +1,5 @@
 -- What a survey of a graph says: the delays in a cycle, and the muted ends.
-use Rattle.std.specs.Prelude.{ℕ, ◌≡◌, List, Bool, map, filter, not, ◌&&◌}
+use Rattle.std.specs.Prelude.{ℕ, ◌≡◌, List, Bool, map, filter, ◌&&◌}
 use Rattle.wa_base.specs.declared.graph_names.End.{End}
 use Rattle.wa_base.specs.declared.graph_names.NodeId.{NodeId}
 use Rattle.conn_graph.specs.Graph.{Connections}
@@ -29,6 +29,3 @@ marked_delays g marks = map node_id (filter (λ i. is_delay g i && is_marked mar
 
 abbrev pub marked_ends : List Bool → List End → List End
 marked_ends marks es = filter (λ e. is_marked marks (vertex_of e)) es
-
-abbrev pub unmarked_ends : List Bool → List End → List End
-unmarked_ends marks es = filter (λ e. not (is_marked marks (vertex_of e))) es

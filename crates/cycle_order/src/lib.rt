@@ -5,6 +5,8 @@
 mod arrows;
 mod legality;
 mod orders;
+mod passes;
+mod places;
 mod reaching;
 mod surveys;
 

@@ -1,42 +1,45 @@
-ghost use Rattle.std.specs.Prelude.{◌≡◌, ◌<◌, ℕ, map, length, IfOk, OnOk};
+ghost use Rattle.std.specs.Prelude.{◌≡◌, ◌<◌, ◌==◌, ℕ, map, length, slice_index_or, IfOk, OnOk};
+ghost use Rattle.std.specs.List.{list_any};
 ghost use Rattle.law_base.specs.Members.{IsIn};
-ghost use Rattle.cycle_order.specs.Reach.{vertices, reaches_vertex, reaches_itself, IsWithin, IsMarking};
+ghost use Rattle.cycle_order.specs.Reach.{vertices, reaches_itself, IsWithin, IsMarking};
 
+use crate::passes::leaders;
 use std::alloc::Global;
 use wa_base::{Items, NoMemory};
 
 // For each vertex of a graph, the vertices that its arrows lead to.
 pub(crate) type Targets = Items<usize>;
 
-// For each vertex, whether it reaches itself by one or more arrows.
+// For each vertex, whether it reaches itself by one or more arrows: one of its arrows leads to a
+// vertex with its own leader.
 pub(crate) fn on_cycles(alloc: Global, arrows: &[Targets]) -> Result<Vec<bool>, NoMemory>
     requires { IsWithin arrows.now }
     ensures { IfOk result (λ marks. marks.items ≡ map (reaches_itself arrows.now) (vertices arrows.now)) }
 {
+    let leaders = leaders(alloc, arrows)?;
     let mut marks = Vec::new(alloc);
     for v in 0..arrows.len() {
-        let reached = reached_from(alloc, arrows, v)?;
-        marks.push(reached[v])?;
+        let own = leaders[v];
+        marks.push(is_led(arrows[v].as_slice(), leaders.as_slice(), own))?;
     }
     Ok(marks)
 }
 
-// For each vertex, whether `start` reaches it by one or more arrows.
-fn reached_from(alloc: Global, arrows: &[Targets], start: usize) -> Result<Vec<bool>, NoMemory>
-    requires start { start < length arrows.now }
-    requires within { IsWithin arrows.now }
-    ensures { IfOk result (λ marks. marks.items ≡ map (reaches_vertex arrows.now start) (vertices arrows.now)) }
+// Whether one of some vertices has this leader.
+fn is_led(targets: &[usize], leaders: &[usize], leader: usize) -> bool
+    requires { (v : ℕ) → IsIn v targets.now → v < length leaders.now }
+    ensures { result ≡ list_any (λ v. slice_index_or leaders.now v 0 == leader) targets.now }
 {
-    let mut marks = vec![in alloc; false; arrows.len()]?;
-    let mut waiting = vec![in alloc; start]?;
-    while let Some(v) = waiting.pop() {
-        mark_fresh(arrows[v].as_slice(), marks.as_mut_slice(), &mut waiting)?;
+    for v in targets {
+        if leaders[*v] == leader {
+            return true;
+        }
     }
-    Ok(marks)
+    false
 }
 
 // Marks these vertices. Those that were not marked before go onto the pile.
-fn mark_fresh(
+pub(crate) fn mark_fresh(
     targets: &[usize],
     marks: &mut [bool],
     waiting: &mut Vec<usize>,

@@ -1,22 +1,35 @@
-use Rattle.std.proofs.Common.{◌≡◌, ◌<◌, ◌++◌, ◌∷◌, [], false, length, map, get_or, rules, sym, ◌∙◌, ap, subst, arith}
-use Rattle.std.specs.List.{range_with_len}
+use Rattle.std.proofs.Common.{◌≡◌, ◌<◌, ◌++◌, ◌∷◌, [], length, map, get_or, sym, ◌∙◌, ap, subst, arith}
+use Rattle.std.specs.Prelude.{◌==◌}
+use Rattle.std.specs.List.{list_any, range_with_len}
 use Rattle.std.proofs.lemmas.List.{get_or_read}
-use Rattle.std.proofs.lemmas.List.FromFn.{length-map-range_with_len, get_or-map-range_with_len, map-range_with_len_more}
-use Rattle.cycle_order.specs.Reach.{reaches_vertex, reaches_itself}
+use Rattle.std.proofs.lemmas.List.FromFn.{map-range_with_len_more}
+use Rattle.law_base.specs.Members.{IsIn}
+use Rattle.cycle_order.specs.Reach.{reaches_itself}
+use Rattle.cycle_order.proofs.Leading.{led_round}
+use Rattle.cycle_order.proofs.Searching.{leads_to}
 use Rattle.cycle_order.proofs.reaching.on_cycles.Goals as goal
 
-pub index-requires : goal.index-requires
-index-requires c = let n = ap length c.in_ok-reached.ensures ∙ length-map-range_with_len (reaches_vertex c.args.arrows.now c.loop-v.v) 0 (length c.args.arrows.now) in search rules
+pub is_led-requires : goal.is_led-requires
+is_led-requires c v h =
+    let arrows = c.args.arrows.now in
+    let u = c.loop-v.v in
+    let targets = c.as_slice.ensures ∙ get_or_read arrows u _ c.loop-v-test.true c.index-arrows-v.is [] in
+    let below = c.requires u v (leads_to arrows u v (subst (λ xs. IsIn v xs) targets h)) in
+    subst (λ n. v < n) (sym (ap length c.as_slice-in-loop-v.ensures.value ∙ c.in_ok-leaders.ensures.number)) below
 
 pub loop-v-preserved : goal.loop-v-preserved
 loop-v-preserved c =
     let v = c.loop-v.v in
     let arrows = c.args.arrows.now in
-    let all = c.in_ok-reached.ensures in
-    let here : v < length c.in_ok-reached.reached.items = subst (λ n. v < n) (sym (ap length all ∙ length-map-range_with_len (reaches_vertex arrows v) 0 (length arrows))) c.loop-v-test.true in
-    let mark : c.index.result.now ≡ reaches_itself arrows v =
-    get_or_read c.in_ok-reached.reached.items v c.index.result.now here c.index.ensures false
-    ∙ ap (λ ms. get_or ms v false) all
-    ∙ get_or-map-range_with_len (reaches_vertex arrows v) 0 (length arrows) v v false c.loop-v-test.true (omega arith) in
-    c.in_ok-push.ensures.items ∙ ap (λ ms. ms ++ c.index.result.now ∷ []) c.loop-v.invariant ∙ ap (λ m. map (reaches_itself arrows) (range_with_len 0 v) ++ m ∷ []) mark
+    let leaders = c.in_ok-leaders.leaders.items in
+    let targets = c.as_slice.ensures ∙ get_or_read arrows v _ c.loop-v-test.true c.index-arrows-v.is [] in
+    let inside : v < length leaders = subst (λ n. v < n) (sym c.in_ok-leaders.ensures.number) c.loop-v-test.true in
+    let own : c.index-own.result.now ≡ get_or leaders v 0 = get_or_read leaders v c.index-own.result.now inside c.index-own.ensures 0 in
+    let mark : c.is_led.result ≡ reaches_itself arrows v =
+    c.is_led.ensures
+    ∙ ap (λ xs. list_any (λ u. get_or xs u 0 == c.index-own.result.now) c.as_slice.result.now) c.as_slice-in-loop-v.ensures.value
+    ∙ ap (λ k. list_any (λ u. get_or leaders u 0 == k) c.as_slice.result.now) own
+    ∙ ap (list_any (λ u. get_or leaders u 0 == get_or leaders v 0)) targets
+    ∙ led_round arrows leaders c.requires c.in_ok-leaders.ensures v c.loop-v-test.true in
+    c.in_ok-push.ensures.items ∙ ap (λ ms. ms ++ c.is_led.result ∷ []) c.loop-v.invariant ∙ ap (λ m. map (reaches_itself arrows) (range_with_len 0 v) ++ m ∷ []) mark
     ∙ sym (map-range_with_len_more (reaches_itself arrows) 0 v v (omega arith))
