@@ -1,4 +1,4 @@
-use Rattle.std.proofs.Common.{ℕ, ◌≡◌, ◌<◌, ◌≤◌, List, length, slice_index_or, sym, ◌∙◌, ap, subst}
+use Rattle.std.proofs.Common.{ℕ, ◌<◌, ◌≤◌, List, length, slice_index_or, sym, ◌∙◌, ap, subst}
 use Rattle.wa_base.specs.declared.graph_names.End.{End}
 use Rattle.law_base.specs.Members.{IsIn}
 use Rattle.conn_graph.specs.Ends.{ends}
@@ -6,7 +6,7 @@ use Rattle.meaning.proofs.Joined.{joined}
 use Rattle.filter_bank.specs.Banks.{filter_at, IsRestedIfThere}
 use Rattle.quantum_blocks.specs.Blocks.{slot, IsSilent}
 use Rattle.quantum_blocks.specs.Fits.{AreFit}
-use Rattle.quantum_blocks.specs.Sites.{QuantumView, SiteView, IsQuantum, site_in}
+use Rattle.quantum_blocks.specs.Sites.{QuantumView, SiteView, site_in}
 use Rattle.quantum_render.specs.Listening.{HasRooms}
 use Rattle.quantum_render.specs.Renders.{IsRendered}
 use Rattle.quantum_blocks.proofs.Orders.{no_end}

@@ -1,17 +1,16 @@
-use Rattle.std.proofs.Common.{ℕ, ◌≡◌, ◌+◌, ◌<◌, List, Bool, true, false, Some, slice_index_or, refl, sym, ◌∙◌, ap, arith, subst}
+use Rattle.std.proofs.Common.{ℕ, ◌≡◌, ◌+◌, ◌<◌, Bool, true, false, Some, slice_index_or, refl, sym, ◌∙◌, ap, arith, subst}
 use Rattle.std.specs.Prelude.{if◌then◌else◌, max}
 use Rattle.wa_base.specs.declared.graph_names.ParamName.TheVariants.{DelayTime}
 use Rattle.delay_line.specs.Spans.{delay_at as frames_back}
 use Rattle.node_table.specs.Delays.{frames_of}
 use Rattle.node_table.specs.Kinds.{param_name, is_delay_kind}
 use Rattle.conn_graph.specs.Ends.{in_cycle}
-use Rattle.meaning.specs.World.{node_at, kind_of, param_id}
+use Rattle.meaning.specs.World.{node_at, param_id}
 use Rattle.meaning.specs.Values.{Frame, computed_value, delay_frames}
 use Rattle.quantum_render.specs.Renders.{past_of, here_of}
 use Rattle.meaning.proofs.Joined.{joined}
 use Rattle.delay_bank.specs.Kept.{DelayView}
 use Rattle.delay_bank.specs.Banks.{BankView as DelayBank, delay_at}
-use Rattle.quantum_blocks.specs.Blocks.{BlockView}
 use Rattle.quantum_render.specs.Benches.{BenchView}
 use Rattle.quantum_blocks.specs.Sites.{SiteView}
 use Rattle.quantum_render.specs.Listening.{writer_in}

@@ -1,4 +1,4 @@
-use Rattle.std.proofs.Common.{ℕ, ◌≡◌, ◌+◌, ◌*◌, ◌<◌, ◌≤◌, sym, ◌∙◌, ap, ap₂, arith, subst}
+use Rattle.std.proofs.Common.{ℕ, ◌≡◌, ◌+◌, ◌*◌, ◌<◌, sym, ◌∙◌, ap, ap₂, arith, subst}
 use Rattle.node_table.proofs.NodeLists.{ports_allowed}
 use Rattle.node_table.specs.declared.kinds.Kind.TheVariants.{Splitter}
 use Rattle.node_table.specs.Kinds.{row, outputs, IsInLimits}

@@ -1,4 +1,4 @@
-use Rattle.std.proofs.Common.{rules, ℕ, List, ◌≡◌, ◌<◌, length, ◌∙◌, [], false, sym, ap, subst}
+use Rattle.std.proofs.Common.{rules, List, ◌≡◌, ◌<◌, ◌∙◌, [], false, sym, ap, subst}
 use Rattle.std.proofs.lemmas.List.{get_or_default}
 use Rattle.wa_base.specs.declared.graph_names.End.{End}
 use Rattle.law_base.specs.Members.{IsIn}

@@ -1,4 +1,4 @@
-use Rattle.std.proofs.Common.{◌≡◌, List, slice_index_or, slice_set, sym, ◌∙◌, ap, subst}
+use Rattle.std.proofs.Common.{◌≡◌, List, slice_set, sym, ◌∙◌, ap, subst}
 use Rattle.meaning.specs.World.{kind_of}
 use Rattle.quantum_blocks.specs.Blocks.{BlockView, slot}
 use Rattle.quantum_blocks.specs.Sites.{SiteView}
