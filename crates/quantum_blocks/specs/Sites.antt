@@ -12,6 +12,13 @@ use Rattle.quantum_blocks.specs.Blocks.{counts_in}
 use Rattle.quantum_blocks.specs.Connections.{into as leads_into, leads_to}
 use Rattle.quantum_blocks.specs.Fits.{AreInRange}
 
+-- what contracts see of a quantum: a world, the channels of each end, the level of each node's parameter, and the first frame
+pub record QuantumView : Type 0 where
+  pub world : World
+  pub counts : List ℕ
+  pub levels : List LevelView
+  pub first : ℕ
+
 -- what contracts see of a site
 pub record SiteView : Type 0 where
   pub world : World
@@ -25,19 +32,27 @@ pub record SiteView : Type 0 where
   -- the first frame of the quantum
   pub first : ℕ
 
+-- the site of an end in a quantum, with the connections that lead to the end's node
+abbrev pub site_in : QuantumView → End → SiteView
+site_in q e = record { world = q.world; end = e; into = leads_into q.world.graph.value e.node.0; counts = q.counts; levels = q.levels; first = q.first }
+
 -- a quantum begins at a multiple of its frames
 pub record IsBegun (begin : ℕ) : Type 0 where
   pub whole : 128 * (begin / 128) ≡ begin
   pub time : begin ≤ 2 ^ 62
 
--- what holds of every site
-pub record IsSite (w : World) (e : End) (edges : List Edge) (counts : List ℕ) (automated : List LevelView) (begin : ℕ) : Type 0 where
+-- what holds of every quantum
+pub record IsQuantum (w : World) (counts : List ℕ) (automated : List LevelView) (begin : ℕ) : Type 0 where
   pub valid : IsValid w
-  pub there : IsIn e (ends w.graph.value)
-  pub into : edges ≡ leads_into w.graph.value e.node.0
   pub range : AreInRange w counts
   pub begun : IsBegun begin
   pub levels : AreLevels w.params.items begin automated
+
+-- what holds of every site
+pub record IsSite (w : World) (e : End) (edges : List Edge) (counts : List ℕ) (automated : List LevelView) (begin : ℕ) : Type 0 where
+  pub quantum : IsQuantum w counts automated begin
+  pub there : IsIn e (ends w.graph.value)
+  pub into : edges ≡ leads_into w.graph.value e.node.0
 
 -- a site is marked where its node is a delay in a cycle
 abbrev pub IsMarked : World → End → Bool → Type 0

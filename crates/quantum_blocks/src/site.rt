@@ -37,14 +37,24 @@ pub fn writer(node: NodeId) -> End
     End { node, writer: true }
 }
 
-/// What the ends of a world are rendered by in the quantum that begins at a frame: the channels of each
-/// end, by its slot, and the level of each node's parameter.
-#[derive(Clone, Copy)]
+/// What the ends of a valid world are rendered by in the quantum that begins at a frame: the channels of
+/// each end, by its slot, and the level of each node's parameter.
+#[derive(Drop)]
 pub struct Quantum<'a> {
     pub world: &'a World,
     pub counts: &'a [u32],
     pub levels: &'a [Level],
     pub first: u64,
+}
+
+impl<'a> Model for Quantum<'a> {
+    ghost use Rattle.quantum_blocks.specs.Sites.{QuantumView, IsQuantum};
+
+    ghost Value = { QuantumView };
+
+    ghost view = { λ q. record { world = q.world.now; counts = q.counts.now; levels = q.levels.now; first = q.first } };
+
+    ghost invariant = { λ q. IsQuantum q.world.now q.counts.now q.levels.now q.first };
 }
 
 /// An end of a node of a valid world with the connections that lead to the node, in the quantum that
@@ -80,6 +90,7 @@ impl Site<'_> {
         ensures count { result ≡ counts_in self.now.counts self.now.end }
         ensures low { 1 ≤ result }
         ensures high { result ≤ 32 }
+        ensures site { IsSite self.now.world self.now.end self.now.into self.now.counts self.now.levels self.now.first }
     {
         self.counts[slot(self.end)] as usize
     }
@@ -97,6 +108,7 @@ impl Site<'_> {
     pub fn outputs(&self) -> u32
         ensures count { result ≡ outputs_of (kind_of self.now.world self.now.end.node.0) }
         ensures ports { IsInLimits (kind_of self.now.world self.now.end.node.0) }
+        ensures site { IsSite self.now.world self.now.end self.now.into self.now.counts self.now.levels self.now.first }
     {
         self.kind().row().outputs
     }

@@ -148,10 +148,10 @@ module _ (w : World) (valid : IsValid w) (tape : List World) (first : ℕ) (begi
 
   module _ (blocks : List BlockView) (done : List End) (bank bank' : DelayBank) (kept : AreKeptBy bank w tape first done) (x : End) (in_x : IsIn x (ends w.graph.value)) (new : IsIn x done → ⊥)
       (right : AreRight 128 longer (length tape) w (drafts_of blocks counts) (x ∷ done)) (lanes : (block_of blocks x).lanes ≡ outputs (kind_of w x.node.0) * counts_in counts x)
-      (edges : List Edge) (levels : List LevelView) (stores : Stores (record { world = w; end = x; into = edges; counts = counts; levels = levels; first = first }) blocks bank bank') where
+      (edges : List Edge) (levels : List LevelView) (stores : Stores (record { world = w; end = x; into = edges; counts = counts; levels = levels; first = first }) (block_of blocks x) bank bank') where
     -- what the writer of a tape writes in the quantum
     is_written : (longest time : ℤ) (capacity : ℕ) → kind_of w x.node.0 ≡ Delay longest time capacity → x ≡ writer_of x.node.0
-        → IsWritten (record { world = w; end = x; into = edges; counts = counts; levels = levels; first = first }) blocks (writer_in (frame 128 longer) x.node.0)
+        → IsWritten (record { world = w; end = x; into = edges; counts = counts; levels = levels; first = first }) (block_of blocks x) (writer_in (frame 128 longer) x.node.0)
     is_written longest time capacity kind here = record {
       count = count_of_writer x.node.0 (first / 128) ∙ ap (λ j. count 128 longer j (writer_of x.node.0)) (ap (λ n. n / 128) begins ∙ times_whole (length tape)) ∙ ap (count 128 longer (length tape)) (sym here) ∙ sym (counted x in_x);
       frames = λ c k l now.

@@ -48,7 +48,7 @@ widened_front wide heard lanes room each = record {
 module _ (s : SiteView) (site : IsSite s.world s.end s.into s.counts s.levels s.first) (equation : Equation) (kind : kind_of s.world s.end.node.0 ≡ Causal equation) where
   -- its end has the second of the node's two places
   own_slot : slot s.end ≡ 2 * s.end.node.0 + 1
-  own_slot = ap slot (plain_reader (sounding s.world) (joined s.world site.valid) s.end site.there (ap is_delay_kind kind))
+  own_slot = ap slot (plain_reader (sounding s.world) (joined s.world site.quantum.valid) s.end site.there (ap is_delay_kind kind))
 
   pub own_place : 2 * s.end.node.0 + 1 < length s.counts
   own_place = subst (λ k. k < length s.counts) own_slot (site_slot s.world s.end s.into s.counts s.levels s.first site)
@@ -86,7 +86,7 @@ module _ (s : SiteView) (site : IsSite s.world s.end s.into s.counts s.levels s.
   past_before g low = ap (λ b. if b then before g else here_of s old (g - s.first)) (let yes : nat_lt g s.first ≡ true = grind (arith, nat_tests) in yes)
 
   unmuted : muted s.world.graph.value (input_end s.world.graph.value n) ≡ false
-  unmuted = subst (λ e. muted s.world.graph.value e ≡ false) (plain_end (sounding s.world) (joined s.world site.valid) s.end site.there (ap is_delay_kind kind)) ready.unmuted
+  unmuted = subst (λ e. muted s.world.graph.value e ≡ false) (plain_end (sounding s.world) (joined s.world site.quantum.valid) s.end site.there (ap is_delay_kind kind)) ready.unmuted
 
   pub takes_now : (k c : ℕ) → takes (s.first + k) c ≡ input_value (here_of s old k) n 0 c
   takes_now k c = ap (λ x. taken_in x n c) (past_now k) ∙ ap (λ b. if b then pos 0 else input_value (here_of s old k) n 0 c) unmuted

@@ -10,6 +10,7 @@ pub mod Passing
 pub mod Parts
 pub mod OutLaws
 pub mod Rendering
+pub mod Staging
 pub mod RowCounts
 pub mod Listening
 pub mod Fed

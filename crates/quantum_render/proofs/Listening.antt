@@ -94,8 +94,11 @@ AreHeardBy bank w tape first done = (n : ℕ) (equation : Equation) → n < leng
     → IsHeard (filter_at bank n) equation (node_at w n).attrs.birth (heard_until done first n) (λ g c. taken_in (frame 128 (tape ++ w ∷ []) g) n c)
 
 -- what a kind that remembers nothing renders, it renders whatever is remembered
-pub with_memory : (s : SiteView) (memory : Memory) (old new : List BlockView) (kind : Kind) → Renders s old new kind → RendersWith s memory old new kind
-with_memory s memory old new kind renders j earlier begins counted before ready = renders j earlier begins counted before
+pub with_memory : (s : SiteView) (memory : Memory) (blocks : List BlockView) (block : BlockView) (kind : Kind) → Renders s blocks block kind → RendersWith s memory blocks block kind
+with_memory s memory blocks block kind renders = record {
+  lanes = renders.lanes;
+  values = λ j earlier begins counted before ready. renders.values j earlier begins counted before;
+}
 
 -- ---- one more end of an order
 

@@ -1,5 +1,5 @@
 -- Rendering a quantum along a legal order.
-use Rattle.std.proofs.Common.{ℕ, suc, pos, ◌≡◌, ◌+◌, ◌*◌, ◌<◌, ◌≤◌, length, List, [], ◌∷◌, ◌++◌, drop, slice_index_or, Bool, true, false, Option, None, inl, inr, refl, sym, ◌∙◌, ap, arith, subst}
+use Rattle.std.proofs.Common.{ℕ, suc, pos, ◌≡◌, ◌+◌, ◌*◌, ◌<◌, ◌≤◌, length, List, [], ◌∷◌, ◌++◌, drop, slice_index_or, Bool, true, false, Option, None, ◌⊎◌, inl, inr, refl, sym, ◌∙◌, ap, arith, subst}
 use mathlib.Core.Path.{fun_ext}
 use Rattle.std.specs.Prelude.{if◌then◌else◌, nat_lt}
 use Rattle.std.proofs.Math.ListN.{drop_of_length-le}
@@ -24,7 +24,7 @@ use Rattle.meaning.proofs.Joined.{joined}
 use Rattle.meaning.proofs.Seeing.{plain_end}
 use Rattle.meaning.proofs.OrderLaws.{all_known}
 use Rattle.meaning.proofs.QuantumLaws.{AreRight, count_right, muted_right}
-use Rattle.quantum_blocks.specs.Blocks.{BlockView, at, slot, block_of, lanes_of, counts_in, drafts_of, frame_of, IsSilent, Writes}
+use Rattle.quantum_blocks.specs.Blocks.{BlockView, at, carried, slot, block_of, lanes_of, counts_in, drafts_of, frame_of, IsSilent, Writes}
 use Rattle.quantum_blocks.specs.Fits.{AreFit}
 use Rattle.quantum_render.specs.Plans.{IsPlan, AreCounted}
 use Rattle.automation.specs.Levels.{LevelView}
@@ -33,7 +33,7 @@ use Rattle.filter_bank.specs.Heard.{IsHeard}
 use Rattle.filter_bank.specs.Banks.{filter_at, IsRestedIfThere}
 use Rattle.delay_bank.specs.Kept.{DelayView, IsKept}
 use Rattle.quantum_render.specs.declared.memory.Memory.{Memory}
-use Rattle.quantum_render.specs.Renders.{RendersWith, Listens, Stores, IsReadyFor, HasCount, past_of}
+use Rattle.quantum_render.specs.Renders.{RendersWith, Listens, Stores, IsRendered, IsReadyFor, HasCount, past_of}
 use Rattle.quantum_render.specs.Listening.{writer_in, IsTimely, IsMemory, HasRooms}
 use Rattle.quantum_render.proofs.Fed.{AreKeptBy, is_fed, kept_more, all_kept}
 use Rattle.quantum_render.proofs.Listening.{heard_like, AreHeardBy, heard_until, takes_in, not_done, now_done, other_done, rested_heard}
@@ -120,8 +120,27 @@ module _ (w : World) (valid : IsValid w) (order : List End) (i : ℕ) (counts : 
   there : x.node.0 < length w.nodes
   there = end_low w valid x next.0
 
+  -- while its block is out, nothing else changes
+  pub passing_out : (met : List BlockView) → Writes blocks met x → Passing w order i counts first old memory met
+  passing_out met out = record {
+    done = c.done;
+    legal = c.legal;
+    fit = still_fit w counts blocks met out.lanes c.fit;
+    rooms = c.rooms;
+    filters = c.filters;
+    delays = c.delays;
+    right = λ tape begins counted timely ready m l d in_d known.
+        ap (λ b. λ o. carried b (counts_in counts d) o m) (out.others d (apart d known)) ∙ c.right tape begins counted timely ready m l d in_d known;
+    heard = c.heard;
+    kept = c.kept;
+  }
+    where
+      apart : (d : End) → (muted w.graph.value d ≡ true) ⊎ IsIn d c.done → d ≡ x → ⊥
+      apart d (inl quiet) same = let no = sym next.1 ∙ subst (λ e. muted w.graph.value e ≡ true) same quiet in absurd cc
+      apart d (inr done) same = next.2 (subst (λ e. IsIn e c.done) same done)
+
   module _ (edges : List Edge) (levels : List LevelView) (blocks' : List BlockView) (memory' : Memory) (writes : Writes blocks blocks' x)
-      (renders : RendersWith (site_of edges levels) memory blocks blocks' (kind_of w x.node.0)) (listens : Listens (site_of edges levels) blocks memory memory') (stores : Stores (site_of edges levels) blocks' memory.delays memory'.delays) (rooms : HasRooms memory' w counts) where
+      (renders : RendersWith (site_of edges levels) memory blocks (block_of blocks' x) (kind_of w x.node.0)) (listens : Listens (site_of edges levels) blocks memory memory') (stores : Stores (site_of edges levels) (block_of blocks' x) memory.delays memory'.delays) (rooms : HasRooms memory' w counts) where
     module _ (tape : List World) (begins : first ≡ 128 * length tape) (counted : AreCounted 128 w counts tape) (timely : IsTimely w) (ready : IsMemory old w tape first) where
       abbrev longer : List World
       longer = tape ++ w ∷ []
@@ -147,7 +166,7 @@ module _ (w : World) (valid : IsValid w) (order : List End) (i : ℕ) (counts : 
           one_more_right w (joined w valid) tape blocks blocks' counts counted c.done (c.right tape begins counted timely ready) x next.0 next.1 next.3 (fit'.lanes x next.0) writes
           (subst (λ f. (o k m : ℕ) → o < outputs (kind_of w x.node.0) → k < counts_in counts x → m < 128 → at (block_of blocks' x) (o * counts_in counts x + k) m
           ≡ value_by_kind 128 (f + m) (with_drafts (frame 128 longer) f (sounding w) (counts_in counts) (drafts_of blocks counts)) (frame_of (sounding w) blocks counts m) (kind_of w x.node.0) x o k) begins
-          (renders (length tape) (counts_before 128 (tape ++ w ∷ []) (length tape)) begins (has_count w (joined w valid) counts tape counted x next.0 next.1) (frame 128 longer) ready_now))
+          (renders.values (length tape) (counts_before 128 (tape ++ w ∷ []) (length tape)) begins (has_count w (joined w valid) counts tape counted x next.0 next.1) (frame 128 longer) ready_now))
 
       -- its node's filter has heard the quantum
       own_heard : (equation : Equation) → kind_of w x.node.0 ≡ Causal equation
@@ -185,6 +204,17 @@ module _ (w : World) (valid : IsValid w) (order : List End) (i : ℕ) (counts : 
           let fit' = still_fit w counts blocks blocks' writes.lanes c.fit in
           kept_more w valid tape first begins counts counted timely blocks' c.done memory.delays memory'.delays (c.kept tape begins counted timely ready) x next.0 next.2 (right_now tape begins counted timely ready) (fit'.lanes x next.0) edges levels stores;
     }
+
+-- an end was rendered while its block was out
+pub passing_rendered : (w : World) (valid : IsValid w) (order : List End) (i : ℕ) (counts : List ℕ) (first : ℕ) (old memory memory' : Memory) (blocks blocks' : List BlockView) → Passing w order i counts first old memory blocks → i < length order
+    → (edges : List Edge) (levels : List LevelView) → IsRendered (record { world = w; end = slice_index_or order i no_end; into = edges; counts = counts; levels = levels; first = first }) blocks blocks' memory memory'
+    → Passing w order (i + 1) counts first old memory' blocks'
+passing_rendered w valid order i counts first old memory memory' blocks blocks' c l edges levels is =
+    passing_goes_on w valid order i counts first old memory is.met (passing_out w valid order i counts first old memory blocks c l is.met is.out) l edges levels blocks' memory'
+    (record {
+      lanes = is.writes.lanes ∙ sym is.out.lanes;
+      others = λ d apart. is.writes.others d apart ∙ sym (is.out.others d apart);
+    }) is.renders is.listens is.stores is.rooms
 
 module _ (w : World) (valid : IsValid w) (order : List End) (i : ℕ) (counts : List ℕ) (first : ℕ) (old memory : Memory) (blocks : List BlockView) (c : Passing w order i counts first old memory blocks) (past : length order ≤ i)
     (tape : List World) (begins : first ≡ 128 * length tape) (counted : AreCounted 128 w counts tape) (timely : IsTimely w) (ready : IsMemory old w tape first) where

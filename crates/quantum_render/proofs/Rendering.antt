@@ -1,102 +1,88 @@
--- What is written where one end's block is written.
-use Rattle.std.proofs.Common.{ℕ, ℤ, ◌≡◌, ◌+◌, ◌*◌, ◌<◌, ◌≤◌, length, List, slice_index_or, slice_set, true, false, refl, sym, ◌∙◌, ap, arith, subst}
-use Rattle.std.proofs.lemmas.List.{get_or_default}
+-- What the block of an end has once it is rendered.
+use Rattle.std.proofs.Common.{ℕ, ◌≡◌, ◌+◌, ◌*◌, ◌<◌, ◌≤◌, length, List, true, false, refl, sym, ◌∙◌, ap, arith, subst}
 use Rattle.wa_base.specs.declared.graph_names.End.{End}
 use Rattle.node_table.specs.declared.rows.Channels.TheVariants.{Always}
 use Rattle.node_table.specs.Kinds.{row, outputs, is_delay_kind}
 use Rattle.node_table.specs.declared.kinds.Kind.{Kind}
 use Rattle.conn_graph.proofs.EndLaws.{end_is}
-use Rattle.meaning.proofs.Joined.{joined}
-use Rattle.delay_bank.specs.Banks.{BankView as DelayBank}
-use Rattle.quantum_render.specs.Renders.{Renders, RendersWith, Stores}
-use Rattle.quantum_render.specs.declared.memory.Memory.{Memory}
 use Rattle.conn_graph.specs.declared.edges.Edge.{Edge}
+use Rattle.meaning.proofs.Joined.{joined}
 use Rattle.meaning.specs.declared.world.World.{World}
 use Rattle.meaning.specs.World.{kind_of}
-use Rattle.quantum_blocks.specs.Blocks.{BlockView, no_block, at, room_of, slot, block_of, counts_in, Writes}
-use Rattle.quantum_blocks.specs.Fits.{AreFit}
+use Rattle.meaning.specs.Counts.{Counts}
+use Rattle.meaning.specs.Values.{Frame, value_by_kind}
 use Rattle.automation.specs.Levels.{LevelView}
-use Rattle.quantum_blocks.specs.Sites.{SiteView, IsSite}
+use Rattle.delay_bank.specs.Banks.{BankView as DelayBank}
+use Rattle.quantum_blocks.specs.Blocks.{BlockView, at, room_of, slot, counts_in}
+use Rattle.quantum_blocks.specs.Fits.{AreFit}
+use Rattle.quantum_blocks.specs.Sites.{QuantumView, SiteView, IsQuantum, IsSite}
 use Rattle.quantum_blocks.proofs.Slots.{slot_low, slot-half, lane-only}
 use Rattle.quantum_blocks.proofs.Sources.{end_low, site_slot}
-use Rattle.quantum_blocks.proofs.Connections.{writes_one, written}
-
--- a site whose fields are known but for its connections
-pub site_here : (s : SiteView) (w : World) (e : End) (counts : List ℕ) (levels : List LevelView) (first : ℕ) → s.world ≡ w → s.end ≡ e → s.counts ≡ counts → s.levels ≡ levels → s.first ≡ first
-    → s ≡ (let x : SiteView = record { world = w; end = e; into = s.into; counts = counts; levels = levels; first = first } in x)
-site_here s w e counts levels first world end channels automated begins = λ i. record { world = world i; end = end i; into = s.into; counts = channels i; levels = automated i; first = begins i }
+use Rattle.quantum_render.specs.declared.memory.Memory.{Memory}
+use Rattle.quantum_render.specs.Renders.{HasLanes, HasCount, Renders, RendersWith, IsReadyFor, Stores, past_of, here_of}
 
 -- the fields of a site are those that contracts see
 pub site_is : (s : SiteView) (w : World) (e : End) (edges : List Edge) (counts : List ℕ) (levels : List LevelView) (first : ℕ) → IsSite w e edges counts levels first
     → (let x : SiteView = record { world = w; end = e; into = edges; counts = counts; levels = levels; first = first } in x) ≡ s → IsSite s.world s.end s.into s.counts s.levels s.first
 site_is s w e edges counts levels first site same = subst (λ (x : SiteView). IsSite x.world x.end x.into x.counts x.levels x.first) same site
 
--- what an end renders by its node's kind
-pub by_kind : (s : SiteView) (old new : List BlockView) (kind : Kind) → kind_of s.world s.end.node.0 ≡ kind → Renders s old new kind → Renders s old new (kind_of s.world s.end.node.0)
-by_kind s old new kind is renders = subst (Renders s old new) (sym is) renders
+-- the fields of a quantum likewise
+pub quantum_is : (q : QuantumView) (w : World) (counts : List ℕ) (levels : List LevelView) (first : ℕ) → IsQuantum w counts levels first
+    → (let x : QuantumView = record { world = w; counts = counts; levels = levels; first = first } in x) ≡ q → IsQuantum q.world q.counts q.levels q.first
+quantum_is q w counts levels first is same = subst (λ (x : QuantumView). IsQuantum x.world x.counts x.levels x.first) same is
 
-pub by_kind_with : (s : SiteView) (memory : Memory) (old new : List BlockView) (kind : Kind) → kind_of s.world s.end.node.0 ≡ kind → RendersWith s memory old new kind → RendersWith s memory old new (kind_of s.world s.end.node.0)
-by_kind_with s memory old new kind is renders = subst (RendersWith s memory old new) (sym is) renders
+-- the end has its place among the blocks
+pub own_within : (s : SiteView) → IsSite s.world s.end s.into s.counts s.levels s.first → (blocks : List BlockView) → AreFit s.world s.counts blocks → (k : ℕ) → k ≡ slot s.end → k < length blocks
+own_within s site blocks fit k here =
+    subst (λ j. j < length blocks) (sym here) (subst (λ n. slot s.end < n) (sym fit.places) (slot_low s.end (length s.world.nodes) (end_low s.world site.quantum.valid s.end site.there)))
 
-module _ (s : SiteView) (site : IsSite s.world s.end s.into s.counts s.levels s.first) (old : List BlockView) (fit : AreFit s.world s.counts old) (k : ℕ) (here : k ≡ slot s.end) where
-  pub slot_within : slot s.end < length old
-  slot_within = subst (λ n. slot s.end < n) (sym fit.places) (slot_low s.end (length s.world.nodes) (end_low s.world site.valid s.end site.there))
+pub mono_own : (s : SiteView) → IsSite s.world s.end s.into s.counts s.levels s.first → (row (kind_of s.world s.end.node.0)).channels ≡ Always 1 → counts_in s.counts s.end ≡ 1
+mono_own s site is = site.quantum.range.mono (slot s.end) (site_slot s.world s.end s.into s.counts s.levels s.first site) (subst (λ n. (row (kind_of s.world n)).channels ≡ Always 1) (sym (slot-half s.end)) is)
 
-  pub own_within : k < length old
-  own_within = subst (λ j. j < length old) (sym here) slot_within
+-- there is room for so many lanes as a block has
+pub room_for : (block : BlockView) (n : ℕ) → n ≡ block.lanes → n * 128 ≤ room_of block
+room_for block n same = omega arith
 
-  pub mono_own : (row (kind_of s.world s.end.node.0)).channels ≡ Always 1 → counts_in s.counts s.end ≡ 1
-  mono_own is = site.range.mono (slot s.end) (site_slot s.world s.end s.into s.counts s.levels s.first site) (subst (λ n. (row (kind_of s.world n)).channels ≡ Always 1) (sym (slot-half s.end)) is)
+-- of one output they are the end's channels
+module _ (s : SiteView) (kind : Kind) (is : kind_of s.world s.end.node.0 ≡ kind) (single : outputs kind ≡ 1) where
+  all_lanes : outputs (kind_of s.world s.end.node.0) * counts_in s.counts s.end ≡ counts_in s.counts s.end
+  all_lanes = ap (λ k. outputs k * counts_in s.counts s.end) is ∙ ap (λ n. n * counts_in s.counts s.end) single ∙ omega arith
 
-  -- the block has so many lanes in all
-  module _ (all : ℕ) (are : outputs (kind_of s.world s.end.node.0) * counts_in s.counts s.end ≡ all) where
-    own_lanes : (block_of old s.end).lanes ≡ all
-    own_lanes = fit.lanes s.end site.there ∙ are
+  pub lanes_own : (block : BlockView) → HasLanes s block → block.lanes ≡ counts_in s.counts s.end
+  lanes_own block has = has ∙ all_lanes
 
-    -- there is room for them
-    pub all_room : (d : BlockView) → all * 128 ≤ room_of (slice_index_or old k d)
-    all_room d =
-        let same : slice_index_or old k d ≡ block_of old s.end = get_or_default old k d no_block own_within ∙ ap (λ j. slice_index_or old j no_block) here in
-        let lanes : (slice_index_or old k d).lanes ≡ all = ap (λ (x : BlockView). x.lanes) same ∙ own_lanes in
-        omega arith
+  pub own_room : (block : BlockView) → HasLanes s block → (n : ℕ) → n ≡ counts_in s.counts s.end → n * 128 ≤ room_of block
+  own_room block has n same = room_for block n (same ∙ sym (lanes_own block has))
 
-    pub writes_all : (b : BlockView) → b.lanes ≡ all → Writes old (slice_set old k b) s.end
-    writes_all b lanes = writes_one old s.end k b here (lanes ∙ sym own_lanes)
+  module _ (blocks : List BlockView) (block : BlockView) (lanes : block.lanes ≡ counts_in s.counts s.end) where
+    first_output : (before : ℕ → Frame) (o c m : ℕ) → o < outputs kind → at block c m ≡ value_by_kind 128 (s.first + m) (past_of s blocks before) (here_of s blocks m) kind s.end 0 c
+        → at block (o * counts_in s.counts s.end + c) m ≡ value_by_kind 128 (s.first + m) (past_of s blocks before) (here_of s blocks m) kind s.end o c
+    first_output before o c m output each =
+        let first : o < 1 = subst (λ n. o < n) single output in
+        let zeroth : 0 ≡ o = omega arith in
+        ap (λ lane. at block lane m) (lane-only o (counts_in s.counts s.end) c first) ∙ each ∙ ap (λ k. value_by_kind 128 (s.first + m) (past_of s blocks before) (here_of s blocks m) kind s.end k c) zeroth
 
-  -- and they are those that were written
-  pub lane_own : (b : BlockView) (lane m : ℕ) → at (block_of (slice_set old k b) s.end) lane m ≡ at b lane m
-  lane_own b lane m = ap (λ (x : BlockView). at x lane m) (written old s.end k b here slot_within)
+    pub renders_own : ((j : ℕ) (earlier : ℕ → Counts) → s.first ≡ 128 * j → HasCount s j earlier kind → (before : ℕ → Frame) (c m : ℕ) → c < counts_in s.counts s.end → m < 128
+        → at block c m ≡ value_by_kind 128 (s.first + m) (past_of s blocks before) (here_of s blocks m) kind s.end 0 c) → Renders s blocks block (kind_of s.world s.end.node.0)
+    renders_own each = subst (Renders s blocks block) (sym is) (record {
+      lanes = lanes ∙ sym all_lanes;
+      values = λ j earlier begins counted before o c m output low now. first_output before o c m output (each j earlier begins counted before c m low now);
+    })
 
-  -- of one output they are the end's channels
-  module _ (single : outputs (kind_of s.world s.end.node.0) ≡ 1) where
-    channels_own : outputs (kind_of s.world s.end.node.0) * counts_in s.counts s.end ≡ counts_in s.counts s.end
-    channels_own = ap (λ n. n * counts_in s.counts s.end) single ∙ omega arith
-
-    pub own_room : (d : BlockView) → counts_in s.counts s.end * 128 ≤ room_of (slice_index_or old k d)
-    own_room d = all_room _ channels_own d
-
-    pub lanes_own : (d : BlockView) → (slice_index_or old k d).lanes ≡ counts_in s.counts s.end
-    lanes_own d =
-        let same : slice_index_or old k d ≡ block_of old s.end = get_or_default old k d no_block own_within ∙ ap (λ j. slice_index_or old j no_block) here in
-        ap (λ (x : BlockView). x.lanes) same ∙ own_lanes _ channels_own
-
-    pub writes_own : (b : BlockView) → b.lanes ≡ counts_in s.counts s.end → Writes old (slice_set old k b) s.end
-    writes_own b lanes = writes_all _ channels_own b lanes
-
-    pub renders_own : (b : BlockView) (value : ℕ → ℕ → ℤ) → ((c m : ℕ) → c < counts_in s.counts s.end → m < 128 → at b c m ≡ value m c)
-        → (o c m : ℕ) → o < 1 → c < counts_in s.counts s.end → m < 128 → at (block_of (slice_set old k b) s.end) (o * counts_in s.counts s.end + c) m ≡ value m c
-    renders_own b value each o c m output low now =
-        lane_own b (o * counts_in s.counts s.end + c) m
-        ∙ ap (λ lane. at b lane m) (lane-only o (counts_in s.counts s.end) c output)
-        ∙ each c m low now
+    pub renders_with_own : (memory : Memory) → ((j : ℕ) (earlier : ℕ → Counts) → s.first ≡ 128 * j → HasCount s j earlier kind → (before : ℕ → Frame) → IsReadyFor s memory blocks before → (c m : ℕ) → c < counts_in s.counts s.end → m < 128
+        → at block c m ≡ value_by_kind 128 (s.first + m) (past_of s blocks before) (here_of s blocks m) kind s.end 0 c) → RendersWith s memory blocks block (kind_of s.world s.end.node.0)
+    renders_with_own memory each = subst (RendersWith s memory blocks block) (sym is) (record {
+      lanes = lanes ∙ sym all_lanes;
+      values = λ j earlier begins counted before ready o c m output low now. first_output before o c m output (each j earlier begins counted before ready c m low now);
+    })
 
 -- what is no delay stores nothing
-pub unstored : (s : SiteView) → IsSite s.world s.end s.into s.counts s.levels s.first → is_delay_kind (kind_of s.world s.end.node.0) ≡ false → (new : List BlockView) (bank : DelayBank) → Stores s new bank bank
-unstored s site kind new bank = record {
+pub unstored : (s : SiteView) → IsSite s.world s.end s.into s.counts s.levels s.first → is_delay_kind (kind_of s.world s.end.node.0) ≡ false → (block : BlockView) (bank : DelayBank) → Stores s block bank bank
+unstored s site kind block bank = record {
   known = refl;
   count = refl;
   others = λ n apart. refl;
   read = λ reader. refl;
   own = λ writer longest born by kept written.
-      absurd (let delay : is_delay_kind (kind_of s.world s.end.node.0) ≡ true = sym ((joined s.world site.valid).delays s.end.node.0) ∙ (end_is s.world.graph.value s.end site.there).1 writer in let no = sym kind ∙ delay in cc);
+      absurd (let delay : is_delay_kind (kind_of s.world s.end.node.0) ≡ true = sym ((joined s.world site.quantum.valid).delays s.end.node.0) ∙ (end_is s.world.graph.value s.end site.there).1 writer in let no = sym kind ∙ delay in cc);
 }

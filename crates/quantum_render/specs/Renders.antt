@@ -16,8 +16,8 @@ use Rattle.filter_bank.specs.Banks.{filter_at}
 use Rattle.delay_bank.specs.Kept.{IsKept}
 use Rattle.delay_bank.specs.Banks.{BankView as DelayBank, delay_at}
 use Rattle.quantum_render.specs.declared.memory.Memory.{Memory}
-use Rattle.quantum_render.specs.Listening.{writer_in}
-use Rattle.quantum_blocks.specs.Blocks.{BlockView, at, block_of, counts_in, drafts_of, frame_of}
+use Rattle.quantum_render.specs.Listening.{writer_in, HasRooms}
+use Rattle.quantum_blocks.specs.Blocks.{BlockView, at, block_of, counts_in, drafts_of, frame_of, Writes}
 use Rattle.quantum_blocks.specs.Sites.{SiteView}
 
 -- the frames that an equation sees: those before the quantum, and of the quantum what the blocks have
@@ -31,10 +31,15 @@ here_of s blocks m = frame_of (sounding s.world) blocks s.counts m
 abbrev pub HasCount : SiteView → ℕ → (ℕ → Counts) → Kind → Type 0
 HasCount s j earlier kind = counts_in s.counts s.end ≡ count_by_kind 128 (sounding s.world) j earlier (counts_in s.counts) kind s.end
 
--- The new block of a site's end has in quantum j the values of its kind, whatever the frames before the quantum were.
-abbrev pub Renders : SiteView → List BlockView → List BlockView → Kind → Type 0
-Renders s old new kind = (j : ℕ) (earlier : ℕ → Counts) → s.first ≡ 128 * j → HasCount s j earlier kind → (before : ℕ → Frame) (o c m : ℕ) → o < outputs kind → c < counts_in s.counts s.end → m < 128 →
-    at (block_of new s.end) (o * counts_in s.counts s.end + c) m ≡ value_by_kind 128 (s.first + m) (past_of s old before) (here_of s old m) kind s.end o c
+-- the block of a site's end has the channels of the end, once for each output
+abbrev pub HasLanes : SiteView → BlockView → Type 0
+HasLanes s block = block.lanes ≡ outputs (kind_of s.world s.end.node.0) * counts_in s.counts s.end
+
+-- The block of a site's end has in quantum j the values of its kind, whatever the frames before the quantum were. `blocks` are those of all ends; what stands there for its own is not asked.
+pub record Renders (s : SiteView) (blocks : List BlockView) (block : BlockView) (kind : Kind) : Type 0 where
+  pub lanes : HasLanes s block
+  pub values : (j : ℕ) (earlier : ℕ → Counts) → s.first ≡ 128 * j → HasCount s j earlier kind → (before : ℕ → Frame) (o c m : ℕ) → o < outputs kind → c < counts_in s.counts s.end → m < 128 →
+      at block (o * counts_in s.counts s.end + c) m ≡ value_by_kind 128 (s.first + m) (past_of s blocks before) (here_of s blocks m) kind s.end o c
 
 -- The delay of a site's node keeps what its writer wrote before the quantum, and in the quantum too once the writer was rendered.
 pub record IsFed (s : SiteView) (bank : DelayBank) (old : List BlockView) (before : ℕ → Frame) (longest : ℤ) (capacity : ℕ) : Type 0 where
@@ -58,9 +63,10 @@ pub record IsReadyFor (s : SiteView) (memory : Memory) (old : List BlockView) (b
   pub fed : (longest time : ℤ) (capacity : ℕ) → kind_of s.world s.end.node.0 ≡ Delay longest time capacity → IsFed s memory.delays old before longest capacity
 
 -- The same, where the memory is that of the frames before the quantum.
-abbrev pub RendersWith : SiteView → Memory → List BlockView → List BlockView → Kind → Type 0
-RendersWith s memory old new kind = (j : ℕ) (earlier : ℕ → Counts) → s.first ≡ 128 * j → HasCount s j earlier kind → (before : ℕ → Frame) → IsReadyFor s memory old before → (o c m : ℕ) → o < outputs kind → c < counts_in s.counts s.end → m < 128 →
-    at (block_of new s.end) (o * counts_in s.counts s.end + c) m ≡ value_by_kind 128 (s.first + m) (past_of s old before) (here_of s old m) kind s.end o c
+pub record RendersWith (s : SiteView) (memory : Memory) (blocks : List BlockView) (block : BlockView) (kind : Kind) : Type 0 where
+  pub lanes : HasLanes s block
+  pub values : (j : ℕ) (earlier : ℕ → Counts) → s.first ≡ 128 * j → HasCount s j earlier kind → (before : ℕ → Frame) → IsReadyFor s memory blocks before → (o c m : ℕ) → o < outputs kind → c < counts_in s.counts s.end → m < 128 →
+      at block (o * counts_in s.counts s.end + c) m ≡ value_by_kind 128 (s.first + m) (past_of s blocks before) (here_of s blocks m) kind s.end o c
 
 -- The filter of a site's node, if it is one, hears the quantum; no other does.
 pub record Listens (s : SiteView) (old : List BlockView) (memory memory' : Memory) : Type 0 where
@@ -71,14 +77,24 @@ pub record Listens (s : SiteView) (old : List BlockView) (memory memory' : Memor
       IsHeard (filter_at memory'.filters s.end.node.0) equation (node_at s.world s.end.node.0).attrs.birth (s.first + 128) (λ g c. taken_in (past_of s old before g) s.end.node.0 c)
 
 -- a writer writes in the quantum what its block has
-pub record IsWritten (s : SiteView) (new : List BlockView) (writer : Writer) : Type 0 where
+pub record IsWritten (s : SiteView) (block : BlockView) (writer : Writer) : Type 0 where
   pub count : writer.counts (s.first / 128) ≡ counts_in s.counts s.end
-  pub frames : (c k : ℕ) → c < counts_in s.counts s.end → k < 128 → writer.frames (s.first + k) c ≡ at (block_of new s.end) c k
+  pub frames : (c k : ℕ) → c < counts_in s.counts s.end → k < 128 → writer.frames (s.first + k) c ≡ at block c k
 
 -- The delay of a site's node keeps the quantum where the end is its writer; no other does.
-pub record Stores (s : SiteView) (new : List BlockView) (bank bank' : DelayBank) : Type 0 where
+pub record Stores (s : SiteView) (block : BlockView) (bank bank' : DelayBank) : Type 0 where
   pub known : bank'.known ≡ bank.known
   pub count : length bank'.delays ≡ length bank.delays
   pub others : (n : ℕ) → (n ≡ s.end.node.0 → ⊥) → delay_at bank' n ≡ delay_at bank n
   pub read : s.end.writer ≡ false → delay_at bank' s.end.node.0 ≡ delay_at bank s.end.node.0
-  pub own : s.end.writer ≡ true → (longest born : ℕ) (writer : Writer) → IsKept (delay_at bank s.end.node.0) longest born s.first writer → IsWritten s new writer → IsKept (delay_at bank' s.end.node.0) longest born (s.first + 128) writer
+  pub own : s.end.writer ≡ true → (longest born : ℕ) (writer : Writer) → IsKept (delay_at bank s.end.node.0) longest born s.first writer → IsWritten s block writer → IsKept (delay_at bank' s.end.node.0) longest born (s.first + 128) writer
+
+-- An end was rendered. While its block was out, another one with as many lanes stood in its place.
+pub record IsRendered (s : SiteView) (old new : List BlockView) (memory memory' : Memory) : Type 0 where
+  pub met : List BlockView
+  pub out : Writes old met s.end
+  pub writes : Writes old new s.end
+  pub renders : RendersWith s memory met (block_of new s.end) (kind_of s.world s.end.node.0)
+  pub listens : Listens s met memory memory'
+  pub stores : Stores s (block_of new s.end) memory.delays memory'.delays
+  pub rooms : HasRooms memory' s.world s.counts

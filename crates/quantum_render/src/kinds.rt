@@ -6,139 +6,157 @@ ghost use Rattle.node_table.specs.declared.kinds.Kind.TheVariants.{Destination, 
 ghost use Rattle.node_table.specs.Kinds.{IsInLimits};
 ghost use Rattle.meaning.specs.Validity.{IsValid};
 ghost use Rattle.meaning.specs.World.{kind_of, sounds_at};
-ghost use Rattle.quantum_blocks.specs.Blocks.{Writes};
+ghost use Rattle.quantum_blocks.specs.Blocks.{BlockView as a_block};
 ghost use Rattle.quantum_blocks.specs.Fits.{AreFit};
 ghost use Rattle.filter_bank.specs.Banks.{HaveRoom};
 ghost use Rattle.delay_bank.specs.Banks.{HaveRoom as HaveDelayRoom};
 ghost use Rattle.quantum_render.specs.declared.memory.Memory.{Memory as a_memory};
 ghost use Rattle.quantum_render.specs.Listening.{HasRooms};
-ghost use Rattle.quantum_render.specs.Renders.{Renders, RendersWith, Listens, Stores};
+ghost use Rattle.quantum_render.specs.Renders.{HasLanes, Renders, RendersWith, Listens, Stores};
 
 use crate::bench::Bench;
 use crate::memory::Memory;
 use delay_bank::Delays;
 use node_table::Kind;
-use quantum_blocks::{Block, Site, play_place, slot, sounding};
+use quantum_blocks::{Block, Site, play_place, sounding};
 use wa_base::{ParamName, Samples};
 
 // What each kind of node does in a quantum: a line of the table, and a function that takes an input
-// and levels and leaves the block of its end.
+// and levels from the blocks of the other ends and leaves that of its own.
 impl Bench {
     // Renders an end for one quantum, from the blocks of the ends that are connected to it.
-    pub(crate) fn render(&mut self, blocks: &mut [Block], memory: &mut Memory, site: &Site)
-        requires fit { AreFit site.now.world site.now.counts blocks.old }
+    pub(crate) fn render(
+        &mut self,
+        block: &mut Block,
+        blocks: &[Block],
+        memory: &mut Memory,
+        site: &Site,
+    )
+        requires fit { AreFit site.now.world site.now.counts blocks.now }
+        requires lanes { HasLanes site.now block.old }
         requires rooms { HasRooms memory.old site.now.world site.now.counts }
-        ensures writes { Writes blocks.old blocks.new site.now.end }
-        ensures renders { RendersWith site.now memory.old blocks.old blocks.new (kind_of site.now.world site.now.end.node.0) }
-        ensures listens { Listens site.now blocks.old memory.old memory.new }
-        ensures stores { Stores site.now blocks.new memory.old.delays memory.new.delays }
+        ensures renders { RendersWith site.now memory.old blocks.now block.new (kind_of site.now.world site.now.end.node.0) }
+        ensures listens { Listens site.now blocks.now memory.old memory.new }
+        ensures stores { Stores site.now block.new memory.old.delays memory.new.delays }
         ensures rooms { HasRooms memory.new site.now.world site.now.counts }
     {
         match site.kind() {
-            Kind::Delay { .. } => self.render_delay(blocks, memory, site),
-            Kind::Causal { .. } => self.render_filter(blocks, memory, site),
-            kind => self.render_plain(blocks, site, kind),
+            Kind::Delay { .. } => self.render_delay(block, blocks, memory, site),
+            Kind::Causal { .. } => self.render_filter(block, blocks, memory, site),
+            kind => self.render_plain(block, blocks, site, kind),
         }
     }
 
     // Renders an end of a node that remembers nothing.
-    fn render_plain(&mut self, blocks: &mut [Block], site: &Site, kind: &Kind)
-        requires fit { AreFit site.now.world site.now.counts blocks.old }
+    fn render_plain(&mut self, block: &mut Block, blocks: &[Block], site: &Site, kind: &Kind)
+        requires fit { AreFit site.now.world site.now.counts blocks.now }
+        requires lanes { HasLanes site.now block.old }
         requires kind { kind.now ≡ kind_of site.now.world site.now.end.node.0 }
         requires limits { IsInLimits kind.now }
         requires no_delay { (longest time : ℤ) (capacity : ℕ) → kind.now ≡ Delay longest time capacity → ⊥ }
         requires not_causal { (equation : an_equation) → kind.now ≡ Causal equation → ⊥ }
-        ensures writes { Writes blocks.old blocks.new site.now.end }
-        ensures renders { Renders site.now blocks.old blocks.new (kind_of site.now.world site.now.end.node.0) }
+        ensures { Renders site.now blocks.now block.new (kind_of site.now.world site.now.end.node.0) }
     {
         match kind {
-            Kind::Destination => self.render_destination(blocks, site),
-            Kind::Constant { .. } => self.render_constant(blocks, site),
-            Kind::Buffer { .. } => render_buffer(blocks, site),
-            Kind::Gain { .. } => self.render_gain(blocks, site),
-            Kind::Splitter { .. } => self.render_splitter(blocks, site),
-            Kind::Merger { .. } => self.render_merger(blocks, site),
-            Kind::Shaper { curve, .. } => self.render_shaper(blocks, site, curve),
+            Kind::Destination => self.render_destination(block, blocks, site),
+            Kind::Constant { .. } => self.render_constant(block, blocks, site),
+            Kind::Buffer { .. } => render_buffer(block, site),
+            Kind::Gain { .. } => self.render_gain(block, blocks, site),
+            Kind::Splitter { .. } => self.render_splitter(block, blocks, site),
+            Kind::Merger { .. } => self.render_merger(block, blocks, site),
+            Kind::Shaper { curve, .. } => self.render_shaper(block, blocks, site, curve),
             // They are rendered with what they remember.
             Kind::Delay { .. } | Kind::Causal { .. } => {}
         }
     }
 
-    fn render_destination(&mut self, blocks: &mut [Block], site: &Site)
-        requires fit { AreFit site.now.world site.now.counts blocks.old }
+    fn render_destination(&mut self, block: &mut Block, blocks: &[Block], site: &Site)
+        requires fit { AreFit site.now.world site.now.counts blocks.now }
+        requires lanes { HasLanes site.now block.old }
         requires kind { kind_of site.now.world site.now.end.node.0 ≡ Destination }
-        ensures writes { Writes blocks.old blocks.new site.now.end }
-        ensures renders { Renders site.now blocks.old blocks.new (kind_of site.now.world site.now.end.node.0) }
+        ensures { Renders site.now blocks.now block.new (kind_of site.now.world site.now.end.node.0) }
     {
         self.take_input(blocks, site, 0, site.channels());
-        blocks[slot(site.end)].copy(&self.heard);
+        block.copy(&self.heard);
     }
 
-    fn render_constant(&mut self, blocks: &mut [Block], site: &Site)
-        requires fit { AreFit site.now.world site.now.counts blocks.old }
+    fn render_constant(&mut self, block: &mut Block, blocks: &[Block], site: &Site)
+        requires fit { AreFit site.now.world site.now.counts blocks.now }
+        requires lanes { HasLanes site.now block.old }
         requires kind { (offset : ℤ) × (kind_of site.now.world site.now.end.node.0 ≡ Constant offset) }
-        ensures writes { Writes blocks.old blocks.new site.now.end }
-        ensures renders { Renders site.now blocks.old blocks.new (kind_of site.now.world site.now.end.node.0) }
+        ensures { Renders site.now blocks.now block.new (kind_of site.now.world site.now.end.node.0) }
     {
         self.take_levels(blocks, site, ParamName::Offset);
         let (start, end) = span(site);
         self.levels.sound(start, end, site.first);
-        blocks[slot(site.end)].copy(&self.levels);
+        block.copy(&self.levels);
     }
 
-    fn render_gain(&mut self, blocks: &mut [Block], site: &Site)
-        requires fit { AreFit site.now.world site.now.counts blocks.old }
+    fn render_gain(&mut self, block: &mut Block, blocks: &[Block], site: &Site)
+        requires fit { AreFit site.now.world site.now.counts blocks.now }
+        requires lanes { HasLanes site.now block.old }
         requires kind { (gain : ℤ) × (kind_of site.now.world site.now.end.node.0 ≡ Gain gain) }
-        ensures writes { Writes blocks.old blocks.new site.now.end }
-        ensures renders { Renders site.now blocks.old blocks.new (kind_of site.now.world site.now.end.node.0) }
+        ensures { Renders site.now blocks.now block.new (kind_of site.now.world site.now.end.node.0) }
     {
         self.take_input(blocks, site, 0, site.channels());
         self.take_levels(blocks, site, ParamName::Gain);
-        blocks[slot(site.end)].scale(&self.heard, &self.levels);
+        block.scale(&self.heard, &self.levels);
     }
 
     // The channels of its input, one on each output.
-    fn render_splitter(&mut self, blocks: &mut [Block], site: &Site)
-        requires fit { AreFit site.now.world site.now.counts blocks.old }
+    fn render_splitter(&mut self, block: &mut Block, blocks: &[Block], site: &Site)
+        requires fit { AreFit site.now.world site.now.counts blocks.now }
+        requires lanes { HasLanes site.now block.old }
         requires kind { (ports : ℕ) × (kind_of site.now.world site.now.end.node.0 ≡ Splitter ports) }
-        ensures writes { Writes blocks.old blocks.new site.now.end }
-        ensures renders { Renders site.now blocks.old blocks.new (kind_of site.now.world site.now.end.node.0) }
+        ensures { Renders site.now blocks.now block.new (kind_of site.now.world site.now.end.node.0) }
     {
         self.take_input(blocks, site, 0, site.outputs() as usize);
-        blocks[slot(site.end)].copy(&self.heard);
+        block.copy(&self.heard);
     }
 
     // Its inputs, one on each channel.
-    fn render_merger(&mut self, blocks: &mut [Block], site: &Site)
-        requires fit { AreFit site.now.world site.now.counts blocks.old }
+    fn render_merger(&mut self, block: &mut Block, blocks: &[Block], site: &Site)
+        requires fit { AreFit site.now.world site.now.counts blocks.now }
+        requires lanes { HasLanes site.now block.old }
         requires kind { (ports : ℕ) × (kind_of site.now.world site.now.end.node.0 ≡ Merger ports) }
-        ensures writes { Writes blocks.old blocks.new site.now.end }
-        ensures renders { Renders site.now blocks.old blocks.new (kind_of site.now.world site.now.end.node.0) }
+        ensures { Renders site.now blocks.now block.new (kind_of site.now.world site.now.end.node.0) }
     {
         self.take_inputs(blocks, site, site.channels());
-        blocks[slot(site.end)].copy(&self.merged);
+        block.copy(&self.merged);
     }
 
     // Its input, shaped by the curve in force.
-    fn render_shaper(&mut self, blocks: &mut [Block], site: &Site, curve: &Option<Samples>)
-        requires fit { AreFit site.now.world site.now.counts blocks.old }
+    fn render_shaper(
+        &mut self,
+        block: &mut Block,
+        blocks: &[Block],
+        site: &Site,
+        curve: &Option<Samples>,
+    )
+        requires fit { AreFit site.now.world site.now.counts blocks.now }
+        requires lanes { HasLanes site.now block.old }
         requires kind { (was_set : Bool) × (kind_of site.now.world site.now.end.node.0 ≡ Shaper curve.now was_set) }
         requires curve { IsCurve curve.now }
-        ensures writes { Writes blocks.old blocks.new site.now.end }
-        ensures renders { Renders site.now blocks.old blocks.new (kind_of site.now.world site.now.end.node.0) }
+        ensures { Renders site.now blocks.now block.new (kind_of site.now.world site.now.end.node.0) }
     {
         self.take_input(blocks, site, 0, site.channels());
-        blocks[slot(site.end)].shape(&self.heard, curve);
+        block.shape(&self.heard, curve);
     }
 
     // Its input, filtered from its birth on.
-    fn render_filter(&mut self, blocks: &mut [Block], memory: &mut Memory, site: &Site)
-        requires fit { AreFit site.now.world site.now.counts blocks.old }
+    fn render_filter(
+        &mut self,
+        block: &mut Block,
+        blocks: &[Block],
+        memory: &mut Memory,
+        site: &Site,
+    )
+        requires fit { AreFit site.now.world site.now.counts blocks.now }
+        requires lanes { HasLanes site.now block.old }
         requires kind { (equation : an_equation) × (kind_of site.now.world site.now.end.node.0 ≡ Causal equation) }
         requires rooms { HasRooms memory.old site.now.world site.now.counts }
-        ensures writes { Writes blocks.old blocks.new site.now.end }
-        ensures renders { RendersWith site.now memory.old blocks.old blocks.new (kind_of site.now.world site.now.end.node.0) }
-        ensures listens { Listens site.now blocks.old memory.old memory.new }
+        ensures renders { RendersWith site.now memory.old blocks.now block.new (kind_of site.now.world site.now.end.node.0) }
+        ensures listens { Listens site.now blocks.now memory.old memory.new }
         ensures delays { memory.new.delays ≡ memory.old.delays }
         ensures room { HaveRoom memory.new.filters site.now.counts }
     {
@@ -147,66 +165,76 @@ impl Bench {
         self.take_input(blocks, site, 0, channels);
         let room = memory.filters.room(node).max(channels);
         self.filter_heard(room, &mut memory.filters, node);
-        blocks[slot(site.end)].copy_output(&self.merged, 0, channels);
+        block.copy_output(&self.merged, 0, channels);
     }
 
     // A delay's writer takes its input in, and its reader gives it later.
-    fn render_delay(&mut self, blocks: &mut [Block], memory: &mut Memory, site: &Site)
-        requires fit { AreFit site.now.world site.now.counts blocks.old }
+    fn render_delay(
+        &mut self,
+        block: &mut Block,
+        blocks: &[Block],
+        memory: &mut Memory,
+        site: &Site,
+    )
+        requires fit { AreFit site.now.world site.now.counts blocks.now }
+        requires lanes { HasLanes site.now block.old }
         requires kind { (longest : ℤ) × (time : ℤ) × (capacity : ℕ) × (kind_of site.now.world site.now.end.node.0 ≡ Delay longest time capacity) }
         requires rooms { HasRooms memory.old site.now.world site.now.counts }
-        ensures writes { Writes blocks.old blocks.new site.now.end }
-        ensures renders { RendersWith site.now memory.old blocks.old blocks.new (kind_of site.now.world site.now.end.node.0) }
-        ensures stores { Stores site.now blocks.new memory.old.delays memory.new.delays }
+        ensures renders { RendersWith site.now memory.old blocks.now block.new (kind_of site.now.world site.now.end.node.0) }
+        ensures stores { Stores site.now block.new memory.old.delays memory.new.delays }
         ensures filters { memory.new.filters ≡ memory.old.filters }
         ensures room { HaveDelayRoom memory.new.delays site.now.counts }
     {
         if site.end.writer {
-            self.render_writer(blocks, &mut memory.delays, site);
+            self.render_writer(block, blocks, &mut memory.delays, site);
         } else {
-            self.render_reader(blocks, &memory.delays, site);
+            self.render_reader(block, blocks, &memory.delays, site);
         }
     }
 
     // Its input, which is kept.
-    fn render_writer(&mut self, blocks: &mut [Block], delays: &mut Delays, site: &Site)
-        requires fit { AreFit site.now.world site.now.counts blocks.old }
+    fn render_writer(
+        &mut self,
+        block: &mut Block,
+        blocks: &[Block],
+        delays: &mut Delays,
+        site: &Site,
+    )
+        requires fit { AreFit site.now.world site.now.counts blocks.now }
+        requires lanes { HasLanes site.now block.old }
         requires kind { (longest : ℤ) × (time : ℤ) × (capacity : ℕ) × (kind_of site.now.world site.now.end.node.0 ≡ Delay longest time capacity) }
         requires writer { site.now.end.writer ≡ true }
         requires count { length site.now.world.nodes ≤ length delays.old.delays }
         requires room { HaveDelayRoom delays.old site.now.counts }
-        ensures writes { Writes blocks.old blocks.new site.now.end }
-        ensures renders { Renders site.now blocks.old blocks.new (kind_of site.now.world site.now.end.node.0) }
-        ensures stores { Stores site.now blocks.new delays.old delays.new }
+        ensures renders { Renders site.now blocks.now block.new (kind_of site.now.world site.now.end.node.0) }
+        ensures stores { Stores site.now block.new delays.old delays.new }
         ensures room { HaveDelayRoom delays.new site.now.counts }
     {
         self.take_input(blocks, site, 0, site.channels());
         self.write_heard(delays, site.end.node, site.first);
-        blocks[slot(site.end)].copy(&self.heard);
+        block.copy(&self.heard);
     }
 
     // What was written so many frames before each frame.
-    fn render_reader(&mut self, blocks: &mut [Block], delays: &Delays, site: &Site)
-        requires fit { AreFit site.now.world site.now.counts blocks.old }
+    fn render_reader(&mut self, block: &mut Block, blocks: &[Block], delays: &Delays, site: &Site)
+        requires fit { AreFit site.now.world site.now.counts blocks.now }
+        requires lanes { HasLanes site.now block.old }
         requires kind { (longest : ℤ) × (time : ℤ) × (capacity : ℕ) × (kind_of site.now.world site.now.end.node.0 ≡ Delay longest time capacity) }
         requires reader { site.now.end.writer ≡ false }
-        ensures writes { Writes blocks.old blocks.new site.now.end }
-        ensures renders { (memory : a_memory) → memory.delays ≡ delays.now → RendersWith site.now memory blocks.old blocks.new (kind_of site.now.world site.now.end.node.0) }
+        ensures { (memory : a_memory) → memory.delays ≡ delays.now → RendersWith site.now memory blocks.now block.new (kind_of site.now.world site.now.end.node.0) }
     {
         self.take_levels(blocks, site, ParamName::DelayTime);
         self.take_spans(site.world.spec.rate, site.least_delay());
-        blocks[slot(site.end)].read_delay(delays, site, self.spans.as_slice());
+        block.read_delay(delays, site, self.spans.as_slice());
     }
 }
 
 // What a buffer source plays. Where it does not sound in the quantum, it has one silent channel.
-fn render_buffer(blocks: &mut [Block], site: &Site)
-    requires fit { AreFit site.now.world site.now.counts blocks.old }
+fn render_buffer(block: &mut Block, site: &Site)
+    requires lanes { HasLanes site.now block.old }
     requires kind { (rate : ℕ) × (kind_of site.now.world site.now.end.node.0 ≡ Buffer rate) }
-    ensures writes { Writes blocks.old blocks.new site.now.end }
-    ensures renders { Renders site.now blocks.old blocks.new (kind_of site.now.world site.now.end.node.0) }
+    ensures { (blocks : List a_block) → Renders site.now blocks block.new (kind_of site.now.world site.now.end.node.0) }
 {
-    let block = &mut blocks[slot(site.end)];
     match sounding(site.world, site.end.node, site.near, site.first) {
         Some(source) => block.play(&source, site.first),
         None => block.silence(),

@@ -8,5 +8,6 @@ mod memory;
 mod pass;
 mod plan;
 mod renderer;
+mod stage;
 
 pub use renderer::Renderer;

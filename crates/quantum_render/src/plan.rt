@@ -7,11 +7,7 @@ ghost use Rattle.conn_graph.specs.Edges.{target_node};
 ghost use Rattle.conn_graph.specs.Cells.{leaves, enters};
 ghost use Rattle.cycle_order.specs.Choices.{chosen_order};
 ghost use Rattle.conn_graph.specs.Ends.{ends};
-ghost use Rattle.quantum_blocks.specs.Connections.{into as leads_into};
-ghost use Rattle.quantum_blocks.specs.Fits.{AreInRange};
-ghost use Rattle.automation.specs.Levels.{AreLevels};
-ghost use Rattle.quantum_blocks.specs.Sites.{IsBegun};
-ghost use Rattle.meaning.specs.Validity.{IsValid};
+ghost use Rattle.quantum_blocks.specs.Sites.{site_in};
 ghost use Rattle.quantum_render.specs.Plans.{IsPlan, IsPlanOf, AreCycles};
 
 use conn_graph::{Edge, Graph};
@@ -135,19 +131,11 @@ impl Plan {
     }
 
     // An end with the connections that lead to its node.
-    pub(crate) fn site<'a>(&'a self, quantum: Quantum<'a>, end: End) -> Site<'a>
-        requires valid { IsValid quantum.world.now }
-        requires plan { IsPlan quantum.world.now self.now.order self.now.muted self.now.into }
-        requires cycles { AreCycles quantum.world.now.graph.value self.now.cycles }
-        requires range { AreInRange quantum.world.now quantum.counts.now }
-        requires there { IsIn end (ends quantum.world.now.graph.value) }
-        requires begun { IsBegun quantum.first }
-        requires levels { AreLevels quantum.world.now.params.items quantum.first quantum.levels.now }
-        ensures world { result.world ≡ quantum.entry.world.now }
-        ensures counts { result.counts ≡ quantum.entry.counts.now }
-        ensures levels { result.levels ≡ quantum.entry.levels.now }
-        ensures end { result.end ≡ end }
-        ensures first { result.first ≡ quantum.entry.first }
+    pub(crate) fn site<'a>(&'a self, quantum: &Quantum<'a>, end: End) -> Site<'a>
+        requires plan { IsPlan quantum.now.world self.now.order self.now.muted self.now.into }
+        requires cycles { AreCycles quantum.now.world.graph.value self.now.cycles }
+        requires there { IsIn end (ends quantum.now.world.graph.value) }
+        ensures { result ≡ site_in quantum.now end }
     {
         let node = end.node.0 as usize;
         Site {

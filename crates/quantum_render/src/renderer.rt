@@ -9,11 +9,11 @@ ghost use Rattle.std.specs.List.{sum_by};
 ghost use Rattle.automation.specs.Ready.{looks_at};
 ghost use Rattle.quantum_render.specs.Stands.{StandsFor, Shows, IsPrepared, IsCounted, IsGrown};
 
-use crate::bench::Bench;
 use crate::counting::{Census, count_channels};
 use crate::memory::Memory;
 use crate::pass::render_quantum;
 use crate::plan::Plan;
+use crate::stage::Stage;
 use automation::Automation;
 use delay_bank::Delays;
 use filter_bank::Filters;
@@ -38,7 +38,7 @@ pub struct Renderer {
     memory: Memory,
     counts: Vec<u32>,
     blocks: Vec<Block>,
-    bench: Bench,
+    stage: Stage,
     out: Vec<Fix>,
 }
 
@@ -75,7 +75,7 @@ impl Renderer {
     {
         let out = vec![in alloc; 0; CHANNELS * QUANTUM]?;
         let filters = Filters::new(alloc)?;
-        let bench = Bench::new(alloc)?;
+        let stage = Stage::new(alloc)?;
         Ok(Renderer {
             alloc,
             spec,
@@ -88,7 +88,7 @@ impl Renderer {
             },
             counts: Vec::new(alloc),
             blocks: Vec::new(alloc),
-            bench,
+            stage,
             out,
         })
     }
@@ -194,10 +194,10 @@ impl Renderer {
         let blocks = self.blocks.as_mut_slice();
         render_quantum(
             blocks,
-            &mut self.bench,
+            &mut self.stage,
             &mut self.memory,
             &self.plan,
-            quantum,
+            &quantum,
         );
         let blocks: &[Block] = &*blocks;
         let destination = &blocks[slot(reader(NodeId(0)))];

@@ -1,7 +1,7 @@
 use Rattle.std.proofs.Common.{rules, ◌<◌, ◌≤◌, slice_index_or, sym, ◌∙◌, ap, arith, subst}
 use Rattle.std.proofs.lemmas.List.{get_or_default}
 use Rattle.quantum_blocks.specs.Blocks.{counts_in}
-use Rattle.quantum_blocks.specs.Sites.{SiteView}
+use Rattle.quantum_blocks.specs.Sites.{SiteView, IsSite}
 use Rattle.quantum_blocks.proofs.Sources.{place_within}
 use Rattle.quantum_blocks.proofs.site.Site.channels.Goals as goal
 
@@ -11,8 +11,8 @@ bounds-self-inside-slot c = place_within _ _ _ _ _ _ c.self.invariant.0 c.slot.r
 pub offset_bounds-self-inside-slot : goal.offset_bounds-self-inside-slot
 offset_bounds-self-inside-slot c =
     let within = place_within _ _ _ _ _ _ c.self.invariant.0 c.slot.result c.slot.ensures in
-    let places = c.self.invariant.0.range.places in
-    let few = c.self.invariant.0.valid.nodes.few in
+    let places = c.self.invariant.0.quantum.range.places in
+    let few = c.self.invariant.0.quantum.valid.nodes.few in
     let low : c.slot.result < 2048 = omega arith in
     search rules
 
@@ -25,9 +25,12 @@ returns-clause-count c =
 pub returns-clause-low : goal.returns-clause-low
 returns-clause-low c =
     let within = place_within _ _ _ _ _ _ c.self.invariant.0 c.slot.result c.slot.ensures in
-    subst (λ n. 1 ≤ n) (sym (get_or_default c.self.inside.counts.now c.slot.result 0 1 within)) (c.self.invariant.0.range.low c.slot.result within)
+    subst (λ n. 1 ≤ n) (sym (get_or_default c.self.inside.counts.now c.slot.result 0 1 within)) (c.self.invariant.0.quantum.range.low c.slot.result within)
 
 pub returns-clause-high : goal.returns-clause-high
 returns-clause-high c =
     let within = place_within _ _ _ _ _ _ c.self.invariant.0 c.slot.result c.slot.ensures in
-    subst (λ n. n ≤ 32) (sym (get_or_default c.self.inside.counts.now c.slot.result 0 1 within)) (c.self.invariant.0.range.high c.slot.result within)
+    subst (λ n. n ≤ 32) (sym (get_or_default c.self.inside.counts.now c.slot.result 0 1 within)) (c.self.invariant.0.quantum.range.high c.slot.result within)
+
+pub returns-clause-site : goal.returns-clause-site
+returns-clause-site c = subst (λ (x : SiteView). IsSite x.world x.end x.into x.counts x.levels x.first) c.self.view_is c.self.invariant.0

@@ -21,7 +21,7 @@ render_delay-requires-clause-kind c = (c.in-Delay.longest, c.in-Delay.time, c.in
 
 pub returns-in_default-clause-renders : goal.returns-in_default-clause-renders
 returns-in_default-clause-renders c =
-    with_memory c.args.site.now c.args.memory.now c.args.blocks.now c.render_plain.new.blocks (kind_of c.args.site.now.world c.args.site.now.end.node.0) c.render_plain.ensures.renders
+    with_memory c.args.site.now c.args.memory.now c.args.blocks.now c.render_plain.new.block (kind_of c.args.site.now.world c.args.site.now.end.node.0) c.render_plain.ensures
 
 no_delay : (kind : Kind) → ((longest time : ℤ) (capacity : ℕ) → kind ≡ Delay longest time capacity → ⊥) → is_delay_kind kind ≡ false
 no_delay kind not = by_test (is_delay_kind kind) refl
@@ -32,7 +32,7 @@ no_delay kind not = by_test (is_delay_kind kind) refl
 
 pub returns-in_default-clause-stores : goal.returns-in_default-clause-stores
 returns-in_default-clause-stores c =
-    unstored c.args.site.now c.kind.ensures.site (subst (λ k. is_delay_kind k ≡ false) c.kind.ensures.value (no_delay c.kind.result.now c.in_default.not-Delay)) c.render_plain.new.blocks c.args.memory.now.delays
+    unstored c.args.site.now c.kind.ensures.site (subst (λ k. is_delay_kind k ≡ false) c.kind.ensures.value (no_delay c.kind.result.now c.in_default.not-Delay)) c.render_plain.new.block c.args.memory.now.delays
 
 pub returns-in_default-clause-listens : goal.returns-in_default-clause-listens
 returns-in_default-clause-listens c = record {
@@ -46,8 +46,8 @@ returns-in_default-clause-listens c = record {
 
 pub returns-in-Causal-clause-stores : goal.returns-in-Causal-clause-stores
 returns-in-Causal-clause-stores c =
-    subst (Stores c.args.site.now c.render_filter.new.blocks c.args.memory.now.delays) (sym c.render_filter.ensures.delays)
-    (unstored c.args.site.now c.kind.ensures.site (ap is_delay_kind (sym c.kind.ensures.value ∙ c.in-Causal.is)) c.render_filter.new.blocks c.args.memory.now.delays)
+    subst (Stores c.args.site.now c.render_filter.new.block c.args.memory.now.delays) (sym c.render_filter.ensures.delays)
+    (unstored c.args.site.now c.kind.ensures.site (ap is_delay_kind (sym c.kind.ensures.value ∙ c.in-Causal.is)) c.render_filter.new.block c.args.memory.now.delays)
 
 pub returns-in-Causal-clause-rooms : goal.returns-in-Causal-clause-rooms
 returns-in-Causal-clause-rooms c =

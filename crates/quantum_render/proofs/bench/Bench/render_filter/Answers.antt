@@ -1,21 +1,20 @@
-use Rattle.std.proofs.Common.{ℕ, ℤ, ◌≡◌, ◌<◌, ◌≤◌, ◌+◌, ◌*◌, length, List, Some, slice_index_or, true, pos, inl, inr, sym, ◌∙◌, ap, arith, subst}
+use Rattle.std.proofs.Common.{ℕ, ℤ, ◌≡◌, ◌<◌, ◌≤◌, ◌+◌, ◌*◌, length, List, Some, slice_index_or, true, pos, inl, inr, refl, sym, ◌∙◌, ap, arith, subst}
 use Rattle.std.specs.Prelude.{if◌then◌else◌, nat_lt}
 use Rattle.std.proofs.lemmas.Bool.Decides.{nat_tests}
 use Rattle.causal_core.specs.declared.equation.Equation.{Equation}
-use Rattle.node_table.specs.Kinds.{outputs}
 use Rattle.node_table.specs.declared.kinds.Kind.TheVariants.{Causal}
 use Rattle.meaning.specs.World.{sounding, kind_of}
 use Rattle.meaning.specs.Counts.{input_channels}
 use Rattle.meaning.specs.Values.{Frame}
 use Rattle.filter_bank.specs.Heard.{Brings, room_of as filter_room}
 use Rattle.filter_bank.specs.Banks.{BankView, filter_at, Hears}
-use Rattle.quantum_blocks.specs.Blocks.{BlockView, at, shown, carried, slot, counts_in}
+use Rattle.quantum_blocks.specs.Blocks.{BlockView, at, shown, carried, counts_in}
 use Rattle.quantum_render.specs.Benches.{BenchView}
 use Rattle.quantum_blocks.specs.Sites.{SiteView}
 use Rattle.quantum_render.specs.Renders.{IsReadyFor}
 use Rattle.quantum_render.proofs.Filtering.{lanes_are, takes, has_heard, brings, puts_out, hears_on}
 use Rattle.law_base.proofs.Places.{this_or_other}
-use Rattle.quantum_render.proofs.Rendering.{by_kind_with, site_is, writes_own, renders_own}
+use Rattle.quantum_render.proofs.Rendering.{site_is, renders_with_own}
 use Rattle.quantum_render.proofs.bench.Bench.render_filter.Goals as goal
 
 pub filter_heard-requires-clause-wide : goal.filter_heard-requires-clause-wide
@@ -24,12 +23,6 @@ filter_heard-requires-clause-wide c f is =
     let site = site_is s _ _ _ _ _ _ c.site.invariant.0 c.site.view_is in
     lanes_are s site c.requires.kind.0 c.requires.kind.1 c.args.memory.now.filters c.requires.rooms.filter_rooms f (subst (λ k. filter_at c.args.memory.now.filters k ≡ Some f) (ap (λ (x : SiteView). x.end.node.0) c.site.view_is) is)
     c.room.result c.channels-channels.result c.max-room.result (c.room.ensures.room f is) c.channels-channels.ensures.count c.max-room.ensures
-
-pub returns-clause-writes : goal.returns-clause-writes
-returns-clause-writes c =
-    let site = site_is c.args.site.now _ _ _ _ _ _ c.site.invariant.0 c.site.view_is in
-    writes_own c.args.site.now site c.args.blocks.now c.requires.fit c.slot.result (c.slot.ensures ∙ ap (λ (x : SiteView). slot x.end) c.site.view_is) (ap outputs c.requires.kind.1)
-    c.copy_output.new.self (c.copy_output.ensures.lanes ∙ c.channels-channels.ensures.count)
 
 -- the input with silent lanes behind it, which the filter hears
 abbrev input_of : goal.After-copy_output → List ℤ
@@ -55,18 +48,16 @@ hears_own c = subst (λ k. Hears c.args.memory.now.filters c.filter_heard.new.fi
 
 pub returns-clause-renders : goal.returns-clause-renders
 returns-clause-renders c =
-    by_kind_with c.args.site.now c.args.memory.now _ _ _ c.requires.kind.1 (λ j earlier begins counted before ready.
     let equation = c.requires.kind.0 in
     let is = c.requires.kind.1 in
     let s : SiteView = c.args.site.now in
     let site = site_is s _ _ _ _ _ _ c.site.invariant.0 c.site.view_is in
     let filters : BankView = c.args.memory.now.filters in
-    let own = has_heard s site c.args.memory.now c.args.blocks.now equation is before ready in
     let channels : c.channels-channels.result ≡ counts_in s.counts s.end = c.channels-channels.ensures.count in
+    renders_with_own s _ is refl c.args.blocks.now c.copy_output.new.self (c.copy_output.ensures.lanes ∙ channels) c.args.memory.now (λ j earlier begins counted before ready channel m low now.
+    let own = has_heard s site c.args.memory.now c.args.blocks.now equation is before ready in
     let there : filter_at filters c.site.inside.end.node.0 ≡ Some own.filter = subst (λ k. filter_at filters k ≡ Some own.filter) (sym (ap (λ (x : SiteView). x.end.node.0) c.site.view_is)) own.there in
     let lanes : c.max-room.result ≡ filter_room own.filter = lanes_are s site equation is filters c.requires.rooms.filter_rooms own.filter own.there c.room.result c.channels-channels.result c.max-room.result (c.room.ensures.room own.filter there) channels c.max-room.ensures in
-    renders_own s site c.args.blocks.now c.requires.fit c.slot.result (c.slot.ensures ∙ ap (λ (x : SiteView). slot x.end) c.site.view_is) (ap outputs is) c.copy_output.new.self _
-    (λ channel m low now.
     let low' : channel < c.channels-channels.result = subst (λ k. channel < k) (sym channels) low in
     let few : channel < c.max-room.result = lower c channel low' in
     let merged : c.self.inside.merged ≡ c.filter_heard.new.self.merged = ap (λ (b : BenchView). b.merged) c.self.view_is in
@@ -74,7 +65,7 @@ returns-clause-renders c =
     c.copy_output.ensures.values channel m low' now
     ∙ carried_first c.self.inside.merged c.channels-channels.result channel m low' (subst (λ k. channel < k) (sym all) few)
     ∙ ap (λ (b : BlockView). at b channel m) merged
-    ∙ puts_out s site c.args.memory.now c.args.blocks.now equation is before ready (input_of c) c.filter_heard.new.self.merged.values c.filter_heard.new.filters (hears_own c) (heard_brings c equation is before ready counted) site.begun.time channel m (subst (λ k. channel < k) lanes few) now))
+    ∙ puts_out s site c.args.memory.now c.args.blocks.now equation is before ready (input_of c) c.filter_heard.new.self.merged.values c.filter_heard.new.filters (hears_own c) (heard_brings c equation is before ready counted) site.quantum.begun.time channel m (subst (λ k. channel < k) lanes few) now)
   where
     lower : (c : goal.After-copy_output) → (k : ℕ) → k < c.channels-channels.result → k < c.max-room.result
     lower c k low = let most = c.max-room.ensures in grind arith
@@ -93,7 +84,7 @@ returns-clause-listens c = record {
   own = λ equation is j earlier begins counted before ready.
       let s : SiteView = c.args.site.now in
       let site = site_is s _ _ _ _ _ _ c.site.invariant.0 c.site.view_is in
-      hears_on s site c.args.memory.now c.args.blocks.now equation is before ready (input_of c) c.filter_heard.new.self.merged.values c.filter_heard.new.filters (hears_own c) (heard_brings c equation is before ready counted) site.begun.time;
+      hears_on s site c.args.memory.now c.args.blocks.now equation is before ready (input_of c) c.filter_heard.new.self.merged.values c.filter_heard.new.filters (hears_own c) (heard_brings c equation is before ready counted) site.quantum.begun.time;
 }
 
 pub returns-clause-room : goal.returns-clause-room

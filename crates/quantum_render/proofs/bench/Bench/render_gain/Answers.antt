@@ -1,48 +1,30 @@
-use Rattle.std.proofs.Common.{◌≡◌, ◌<◌, ◌≤◌, ◌*◌, slice_index_or, sym, ◌∙◌, ap, ap₂, subst}
+use Rattle.std.proofs.Common.{◌≡◌, ◌<◌, sym, ◌∙◌, ap, ap₂, refl, subst}
 use Rattle.wa_base.specs.Numbers.{scale}
-use Rattle.node_table.specs.Kinds.{outputs}
-use Rattle.quantum_blocks.specs.Blocks.{BlockView, at, slot, counts_in, room_of}
-use Rattle.quantum_render.specs.Benches.{BenchView}
-use Rattle.quantum_blocks.specs.Sites.{SiteView}
 use Rattle.node_table.specs.Kinds.{param_name}
-use Rattle.quantum_render.proofs.Rendering.{by_kind, site_is, own_within, own_room, writes_own, renders_own}
+use Rattle.quantum_blocks.specs.Blocks.{BlockView, at, counts_in}
+use Rattle.quantum_blocks.specs.Sites.{SiteView}
+use Rattle.quantum_render.specs.Benches.{BenchView}
+use Rattle.quantum_render.proofs.Rendering.{own_room, renders_own}
 use Rattle.quantum_render.proofs.bench.Bench.render_gain.Goals as goal
 
-pub bounds-blocks-slot : goal.bounds-blocks-slot
-bounds-blocks-slot c =
-    let site = site_is c.args.site.now _ _ _ _ _ _ c.site.invariant.0 c.site.view_is in
-    own_within c.args.site.now site c.args.blocks.now c.requires.fit c.slot.result (c.slot.ensures ∙ ap (λ (x : SiteView). slot x.end) c.site.view_is)
+pub take_levels-requires-clause-there : goal.take_levels-requires-clause-there
+take_levels-requires-clause-there c = ap param_name c.requires.kind.1
 
 pub scale-requires-clause-room : goal.scale-requires-clause-room
 scale-requires-clause-room c =
-    let site = site_is c.args.site.now _ _ _ _ _ _ c.site.invariant.0 c.site.view_is in
     let heard : c.self.inside.heard ≡ c.take_input.new.self.heard = ap (λ (b : BenchView). b.heard) c.self.view_is ∙ c.take_levels.ensures.heard in
-    subst (λ n. n * 128 ≤ room_of (slice_index_or c.args.blocks.now c.slot.result c.index-blocks-slot.result)) (sym (ap (λ (b : BlockView). b.lanes) heard ∙ c.take_input.ensures.lanes ∙ c.channels.ensures.count))
-    (own_room c.args.site.now site c.args.blocks.now c.requires.fit c.slot.result (c.slot.ensures ∙ ap (λ (x : SiteView). slot x.end) c.site.view_is) (ap outputs c.requires.kind.1) c.index-blocks-slot.result)
+    own_room c.args.site.now _ c.requires.kind.1 refl c.args.block.now c.requires.lanes _ (ap (λ (b : BlockView). b.lanes) heard ∙ c.take_input.ensures.lanes ∙ c.channels.ensures.count)
 
-pub returns-clause-writes : goal.returns-clause-writes
-returns-clause-writes c =
-    let site = site_is c.args.site.now _ _ _ _ _ _ c.site.invariant.0 c.site.view_is in
-    let heard : c.self.inside.heard ≡ c.take_input.new.self.heard = ap (λ (b : BenchView). b.heard) c.self.view_is ∙ c.take_levels.ensures.heard in
-    writes_own c.args.site.now site c.args.blocks.now c.requires.fit c.slot.result (c.slot.ensures ∙ ap (λ (x : SiteView). slot x.end) c.site.view_is) (ap outputs c.requires.kind.1)
-    c.scale.new.self (c.scale.ensures.lanes ∙ ap (λ (b : BlockView). b.lanes) heard ∙ c.take_input.ensures.lanes ∙ c.channels.ensures.count)
-
-pub returns-clause-renders : goal.returns-clause-renders
-returns-clause-renders c =
-    by_kind c.args.site.now _ _ _ c.requires.kind.1 (λ j earlier begins counted before.
+pub returns : goal.returns
+returns c =
     let s : SiteView = c.args.site.now in
-    let site = site_is s _ _ _ _ _ _ c.site.invariant.0 c.site.view_is in
     let heard : c.self.inside.heard ≡ c.take_input.new.self.heard = ap (λ (b : BenchView). b.heard) c.self.view_is ∙ c.take_levels.ensures.heard in
     let levels : c.self.inside.levels ≡ c.take_levels.new.self.levels = ap (λ (b : BenchView). b.levels) c.self.view_is in
     let channels : c.channels.result ≡ counts_in s.counts s.end = c.channels.ensures.count in
     let lanes : c.self.inside.heard.lanes ≡ c.channels.result = ap (λ (b : BlockView). b.lanes) heard ∙ c.take_input.ensures.lanes in
-    renders_own s site c.args.blocks.now c.requires.fit c.slot.result (c.slot.ensures ∙ ap (λ (x : SiteView). slot x.end) c.site.view_is) (ap outputs c.requires.kind.1) c.scale.new.self _
-    (λ channel m low now.
+    renders_own s _ c.requires.kind.1 refl c.args.blocks.now c.scale.new.self (c.scale.ensures.lanes ∙ lanes ∙ channels) (λ j earlier begins counted before channel m low now.
     let low' : channel < c.channels.result = subst (λ n. channel < n) (sym channels) low in
     c.scale.ensures.values channel m (subst (λ n. channel < n) (sym lanes) low') now
     ∙ ap₂ scale
     (ap (λ (b : BlockView). at b channel m) heard ∙ c.take_input.ensures.input (channels ∙ counted) channel m low' now)
-    (ap (λ (b : BlockView). at b 0 m) levels ∙ c.take_levels.ensures.levels before m now)))
-
-pub take_levels-requires-clause-there : goal.take_levels-requires-clause-there
-take_levels-requires-clause-there c = ap param_name c.requires.kind.1
+    (ap (λ (b : BlockView). at b 0 m) levels ∙ c.take_levels.ensures.levels before m now))

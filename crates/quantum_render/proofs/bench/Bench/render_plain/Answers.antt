@@ -27,3 +27,6 @@ render_shaper-requires-clause-kind c = (c.in-Shaper.was_set, sym c.requires.kind
 -- the curve of a node that is there has its points
 pub render_shaper-requires-clause-curve : goal.render_shaper-requires-clause-curve
 render_shaper-requires-clause-curve c = curve_allowed _ false (subst IsInLimits c.in-Shaper.is c.requires.limits)
+
+pub returns-in-Buffer : goal.returns-in-Buffer
+returns-in-Buffer c = c.render_buffer.ensures c.args.blocks.now

@@ -1,39 +1,24 @@
-use Rattle.std.proofs.Common.{List, ℤ, pos, ◌≡◌, ◌+◌, ◌*◌, ◌<◌, ◌≤◌, length, Bool, true, Some, slice_index_or, inl, inr, sym, ◌∙◌, ap, arith, subst}
+use Rattle.std.proofs.Common.{List, ℤ, pos, ◌≡◌, ◌+◌, ◌*◌, ◌<◌, ◌≤◌, length, Bool, true, Some, slice_index_or, inl, inr, refl, sym, ◌∙◌, ap, arith, subst}
 use Rattle.std.specs.Prelude.{if◌then◌else◌, nat_lt, not}
 use Rattle.std.proofs.lemmas.Bool.Decides.{nat_tests}
-use Rattle.node_table.specs.Kinds.{outputs}
 use Rattle.delay_bank.specs.Kept.{room_of as delay_room}
 use Rattle.meaning.specs.World.{sounding}
 use Rattle.meaning.specs.Counts.{input_channels, reader_channels}
 use Rattle.meaning.specs.Values.{input_value, delayed}
 use Rattle.delay_bank.specs.Banks.{delay_at, Writes}
-use Rattle.quantum_blocks.specs.Blocks.{BlockView, at, shown, slot, counts_in, room_of}
+use Rattle.quantum_blocks.specs.Blocks.{BlockView, at, shown, slot, counts_in}
 use Rattle.quantum_render.specs.Benches.{BenchView}
 use Rattle.quantum_blocks.specs.Sites.{SiteView}
 use Rattle.quantum_render.specs.Renders.{past_of, here_of}
 use Rattle.law_base.proofs.Places.{this_or_other}
 use Rattle.quantum_blocks.proofs.Sources.{end_low, site_slot}
-use Rattle.quantum_render.proofs.Rendering.{by_kind, site_is, own_within, own_room, writes_own, renders_own, lane_own}
+use Rattle.quantum_render.proofs.Rendering.{site_is, own_room, renders_own}
 use Rattle.quantum_render.proofs.bench.Bench.render_writer.Goals as goal
-
-pub bounds-blocks-slot : goal.bounds-blocks-slot
-bounds-blocks-slot c =
-    let site = site_is c.args.site.now _ _ _ _ _ _ c.site.invariant.0 c.site.view_is in
-    own_within c.args.site.now site c.args.blocks.now c.requires.fit c.slot.result (c.slot.ensures ∙ ap (λ (x : SiteView). slot x.end) c.site.view_is)
 
 pub copy-requires : goal.copy-requires
 copy-requires c =
-    let site = site_is c.args.site.now _ _ _ _ _ _ c.site.invariant.0 c.site.view_is in
     let heard : c.self.inside.heard ≡ c.take_input.new.self.heard = ap (λ (b : BenchView). b.heard) c.self.view_is ∙ c.write_heard.ensures.heard in
-    subst (λ n. n * 128 ≤ room_of (slice_index_or c.args.blocks.now c.slot.result c.index-blocks-slot.result)) (sym (ap (λ (b : BlockView). b.lanes) heard ∙ c.take_input.ensures.lanes ∙ c.channels.ensures.count))
-    (own_room c.args.site.now site c.args.blocks.now c.requires.fit c.slot.result (c.slot.ensures ∙ ap (λ (x : SiteView). slot x.end) c.site.view_is) (ap outputs c.requires.kind.3) c.index-blocks-slot.result)
-
-pub returns-clause-writes : goal.returns-clause-writes
-returns-clause-writes c =
-    let site = site_is c.args.site.now _ _ _ _ _ _ c.site.invariant.0 c.site.view_is in
-    let heard : c.self.inside.heard ≡ c.take_input.new.self.heard = ap (λ (b : BenchView). b.heard) c.self.view_is ∙ c.write_heard.ensures.heard in
-    writes_own c.args.site.now site c.args.blocks.now c.requires.fit c.slot.result (c.slot.ensures ∙ ap (λ (x : SiteView). slot x.end) c.site.view_is) (ap outputs c.requires.kind.3)
-    c.copy.new.self (c.copy.ensures.lanes ∙ ap (λ (b : BlockView). b.lanes) heard ∙ c.take_input.ensures.lanes ∙ c.channels.ensures.count)
+    own_room c.args.site.now _ c.requires.kind.3 refl c.args.block.now c.requires.lanes _ (ap (λ (b : BlockView). b.lanes) heard ∙ c.take_input.ensures.lanes ∙ c.channels.ensures.count)
 
 -- the writer's place is the first of its node's two
 own_slot : (s : SiteView) → s.end.writer ≡ true → slot s.end ≡ 2 * s.end.node.0
@@ -50,26 +35,23 @@ write_heard-requires-clause-room c d is =
 
 pub write_heard-requires-clause-there : goal.write_heard-requires-clause-there
 write_heard-requires-clause-there c =
-    let low = end_low c.site.inside.world.now c.site.invariant.0.valid c.site.inside.end c.site.invariant.0.there in
+    let low = end_low c.site.inside.world.now c.site.invariant.0.quantum.valid c.site.inside.end c.site.invariant.0.there in
     let count = subst (λ (x : SiteView). length x.world.nodes ≤ length c.args.delays.now.delays) (sym c.site.view_is) c.requires.count in
     omega arith
 
 pub returns-clause-renders : goal.returns-clause-renders
 returns-clause-renders c =
-    by_kind c.args.site.now _ _ _ c.requires.kind.3 (λ j earlier begins counted before.
     let s : SiteView = c.args.site.now in
-    let site = site_is s _ _ _ _ _ _ c.site.invariant.0 c.site.view_is in
     let heard : c.self.inside.heard ≡ c.take_input.new.self.heard = ap (λ (b : BenchView). b.heard) c.self.view_is ∙ c.write_heard.ensures.heard in
     let channels : c.channels.result ≡ counts_in s.counts s.end = c.channels.ensures.count in
     let lanes : c.self.inside.heard.lanes ≡ c.channels.result = ap (λ (b : BlockView). b.lanes) heard ∙ c.take_input.ensures.lanes in
+    renders_own s _ c.requires.kind.3 refl c.args.blocks.now c.copy.new.self (c.copy.ensures.lanes ∙ lanes ∙ channels) (λ j earlier begins counted before channel m low now.
     let own = counted ∙ ap (λ b. if not b then reader_channels 128 (sounding s.world) j earlier (counts_in s.counts) s.end.node.0 else input_channels (sounding s.world) (counts_in s.counts) s.end.node.0 0) c.requires.writer in
-    renders_own s site c.args.blocks.now c.requires.fit c.slot.result (c.slot.ensures ∙ ap (λ (x : SiteView). slot x.end) c.site.view_is) (ap outputs c.requires.kind.3) c.copy.new.self _
-    (λ channel m low now.
     let low' : channel < c.channels.result = subst (λ n. channel < n) (sym channels) low in
     c.copy.ensures.values channel m (subst (λ n. channel < n) (sym lanes) low') now
     ∙ ap (λ (b : BlockView). at b channel m) heard
     ∙ c.take_input.ensures.input (channels ∙ own) channel m low' now
-    ∙ ap (λ b. if b then input_value (here_of s c.args.blocks.now m) s.end.node.0 0 channel else delayed 128 (s.first + m) (past_of s c.args.blocks.now before) (here_of s c.args.blocks.now m) s.end.node.0 channel) (sym c.requires.writer)))
+    ∙ ap (λ b. if b then input_value (here_of s c.args.blocks.now m) s.end.node.0 0 channel else delayed 128 (s.first + m) (past_of s c.args.blocks.now before) (here_of s c.args.blocks.now m) s.end.node.0 channel) (sym c.requires.writer))
 
 -- the lanes of the input, which are written
 abbrev input_of : goal.After-copy → List ℤ
@@ -97,7 +79,6 @@ returns-clause-stores c =
         count = is.count ∙ sym channels;
         frames = λ k m low now.
             is.frames k m (subst (λ n. k < n) channels low) now
-            ∙ lane_own s site c.args.blocks.now c.requires.fit c.slot.result (c.slot.ensures ∙ ap (λ (x : SiteView). slot x.end) c.site.view_is) c.copy.new.self k m
             ∙ c.copy.ensures.values k m (subst (λ n. k < n) (sym lanes) low) now
             ∙ ap (λ b. if b then at c.self.inside.heard k m else pos 0) (let within : k < c.self.inside.heard.lanes = subst (λ n. k < n) (sym lanes) low in let is_within : true ≡ nat_lt k c.self.inside.heard.lanes = grind (arith, nat_tests) in is_within)
             ∙ ap (λ (b : BlockView). shown b m k) heard

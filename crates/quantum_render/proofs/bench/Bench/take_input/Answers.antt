@@ -20,7 +20,7 @@ use Rattle.quantum_render.proofs.Rendering.{site_is}
 use Rattle.quantum_render.proofs.bench.Bench.take_input.Goals as goal
 
 pub attrs-requires : goal.attrs-requires
-attrs-requires c = end_low c.site.inside.world.now c.site.invariant.0.valid c.site.inside.end c.site.invariant.0.there
+attrs-requires c = end_low c.site.inside.world.now c.site.invariant.0.quantum.valid c.site.inside.end c.site.invariant.0.there
 
 -- the lone connection is the first of the site
 source_of : (s : SiteView) → IsSite s.world s.end s.into s.counts s.levels s.first → (blocks : List BlockView) → AreFit s.world s.counts blocks → (e : Edge) → into s.world.graph.value s.end.node.0 ≡ e ∷ [] → IsSource s.counts blocks e
@@ -66,6 +66,6 @@ returns-clause-input c channels channel m low now =
     let low' : channel < c.gather.new.self.count = subst (λ n. channel < n) (sym c.gather.ensures.count) low in
     c.saturate.ensures.values channel m low' now
     ∙ input_is s.world blocks s.counts s.end.node.0 c.args.input channel m c.args.channels low s.into site.into channels c.attrs.result.interp (sum_at c.gather.new.self channel m)
-    (ap (λ (a : Attrs). a.interp) (attrs_are s.world s.end.node.0 c.attrs.result (end_low s.world site.valid s.end site.there) (subst (λ (x : SiteView). attrs_at x.world.nodes x.end.node.0 ≡ Some c.attrs.result) c.site.view_is c.attrs.ensures.value)))
+    (ap (λ (a : Attrs). a.interp) (attrs_are s.world s.end.node.0 c.attrs.result (end_low s.world site.quantum.valid s.end site.there) (subst (λ (x : SiteView). attrs_at x.world.nodes x.end.node.0 ≡ Some c.attrs.result) c.site.view_is c.attrs.ensures.value)))
     (subst (λ (x : SiteView). sum_at c.gather.new.self channel m ≡ total (map (part (frame_of (sounding s.world) blocks s.counts m) c.attrs.result.interp c.args.channels channel) (filter (leads_to (Input (record { 0 = x.end.node.0 }) c.args.input)) s.into))) c.site.view_is
     (c.gather.ensures.sums (sounding s.world) channel m low now))

@@ -36,7 +36,7 @@ returns-in-UpTo-clause-levels c before m now =
     let site = c.kind.ensures.site in
     let own = own_row s.world s.end.node.0 c.kind.result.now c.row.result (sym c.kind.ensures.value) c.row.ensures in
     let param = ap (λ (r : Row). r.param) own ∙ c.in-Some.is in
-    let range = subst (λ (o : Option ParamRow). IfSome o (λ p. IsRange p.range)) param (row_there s.world site.valid s.end.node.0).range in
+    let range = subst (λ (o : Option ParamRow). IfSome o (λ p. IsRange p.range)) param (row_there s.world site.quantum.valid s.end.node.0).range in
     let fix : IsFix c.in-UpTo.most = subst IsRange c.in-UpTo.is range in
     let levels : c.self.inside.levels ≡ c.take_sums.new.self.levels = ap (λ (b : BenchView). b.levels) c.self.view_is in
     c.up_to.ensures.values m now

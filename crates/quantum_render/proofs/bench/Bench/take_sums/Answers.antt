@@ -29,11 +29,11 @@ use Rattle.quantum_render.proofs.bench.Bench.take_sums.Goals as goal
 
 -- the parameter that the kind has is there
 is_there : (s : SiteView) → IsSite s.world s.end s.into s.counts s.levels s.first → (name : ParamName) → param_name (kind_of s.world s.end.node.0) ≡ Some name → IsIn (param_id s.end.node.0 name) (param_ids s.world)
-is_there s site name some = has_param s.world site.valid s.end.node.0 name (end_low s.world site.valid s.end site.there) some
+is_there s site name some = has_param s.world site.quantum.valid s.end.node.0 name (end_low s.world site.quantum.valid s.end site.there) some
 
 pub bounds-site-inside-site-inside : goal.bounds-site-inside-site-inside
 bounds-site-inside-site-inside c =
-    level_within c.site.inside.world.now c.site.invariant.0.valid c.site.inside.first c.site.inside.levels.now c.site.invariant.0.levels (param_id c.site.inside.end.node.0 c.args.name)
+    level_within c.site.inside.world.now c.site.invariant.0.quantum.valid c.site.inside.first c.site.inside.levels.now c.site.invariant.0.quantum.levels (param_id c.site.inside.end.node.0 c.args.name)
     (subst (λ (x : SiteView). IsIn (param_id x.end.node.0 c.args.name) (param_ids x.world)) (sym c.site.view_is)
     (is_there c.args.site.now (site_is c.args.site.now _ _ _ _ _ _ c.site.invariant.0 c.site.view_is) c.args.name c.requires.there))
 
@@ -43,23 +43,23 @@ take_level-requires-clause-level c =
     (is_there c.args.site.now (site_is c.args.site.now _ _ _ _ _ _ c.site.invariant.0 c.site.view_is) c.args.name c.requires.there) in
     let w = c.site.inside.world.now in
     let id = param_id c.site.inside.end.node.0 c.args.name in
-    subst HasRoom (get_or_default c.site.inside.levels.now c.site.inside.end.node.0 no_level c.index-site-site.result (level_within w c.site.invariant.0.valid c.site.inside.first c.site.inside.levels.now c.site.invariant.0.levels id there))
-    (has_room w c.site.invariant.0.valid c.site.inside.first c.site.inside.levels.now c.site.invariant.0.levels id there)
+    subst HasRoom (get_or_default c.site.inside.levels.now c.site.inside.end.node.0 no_level c.index-site-site.result (level_within w c.site.invariant.0.quantum.valid c.site.inside.first c.site.inside.levels.now c.site.invariant.0.quantum.levels id there))
+    (has_room w c.site.invariant.0.quantum.valid c.site.inside.first c.site.inside.levels.now c.site.invariant.0.quantum.levels id there)
 
 -- the level that is at hand is that of the site's node
 here : (s : SiteView) → IsSite s.world s.end s.into s.counts s.levels s.first → (name : ParamName) → IsIn (param_id s.end.node.0 name) (param_ids s.world) → (level d : LevelView)
     → level ≡ slice_index_or s.levels s.end.node.0 d → level_of s.levels s.end.node.0 ≡ level
 here s site name there level d is =
-    get_or_default s.levels s.end.node.0 no_level d (level_within s.world site.valid s.first s.levels site.levels (param_id s.end.node.0 name) there) ∙ sym is
+    get_or_default s.levels s.end.node.0 no_level d (level_within s.world site.quantum.valid s.first s.levels site.quantum.levels (param_id s.end.node.0 name) there) ∙ sym is
 
 intrinsic : (s : SiteView) → IsSite s.world s.end s.into s.counts s.levels s.first → (name : ParamName) → IsIn (param_id s.end.node.0 name) (param_ids s.world) → (level d : LevelView)
     → level ≡ slice_index_or s.levels s.end.node.0 d → (m : ℕ) → m < 128 → intrinsic_value (sounding s.world) (param_id s.end.node.0 name) (s.first + taken_at (sounding s.world) (param_id s.end.node.0 name) m) ≡ level_at level m
 intrinsic s site name there level d is m now =
-    intrinsic_is s.world site.valid s.first s.levels site.levels (param_id s.end.node.0 name) there m now ∙ ap (λ (l : LevelView). level_at l m) (here s site name there level d is)
+    intrinsic_is s.world site.quantum.valid s.first s.levels site.quantum.levels (param_id s.end.node.0 name) there m now ∙ ap (λ (l : LevelView). level_at l m) (here s site name there level d is)
 
 rate : (s : SiteView) → IsSite s.world s.end s.into s.counts s.levels s.first → (name : ParamName) → IsIn (param_id s.end.node.0 name) (param_ids s.world) → (level d : LevelView)
     → level ≡ slice_index_or s.levels s.end.node.0 d → is_k_rate (sounding s.world) (param_id s.end.node.0 name) ≡ is_k level.rate
-rate s site name there level d is = rate_is s.world site.valid s.first s.levels site.levels (param_id s.end.node.0 name) there ∙ ap (λ (l : LevelView). is_k l.rate) (here s site name there level d is)
+rate s site name there level d is = rate_is s.world site.quantum.valid s.first s.levels site.quantum.levels (param_id s.end.node.0 name) there ∙ ap (λ (l : LevelView). is_k l.rate) (here s site name there level d is)
 
 -- at k-rate all frames take the first one's
 at_first : (w : World) (id : ParamId) (m : ℕ) → is_k_rate w id ≡ true → taken_at w id 0 ≡ taken_at w id m
@@ -81,7 +81,7 @@ returns-then-not-is_reached-clause-levels c before m now =
     (intrinsic s site c.args.name (is_there s site c.args.name c.requires.there) level d is m now)
     (rate s site c.args.name (is_there s site c.args.name c.requires.there) level d is)
     (subst (λ (x : SiteView). list_any (leads_to (Param (param_id x.end.node.0 c.args.name))) x.into ≡ false) c.site.view_is (sym c.is_reached.ensures ∙ c.if-not-is_reached.true))
-    ∙ unclamped_is (sounding s.world) c.args.blocks.now s.counts before s.first m site.begun now (param_id s.end.node.0 c.args.name)
+    ∙ unclamped_is (sounding s.world) c.args.blocks.now s.counts before s.first m site.quantum.begun now (param_id s.end.node.0 c.args.name)
 
 pub returns-in-A-clause-levels : goal.returns-in-A-clause-levels
 returns-in-A-clause-levels c before m now =
@@ -99,7 +99,7 @@ returns-in-A-clause-levels c before m now =
     (λ k low.
     subst (λ (x : SiteView). sum_at c.gather.new.self 0 k ≡ total (map (part (frame_of (sounding s.world) c.args.blocks.now s.counts k) Speakers 1 0) (filter (leads_to (Param (param_id x.end.node.0 c.args.name))) s.into))) c.site.view_is
     (c.gather.ensures.sums (sounding s.world) 0 k (omega arith) low))
-    ∙ unclamped_is (sounding s.world) c.args.blocks.now s.counts before s.first m site.begun now (param_id s.end.node.0 c.args.name)
+    ∙ unclamped_is (sounding s.world) c.args.blocks.now s.counts before s.first m site.quantum.begun now (param_id s.end.node.0 c.args.name)
 
 pub returns-in-K-clause-levels : goal.returns-in-K-clause-levels
 returns-in-K-clause-levels c before m now =
@@ -120,4 +120,4 @@ returns-in-K-clause-levels c before m now =
     (λ k low.
     subst (λ (x : SiteView). sum_at c.gather.new.self 0 k ≡ total (map (part (frame_of (sounding s.world) c.args.blocks.now s.counts k) Speakers 1 0) (filter (leads_to (Param (param_id x.end.node.0 c.args.name))) s.into))) c.site.view_is
     (c.gather.ensures.sums (sounding s.world) 0 k (omega arith) low))
-    ∙ unclamped_is (sounding s.world) c.args.blocks.now s.counts before s.first m site.begun now (param_id s.end.node.0 c.args.name)
+    ∙ unclamped_is (sounding s.world) c.args.blocks.now s.counts before s.first m site.quantum.begun now (param_id s.end.node.0 c.args.name)

@@ -1,37 +1,57 @@
-use Rattle.std.proofs.Common.{rules, ◌<◌, ◌∙◌, [], false, sym, subst}
+use Rattle.std.proofs.Common.{rules, List, ◌≡◌, ◌<◌, ◌∙◌, [], false, sym, ap, subst}
 use Rattle.std.proofs.lemmas.List.{get_or_default}
+use Rattle.wa_base.specs.declared.graph_names.End.{End}
+use Rattle.law_base.specs.Members.{IsIn}
+use Rattle.conn_graph.specs.declared.edges.Edge.{Edge}
+use Rattle.conn_graph.specs.Ends.{ends}
+use Rattle.meaning.specs.declared.world.World.{World}
+use Rattle.quantum_blocks.specs.Connections.{into}
+use Rattle.quantum_blocks.specs.Sites.{QuantumView, SiteView, site_in}
 use Rattle.quantum_render.specs.Plans.{PlanView, IsPlan, AreCycles}
 use Rattle.quantum_blocks.proofs.Sources.{same_nodes, end_low}
 use Rattle.quantum_render.proofs.plan.Plan.site.Goals as goal
 
+-- the plan, the marks and the end by the fields of plan and quantum
+abbrev IsOf : PlanView → World → End → Type 0
+IsOf p w e = IsPlan w p.order p.muted p.into × AreCycles w.graph.value p.cycles × IsIn e (ends w.graph.value)
+
+facts : (p p' : PlanView) (q q' : QuantumView) (e : End) → p' ≡ p → q' ≡ q → IsOf p q.world e → IsOf p' q'.world e
+facts p p' q q' e plan quantum is = subst (λ (x : PlanView). IsOf x q'.world e) (sym plan) (subst (λ (x : QuantumView). IsOf p x.world e) (sym quantum) is)
+
 pub index-requires : goal.index-requires
 index-requires c =
-    let plan : IsPlan c.args.quantum.world.now c.self.inside.order c.self.inside.muted c.self.inside.into.items =
-    subst (λ (p : PlanView). IsPlan c.args.quantum.world.now p.order p.muted p.into) (sym c.self.view_is) c.requires.plan in
-    let node = subst (λ n. c.args.end.node.0 < n) (sym (plan.nodes ∙ same_nodes c.args.quantum.world.now c.requires.valid)) (end_low c.args.quantum.world.now c.requires.valid c.args.end c.requires.there) in
+    let w : World = c.quantum.inside.world.now in
+    let is = facts _ _ _ _ c.args.end c.self.view_is c.quantum.view_is (c.requires.plan, c.requires.cycles, c.requires.there) in
+    let node = subst (λ n. c.args.end.node.0 < n) (sym (is.0.nodes ∙ same_nodes w c.quantum.invariant.valid)) (end_low w c.quantum.invariant.valid c.args.end is.2) in
+    search rules
+
+pub index-requires-2 : goal.index-requires-2
+index-requires-2 c =
+    let w : World = c.quantum.inside.world.now in
+    let is = facts _ _ _ _ c.args.end c.self.view_is c.quantum.view_is (c.requires.plan, c.requires.cycles, c.requires.there) in
+    let node = subst (λ n. c.args.end.node.0 < n) (sym (is.1.count ∙ same_nodes w c.quantum.invariant.valid)) (end_low w c.quantum.invariant.valid c.args.end is.2) in
     search rules
 
 pub invariant_of-result : goal.invariant_of-result
 invariant_of-result c =
-    let plan : IsPlan c.args.quantum.world.now c.self.inside.order c.self.inside.muted c.self.inside.into.items =
-    subst (λ (p : PlanView). IsPlan c.args.quantum.world.now p.order p.muted p.into) (sym c.self.view_is) c.requires.plan in
-    let node = subst (λ n. c.args.end.node.0 < n) (sym (plan.nodes ∙ same_nodes c.args.quantum.world.now c.requires.valid)) (end_low c.args.quantum.world.now c.requires.valid c.args.end c.requires.there) in
-    let cycles = subst (λ (p : PlanView). AreCycles c.args.quantum.world.now.graph.value p.cycles) (sym c.self.view_is) c.requires.cycles in
-    let low = subst (λ n. c.args.end.node.0 < n) (sym (same_nodes c.args.quantum.world.now c.requires.valid)) (end_low c.args.quantum.world.now c.requires.valid c.args.end c.requires.there) in (
+    let w : World = c.quantum.inside.world.now in
+    let is = facts _ _ _ _ c.args.end c.self.view_is c.quantum.view_is (c.requires.plan, c.requires.cycles, c.requires.there) in
+    let low = subst (λ n. c.args.end.node.0 < n) (sym (same_nodes w c.quantum.invariant.valid)) (end_low w c.quantum.invariant.valid c.args.end is.2) in
+    let node = subst (λ n. c.args.end.node.0 < n) (sym is.0.nodes) low in (
       record {
-        valid = c.requires.valid;
-        there = c.requires.there;
-        into = c.as_slice.ensures ∙ c.index.ensures ∙ get_or_default c.self.inside.into.items c.args.end.node.0 c.index.result.now [] node ∙ plan.each c.args.end.node.0 node;
-        range = c.requires.range;
-        begun = c.requires.begun;
-        levels = c.requires.levels;
+        quantum = c.quantum.invariant;
+        there = is.2;
+        into = c.as_slice.ensures ∙ c.index.ensures ∙ get_or_default c.self.inside.into.items c.args.end.node.0 c.index.result.now [] node ∙ is.0.each c.args.end.node.0 node;
       },
-      c.index-2.ensures ∙ get_or_default c.self.inside.cycles.items c.args.end.node.0 c.index-2.result.now false (subst (λ n. c.args.end.node.0 < n) (sym cycles.count) low) ∙ cycles.marked c.args.end.node.0 low,
+      c.index-2.ensures ∙ get_or_default c.self.inside.cycles.items c.args.end.node.0 c.index-2.result.now false (subst (λ n. c.args.end.node.0 < n) (sym is.1.count) low) ∙ is.1.marked c.args.end.node.0 low,
     )
 
-pub index-requires-2 : goal.index-requires-2
-index-requires-2 c =
-    let cycles = subst (λ (p : PlanView). AreCycles c.args.quantum.world.now.graph.value p.cycles) (sym c.self.view_is) c.requires.cycles in
-    let low = subst (λ n. c.args.end.node.0 < n) (sym (same_nodes c.args.quantum.world.now c.requires.valid)) (end_low c.args.quantum.world.now c.requires.valid c.args.end c.requires.there) in
-    let count = cycles.count in
-    search rules
+pub returns : goal.returns
+returns c =
+    let w : World = c.quantum.inside.world.now in
+    let is = facts _ _ _ _ c.args.end c.self.view_is c.quantum.view_is (c.requires.plan, c.requires.cycles, c.requires.there) in
+    let node = subst (λ n. c.args.end.node.0 < n) (sym (is.0.nodes ∙ same_nodes w c.quantum.invariant.valid)) (end_low w c.quantum.invariant.valid c.args.end is.2) in
+    let leads : c.as_slice.result.now ≡ into w.graph.value c.args.end.node.0 =
+    c.as_slice.ensures ∙ c.index.ensures ∙ get_or_default c.self.inside.into.items c.args.end.node.0 c.index.result.now [] node ∙ is.0.each c.args.end.node.0 node in
+    ap (λ (edges : List Edge). let s : SiteView = record { world = w; end = c.args.end; into = edges; counts = c.quantum.inside.counts.now; levels = c.quantum.inside.levels.now; first = c.quantum.inside.first } in s) leads
+    ∙ ap (λ (q : QuantumView). site_in q c.args.end) c.quantum.view_is
