@@ -1,6 +1,6 @@
 -- Lists that are made item by item.
-use Rattle.std.proofs.Common.{ℕ, zero, suc, ℤ, pos, ◌≡◌, ◌+◌, ◌*◌, ◌<◌, ◌≤◌, ◌++◌, [], ◌∷◌, length, List, take, slice_index_or, slice_set, ◌⊎◌, inl, inr, refl, sym, ap, ◌∙◌, arith, subst}
-use Rattle.std.proofs.lemmas.List.{get_or-set_same, get_or-set_other, append_assoc}
+use Rattle.std.proofs.Common.{ℕ, zero, suc, ℤ, pos, ◌≡◌, ◌+◌, ◌<◌, ◌≤◌, ◌++◌, [], ◌∷◌, length, List, take, slice_index_or, slice_set, ◌⊎◌, inl, inr, refl, sym, ap, ◌∙◌, arith, subst}
+use Rattle.std.proofs.lemmas.List.{get_or-set_same, get_or-set_other, get_or-take, get_or_append_left, append_assoc}
 
 -- the first i items are those of f
 abbrev pub IsMade : (ℕ → ℤ) → ℕ → List ℤ → Type 0
@@ -26,9 +26,13 @@ front_is n len xs mid rest e l =
     ap (λ ys. take n (take len ys)) (append_assoc xs mid rest)
     ∙ subst (λ k. take k (take len (xs ++ (mid ++ rest))) ≡ xs) e (front len xs (mid ++ rest) (rw e l))
 
--- what was written, and its first channel
+-- what was written
 pub front_at : (n len : ℕ) (xs mid rest : List ℤ) (k : ℕ) → length xs ≡ n → n ≤ len → slice_index_or (take n (take len ((xs ++ mid) ++ rest))) k (pos 0) ≡ slice_index_or xs k (pos 0)
 front_at n len xs mid rest k e l = ap (λ ys. slice_index_or ys k (pos 0)) (front_is n len xs mid rest e l)
 
-pub front_first : (n len : ℕ) (xs mid rest : List ℤ) (m : ℕ) → length xs ≡ n → n ≤ len → slice_index_or (take n (take len ((xs ++ mid) ++ rest))) (0 * 128 + m) (pos 0) ≡ slice_index_or xs m (pos 0)
-front_first n len xs mid rest m e l = front_at n len xs mid rest (0 * 128 + m) e l ∙ ap (λ k. slice_index_or xs k (pos 0)) (let same : 0 * 128 + m ≡ m = omega arith in same)
+-- the front of what was written back
+pub front_of : (len : ℕ) (xs mid rest : List ℤ) (k : ℕ) → k < length xs → k < len → slice_index_or (take len ((xs ++ mid) ++ rest)) k (pos 0) ≡ slice_index_or xs k (pos 0)
+front_of len xs mid rest k low there =
+    get_or-take len ((xs ++ mid) ++ rest) k (pos 0) there
+    ∙ ap (λ (ys : List ℤ). slice_index_or ys k (pos 0)) (append_assoc xs mid rest)
+    ∙ get_or_append_left xs (mid ++ rest) (pos 0) k low

@@ -1,40 +1,50 @@
--- The values of a quantum of 128 frames: a block for each end.
-use Rattle.std.specs.Prelude.{ℕ, ℤ, pos, ◌+◌, ◌*◌, ◌/◌, ◌≡◌, ◌≤◌, ◌<◌, List, [], map, slice_index_or, nat_lt, if◌then◌else◌, Bool, true, false, take}
+-- The values of a quantum: a block for each end.
+use Rattle.std.specs.Prelude.{ℕ, ℤ, pos, ◌+◌, ◌*◌, ◌≡◌, ◌≤◌, ◌<◌, List, [], map, slice_index_or, nat_lt, if◌then◌else◌, Bool, true, false, take, drop}
 use Rattle.std.specs.List.{range_with_len}
 use Rattle.wa_base.specs.declared.graph_names.End.{End}
-use Rattle.channel_mix.specs.Blocks.{sample}
 use Rattle.meaning.specs.declared.world.World.{World}
 use Rattle.meaning.specs.Counts.{Counts}
 use Rattle.meaning.specs.Values.{Frame}
 use Rattle.meaning.specs.Blocks.{Drafts, drafted}
 
--- What contracts see of a block: its number of lanes, for how many values more there is room, and its values, lane after lane.
+-- the frames of a quantum
+abbrev pub quantum : ℕ
+quantum = 128
+
+-- What contracts see of a block: its number of lanes, for how many values more there is room, and the values of each lane, one for each frame.
 pub record BlockView : Type 0 where
   pub lanes : ℕ
   pub spare : ℕ
-  pub values : List ℤ
+  pub values : List (List ℤ)
 
 -- for so many values there is room
 abbrev pub room_of : BlockView → ℕ
-room_of block = block.lanes * 128 + block.spare
+room_of block = block.lanes * quantum + block.spare
 
--- the values of a block that holds one for each lane, or one for each frame of each lane
-abbrev pub all_values : Bool → ℕ → List ℤ → List ℤ
-all_values true lanes held = map (λ k. slice_index_or held (k / 128) (pos 0)) (range_with_len 0 (lanes * 128))
-all_values false lanes held = take (lanes * 128) held
+-- the values of a lane of a block that holds one for each lane, or one for each frame of each lane
+abbrev pub lane_of : Bool → List ℤ → ℕ → List ℤ
+lane_of true held lane = map (λ m. slice_index_or held lane (pos 0)) (range_with_len 0 quantum)
+lane_of false held lane = take quantum (drop (lane * quantum) held)
+
+-- those of so many lanes
+abbrev pub lanes_from : Bool → ℕ → List ℤ → List (List ℤ)
+lanes_from steady lanes held = map (lane_of steady held) (range_with_len 0 lanes)
 
 -- what holds of every block
 pub record IsBlock (number cells : ℕ) : Type 0 where
   pub high : number ≤ 32
-  pub room : number * 128 ≤ cells
+  pub room : number * quantum ≤ cells
 
 -- stands where there is no end
 abbrev pub no_block : BlockView
 no_block = record { lanes = 0; spare = 0; values = [] }
 
--- a lane of a block at frame m
+-- a lane at frame m
+abbrev pub lane_at : List (List ℤ) → ℕ → ℕ → ℤ
+lane_at lanes lane m = slice_index_or (slice_index_or lanes lane []) m (pos 0)
+
 abbrev pub at : BlockView → ℕ → ℕ → ℤ
-at block lane m = sample 128 block.values lane m
+at block lane m = lane_at block.values lane m
 
 -- frame m of a block, as a function from lane to value
 abbrev pub shown : BlockView → ℕ → ℕ → ℤ
@@ -72,7 +82,7 @@ frame_of w blocks counts m = drafted w (counts_in counts) (drafts_of blocks coun
 
 -- the lanes of an end are silent
 abbrev pub IsSilent : List BlockView → End → Type 0
-IsSilent blocks e = (lane m : ℕ) → lane < (block_of blocks e).lanes → m < 128 → at (block_of blocks e) lane m ≡ pos 0
+IsSilent blocks e = (lane m : ℕ) → lane < (block_of blocks e).lanes → m < quantum → at (block_of blocks e) lane m ≡ pos 0
 
 -- The block of one end is written, and no other's. All keep their number of lanes.
 pub record Writes (old new : List BlockView) (e : End) : Type 0 where

@@ -1,4 +1,4 @@
-ghost use Rattle.std.specs.Prelude.{◌≡◌, ◌≤◌, ◌<◌, ◌*◌, ◌+◌, ◌/◌, ◌^◌, ◌+ℤ◌, ◌∷◌, [], ℕ, pos, Some, length, slice_index_or, OnOk, IfOk, IfSome, FitsSigned, if◌then◌else◌};
+ghost use Rattle.std.specs.Prelude.{◌≡◌, ◌≤◌, ◌<◌, ◌*◌, ◌+◌, ◌/◌, ◌^◌, ◌+ℤ◌, ◌∷◌, [], ℕ, ℤ, List, pos, Some, length, slice_index_or, OnOk, IfOk, IfSome, FitsSigned, if◌then◌else◌};
 ghost use Rattle.std.specs.Int.{w32};
 ghost use Rattle.wa_base.specs.Numbers.{sat as saturated, scale as scaled};
 ghost use Rattle.causal_core.specs.Curves.{IsCurve, shaper_value};
@@ -13,9 +13,9 @@ ghost use Rattle.delay_line.specs.Spans.{delay_at as frames_back};
 ghost use Rattle.delay_bank.specs.Kept.{DelayView as a_delay, HasKept, IsAsked, AreFew, read_back};
 ghost use Rattle.delay_bank.specs.Banks.{delay_at};
 ghost use Rattle.meaning.specs.World.{node_at};
-ghost use Rattle.quantum_blocks.specs.Blocks.{at, shown, carried, room_of, lanes_of, counts_in};
+ghost use Rattle.quantum_blocks.specs.Blocks.{quantum, at, shown, carried, room_of, lanes_of, counts_in};
 ghost use Rattle.quantum_blocks.specs.Sums.{sum_at};
-ghost use Rattle.quantum_blocks.specs.Held.{IsHeld, IsCarried, IsWidened};
+ghost use Rattle.quantum_blocks.specs.Held.{IsHeld, IsCarried, IsWidened, AreLanes};
 
 use crate::held::Held;
 use crate::kernels::{
@@ -49,11 +49,11 @@ pub struct Block {
 
 impl Model for Block {
     ghost use Rattle.std.specs.Prelude.{◌*◌, ◌-◌, vec_len};
-    ghost use Rattle.quantum_blocks.specs.Blocks.{BlockView, IsBlock, all_values};
+    ghost use Rattle.quantum_blocks.specs.Blocks.{BlockView, IsBlock, quantum, lanes_from};
 
     ghost Value = { BlockView };
 
-    ghost view = { λ b. record { lanes = b.lanes; spare = vec_len b.values - b.lanes * 128; values = all_values b.steady b.lanes b.values.items } };
+    ghost view = { λ b. record { lanes = b.lanes; spare = vec_len b.values - b.lanes * quantum; values = lanes_from b.steady b.lanes b.values.items } };
 
     ghost invariant = { λ b. IsBlock b.lanes (vec_len b.values) };
 }
@@ -73,7 +73,7 @@ impl Block {
         requires low { 1 ≤ room }
         requires high { room ≤ 32 }
         ensures lanes { IfOk result (λ block. block.lanes ≡ 1) }
-        ensures room { IfOk result (λ block. room_of block ≡ room * 128) }
+        ensures room { IfOk result (λ block. room_of block ≡ room * quantum) }
     {
         Ok(Block {
             lanes: 1,
@@ -132,9 +132,9 @@ impl Block {
     pub fn copy_out(&self, out: &mut [Fix], lanes: usize)
         requires few { lanes ≤ 32 }
         requires within { self.now.lanes ≤ lanes }
-        requires room { lanes * 128 ≤ length out.old }
+        requires room { lanes * quantum ≤ length out.old }
         ensures length { length out.new ≡ length out.old }
-        ensures values { (lane m : ℕ) → lane < lanes → m < 128 → sample 128 out.new lane m ≡ shown self.now m lane }
+        ensures values { (lane m : ℕ) → lane < lanes → m < quantum → sample quantum out.new lane m ≡ shown self.now m lane }
     {
         let filled = self.lanes() * QUANTUM;
         match self.held() {
@@ -157,7 +157,7 @@ impl Block {
     /// Silences the lanes.
     pub fn silence(&mut self)
         ensures lanes { self.new.lanes ≡ self.old.lanes }
-        ensures values { (lane m : ℕ) → lane < self.old.lanes → m < 128 → at self.new lane m ≡ pos 0 }
+        ensures values { (lane m : ℕ) → lane < self.old.lanes → m < quantum → at self.new lane m ≡ pos 0 }
     {
         self.steady = true;
         fill(&mut self.values[0..self.lanes], 0);
@@ -165,10 +165,10 @@ impl Block {
 
     // Becomes one lane with the same value at all frames.
     pub(crate) fn hold(&mut self, value: Fix)
-        requires { 128 ≤ room_of self.old }
+        requires { quantum ≤ room_of self.old }
         ensures lanes { self.new.lanes ≡ 1 }
         ensures room { room_of self.new ≡ room_of self.old }
-        ensures values { (m : ℕ) → m < 128 → at self.new 0 m ≡ value }
+        ensures values { (m : ℕ) → m < quantum → at self.new 0 m ≡ value }
     {
         self.lanes = 1;
         self.steady = true;
@@ -177,12 +177,12 @@ impl Block {
 
     /// Becomes one lane with the values of a level.
     pub fn take_level(&mut self, level: &Level)
-        requires room { 128 ≤ room_of self.old }
+        requires room { quantum ≤ room_of self.old }
         requires level { HasRoom level.now }
         ensures lanes { self.new.lanes ≡ 1 }
         ensures room { room_of self.new ≡ room_of self.old }
-        ensures values { (m : ℕ) → m < 128 → at self.new 0 m ≡ level_at level.now m }
-        ensures fit { (m : ℕ) → m < 128 → FitsSigned w32 (level_at level.now m) }
+        ensures values { (m : ℕ) → m < quantum → at self.new 0 m ≡ level_at level.now m }
+        ensures fit { (m : ℕ) → m < quantum → FitsSigned w32 (level_at level.now m) }
     {
         match level.values() {
             Values::Steady(value) => self.hold(value),
@@ -196,7 +196,7 @@ impl Block {
         requires sum { sums.now.count ≡ 1 }
         ensures lanes { self.new.lanes ≡ 1 }
         ensures room { room_of self.new ≡ room_of self.old }
-        ensures values { (m : ℕ) → m < 128 → at self.new 0 m ≡ saturated (at self.old 0 m +ℤ saturated (sum_at sums.now 0 m)) }
+        ensures values { (m : ℕ) → m < quantum → at self.new 0 m ≡ saturated (at self.old 0 m +ℤ saturated (sum_at sums.now 0 m)) }
     {
         match self.steady_level(sums) {
             Some(level) => self.hold(level),
@@ -208,7 +208,7 @@ impl Block {
     fn steady_level(&self, sums: &Sums) -> Option<Fix>
         requires mono { self.now.lanes ≡ 1 }
         requires sum { sums.now.count ≡ 1 }
-        ensures { IfSome result (λ level. (m : ℕ) → m < 128 → level ≡ saturated (at self.now 0 m +ℤ saturated (sum_at sums.now 0 m))) }
+        ensures { IfSome result (λ level. (m : ℕ) → m < quantum → level ≡ saturated (at self.now 0 m +ℤ saturated (sum_at sums.now 0 m))) }
     {
         if !self.steady {
             return None;
@@ -222,7 +222,7 @@ impl Block {
         requires sum { sums.now.count ≡ 1 }
         ensures lanes { self.new.lanes ≡ 1 }
         ensures room { room_of self.new ≡ room_of self.old }
-        ensures values { (m : ℕ) → m < 128 → at self.new 0 m ≡ saturated (at self.old 0 m +ℤ saturated (sum_at sums.now 0 m)) }
+        ensures values { (m : ℕ) → m < quantum → at self.new 0 m ≡ saturated (at self.old 0 m +ℤ saturated (sum_at sums.now 0 m)) }
     {
         move_on(&mut self.values[0..QUANTUM], self.steady);
         self.steady = false;
@@ -234,7 +234,7 @@ impl Block {
         requires mono { self.old.lanes ≡ 1 }
         ensures lanes { self.new.lanes ≡ 1 }
         ensures room { room_of self.new ≡ room_of self.old }
-        ensures values { (m : ℕ) → m < 128 → at self.new 0 m ≡ at self.old 0 0 }
+        ensures values { (m : ℕ) → m < quantum → at self.new 0 m ≡ at self.old 0 0 }
     {
         let value = self.values[0];
         self.hold(value);
@@ -245,7 +245,7 @@ impl Block {
         requires { self.old.lanes ≡ 1 }
         ensures lanes { self.new.lanes ≡ 1 }
         ensures room { room_of self.new ≡ room_of self.old }
-        ensures values { (m : ℕ) → m < 128 → at self.new 0 m ≡ clamped most (at self.old 0 m) }
+        ensures values { (m : ℕ) → m < quantum → at self.new 0 m ≡ clamped most (at self.old 0 m) }
     {
         match self.steady_value() {
             Some(value) => self.hold(up_to(value, most)),
@@ -256,7 +256,7 @@ impl Block {
     // Of one lane, the value that it has at all frames, if it is steady.
     fn steady_value(&self) -> Option<Fix>
         requires { self.now.lanes ≡ 1 }
-        ensures { IfSome result (λ value. (m : ℕ) → m < 128 → value ≡ at self.now 0 m) }
+        ensures { IfSome result (λ value. (m : ℕ) → m < quantum → value ≡ at self.now 0 m) }
     {
         if self.steady {
             Some(self.values[0])
@@ -269,7 +269,7 @@ impl Block {
         requires { self.old.lanes ≡ 1 }
         ensures lanes { self.new.lanes ≡ 1 }
         ensures room { room_of self.new ≡ room_of self.old }
-        ensures values { (m : ℕ) → m < 128 → at self.new 0 m ≡ clamped most (at self.old 0 m) }
+        ensures values { (m : ℕ) → m < quantum → at self.new 0 m ≡ clamped most (at self.old 0 m) }
     {
         move_on(&mut self.values[0..QUANTUM], self.steady);
         self.steady = false;
@@ -282,7 +282,7 @@ impl Block {
         requires time { first ≤ 2 ^ 62 }
         ensures lanes { self.new.lanes ≡ 1 }
         ensures room { room_of self.new ≡ room_of self.old }
-        ensures values { (m : ℕ) → m < 128 → at self.new 0 m ≡ (if is_between (Some start) (Some end) (first + m) then at self.old 0 m else pos 0) }
+        ensures values { (m : ℕ) → m < quantum → at self.new 0 m ≡ (if is_between (Some start) (Some end) (first + m) then at self.old 0 m else pos 0) }
     {
         if is_throughout(start, end, first) {
             return;
@@ -299,7 +299,7 @@ impl Block {
         requires time { first ≤ 2 ^ 62 }
         ensures lanes { self.new.lanes ≡ 1 }
         ensures room { room_of self.new ≡ room_of self.old }
-        ensures values { (m : ℕ) → m < 128 → at self.new 0 m ≡ (if is_between (Some start) (Some end) (first + m) then at self.old 0 m else pos 0) }
+        ensures values { (m : ℕ) → m < quantum → at self.new 0 m ≡ (if is_between (Some start) (Some end) (first + m) then at self.old 0 m else pos 0) }
     {
         move_on(&mut self.values[0..QUANTUM], self.steady);
         self.steady = false;
@@ -310,7 +310,7 @@ impl Block {
     pub fn play(&mut self, source: &Source, first: u64)
         requires time { first ≤ 2 ^ 62 }
         ensures lanes { self.new.lanes ≡ self.old.lanes }
-        ensures values { (lane m : ℕ) → lane < self.old.lanes → lane < channels_in source.now.store (Some source.now.buffer) → m < 128 →
+        ensures values { (lane m : ℕ) → lane < self.old.lanes → lane < channels_in source.now.store (Some source.now.buffer) → m < quantum →
             at self.new lane m ≡ played source.now.sched (samples_in source.now.store (Some source.now.buffer) lane) (first + m) }
     {
         self.steady = false;
@@ -319,10 +319,10 @@ impl Block {
 
     /// Becomes what the sums are, saturated.
     pub fn saturate(&mut self, sums: &Sums)
-        requires { sums.now.count * 128 ≤ room_of self.old }
+        requires { sums.now.count * quantum ≤ room_of self.old }
         ensures lanes { self.new.lanes ≡ sums.now.count }
         ensures room { room_of self.new ≡ room_of self.old }
-        ensures values { (lane m : ℕ) → lane < sums.now.count → m < 128 → at self.new lane m ≡ saturated (sum_at sums.now lane m) }
+        ensures values { (lane m : ℕ) → lane < sums.now.count → m < quantum → at self.new lane m ≡ saturated (sum_at sums.now lane m) }
     {
         self.lanes = sums.count();
         match sums.steady() {
@@ -339,10 +339,10 @@ impl Block {
 
     /// Becomes what another block is.
     pub fn copy(&mut self, other: &Block)
-        requires { other.now.lanes * 128 ≤ room_of self.old }
+        requires { other.now.lanes * quantum ≤ room_of self.old }
         ensures lanes { self.new.lanes ≡ other.now.lanes }
         ensures room { room_of self.new ≡ room_of self.old }
-        ensures values { (lane m : ℕ) → lane < other.now.lanes → m < 128 → at self.new lane m ≡ at other.now lane m }
+        ensures values { (lane m : ℕ) → lane < other.now.lanes → m < quantum → at self.new lane m ≡ at other.now lane m }
     {
         let lanes = other.lanes();
         match other.held() {
@@ -355,11 +355,11 @@ impl Block {
     pub fn copy_output(&mut self, other: &Block, output: usize, channels: usize)
         requires output { output * channels + channels ≤ other.now.lanes }
         requires few { channels ≤ 32 }
-        requires room { channels * 128 ≤ room_of self.old }
+        requires room { channels * quantum ≤ room_of self.old }
         ensures lanes { self.new.lanes ≡ channels }
         ensures room { room_of self.new ≡ room_of self.old }
-        ensures values { (c m : ℕ) → c < channels → m < 128 → at self.new c m ≡ carried other.now channels output m c }
-        ensures fit { (c m : ℕ) → c < channels → m < 128 → FitsSigned w32 (carried other.now channels output m c) }
+        ensures values { (c m : ℕ) → c < channels → m < quantum → at self.new c m ≡ carried other.now channels output m c }
+        ensures fit { (c m : ℕ) → c < channels → m < quantum → FitsSigned w32 (carried other.now channels output m c) }
     {
         match other.output(output, channels) {
             Held::Steady(held) => self.copy_steady(held),
@@ -369,10 +369,10 @@ impl Block {
 
     fn copy_steady(&mut self, held: &[Fix])
         requires few { length held.now ≤ 32 }
-        requires room { length held.now * 128 ≤ room_of self.old }
+        requires room { length held.now * quantum ≤ room_of self.old }
         ensures lanes { self.new.lanes ≡ length held.now }
         ensures room { room_of self.new ≡ room_of self.old }
-        ensures values { (lane m : ℕ) → lane < length held.now → m < 128 → at self.new lane m ≡ slice_index_or held.now lane (pos 0) }
+        ensures values { (lane m : ℕ) → lane < length held.now → m < quantum → at self.new lane m ≡ slice_index_or held.now lane (pos 0) }
         ensures fit { (lane : ℕ) → lane < length held.now → FitsSigned w32 (slice_index_or held.now lane (pos 0)) }
     {
         self.lanes = held.len();
@@ -381,13 +381,13 @@ impl Block {
     }
 
     fn copy_moving(&mut self, values: &[Fix], lanes: usize)
-        requires length { length values.now ≡ lanes * 128 }
+        requires length { length values.now ≡ lanes * quantum }
         requires few { lanes ≤ 32 }
-        requires room { lanes * 128 ≤ room_of self.old }
+        requires room { lanes * quantum ≤ room_of self.old }
         ensures lanes { self.new.lanes ≡ lanes }
         ensures room { room_of self.new ≡ room_of self.old }
-        ensures values { (lane m : ℕ) → lane < lanes → m < 128 → at self.new lane m ≡ sample 128 values.now lane m }
-        ensures fit { (lane m : ℕ) → lane < lanes → m < 128 → FitsSigned w32 (sample 128 values.now lane m) }
+        ensures values { (lane m : ℕ) → lane < lanes → m < quantum → at self.new lane m ≡ sample quantum values.now lane m }
+        ensures fit { (lane m : ℕ) → lane < lanes → m < quantum → FitsSigned w32 (sample quantum values.now lane m) }
     {
         self.lanes = lanes;
         self.steady = false;
@@ -397,7 +397,7 @@ impl Block {
     /// Has so many lanes. Their values may be any.
     pub fn begin(&mut self, lanes: usize)
         requires few { lanes ≤ 32 }
-        requires room { lanes * 128 ≤ room_of self.old }
+        requires room { lanes * quantum ≤ room_of self.old }
         ensures lanes { self.new.lanes ≡ lanes }
         ensures room { room_of self.new ≡ room_of self.old }
     {
@@ -411,8 +411,8 @@ impl Block {
         requires mono { other.now.lanes ≡ 1 }
         ensures lanes { self.new.lanes ≡ self.old.lanes }
         ensures room { room_of self.new ≡ room_of self.old }
-        ensures own { (m : ℕ) → m < 128 → at self.new lane m ≡ at other.now 0 m }
-        ensures others { (l m : ℕ) → l < self.old.lanes → (l ≡ lane → ⊥) → m < 128 → at self.new l m ≡ at self.old l m }
+        ensures own { (m : ℕ) → m < quantum → at self.new lane m ≡ at other.now 0 m }
+        ensures others { (l m : ℕ) → l < self.old.lanes → (l ≡ lane → ⊥) → m < quantum → at self.new l m ≡ at self.old l m }
     {
         match other.held() {
             Held::Steady(held) => self.set_steady(lane, held[0]),
@@ -424,8 +424,8 @@ impl Block {
         requires lane { lane < self.old.lanes }
         ensures lanes { self.new.lanes ≡ self.old.lanes }
         ensures room { room_of self.new ≡ room_of self.old }
-        ensures own { (m : ℕ) → m < 128 → at self.new lane m ≡ value }
-        ensures others { (l m : ℕ) → l < self.old.lanes → (l ≡ lane → ⊥) → m < 128 → at self.new l m ≡ at self.old l m }
+        ensures own { (m : ℕ) → m < quantum → at self.new lane m ≡ value }
+        ensures others { (l m : ℕ) → l < self.old.lanes → (l ≡ lane → ⊥) → m < quantum → at self.new l m ≡ at self.old l m }
     {
         if self.steady {
             self.values[lane] = value;
@@ -439,11 +439,11 @@ impl Block {
 
     fn set_moving(&mut self, lane: usize, values: &[Fix])
         requires lane { lane < self.old.lanes }
-        requires length { length values.now ≡ 128 }
+        requires length { length values.now ≡ quantum }
         ensures lanes { self.new.lanes ≡ self.old.lanes }
         ensures room { room_of self.new ≡ room_of self.old }
-        ensures own { (m : ℕ) → m < 128 → at self.new lane m ≡ slice_index_or values.now m (pos 0) }
-        ensures others { (l m : ℕ) → l < self.old.lanes → (l ≡ lane → ⊥) → m < 128 → at self.new l m ≡ at self.old l m }
+        ensures own { (m : ℕ) → m < quantum → at self.new lane m ≡ slice_index_or values.now m (pos 0) }
+        ensures others { (l m : ℕ) → l < self.old.lanes → (l ≡ lane → ⊥) → m < quantum → at self.new l m ≡ at self.old l m }
     {
         unfold_if(
             &mut self.values[0..self.lanes * QUANTUM],
@@ -459,11 +459,11 @@ impl Block {
 
     /// Becomes what another block is, multiplied at each frame by the gain there.
     pub fn scale(&mut self, other: &Block, gains: &Block)
-        requires room { other.now.lanes * 128 ≤ room_of self.old }
+        requires room { other.now.lanes * quantum ≤ room_of self.old }
         requires mono { gains.now.lanes ≡ 1 }
         ensures lanes { self.new.lanes ≡ other.now.lanes }
         ensures room { room_of self.new ≡ room_of self.old }
-        ensures values { (lane m : ℕ) → lane < other.now.lanes → m < 128 → at self.new lane m ≡ scaled (at other.now lane m) (at gains.now 0 m) }
+        ensures values { (lane m : ℕ) → lane < other.now.lanes → m < quantum → at self.new lane m ≡ scaled (at other.now lane m) (at gains.now 0 m) }
     {
         match gains.held() {
             Held::Steady(held) => self.scale_by(other, held[0]),
@@ -472,10 +472,10 @@ impl Block {
     }
 
     fn scale_by(&mut self, other: &Block, gain: Fix)
-        requires room { other.now.lanes * 128 ≤ room_of self.old }
+        requires room { other.now.lanes * quantum ≤ room_of self.old }
         ensures lanes { self.new.lanes ≡ other.now.lanes }
         ensures room { room_of self.new ≡ room_of self.old }
-        ensures values { (lane m : ℕ) → lane < other.now.lanes → m < 128 → at self.new lane m ≡ scaled (at other.now lane m) gain }
+        ensures values { (lane m : ℕ) → lane < other.now.lanes → m < quantum → at self.new lane m ≡ scaled (at other.now lane m) gain }
     {
         self.lanes = other.lanes();
         match other.held() {
@@ -491,11 +491,11 @@ impl Block {
     }
 
     fn scale_by_frame(&mut self, other: &Block, gains: &[Fix])
-        requires room { other.now.lanes * 128 ≤ room_of self.old }
-        requires gains { length gains.now ≡ 128 }
+        requires room { other.now.lanes * quantum ≤ room_of self.old }
+        requires gains { length gains.now ≡ quantum }
         ensures lanes { self.new.lanes ≡ other.now.lanes }
         ensures room { room_of self.new ≡ room_of self.old }
-        ensures values { (lane m : ℕ) → lane < other.now.lanes → m < 128 → at self.new lane m ≡ scaled (at other.now lane m) (slice_index_or gains.now m (pos 0)) }
+        ensures values { (lane m : ℕ) → lane < other.now.lanes → m < quantum → at self.new lane m ≡ scaled (at other.now lane m) (slice_index_or gains.now m (pos 0)) }
     {
         self.lanes = other.lanes();
         self.steady = false;
@@ -508,11 +508,11 @@ impl Block {
 
     /// Becomes what another block is, shaped by a curve.
     pub fn shape(&mut self, other: &Block, curve: &Option<Samples>)
-        requires room { other.now.lanes * 128 ≤ room_of self.old }
+        requires room { other.now.lanes * quantum ≤ room_of self.old }
         requires curve { IsCurve curve.now }
         ensures lanes { self.new.lanes ≡ other.now.lanes }
         ensures room { room_of self.new ≡ room_of self.old }
-        ensures values { (lane m : ℕ) → lane < other.now.lanes → m < 128 → at self.new lane m ≡ shaper_value curve.now (at other.now lane m ∷ []) }
+        ensures values { (lane m : ℕ) → lane < other.now.lanes → m < quantum → at self.new lane m ≡ shaper_value curve.now (at other.now lane m ∷ []) }
     {
         self.lanes = other.lanes();
         match other.held() {
@@ -529,15 +529,14 @@ impl Block {
 
     /// Becomes what a node's filter puts out for its input, which has so many lanes.
     pub fn filter(&mut self, heard: &[Fix], lanes: usize, filters: &mut Filters, node: NodeId)
-        requires length { length heard.now ≡ lanes * 128 }
+        requires length { length heard.now ≡ lanes * quantum }
         requires few { lanes ≤ 32 }
-        requires room { lanes * 128 ≤ room_of self.old }
+        requires room { lanes * quantum ≤ room_of self.old }
         requires there { node.0 < length filters.old.filters }
         requires wide { (f : a_filter) → filter_at filters.old node.0 ≡ Some f → lanes ≡ filter_room f }
         ensures lanes { self.new.lanes ≡ lanes }
         ensures room { room_of self.new ≡ room_of self.old }
-        ensures hears { Hears filters.old filters.new node.0 heard.now self.new.values }
-        ensures length { length self.new.values ≡ lanes * 128 }
+        ensures hears { (y : List ℤ) × AreLanes self.new y × Hears filters.old filters.new node.0 heard.now y }
     {
         self.lanes = lanes;
         self.steady = false;
@@ -547,10 +546,10 @@ impl Block {
     /// Becomes what the reader of a site's delay gives, with a delay for each frame.
     pub fn read_delay(&mut self, delays: &Delays, site: &Site, spans: &[u64])
         requires lanes { self.old.lanes ≡ counts_in site.now.counts site.now.end }
-        requires spans { length spans.now ≡ 128 }
+        requires spans { length spans.now ≡ quantum }
         ensures lanes { self.new.lanes ≡ self.old.lanes }
         ensures values { (d : a_delay) (longest born now : ℕ) (writer : Writer) → delay_at delays.now site.now.end.node.0 ≡ Some d → HasKept d longest born now writer → IsAsked site.now.first now longest spans.now →
-            AreFew born writer self.old.lanes site.now.first spans.now → 128 * (born / 128) ≡ born → (c m : ℕ) → c < self.old.lanes → m < 128 →
+            AreFew born writer self.old.lanes site.now.first spans.now → quantum * (born / quantum) ≡ born → (c m : ℕ) → c < self.old.lanes → m < quantum →
             at self.new c m ≡ read_back born writer (node_at site.now.world site.now.end.node.0).attrs.interp self.old.lanes (site.now.first + m) (frames_back spans.now m) c }
     {
         let node = site.end.node;
@@ -565,11 +564,11 @@ impl Block {
 
     fn read_frames(&mut self, delays: &Delays, node: NodeId, asked: Reading<'_>)
         requires lanes { asked.channels ≡ self.old.lanes }
-        requires delays { length asked.delays.now ≡ 128 }
+        requires delays { length asked.delays.now ≡ quantum }
         requires time { asked.first ≤ 2 ^ 62 }
         ensures lanes { self.new.lanes ≡ self.old.lanes }
-        ensures values { (d : a_delay) (longest born now : ℕ) (writer : Writer) → delay_at delays.now node.0 ≡ Some d → HasKept d longest born now writer → IsAsked asked.entry.first now longest asked.entry.delays.now → AreFew born writer self.old.lanes asked.entry.first asked.entry.delays.now → 128 * (born / 128) ≡ born →
-            (c m : ℕ) → c < self.old.lanes → m < 128 → at self.new c m ≡ read_back born writer asked.entry.interp self.old.lanes (asked.entry.first + m) (frames_back asked.entry.delays.now m) c }
+        ensures values { (d : a_delay) (longest born now : ℕ) (writer : Writer) → delay_at delays.now node.0 ≡ Some d → HasKept d longest born now writer → IsAsked asked.entry.first now longest asked.entry.delays.now → AreFew born writer self.old.lanes asked.entry.first asked.entry.delays.now → quantum * (born / quantum) ≡ born →
+            (c m : ℕ) → c < self.old.lanes → m < quantum → at self.new c m ≡ read_back born writer asked.entry.interp self.old.lanes (asked.entry.first + m) (frames_back asked.entry.delays.now m) c }
     {
         self.steady = false;
         delays.read(node, &mut self.values[0..self.lanes * QUANTUM], asked);

@@ -3,6 +3,7 @@ ghost use Rattle.sched_source.specs.Schedule.{played};
 ghost use Rattle.channel_mix.specs.Blocks.{sample};
 ghost use Rattle.meaning.specs.Validity.{IsValid};
 ghost use Rattle.meaning.specs.World.{channels_in, samples_in};
+ghost use Rattle.quantum_blocks.specs.Blocks.{quantum};
 ghost use Rattle.quantum_blocks.specs.Heard.{heard_source};
 
 use crate::block::QUANTUM;
@@ -64,11 +65,11 @@ impl Source<'_> {
     // channels is silent.
     pub(crate) fn play(&self, out: &mut [Fix], lanes: usize, first: u64)
         requires few { lanes ≤ 32 }
-        requires length { length out.old ≡ lanes * 128 }
+        requires length { length out.old ≡ lanes * quantum }
         requires time { first ≤ 2 ^ 62 }
         ensures length { length out.new ≡ length out.old }
-        ensures values { (lane m : ℕ) → lane < lanes → lane < channels_in self.now.store (Some self.now.buffer) → m < 128 →
-            sample 128 out.new lane m ≡ played self.now.sched (samples_in self.now.store (Some self.now.buffer) lane) (first + m) }
+        ensures values { (lane m : ℕ) → lane < lanes → lane < channels_in self.now.store (Some self.now.buffer) → m < quantum →
+            sample quantum out.new lane m ≡ played self.now.sched (samples_in self.now.store (Some self.now.buffer) lane) (first + m) }
     {
         for lane in 0..lanes {
             self.play_lane(
@@ -80,10 +81,10 @@ impl Source<'_> {
     }
 
     fn play_lane(&self, out: &mut [Fix], lane: u32, first: u64)
-        requires length { length out.old ≡ 128 }
+        requires length { length out.old ≡ quantum }
         requires time { first ≤ 2 ^ 62 }
         ensures length { length out.new ≡ length out.old }
-        ensures values { lane < channels_in self.now.store (Some self.now.buffer) → (m : ℕ) → m < 128 →
+        ensures values { lane < channels_in self.now.store (Some self.now.buffer) → (m : ℕ) → m < quantum →
             slice_index_or out.new m (pos 0) ≡ played self.now.sched (samples_in self.now.store (Some self.now.buffer) lane) (first + m) }
     {
         if lane < self.channels() {

@@ -4,7 +4,7 @@ ghost use Rattle.wa_base.specs.Numbers.{sat as saturated};
 ghost use Rattle.channel_mix.specs.Mixing.{mix, total};
 ghost use Rattle.meaning.specs.declared.world.World.{World as world};
 ghost use Rattle.meaning.specs.Values.{part};
-ghost use Rattle.quantum_blocks.specs.Blocks.{frame_of};
+ghost use Rattle.quantum_blocks.specs.Blocks.{quantum, frame_of};
 ghost use Rattle.quantum_blocks.specs.Connections.{leads_to};
 ghost use Rattle.quantum_blocks.specs.Fits.{IsSource, AreFit};
 ghost use Rattle.quantum_blocks.specs.Sums.{sum_at};
@@ -57,7 +57,7 @@ pub struct Inlet {
 impl Sums {
     /// One channel, to which nothing is added yet.
     pub fn new(alloc: Global) -> Result<Sums, NoMemory>
-        ensures { IfOk result (λ sums. (sums.count ≡ 1) × (sums.added ≡ 0) × ((m : ℕ) → m < 128 → sum_at sums 0 m ≡ pos 0)) }
+        ensures { IfOk result (λ sums. (sums.count ≡ 1) × (sums.added ≡ 0) × ((m : ℕ) → m < quantum → sum_at sums 0 m ≡ pos 0)) }
     {
         Ok(Sums {
             count: 1,
@@ -79,7 +79,7 @@ impl Sums {
 
     // The sum of each channel, where it is the same at all frames.
     pub(crate) fn steady(&self) -> Option<&[i64]>
-        ensures { IfSome result (λ held. (length held.now ≡ self.now.count) × (1 ≤ length held.now) × ((c m : ℕ) → c < self.now.count → m < 128 → sum_at self.now c m ≡ slice_index_or held.now c (pos 0))) }
+        ensures { IfSome result (λ held. (length held.now ≡ self.now.count) × (1 ≤ length held.now) × ((c m : ℕ) → c < self.now.count → m < quantum → sum_at self.now c m ≡ slice_index_or held.now c (pos 0))) }
     {
         if self.moves {
             None
@@ -90,9 +90,9 @@ impl Sums {
 
     // Writes all sums, saturated.
     pub(crate) fn settle(&self, values: &mut [Fix])
-        requires { length values.old ≡ self.now.count * 128 }
+        requires { length values.old ≡ self.now.count * quantum }
         ensures length { length values.new ≡ length values.old }
-        ensures values { (c m : ℕ) → c < self.now.count → m < 128 → sample 128 values.new c m ≡ saturated (sum_at self.now c m) }
+        ensures values { (c m : ℕ) → c < self.now.count → m < quantum → sample quantum values.new c m ≡ saturated (sum_at self.now c m) }
     {
         for channel in 0..self.count() {
             let first = channel * QUANTUM;
@@ -102,7 +102,7 @@ impl Sums {
 
     fn settle_channel(&self, channel: usize, values: &mut [Fix])
         requires channel { channel < self.now.count }
-        requires length { length values.old ≡ 128 }
+        requires length { length values.old ≡ quantum }
         ensures length { length values.new ≡ length values.old }
         ensures values { (m : ℕ) → m < length values.old → slice_index_or values.new m (pos 0) ≡ saturated (sum_at self.now channel m) }
     {
@@ -118,7 +118,7 @@ impl Sums {
     // Adds to each level the sum of a channel there, saturated before and after.
     pub(crate) fn add_to(&self, levels: &mut [Fix], channel: usize)
         requires channel { channel < self.now.count }
-        requires length { length levels.old ≡ 128 }
+        requires length { length levels.old ≡ quantum }
         ensures length { length levels.new ≡ length levels.old }
         ensures values { (m : ℕ) → m < length levels.old → slice_index_or levels.new m (pos 0) ≡ saturated (slice_index_or levels.old m (pos 0) +ℤ saturated (sum_at self.now channel m)) }
     {
@@ -137,7 +137,7 @@ impl Sums {
         requires high { count ≤ 32 }
         ensures count { self.new.count ≡ count }
         ensures added { self.new.added ≡ 0 }
-        ensures sums { (c m : ℕ) → c < count → m < 128 → sum_at self.new c m ≡ pos 0 }
+        ensures sums { (c m : ℕ) → c < count → m < quantum → sum_at self.new c m ≡ pos 0 }
     {
         self.count = count;
         self.added = 0;
@@ -149,7 +149,7 @@ impl Sums {
         requires added { self.old.added < 8192 }
         ensures count { self.new.count ≡ self.old.count }
         ensures added { self.new.added ≡ self.old.added + 1 }
-        ensures sums { (c m : ℕ) → c < self.old.count → m < 128 →
+        ensures sums { (c m : ℕ) → c < self.old.count → m < quantum →
             sum_at self.new c m ≡ sum_at self.old c m +ℤ mix interp (length held.now) self.old.count (λ i. slice_index_or held.now i (pos 0)) c }
     {
         let sums = &mut self.held[0..self.count];
@@ -159,11 +159,11 @@ impl Sums {
 
     fn add_moving(&mut self, values: &[Fix], from: usize, interp: Interp)
         requires added { self.old.added < 8192 }
-        requires length { length values.now ≡ from * 128 }
+        requires length { length values.now ≡ from * quantum }
         ensures count { self.new.count ≡ self.old.count }
         ensures added { self.new.added ≡ self.old.added + 1 }
-        ensures sums { (c m : ℕ) → c < self.old.count → m < 128 →
-            sum_at self.new c m ≡ sum_at self.old c m +ℤ mix interp from self.old.count (frame_at 128 values.now m) c }
+        ensures sums { (c m : ℕ) → c < self.old.count → m < quantum →
+            sum_at self.new c m ≡ sum_at self.old c m +ℤ mix interp from self.old.count (frame_at quantum values.now m) c }
     {
         let sums = &mut self.moving[0..self.count * QUANTUM];
         clear_unless(sums, self.moves);
@@ -179,7 +179,7 @@ impl Sums {
         requires source { IsSource counts.now blocks.now edge.now }
         ensures count { self.new.count ≡ inlet.count }
         ensures added { self.new.added ≤ self.old.added + 1 }
-        ensures sums { (w : world) (c m : ℕ) → c < inlet.count → m < 128 →
+        ensures sums { (w : world) (c m : ℕ) → c < inlet.count → m < quantum →
             sum_at self.new c m ≡ sum_at self.old c m +ℤ (if leads_to inlet.target edge.now then part (frame_of w blocks.now counts.now m) inlet.interp inlet.count c edge.now else pos 0) }
     {
         if inlet.target.is_same(edge.to) {
@@ -198,7 +198,7 @@ impl Sums {
         requires high { inlet.count ≤ 32 }
         requires fit { AreFit site.now.world site.now.counts blocks.now }
         ensures count { self.new.count ≡ inlet.count }
-        ensures sums { (w : world) (c m : ℕ) → c < inlet.count → m < 128 →
+        ensures sums { (w : world) (c m : ℕ) → c < inlet.count → m < quantum →
             sum_at self.new c m ≡ total (map (part (frame_of w blocks.now site.now.counts m) inlet.interp inlet.count c) (filter (leads_to inlet.target) site.now.into)) }
     {
         self.clear(inlet.count);

@@ -9,7 +9,7 @@ ghost use Rattle.std.specs.List.{list_any};
 ghost use Rattle.quantum_blocks.specs.Blocks.{at, counts_in};
 ghost use Rattle.quantum_blocks.specs.Connections.{leads_to};
 ghost use Rattle.quantum_blocks.specs.Fits.{AreFit};
-ghost use Rattle.quantum_blocks.specs.Held.{IsWidened};
+ghost use Rattle.quantum_blocks.specs.Held.{IsWidened, AreLanes};
 ghost use Rattle.filter_bank.specs.Heard.{FilterView as a_filter, room_of as filter_room};
 ghost use Rattle.filter_bank.specs.Banks.{filter_at, Hears};
 ghost use Rattle.delay_bank.specs.Kept.{DelayView as a_delay, room_of as delay_room};
@@ -174,7 +174,7 @@ impl Bench {
         requires there { node.0 < length filters.old.filters }
         requires wide { (f : a_filter) → filter_at filters.old node.0 ≡ Some f → lanes ≡ filter_room f }
         ensures lanes { self.new.merged.lanes ≡ lanes }
-        ensures hears { (x : List ℤ) × IsWidened self.old.heard lanes x × Hears filters.old filters.new node.0 x self.new.merged.values }
+        ensures hears { (x : List ℤ) × (y : List ℤ) × IsWidened self.old.heard lanes x × AreLanes self.new.merged y × Hears filters.old filters.new node.0 x y }
     {
         match self.heard.plain(lanes) {
             Some(heard) => self.merged.filter(heard, lanes, filters, node),

@@ -1,10 +1,10 @@
-use Rattle.std.proofs.Common.{ℤ, List, pos, ◌≡◌, ◌*◌, ◌+ℤ◌, length, take, slice_index_or, ◌∙◌, ap, arith}
+use Rattle.std.proofs.Common.{ℤ, List, pos, ◌≡◌, ◌+ℤ◌, length, take, slice_index_or, ◌∙◌, ap, arith}
 use Rattle.std.proofs.lemmas.List.{length-take-le}
 use Rattle.wa_base.specs.Numbers.{sat}
 use Rattle.quantum_blocks.specs.Blocks.{BlockView, at}
 use Rattle.quantum_blocks.specs.Sums.{sum_at}
-use Rattle.quantum_blocks.proofs.Made.{front_first, front_at}
-use Rattle.quantum_blocks.proofs.Holding.{moved}
+use Rattle.quantum_blocks.proofs.Made.{front_at}
+use Rattle.quantum_blocks.proofs.Holding.{moved, first_is}
 use Rattle.quantum_blocks.proofs.block.Block.add_moving.Goals as goal
 
 pub returns-clause-values : goal.returns-clause-values
@@ -18,7 +18,7 @@ returns-clause-values c m now =
     moved c.self.inside.steady c.self.inside.lanes items (take 128 c.deref_mut.result.now) c.move_on.new.values one (ap (λ (xs : List ℤ). take 128 xs) whole)
     (length-take-le 128 c.deref_mut.result.now (omega (arith, ap length whole))) c.move_on.ensures.stay c.move_on.ensures.spread m now
     ∙ ap (λ (b : BlockView). at b 0 m) c.self.view_is in
-    front_first (c.self.inside.lanes * 128) _ c.add_to.new.levels _ _ m (omega arith) (omega arith)
+    first_is c.self.inside.lanes _ c.add_to.new.levels _ _ m one now (omega arith) (omega arith)
     ∙ c.add_to.ensures.values m (omega arith)
     ∙ ap (λ x. sat (x +ℤ sat (sum_at c.args.sums.now 0 m)))
     (ap (λ (xs : List ℤ). slice_index_or (take 128 xs) m (pos 0)) c.deref_mut-2.ensures.value

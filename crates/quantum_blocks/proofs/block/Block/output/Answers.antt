@@ -1,8 +1,7 @@
 use Rattle.std.proofs.Common.{ℕ, ℤ, List, rules, pos, ◌+◌, ◌*◌, ◌≤◌, length, slice_index_or, sym, ◌∙◌, ap, arith}
-use Rattle.std.proofs.lemmas.List.{get_or-take}
 use Rattle.channel_mix.specs.Blocks.{sample}
-use Rattle.quantum_blocks.specs.Blocks.{BlockView, at, all_values}
-use Rattle.quantum_blocks.proofs.Holding.{steady_at, steady_carried, moving_carried, part_length, part_steady, wide_length, part_moving}
+use Rattle.quantum_blocks.specs.Blocks.{BlockView, at, lanes_from, lane_at}
+use Rattle.quantum_blocks.proofs.Holding.{steady_at, moving_at, steady_carried, moving_carried, part_length, part_steady, wide_length, part_moving}
 use Rattle.quantum_blocks.proofs.block.Block.output.Goals as goal
 
 pub overflow_mul-first : goal.overflow_mul-first
@@ -31,7 +30,7 @@ returns-then-self c =
       long,
       λ m now. steady_carried c.args.self.now c.args.output n m _ c.requires long (λ channel low.
           ap (λ (b : BlockView). at b (first + channel) m) (sym c.self.view_is)
-          ∙ ap (λ s. sample 128 (all_values s c.self.inside.lanes items) (first + channel) m) c.if-self.true
+          ∙ ap (λ s. lane_at (lanes_from s c.self.inside.lanes items) (first + channel) m) c.if-self.true
           ∙ steady_at c.self.inside.lanes items (first + channel) m (omega arith) now
           ∙ ap (λ (xs : List ℤ). slice_index_or xs (first + channel) (pos 0)) (sym whole)
           ∙ sym (part_steady first n c.as_slice-values.result.now channel low)),
@@ -49,8 +48,8 @@ returns-else-self c =
       long,
       λ m now. moving_carried c.args.self.now c.args.output n m _ now c.requires long (λ channel low.
           ap (λ (b : BlockView). at b (first + channel) m) (sym c.self.view_is)
-          ∙ ap (λ s. sample 128 (all_values s c.self.inside.lanes items) (first + channel) m) c.if-self.false
-          ∙ get_or-take (c.self.inside.lanes * 128) items ((first + channel) * 128 + m) (pos 0) (omega arith)
+          ∙ ap (λ s. lane_at (lanes_from s c.self.inside.lanes items) (first + channel) m) c.if-self.false
+          ∙ moving_at c.self.inside.lanes items (first + channel) m (omega arith) now
           ∙ ap (λ (xs : List ℤ). sample 128 xs (first + channel) m) (sym whole)
           ∙ sym (part_moving first n c.as_slice-values.result.now channel m low now)),
     )

@@ -2,8 +2,7 @@ use Rattle.std.proofs.Common.{rules, ◌*◌, ◌+◌, sym, ◌∙◌, ap₂, ar
 use Rattle.std.specs.Int.{w32}
 use Rattle.std.proofs.lemmas.Int.{to_z-of_z}
 use Rattle.wa_base.specs.Numbers.{scale}
-use Rattle.quantum_blocks.proofs.Made.{front_at}
-use Rattle.quantum_blocks.proofs.Holding.{steady_is}
+use Rattle.quantum_blocks.proofs.Holding.{steady_is, moving_is}
 use Rattle.quantum_blocks.proofs.block.Block.scale_by.Goals as goal
 
 pub returns-in-Steady-clause-values : goal.returns-in-Steady-clause-values
@@ -28,6 +27,6 @@ returns-in-Moving-clause-values c channel m low now =
     let long = held.0 in
     let made = c.scale_all-in-Moving.ensures.length in
     let gain : FitsSigned w32 c.args.gain = search rules in
-    front_at (c.lanes-self-inside.result * 128) _ c.scale_all-in-Moving.new.block _ _ (channel * 128 + m) (omega arith) (omega arith)
+    moving_is c.lanes-self-inside.result _ c.scale_all-in-Moving.new.block _ _ channel m (omega arith) now (omega arith) (omega arith)
     ∙ c.scale_all-in-Moving.ensures.values (channel * 128 + m) (omega arith)
     ∙ ap₂ scale (sym (held.1 channel m low now)) (to_z-of_z _ _ gain)

@@ -1,7 +1,6 @@
 use Rattle.std.proofs.Common.{◌*◌, ◌+◌, ◌∷◌, [], sym, ◌∙◌, ap, arith}
 use Rattle.causal_core.specs.Curves.{shaper_value}
-use Rattle.quantum_blocks.proofs.Made.{front_at}
-use Rattle.quantum_blocks.proofs.Holding.{steady_is}
+use Rattle.quantum_blocks.proofs.Holding.{steady_is, moving_is}
 use Rattle.quantum_blocks.proofs.block.Block.shape.Goals as goal
 
 pub returns-in-Steady-clause-values : goal.returns-in-Steady-clause-values
@@ -24,6 +23,6 @@ returns-in-Moving-clause-values c channel m low now =
     let held = c.in-Moving.ensures in
     let long = held.0 in
     let made = c.shape_all-in-Moving.ensures.length in
-    front_at (c.lanes-self-inside.result * 128) _ c.shape_all-in-Moving.new.y _ _ (channel * 128 + m) (omega arith) (omega arith)
+    moving_is c.lanes-self-inside.result _ c.shape_all-in-Moving.new.y _ _ channel m (omega arith) now (omega arith) (omega arith)
     ∙ c.shape_all-in-Moving.ensures.values (channel * 128 + m) (omega arith)
     ∙ ap (λ x. shaper_value c.args.curve.now (x ∷ [])) (sym (held.1 channel m low now))

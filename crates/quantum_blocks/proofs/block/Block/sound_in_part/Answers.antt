@@ -1,10 +1,10 @@
-use Rattle.std.proofs.Common.{ℤ, List, pos, ◌≡◌, ◌+◌, ◌*◌, length, take, slice_index_or, Some, ◌∙◌, ap, arith}
+use Rattle.std.proofs.Common.{ℤ, List, pos, ◌≡◌, ◌+◌, length, take, slice_index_or, Some, ◌∙◌, ap, arith}
 use Rattle.std.specs.Prelude.{if◌then◌else◌}
 use Rattle.std.proofs.lemmas.List.{length-take-le}
 use Rattle.sched_source.specs.Schedule.{is_between}
 use Rattle.quantum_blocks.specs.Blocks.{BlockView, at}
-use Rattle.quantum_blocks.proofs.Made.{front_first, front_at}
-use Rattle.quantum_blocks.proofs.Holding.{moved}
+use Rattle.quantum_blocks.proofs.Made.{front_at}
+use Rattle.quantum_blocks.proofs.Holding.{moved, first_is}
 use Rattle.quantum_blocks.proofs.block.Block.sound_in_part.Goals as goal
 
 pub returns-clause-values : goal.returns-clause-values
@@ -18,7 +18,7 @@ returns-clause-values c m now =
     moved c.self.inside.steady c.self.inside.lanes items (take 128 c.deref_mut.result.now) c.move_on.new.values one (ap (λ (xs : List ℤ). take 128 xs) whole)
     (length-take-le 128 c.deref_mut.result.now (omega (arith, ap length whole))) c.move_on.ensures.stay c.move_on.ensures.spread m now
     ∙ ap (λ (b : BlockView). at b 0 m) c.self.view_is in
-    front_first (c.self.inside.lanes * 128) _ c.sound.new.levels _ _ m (omega arith) (omega arith)
+    first_is c.self.inside.lanes _ c.sound.new.levels _ _ m one now (omega arith) (omega arith)
     ∙ c.sound.ensures.values m now
     ∙ ap (λ x. if is_between (Some c.args.start) (Some c.args.end) (c.args.first + m) then x else pos 0)
     (ap (λ (xs : List ℤ). slice_index_or (take 128 xs) m (pos 0)) c.deref_mut-2.ensures.value

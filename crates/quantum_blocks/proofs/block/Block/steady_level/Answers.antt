@@ -2,9 +2,8 @@ use Rattle.std.proofs.Common.{rules, Bool, pos, slice_index_or, length, ◌<◌,
 use Rattle.std.specs.Int.{w32, w64}
 use Rattle.std.proofs.lemmas.Int.{to_z-of_z}
 use Rattle.std.proofs.lemmas.List.{get_or_default}
-use Rattle.channel_mix.specs.Blocks.{sample}
 use Rattle.wa_base.specs.Numbers.{sat}
-use Rattle.quantum_blocks.specs.Blocks.{BlockView, at, all_values}
+use Rattle.quantum_blocks.specs.Blocks.{BlockView, at, lanes_from, lane_at}
 use Rattle.quantum_blocks.proofs.Holding.{steady_at}
 use Rattle.quantum_blocks.proofs.block.Block.steady_level.Goals as goal
 
@@ -19,7 +18,7 @@ returns c m now =
     let some : 0 < length c.self.inside.values.items = search rules in
     let was : at c.args.self.now 0 m ≡ c.index.result.now =
     ap (λ (b : BlockView). at b 0 m) (sym c.self.view_is)
-    ∙ ap (λ (b : Bool). sample 128 (all_values b c.self.inside.lanes c.self.inside.values.items) 0 m) c.if-not-self.false
+    ∙ ap (λ (b : Bool). lane_at (lanes_from b c.self.inside.lanes c.self.inside.values.items) 0 m) c.if-not-self.false
     ∙ steady_at c.self.inside.lanes c.self.inside.values.items 0 m (omega (arith, lanes)) now
     ∙ get_or_default c.self.inside.values.items 0 (pos 0) c.index.result.now some ∙ sym c.index.ensures in
     to_z-of_z _ _ fits

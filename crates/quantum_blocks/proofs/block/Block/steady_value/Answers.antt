@@ -2,8 +2,7 @@ use Rattle.std.proofs.Common.{rules, Bool, pos, length, ◌<◌, ◌≡◌, sym,
 use Rattle.std.specs.Int.{w32}
 use Rattle.std.proofs.lemmas.Int.{to_z-of_z}
 use Rattle.std.proofs.lemmas.List.{get_or_default}
-use Rattle.channel_mix.specs.Blocks.{sample}
-use Rattle.quantum_blocks.specs.Blocks.{BlockView, at, all_values}
+use Rattle.quantum_blocks.specs.Blocks.{BlockView, at, lanes_from, lane_at}
 use Rattle.quantum_blocks.proofs.Holding.{steady_at}
 use Rattle.quantum_blocks.proofs.block.Block.steady_value.Goals as goal
 
@@ -17,5 +16,5 @@ returns-then-self c m now =
     ∙ c.index.ensures
     ∙ sym (get_or_default c.self.inside.values.items 0 (pos 0) c.index.result.now some)
     ∙ sym (steady_at c.self.inside.lanes c.self.inside.values.items 0 m (omega (arith, lanes)) now)
-    ∙ sym (ap (λ (b : Bool). sample 128 (all_values b c.self.inside.lanes c.self.inside.values.items) 0 m) c.if-self.true)
+    ∙ sym (ap (λ (b : Bool). lane_at (lanes_from b c.self.inside.lanes c.self.inside.values.items) 0 m) c.if-self.true)
     ∙ ap (λ (b : BlockView). at b 0 m) c.self.view_is

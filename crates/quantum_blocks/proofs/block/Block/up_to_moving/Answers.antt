@@ -1,11 +1,11 @@
-use Rattle.std.proofs.Common.{rules, ℤ, List, pos, ◌≡◌, ◌*◌, length, take, slice_index_or, ◌∙◌, ap, ap₂, arith, FitsSigned}
+use Rattle.std.proofs.Common.{rules, ℤ, List, pos, ◌≡◌, length, take, slice_index_or, ◌∙◌, ap, ap₂, arith, FitsSigned}
 use Rattle.std.specs.Int.{w32}
 use Rattle.std.proofs.lemmas.Int.{to_z-of_z}
 use Rattle.std.proofs.lemmas.List.{length-take-le}
 use Rattle.meaning.specs.World.{up_to}
 use Rattle.quantum_blocks.specs.Blocks.{BlockView, at}
-use Rattle.quantum_blocks.proofs.Made.{front_first, front_at}
-use Rattle.quantum_blocks.proofs.Holding.{moved}
+use Rattle.quantum_blocks.proofs.Made.{front_at}
+use Rattle.quantum_blocks.proofs.Holding.{moved, first_is}
 use Rattle.quantum_blocks.proofs.block.Block.up_to_moving.Goals as goal
 
 pub returns-clause-values : goal.returns-clause-values
@@ -20,7 +20,7 @@ returns-clause-values c m now =
     moved c.self.inside.steady c.self.inside.lanes items (take 128 c.deref_mut.result.now) c.move_on.new.values one (ap (λ (xs : List ℤ). take 128 xs) whole)
     (length-take-le 128 c.deref_mut.result.now (omega (arith, ap length whole))) c.move_on.ensures.stay c.move_on.ensures.spread m now
     ∙ ap (λ (b : BlockView). at b 0 m) c.self.view_is in
-    front_first (c.self.inside.lanes * 128) _ c.up_to_each.new.values _ _ m (omega arith) (omega arith)
+    first_is c.self.inside.lanes _ c.up_to_each.new.values _ _ m one now (omega arith) (omega arith)
     ∙ c.up_to_each.ensures.values m (omega arith)
     ∙ ap₂ up_to (to_z-of_z _ _ most)
     (ap (λ (xs : List ℤ). slice_index_or (take 128 xs) m (pos 0)) c.deref_mut-2.ensures.value

@@ -28,6 +28,10 @@ filter_heard-requires-clause-wide c f is =
 abbrev input_of : goal.After-copy_output → List ℤ
 input_of c = c.filter_heard.ensures.hears.0
 
+-- and what it puts out for that
+abbrev output_of : goal.After-copy_output → List ℤ
+output_of c = c.filter_heard.ensures.hears.1
+
 -- what is heard is what the input carries
 heard_brings : (c : goal.After-copy_output) (equation : Equation) → (is : kind_of c.args.site.now.world c.args.site.now.end.node.0 ≡ Causal equation) → (before : ℕ → Frame) → (ready : IsReadyFor c.args.site.now c.args.memory.now c.args.blocks.now before)
     → counts_in c.args.site.now.counts c.args.site.now.end ≡ input_channels (sounding c.args.site.now.world) (counts_in c.args.site.now.counts) c.args.site.now.end.node.0 0
@@ -37,14 +41,14 @@ heard_brings c equation is before ready counted =
     let site = site_is s _ _ _ _ _ _ c.site.invariant.0 c.site.view_is in
     let channels : c.channels-channels.result ≡ counts_in s.counts s.end = c.channels-channels.ensures.count in
     brings s site c.args.memory.now c.args.blocks.now equation is before ready c.channels-channels.result c.max-room.result (input_of c) c.take_input.new.self.heard
-    c.filter_heard.ensures.hears.1 c.take_input.ensures.lanes (within c) (channels ∙ counted)
+    c.filter_heard.ensures.hears.2 c.take_input.ensures.lanes (within c) (channels ∙ counted)
     (λ k m low now. c.take_input.ensures.input (channels ∙ counted) k m low now)
   where
     within : (c : goal.After-copy_output) → c.channels-channels.result ≤ c.max-room.result
     within c = let most = c.max-room.ensures in grind arith
 
-hears_own : (c : goal.After-copy_output) → Hears c.args.memory.now.filters c.filter_heard.new.filters c.args.site.now.end.node.0 (input_of c) c.filter_heard.new.self.merged.values
-hears_own c = subst (λ k. Hears c.args.memory.now.filters c.filter_heard.new.filters k (input_of c) c.filter_heard.new.self.merged.values) (ap (λ (x : SiteView). x.end.node.0) c.site.view_is) c.filter_heard.ensures.hears.2
+hears_own : (c : goal.After-copy_output) → Hears c.args.memory.now.filters c.filter_heard.new.filters c.args.site.now.end.node.0 (input_of c) (output_of c)
+hears_own c = subst (λ k. Hears c.args.memory.now.filters c.filter_heard.new.filters k (input_of c) (output_of c)) (ap (λ (x : SiteView). x.end.node.0) c.site.view_is) c.filter_heard.ensures.hears.4
 
 pub returns-clause-renders : goal.returns-clause-renders
 returns-clause-renders c =
@@ -65,7 +69,8 @@ returns-clause-renders c =
     c.copy_output.ensures.values channel m low' now
     ∙ carried_first c.self.inside.merged c.channels-channels.result channel m low' (subst (λ k. channel < k) (sym all) few)
     ∙ ap (λ (b : BlockView). at b channel m) merged
-    ∙ puts_out s site c.args.memory.now c.args.blocks.now equation is before ready (input_of c) c.filter_heard.new.self.merged.values c.filter_heard.new.filters (hears_own c) (heard_brings c equation is before ready counted) site.quantum.begun.time channel m (subst (λ k. channel < k) lanes few) now)
+    ∙ c.filter_heard.ensures.hears.3 channel m (subst (λ k. channel < k) (sym c.filter_heard.ensures.lanes) few) now
+    ∙ puts_out s site c.args.memory.now c.args.blocks.now equation is before ready (input_of c) (output_of c) c.filter_heard.new.filters (hears_own c) (heard_brings c equation is before ready counted) site.quantum.begun.time channel m (subst (λ k. channel < k) lanes few) now)
   where
     lower : (c : goal.After-copy_output) → (k : ℕ) → k < c.channels-channels.result → k < c.max-room.result
     lower c k low = let most = c.max-room.ensures in grind arith
@@ -84,7 +89,7 @@ returns-clause-listens c = record {
   own = λ equation is j earlier begins counted before ready.
       let s : SiteView = c.args.site.now in
       let site = site_is s _ _ _ _ _ _ c.site.invariant.0 c.site.view_is in
-      hears_on s site c.args.memory.now c.args.blocks.now equation is before ready (input_of c) c.filter_heard.new.self.merged.values c.filter_heard.new.filters (hears_own c) (heard_brings c equation is before ready counted) site.quantum.begun.time;
+      hears_on s site c.args.memory.now c.args.blocks.now equation is before ready (input_of c) (output_of c) c.filter_heard.new.filters (hears_own c) (heard_brings c equation is before ready counted) site.quantum.begun.time;
 }
 
 pub returns-clause-room : goal.returns-clause-room
