@@ -1,5 +1,5 @@
 -- How many arrows a graph has, and the order of its ends.
-use Rattle.std.proofs.Common.{ℕ, zero, suc, ◌≡◌, ◌+◌, ◌*◌, ◌<◌, ◌≤◌, length, List, [], ◌∷◌, ◌++◌, Bool, true, false, not, cond, refl, arith}
+use Rattle.std.proofs.Common.{ℕ, zero, suc, ◌≡◌, ◌+◌, ◌*◌, ◌-◌, ◌<◌, ◌≤◌, length, List, [], ◌∷◌, ◌++◌, Bool, true, false, not, cond, refl, ◌∙◌, ap, arith}
 use Rattle.std.specs.Prelude.{◌==◌, ◌&&◌, if◌then◌else◌}
 use Rattle.std.specs.List.{filter, flat_map, range_with_len}
 use Rattle.std.proofs.lemmas.Bool.{eqb-true}
@@ -39,7 +39,7 @@ once_at_most k a (suc n) = by_test (k == a) refl (once_at_most k (a + 1) n)
     by_test false e h = omega arith
 
 -- how many connections leave so many nodes
-leaving : List Edge → ℕ → ℕ → ℕ
+unfoldable pub leaving : List Edge → ℕ → ℕ → ℕ
 leaving es a zero = 0
 leaving es a (suc n) = length (filter (λ e. e.from.0 == a) es) + leaving es (a + 1) n
 
@@ -59,12 +59,19 @@ unfolding leaving
 none_leaving a zero = refl
 none_leaving a (suc n) = let rest = none_leaving (a + 1) n in omega arith
 
-leaving_le : (es : List Edge) (a n : ℕ) → leaving es a n ≤ length es
+pub leaving_le : (es : List Edge) (a n : ℕ) → leaving es a n ≤ length es
 leaving_le [] a n = let none = none_leaving a n in omega arith
 leaving_le (e ∷ es) a n =
     let more = leaving_more e es a n in
     let one = once_at_most e.from.0 a n in
     let rest = leaving_le es a n in omega arith
+
+leaving_more_nodes : (es : List Edge) (a n : ℕ) → leaving es a (suc n) ≡ length (filter (λ e. e.from.0 == a) es) + leaving es (a + 1) n
+unfolding leaving
+leaving_more_nodes es a n = refl
+
+pub leaving_next : (es : List Edge) (a n : ℕ) → a < n → leaving es a (n - a) ≡ length (filter (λ e. e.from.0 == a) es) + leaving es (a + 1) (n - (a + 1))
+leaving_next es a n l = ap (leaving es a) (let e : n - a ≡ suc (n - (a + 1)) = omega arith in e) ∙ leaving_more_nodes es a (n - (a + 1))
 
 module _ (g : Connections) where
   pairs_total : (a n : ℕ) → total (flat_map (targets_of_node g) (range_with_len a n)) ≤ leaving g.edges a n + n

@@ -1,4 +1,4 @@
-ghost use Rattle.std.specs.Prelude.{◌≡◌, ◌<◌, ◌==◌, ◌&&◌, not, length, map, IfOk};
+ghost use Rattle.std.specs.Prelude.{◌≡◌, ◌<◌, ◌≤◌, ◌+◌, ◌==◌, ◌&&◌, not, length, map, IfOk};
 ghost use Rattle.std.specs.List.{list_any};
 ghost use Rattle.law_base.specs.Members.{IsIn};
 ghost use Rattle.conn_graph.specs.declared.edges.Edge.{Edge};
@@ -23,6 +23,7 @@ pub(crate) fn edge_lists<L: Ledger>(
 ) -> Result<Vec<Items<Edge>>, NoMemory>
     ensures lists { IfOk result (λ lists. lists.items ≡ spec.edge_lists graph.now.value) }
     ensures whole { IsGraph graph.now.value }
+    ensures cost { steps.new ≤ steps.old + length graph.now.value.edges + length graph.now.value.nodes }
 {
     let mut lists = Vec::new(alloc);
     for node in 0..graph.len() {
@@ -39,7 +40,8 @@ fn edges_from<L: Ledger>(
     steps: &mut Steps<L>,
 ) -> Result<Items<Edge>, NoMemory>
     requires { node.0 < length graph.now.value.nodes }
-    ensures { IfOk result (λ edges. edges ≡ spec.edges_from graph.now.value node.0) }
+    ensures edges { IfOk result (λ edges. edges ≡ spec.edges_from graph.now.value node.0) }
+    ensures cost { steps.new ≤ steps.old + length (spec.edges_from graph.now.value node.0) + 1 }
 {
     let mut edges = Items::new(alloc);
     let mut after = None;

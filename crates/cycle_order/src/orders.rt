@@ -1,4 +1,4 @@
-ghost use Rattle.std.specs.Prelude.{◌≡◌, IfOk};
+ghost use Rattle.std.specs.Prelude.{◌≡◌, ◌≤◌, ◌+◌, ◌*◌, length, IfOk};
 ghost use Rattle.std.specs.List.{list_any};
 ghost use Rattle.conn_graph.specs.Ends.{same_end};
 ghost use Rattle.conn_graph.specs.Orders.{IsLegalOrder};
@@ -34,6 +34,7 @@ pub fn order<L: Ledger>(
     requires { IsSurvey graph.now.value marks.now }
     ensures legal { IfOk result (λ ordered. IsLegalOrder graph.now.value ordered.ends) }
     ensures tie { IfOk result (λ ordered. ordered.ends ≡ spec.chosen_order graph.now.value tie) }
+    ensures cost { steps.new ≤ steps.old + 4 * (length graph.now.value.edges + length graph.now.value.nodes) }
 {
     let lists = edge_lists(alloc, graph, steps)?;
     let arrows = end_arrows(alloc, graph, lists.as_slice(), marks.in_cycle.as_slice())?;

@@ -1,13 +1,49 @@
-use Rattle.std.proofs.Common.{arith}
+use Rattle.std.proofs.Common.{◌<◌, ◌-◌, length, arith}
 use Rattle.std.proofs.lemmas.List.FromFn.{map-range_with_len_more}
 use Rattle.cycle_order.specs.Arrows.{edges_from}
+use Rattle.cycle_order.proofs.Sums.{leaving_le, leaving_next}
 use Rattle.cycle_order.proofs.arrows.edge_lists.Goals as goal
+
+pub loop-node-init : goal.loop-node-init
+loop-node-init g c =
+    let graph = c.args.graph.now.value in
+    let all = leaving_le graph.edges 0 (length graph.nodes - 0) in
+    record { lists = c.new-lists.ensures.items; cost = omega arith }
 
 pub loop-node-preserved : goal.loop-node-preserved
 loop-node-preserved g c =
     let node = c.loop-node.node in
-    let all = c.loop-node.invariant in
-    let one = c.in_ok-edges_from.ensures in
-    let pushed = c.in_ok-push.ensures.items in
-    let more = map-range_with_len_more (edges_from c.args.graph.now.value) 0 node node (omega arith) in
-    cc
+    let graph = c.args.graph.now.value in
+    record {
+      lists =
+          let all = c.loop-node.invariant.lists in
+          let one = c.in_ok-edges_from.ensures.edges in
+          let pushed = c.in_ok-push.ensures.items in
+          let more = map-range_with_len_more (edges_from graph) 0 node node (omega arith) in
+          cc;
+      cost =
+          let before = c.loop-node.invariant.cost in
+          let here = c.edges_from.ensures.cost in
+          let next = leaving_next graph.edges node (length graph.nodes) (let t = c.loop-node-test.true in let n = c.len-node-end.ensures.number in omega arith) in
+          omega arith;
+    }
+
+pub returns-in_err-edges_from-clause-cost : goal.returns-in_err-edges_from-clause-cost
+returns-in_err-edges_from-clause-cost g c =
+    let node = c.loop-node.node in
+    let graph = c.args.graph.now.value in
+    let before = c.loop-node.invariant.cost in
+    let here = c.edges_from.ensures.cost in
+    let next = leaving_next graph.edges node (length graph.nodes) (let t = c.loop-node-test.true in let n = c.len-node-end.ensures.number in omega arith) in
+    let left = let t = c.loop-node-test.true in let n = c.len-node-end.ensures.number in let l : node < length graph.nodes = omega arith in l in
+    omega arith
+
+pub returns-in_err-push-clause-cost : goal.returns-in_err-push-clause-cost
+returns-in_err-push-clause-cost g c =
+    let node = c.loop-node.node in
+    let graph = c.args.graph.now.value in
+    let before = c.loop-node.invariant.cost in
+    let here = c.edges_from.ensures.cost in
+    let next = leaving_next graph.edges node (length graph.nodes) (let t = c.loop-node-test.true in let n = c.len-node-end.ensures.number in omega arith) in
+    let left = let t = c.loop-node-test.true in let n = c.len-node-end.ensures.number in let l : node < length graph.nodes = omega arith in l in
+    omega arith
