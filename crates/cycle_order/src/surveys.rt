@@ -1,4 +1,4 @@
-ghost use Rattle.std.specs.Prelude.{◌≡◌, ◌<◌, length, IfOk};
+ghost use Rattle.std.specs.Prelude.{◌*◌, ◌+◌, ◌≤◌, ◌≡◌, ◌<◌, length, IfOk};
 ghost use Rattle.wa_base.specs.declared.graph_names.End.{End};
 ghost use Rattle.law_base.specs.Members.{IsIn};
 ghost use Rattle.conn_graph.specs.Graph.{IsGraph};
@@ -37,7 +37,8 @@ pub fn survey<L: Ledger>(
     graph: &Graph,
     steps: &mut Steps<L>,
 ) -> Result<Surveyed, NoMemory>
-    ensures { IfOk result (λ marks. spec.IsSurvey graph.now.value marks) }
+    ensures survey { IfOk result (λ marks. spec.IsSurvey graph.now.value marks) }
+    ensures cost { steps.new ≤ steps.old + 4 * (length graph.now.value.edges + length graph.now.value.nodes) }
 {
     let lists = edge_lists(alloc, graph, steps)?;
     let in_cycle = delays_in_cycle(alloc, graph, lists.as_slice())?;

@@ -36,9 +36,9 @@ pub returns : goal.returns
 returns g c =
     let nodes = c.in_ok-into.ensures.length ∙ c.len.ensures.number in
     record {
-      plan = plan_is c.args.world.now.graph.value _ _ _ c.in_ok-ordered.ensures.legal c.in_ok-marks.ensures.muted nodes
+      plan = plan_is c.args.world.now.graph.value _ _ _ c.in_ok-ordered.ensures.legal c.in_ok-marks.ensures.survey.muted nodes
           (λ n l. c.in_ok-into.ensures.each n (subst (λ k. n < k) (sym c.len.ensures.number) l) ∙ ap (λ es. filter (enters n) es) (c.as_slice.ensures.value ∙ c.in_ok-all.ensures));
-      cycles = cycles_are c.args.world.now.graph.value _ _ (c.as_slice-2.ensures ∙ c.in_ok-marks.ensures.in_cycle) (c.in_ok-cycles.ensures.length ∙ c.len-2.ensures.number) (λ n l. c.in_ok-cycles.ensures.each n (subst (λ k. n < k) (sym c.len-2.ensures.number) l));
+      cycles = cycles_are c.args.world.now.graph.value _ _ (c.as_slice-2.ensures ∙ c.in_ok-marks.ensures.survey.in_cycle) (c.in_ok-cycles.ensures.length ∙ c.len-2.ensures.number) (λ n l. c.in_ok-cycles.ensures.each n (subst (λ k. n < k) (sym c.len-2.ensures.number) l));
       order = c.in_ok-ordered.ensures.tie;
       tie = refl;
     }
@@ -47,13 +47,13 @@ pub invariant_of-result : goal.invariant_of-result
 invariant_of-result g c =
     let nodes = c.in_ok-into.ensures.length ∙ c.len.ensures.number in
     rw c.in_ok-kept.ensures (
-      plan_is c.args.world.now.graph.value _ _ _ c.in_ok-ordered.ensures.legal c.in_ok-marks.ensures.muted nodes
+      plan_is c.args.world.now.graph.value _ _ _ c.in_ok-ordered.ensures.legal c.in_ok-marks.ensures.survey.muted nodes
           (λ n l. c.in_ok-into.ensures.each n (subst (λ k. n < k) (sym c.len.ensures.number) l) ∙ ap (λ es. filter (enters n) es) (c.as_slice.ensures.value ∙ c.in_ok-all.ensures)),
       c.in_ok-ordered.ensures.tie,
-      cycles_are c.args.world.now.graph.value _ _ (c.as_slice-2.ensures ∙ c.in_ok-marks.ensures.in_cycle) (c.in_ok-cycles.ensures.length ∙ c.len-2.ensures.number) (λ n l. c.in_ok-cycles.ensures.each n (subst (λ k. n < k) (sym c.len-2.ensures.number) l)),
+      cycles_are c.args.world.now.graph.value _ _ (c.as_slice-2.ensures ∙ c.in_ok-marks.ensures.survey.in_cycle) (c.in_ok-cycles.ensures.length ∙ c.len-2.ensures.number) (λ n l. c.in_ok-cycles.ensures.each n (subst (λ k. n < k) (sym c.len-2.ensures.number) l)),
     )
 
 pub marked-requires : goal.marked-requires
 marked-requires g c =
-    subst (λ (ids : List NodeId). All (λ (id : NodeId). id.0 < c.len-2.result) ids) (sym (c.as_slice-2.ensures ∙ c.in_ok-marks.ensures.in_cycle))
+    subst (λ (ids : List NodeId). All (λ (id : NodeId). id.0 < c.len-2.result) ids) (sym (c.as_slice-2.ensures ∙ c.in_ok-marks.ensures.survey.in_cycle))
     (subst (λ k. All (λ (id : NodeId). id.0 < k) (delays_in_cycle c.args.world.now.graph.value)) (sym c.len-2.ensures.number) (listed_below c.args.world.now.graph.value))
