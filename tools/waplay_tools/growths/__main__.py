@@ -14,6 +14,7 @@ many growths were refused in all. The status is 0 where all is as the documents 
 
 import argparse
 import concurrent.futures
+import functools
 import os
 import shutil
 import subprocess
@@ -107,12 +108,13 @@ def refused_in(program: Path, library: Path, it: Run) -> tuple[int, list[str]]:
     """Refuses each growth of a run in turn, and tells how many there were and what is wrong."""
     whole = whole_of(program, library, it)
     asked = [
-        {"REFUSED": str(number), **onwards}
+        {"REFUSED": str(number), **dict(onwards)}
         for number in range(1, whole.growths + 1)
-        for onwards in ({}, {"ONWARDS": "1"})
+        for onwards in ([], [("ONWARDS", "1")])
     ]
-    with concurrent.futures.ThreadPoolExecutor(len(os.sched_getaffinity(0))) as pool:
-        found = list(pool.map(lambda told: judged(program, library, it, whole, told), asked))
+    judge = functools.partial(judged, program, library, it, whole)
+    with concurrent.futures.ProcessPoolExecutor(len(os.sched_getaffinity(0))) as pool:
+        found = list(pool.map(judge, asked, chunksize=20))
     print(
         f"{it.shows}: status {whole.answer.status}, {whole.growths} growths, each refused twice;"
         f" it went on after {sum(one.goes_on for one in found)},"

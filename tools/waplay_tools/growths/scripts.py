@@ -34,35 +34,46 @@ def joined(*names: str) -> list[Call]:
     return [{"op": "connect", "from": a, "to": b} for a, b in zip(names, names[1:])]
 
 
-CONSTANT = {"op": "createConstantSource", "as": "c"}
-START = {"op": "start", "node": "c"}
+CONSTANT: Call = {"op": "createConstantSource", "as": "c"}
+START: Call = {"op": "start", "node": "c"}
 OFFSET = {"node": "c", "param": "offset"}
-CURVE = {"op": "setValueCurveAtTime", **OFFSET, "values": [0, ONE], "time": 0, "duration": 256}
-IMPULSE = [
+CURVE: Call = {
+    "op": "setValueCurveAtTime",
+    **OFFSET,
+    "values": [0, ONE],
+    "time": 0,
+    "duration": 256,
+}
+IMPULSE: list[Call] = [
     {"op": "createBuffer", "as": "b", "channels": 1, "length": 1, "rate": 48000},
     {"op": "copyToChannel", "buffer": "b", "channel": 0, "samples": [ONE]},
     {"op": "createBufferSource", "as": "s", "buffer": "b"},
     {"op": "start", "node": "s"},
 ]
-ECHO = [
+ECHO: list[Call] = [
     {"op": "createDelay", "as": "d"},
     {"op": "createGain", "as": "g", "gain": ONE // 2},
     *joined("s", "d", "g", "d"),
     *joined("g", "destination"),
 ]
-HELD = [
+HELD: list[Call] = [
     {"op": "cancelScheduledValues", **OFFSET, "time": 256},
     {"op": "readValue", **OFFSET},
     {"op": "resume"},
 ]
-DECODED = [
+DECODED: list[Call] = [
     {"op": "decodeAudioData", "as": "b", "path": "two.wav"},
     {"op": "createBufferSource", "as": "s", "buffer": "b"},
     {"op": "start", "node": "s"},
     *joined("s", "destination"),
 ]
-FILTER = {"op": "createIIRFilter", "as": "i", "feedforward": [ONE], "feedback": [ONE, -ONE // 2]}
-BENT = {"op": "createWaveShaper", "as": "w", "curve": [-ONE, 0, ONE]}
+FILTER: Call = {
+    "op": "createIIRFilter",
+    "as": "i",
+    "feedforward": [ONE],
+    "feedback": [ONE, -ONE // 2],
+}
+BENT: Call = {"op": "createWaveShaper", "as": "w", "curve": [-ONE, 0, ONE]}
 
 RUNS = [
     Run("a constant for one quantum", script(128, CONSTANT, *joined("c", "destination"), START)),
