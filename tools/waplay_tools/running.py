@@ -45,15 +45,17 @@ class Ran(NamedTuple):
     is_late: bool  # it was ended since its time was over
 
 
-def _prepared(terms: Terms) -> Callable[[], None]:
-    """What the process does before the program begins."""
+def _prepared(terms: Terms) -> Callable[[], None] | None:
+    """What the process does before the program begins. Without it a process begins much sooner."""
     lengths = [it for it in (terms.output, terms.file_most) if isinstance(it, int)]
     limits = [
         (resource.RLIMIT_FSIZE, min(lengths) if lengths else None),
         (resource.RLIMIT_AS, terms.memory),
         (resource.RLIMIT_STACK, terms.stack),
-        (resource.RLIMIT_CORE, 0),
     ]
+    is_closed = terms.given is None or terms.output == CLOSED
+    if not is_closed and all(most is None for _, most in limits):
+        return None
 
     def prepare() -> None:
         """Runs between fork and exec."""

@@ -107,11 +107,9 @@ def whole_of(program: Path, library: Path, it: Run) -> Whole:
 def refused_in(program: Path, library: Path, it: Run) -> tuple[int, list[str]]:
     """Refuses each growth of a run in turn, and tells how many there were and what is wrong."""
     whole = whole_of(program, library, it)
-    asked = [
-        {"REFUSED": str(number), **dict(onwards)}
-        for number in range(1, whole.growths + 1)
-        for onwards in ([], [("ONWARDS", "1")])
-    ]
+    asked: list[dict[str, str]] = []
+    for number in range(1, whole.growths + 1):
+        asked += [{"REFUSED": str(number)}, {"REFUSED": str(number), "ONWARDS": "1"}]
     judge = functools.partial(judged, program, library, it, whole)
     with concurrent.futures.ProcessPoolExecutor(len(os.sched_getaffinity(0))) as pool:
         found = list(pool.map(judge, asked, chunksize=20))
