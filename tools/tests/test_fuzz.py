@@ -11,6 +11,7 @@ import unittest
 from pathlib import Path
 
 from waplay_tools.fuzz import pieces, trees
+from waplay_tools.fuzz.smaller import smaller
 from waplay_tools.fuzz.trials import Trial, ill_formed, judged, keep
 from waplay_tools.places import SHIPPED
 from waplay_tools.running import FULL, Terms
@@ -66,6 +67,8 @@ class Changes(unittest.TestCase):
         found = [pieces.change(b"abcdef", number, 1, 2, what) for number, what in told]
         wanted[2] = b"a" + pieces.PIECES[3] + b"bcdef"
         self.assertEqual(found, wanted)
+        for data, what, wanted in [(b"a1", 13, b"a3"), (b"ab", 0, b"aa"), (b"a{", 0, b"a{")]:
+            self.assertEqual(pieces.change(data, 7, 1, 0, what), wanted)
 
     def test_shortening(self) -> None:
         self.assertEqual(shortened(b"xxaxxbxx", lambda it: b"a" in it and b"b" in it), b"ab")
@@ -149,6 +152,21 @@ class Judging(Programs):
             Trial(b"[" * 100000),
         ]:
             self.assertEqual(judged(PROGRAM, trial).faults, [])
+
+
+class Smaller(Programs):
+    def test_values_bytes_and_assets_go(self) -> None:
+        wrong = self.program(
+            'grep -q "readTime" && [ -e a.wav ] && kill -9 $$; echo end idle; exit 3'
+        )
+        calls = b'[{"op":"resume"},{"op":"readTime","x":[1,2]},{"op":"readState"}]'
+        assets = {"a.wav": b"RIFF", "b.wav": b"RIFF"}
+        trial = Trial(SCRIPT.replace(b"[]", calls), assets=assets)
+        found, faults = smaller(wrong, trial, ["status -9"])
+        self.assertEqual(found.given, b'{"calls":[{"op":"readTime"}]}')
+        self.assertEqual((found.assets, faults), ({"a.wav": b""}, ["status -9"]))
+        found, _ = smaller(wrong, Trial(b'[["readTime"', assets=assets), ["status -9"])
+        self.assertEqual(found.given, b"readTime")
 
 
 @unittest.skipUnless(HAS_HYPOTHESIS, "the module hypothesis is not installed")

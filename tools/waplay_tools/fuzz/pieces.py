@@ -42,7 +42,15 @@ def _turned(data: bytes, at: int, _: int, what: int) -> bytes:
     return data[:at] + turned + data[at + 1 :]
 
 
+def _alike(data: bytes, at: int, _: int, what: int) -> bytes:
+    """Another digit for a digit, and another letter for a letter, which mostly leaves JSON."""
+    byte = data[at : at + 1]
+    other = b"%d" % (what % 10) if byte.isdigit() else bytes([97 + what % 26])
+    return data[:at] + other + data[at + 1 :] if byte.isalnum() else data
+
+
 CHANGES: list[Change] = [_changed, _turned, _put_in, _left_out, _doubled, _swapped, _cut]
+CHANGES += [_alike] * 5
 
 
 def change(data: bytes, change_number: int, where: int, length: int, what: int) -> bytes:

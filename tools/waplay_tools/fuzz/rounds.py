@@ -10,13 +10,12 @@ from pathlib import Path
 import hypothesis
 from hypothesis import HealthCheck, Phase, Verbosity
 
+from waplay_tools.fuzz.smaller import smaller
 from waplay_tools.fuzz.strategies import KINDS
 from waplay_tools.fuzz.trials import Judged, Trial, judged
-from waplay_tools.shrinking import shortened
 
 EXAMPLES = 100  # of a round
 FEWER = {"words": 30, "large scripts": 12}  # examples of rounds whose trials take longer
-SHRINKING = 60.0  # seconds, for the bytes of what was found
 
 
 class Wrong(Exception):
@@ -61,24 +60,6 @@ class Round:
         self.calculated += it.is_calculated
 
 
-def shrunk(program: Path, trial: Trial, faults: list[str]) -> tuple[Trial, list[str]]:
-    """The trial with as few bytes of its script as still show a fault, as far as time goes."""
-    end, best = time.time() + SHRINKING, [(trial, faults)]
-
-    def holds(given: bytes) -> bool:
-        """Whether a fault shows with this script."""
-        if time.time() > end:
-            return False
-        less = dataclasses.replace(trial, given=given)
-        found = judged(program, less).faults
-        if found:
-            best.append((less, found))
-        return bool(found)
-
-    shortened(trial.given, holds)
-    return best[-1]
-
-
 def play(job: Job) -> Round:
     """Plays a round to its end. What it draws hangs on the seed, the kind and the number alone."""
     done = Round(job)
@@ -102,5 +83,5 @@ def play(job: Job) -> Round:
             if done.found is None:
                 raise
     if done.found:
-        done.found = shrunk(job.program, *done.found)
+        done.found = smaller(job.program, *done.found)
     return done
