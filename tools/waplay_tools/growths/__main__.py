@@ -57,13 +57,14 @@ class Whole(NamedTuple):
     growths: int
 
 
-def compiled(room: Path) -> Path | None:
-    """The library that refuses growths; None where there is no compiler."""
+def compiled(room: Path, source: Path = SOURCE) -> Path | None:
+    """The library of this source, which is that which refuses growths; None where there is no
+    compiler."""
     compiler = shutil.which("cc") or shutil.which("gcc") or shutil.which("clang")
-    library = room / "refusing.so"
+    library = room / f"{source.stem}.so"
     if compiler is None:
         return None
-    words = [compiler, "-shared", "-fPIC", "-O1", "-o", str(library), str(SOURCE)]
+    words = [compiler, "-shared", "-fPIC", "-O1", "-o", str(library), str(source)]
     subprocess.run(words, check=True)
     return library
 
