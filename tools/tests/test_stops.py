@@ -73,6 +73,17 @@ class Stops(unittest.TestCase):
             ran, file = self.ran(APPEND_FAILS=call, APPEND_LEAVES=leaves)
             self.assertEqual((ran.status, ran.text, file), (9, LINES, FILE[:stands]))
 
+    def test_each_opening_of_the_file(self) -> None:
+        statuses = []
+        while 0 not in statuses:
+            ran, file = self.ran(OPEN_FAILS=len(statuses) + 1)
+            statuses.append(ran.status)
+            self.assertEqual(ran.text, LINES)
+            if ran.status:
+                self.assertEqual(ran.status, 9)
+                self.assertTrue(FILE.startswith(file) or len(statuses) == 1)
+        self.assertGreater(len(statuses), 1)
+
     def test_each_append_of_five_bytes(self) -> None:
         appends = 9 + 77  # of the header, and of the samples
         for call in range(1, appends + 1):
