@@ -2,6 +2,7 @@
 
 import dataclasses
 import json
+import random
 from collections.abc import Callable, Iterable, Iterator
 from typing import Any
 
@@ -60,6 +61,16 @@ def events(count: int, step: int) -> str:
     sets = [
         {"op": "setValueAtTime", **OF_GAIN, "value": 0, "time": first + step * number}
         for number in range(count)
+    ]
+    return text_of([GAIN, *sets, START])
+
+
+def events_in_any_order(count: int) -> str:
+    """Values that are set at random times, and a frame."""
+    rng = random.Random(count)
+    sets = [
+        {"op": "setValueAtTime", **OF_GAIN, "value": 0, "time": rng.randrange(TIME)}
+        for _ in range(count)
     ]
     return text_of([GAIN, *sets, START])
 
@@ -225,6 +236,7 @@ TIMELINES = [
     Worst("100,000 events in rising order of time", lambda: events(100000, 1)),
     Worst("25,000 events in falling order of time", lambda: events(25000, -1)),
     Worst("50,000 events in falling order of time", lambda: events(50000, -1)),
+    Worst("50,000 events in any order of time", lambda: events_in_any_order(50000)),
     Worst(
         "10,000 cancels behind 50,000 events",
         lambda: edits_behind(50000, {"op": "cancelScheduledValues"}, 10000),
