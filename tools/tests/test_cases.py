@@ -108,6 +108,18 @@ class Reading(unittest.TestCase):
             with self.assertRaises(CaseFault):
                 case_of({key: it for key, it in MEMBERS.items() if key != name}, Path())
 
+    def test_fronts_are_a_run_each(self):
+        members = {**MEMBERS, "fronts": True, "input": "[1]"}
+        del members["script"], members["samples"]
+        runs = case_of(members, Path()).each()
+        self.assertEqual([one.input_bytes() for _, one in runs], [b"", b"[", b"[1"])
+        self.assertEqual(runs[2][0], "over its first 2 bytes, ")
+        self.assertEqual(case_with().each(), [("", case_with())])
+
+    def test_a_last_line_that_is_cut(self):
+        self.assertEqual(case_with(is_cut=True).text(), "1 ok\nend completed")
+        self.assertEqual(case_with(transcript=[], is_cut=True).text(), "")
+
     def test_the_schema_has_the_members_of_a_case(self):
         names = {field.name for field in dataclasses.fields(Case)} - {"is_example", "path"}
         self.assertEqual(set(SCHEMA["properties"]), (names - {"source"}) | {"from"})
@@ -199,6 +211,16 @@ class Folders(unittest.TestCase):
             (folder / "d").rmdir()
             self.assertEqual(len(changes_in(folder, files, {}, None)), 3)
             self.assertEqual(changes_in(folder, files, {"e": {"text": "y"}, "d": None}, "new"), [])
+
+    def test_fronts_of_a_file_are_a_file_each(self):
+        files = {"cut/{n}": {"fronts": {"hex": "00ff"}}, "whole": {"text": "x"}}
+        with tempfile.TemporaryDirectory() as room:
+            write_files(Path(room), files)
+            found = [(Path(room) / "cut" / str(n)).read_bytes() for n in range(3)]
+            self.assertEqual(found, [b"", b"\0", b"\0\xff"])
+            self.assertEqual(changes_in(Path(room), files, {}, None), [])
+            (Path(room) / "cut" / "1").unlink()
+            self.assertEqual(len(changes_in(Path(room), files, {}, None)), 1)
 
     def test_a_file_of_samples(self):
         data = content_of(

@@ -26,6 +26,7 @@ LONG = (
     "test_reading",
     "test_report",
     "test_schema",
+    "test_worst",
 )
 
 _RAN = re.compile(r"^Ran (\d+) tests?", re.M)

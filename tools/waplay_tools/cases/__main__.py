@@ -81,20 +81,29 @@ def outcomes_of(case: Case, programs: list[Path]) -> dict[str, Outcome]:
     return found
 
 
+def told_of(case: Case, programs: list[Path]) -> dict[str, list[str]]:
+    """What is otherwise than a case wants, by performer."""
+    told: dict[str, list[str]] = {}
+    for which, one in case.each():
+        found = outcomes_of(one, programs)
+        second = found.get(SECOND)
+        for name, outcome in found.items():
+            lines = [which + line for line in differences(one, outcome, second)]
+            told.setdefault(name, []).extend(lines)
+    return told
+
+
 def looked_at(path: Path, programs: list[Path]) -> dict[str, list[str]]:
-    """What is otherwise than the case wants, by performer."""
+    """The same of the case of a file, which may be none."""
     try:
-        case = case_at(path)
-        found = outcomes_of(case, programs)
+        return told_of(case_at(path), programs)
     except (CaseFault, OSError, ValueError, KeyError, TypeError) as fault:
         return {"the case itself": [f"{type(fault).__name__}: {fault}"]}
-    second = found.get(SECOND)
-    return {name: differences(case, outcome, second) for name, outcome in found.items()}
 
 
 def changes_untold(path: Path, programs: list[Path]) -> dict[str, list[str]]:
     """Changes of the case that no performer's outcome tells."""
-    case = case_at(path)
+    _, case = case_at(path).each()[0]
     found = outcomes_of(case, programs)
     untold = {}
     for what, other in changed(case):

@@ -9,7 +9,7 @@ from typing import Any
 from waplay_tools.cases.expansion import calls_in, lines_in
 
 # How the input of a case may be told. A case has exactly one of them.
-INPUTS = ("script", "input", "input_base64", "input_zeros")
+INPUTS = ("script", "input", "input_base64", "input_zeros", "input_folder")
 
 
 class CaseFault(Exception):
@@ -27,9 +27,14 @@ class Case:
     input: str | None = None
     input_base64: str | None = None
     input_zeros: int | None = None
+    input_folder: bool = False
+    fronts: bool = False
+    output: str | int | None = None
+    file_most: int | None = None
     files: dict[str, Any] = dataclasses.field(default_factory=dict)
     status: int = 0
     transcript: list[str] = dataclasses.field(default_factory=list)
+    is_cut: bool = False
     samples: list[list[list[int]]] | None = None
     samples_at: dict[str, list[int]] | None = None
     frames: int | None = None
@@ -54,7 +59,25 @@ class Case:
 
     def text(self) -> str:
         """What the run must write to standard output."""
-        return "".join(f"{line}\n" for line in lines_in(self.transcript))
+        text = "".join(f"{line}\n" for line in lines_in(self.transcript))
+        return text.removesuffix("\n") if self.is_cut else text
+
+    def each(self) -> list[tuple[str, "Case"]]:
+        """The runs that the case stands for, with what each is called: one, or one for each front
+        of its input that is not all of it."""
+        whole = self.input_bytes()
+        if not self.fronts or whole is None:
+            return [("", self)]
+        told = {name: None for name in ("script", "input", "input_zeros")}
+        return [
+            (
+                f"over its first {length} bytes, ",
+                dataclasses.replace(
+                    self, **told, input_base64=base64.b64encode(whole[:length]).decode()
+                ),
+            )
+            for length in range(len(whole))
+        ]
 
     def is_rendered(self) -> bool:
         """Whether the run must leave a WAV file."""

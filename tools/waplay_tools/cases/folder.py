@@ -30,9 +30,23 @@ def content_of(told: dict[str, Any]) -> Content:
     return readings[form]()
 
 
+def each_file(files: dict[str, Any]) -> dict[str, Any]:
+    """The files of a case, where one with fronts is a file for each of them."""
+    made = {}
+    for path, told in files.items():
+        if "fronts" not in told:
+            made[path] = told
+            continue
+        data = content_of(told["fronts"])
+        assert isinstance(data, bytes)
+        for length in range(len(data) + 1):
+            made[path.replace("{n}", str(length))] = {"hex": data[:length].hex()}
+    return made
+
+
 def write_files(folder: Path, files: dict[str, Any]) -> None:
     """Writes the files of a case into its folder."""
-    for path, told in files.items():
+    for path, told in each_file(files).items():
         content = content_of(told)
         target = folder / path
         target.parent.mkdir(parents=True, exist_ok=True)
@@ -59,7 +73,8 @@ def changes_in(
     folder: Path, files: dict[str, Any], left: dict[str, Any], out: str | None
 ) -> list[str]:
     """What stands in the folder otherwise than it must. The file `out` is looked at elsewhere."""
-    wanted = {path: told for path, told in {**files, **left}.items() if told is not None}
+    all_files = {**each_file(files), **left}
+    wanted = {path: told for path, told in all_files.items() if told is not None}
     folders = {str(parent) for path in wanted for parent in Path(path).parents}
     differences = [
         f"left in the folder: {path} is not what it must be"

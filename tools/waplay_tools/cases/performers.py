@@ -2,7 +2,6 @@
 
 import dataclasses
 import os
-import subprocess
 from pathlib import Path
 
 from waplay_tools.expecting.sessions import replayed
@@ -10,8 +9,7 @@ from waplay_tools.expecting.sessions import wav_bytes as expected_wav
 from waplay_tools.cases.case import Case
 from waplay_tools.cases.folder import changes_in, write_files
 from waplay_tools.cases.words import words_of
-
-SECONDS = 120  # for one run of a program
+from waplay_tools.running import SECONDS, Terms, run
 
 
 @dataclasses.dataclass
@@ -27,25 +25,19 @@ class Outcome:
 def perform(program: Path, case: Case, folder: Path) -> Outcome:
     """Runs a program on a case, in this empty folder."""
     write_files(folder, case.files)
-    given = case.input_bytes()
-    words = [os.fsencode(word) for word in case.words]
-    command = [os.fsencode(program), *words]
-    if given is None:
-        command = [b"/bin/sh", b"-c", b'exec "$@" <&-', b"sh", *command]
-    try:
-        done = subprocess.run(
-            command, input=given, capture_output=True, cwd=folder, timeout=SECONDS, check=False
-        )
-    except subprocess.TimeoutExpired:
-        return Outcome(-1, b"", None, [f"it did not end within {SECONDS} seconds"])
+    given = Path("/") if case.input_folder else case.input_bytes()
+    command = [os.fsencode(program), *map(os.fsencode, case.words)]
+    done = run(command, folder, Terms(given, case.output, case.file_most))
+    if done.is_late:
+        return Outcome(-1, b"", None, [f"it did not end within {SECONDS:.0f} seconds"])
     asked = words_of(case.words)
     out = asked.out if asked and case.is_rendered() else None
     faults = changes_in(folder, case.files, case.left, out)
-    if done.stderr:
-        faults.append(f"standard error: {done.stderr[:200].decode(errors='replace')!r}")
+    if done.errors:
+        faults.append(f"standard error: {done.errors[:200].decode(errors='replace')!r}")
     path = None if out is None else folder / out
     file = path.read_bytes() if path and path.is_file() else None
-    return Outcome(done.returncode, done.stdout, file, faults)
+    return Outcome(done.status, done.text, file, faults)
 
 
 def calculate(case: Case, folder: Path) -> Outcome:

@@ -7,6 +7,7 @@ from typing import Any
 
 from waplay_tools.random_scripts.comparing import differences
 from waplay_tools.random_scripts.kinds import Script
+from waplay_tools.shrinking import shortened
 
 
 def lists_of(calls: Any) -> Iterator[list]:
@@ -25,20 +26,18 @@ def list_at(script: Script, number: int) -> list:
 
 
 def shrunk_at(program: Path, script: Script, number: int) -> Script:
-    """The script without calls of one list that no difference hangs on: first many at a time, then
-    fewer."""
-    size = len(list_at(script, number))
-    while size:
-        at = 0
-        while at < len(list_at(script, number)):
-            less = copy.deepcopy(script)
-            del list_at(less, number)[at : at + size]
-            if differences(program, less)[0]:
-                script = less
-            else:
-                at += size
-        size //= 2
-    return script
+    """The script without calls of one list that no difference hangs on."""
+
+    def with_calls(calls: list) -> Script:
+        """The script with these calls in that list."""
+        other = copy.deepcopy(script)
+        list_at(other, number)[:] = calls
+        return other
+
+    calls = list_at(script, number)
+    return with_calls(
+        shortened(calls, lambda less: bool(differences(program, with_calls(less))[0]))
+    )
 
 
 def shrunk(program: Path, script: Script) -> Script:

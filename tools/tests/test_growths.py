@@ -1,0 +1,58 @@
+"""Tests of how growths are refused, and that a run ends with status 10 then.
+
+The program is the one that the variable WAPLAY names, or else the shipped one. Where there is no
+program, or no C compiler, the tests are skipped."""
+
+import contextlib
+import io
+import os
+import tempfile
+import unittest
+from pathlib import Path
+
+from waplay_tools.growths.__main__ import BEFORE, compiled, judged, performed, refused_in, whole_of
+from waplay_tools.growths.scripts import ASSET, RUNS
+from waplay_tools.places import SHIPPED
+
+PROGRAM = Path(os.environ.get("WAPLAY") or SHIPPED).absolute()
+# Growths for the words themselves, which main asks for before the call that has the contract: where
+# one is refused, it hands on no words.
+OF_MAIN = "status 2 in place of 10"
+
+
+@unittest.skipUnless(os.access(PROGRAM, os.X_OK), "there is no program")
+class Growths(unittest.TestCase):
+    def setUp(self) -> None:
+        room = tempfile.TemporaryDirectory()
+        self.addCleanup(room.cleanup)
+        library = compiled(Path(room.name))
+        if library is None:
+            self.skipTest("there is no C compiler")
+        self.library = library
+
+    def test_runs_end_as_they_have_to_where_nothing_is_refused(self) -> None:
+        self.assertEqual(len(ASSET), 85)
+        for it in RUNS:
+            whole = whole_of(PROGRAM, self.library, it)
+            self.assertGreater(whole.growths, 20, it.shows)
+            self.assertIn(whole.answer.status, (0, 2, 4), it.shows)
+            self.assertNotIn(b"throw", whole.answer.text, it.shows)
+
+    def test_each_growth_of_a_run_is_refused(self) -> None:
+        with contextlib.redirect_stdout(io.StringIO()) as text:
+            growths, wrong = refused_in(PROGRAM, self.library, RUNS[0])
+        self.assertEqual([line for line in wrong if OF_MAIN not in line], [])
+        self.assertIn(f"status 0, {growths} growths, each refused twice", text.getvalue())
+
+    def test_a_number_past_the_last_growth_refuses_none(self) -> None:
+        whole = whole_of(PROGRAM, self.library, RUNS[0])
+        told = {"REFUSED": str(whole.growths + 1)}
+        left = performed(PROGRAM, self.library, RUNS[0], told)
+        self.assertEqual((left.ran.status, left.growths), (0, whole.growths))
+        self.assertEqual(set(left.files), set(BEFORE))
+        found = judged(PROGRAM, self.library, RUNS[0], whole, told)
+        self.assertEqual(found.faults, ["status 0 in place of 10"])
+
+
+if __name__ == "__main__":
+    unittest.main()

@@ -1,0 +1,1 @@
+"""Scripts, WAV files, words and streams with something wrong in them, on the built program."""

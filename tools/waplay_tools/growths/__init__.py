@@ -1,0 +1,1 @@
+"""Runs of a program in each of which one growth of its memory is refused."""

@@ -1,0 +1,111 @@
+"""The runs whose growths are refused."""
+
+import json
+from typing import Any, NamedTuple
+
+Call = dict[str, Any]
+ONE = 2**24
+
+# Two frames of 0.5 and -0.5 behind a chunk that is passed over, and one byte more.
+ASSET = bytes.fromhex(
+    "52494646ffffffff574156454c4953540300000041424300666d742028000000feff010080bb000000770100"
+    "020010001600100004000000"
+    "0100000000001000800000aa00389b7164617461ffffffff004000c001"
+)
+
+
+class Run(NamedTuple):
+    """A run: what it shows, its script, and its words."""
+
+    shows: str
+    given: bytes
+    words: tuple[str, ...] = ("out.wav",)
+
+
+def script(length: int, *calls: Call) -> bytes:
+    """A script of these calls in one channel, which is rendered."""
+    context = {"channels": 1, "length": length, "rate": 48000}
+    whole = {"version": 1, "context": context, "calls": [*calls, {"op": "startRendering"}]}
+    return json.dumps(whole).encode()
+
+
+def joined(*names: str) -> list[Call]:
+    """Connections from each node to the next."""
+    return [{"op": "connect", "from": a, "to": b} for a, b in zip(names, names[1:])]
+
+
+CONSTANT: Call = {"op": "createConstantSource", "as": "c"}
+START: Call = {"op": "start", "node": "c"}
+OFFSET = {"node": "c", "param": "offset"}
+CURVE: Call = {
+    "op": "setValueCurveAtTime",
+    **OFFSET,
+    "values": [0, ONE],
+    "time": 0,
+    "duration": 256,
+}
+IMPULSE: list[Call] = [
+    {"op": "createBuffer", "as": "b", "channels": 1, "length": 1, "rate": 48000},
+    {"op": "copyToChannel", "buffer": "b", "channel": 0, "samples": [ONE]},
+    {"op": "createBufferSource", "as": "s", "buffer": "b"},
+    {"op": "start", "node": "s"},
+]
+ECHO: list[Call] = [
+    {"op": "createDelay", "as": "d"},
+    {"op": "createGain", "as": "g", "gain": ONE // 2},
+    *joined("s", "d", "g", "d"),
+    *joined("g", "destination"),
+]
+HELD: list[Call] = [
+    {"op": "cancelScheduledValues", **OFFSET, "time": 256},
+    {"op": "readValue", **OFFSET},
+    {"op": "resume"},
+]
+DECODED: list[Call] = [
+    {"op": "decodeAudioData", "as": "b", "path": "two.wav"},
+    {"op": "createBufferSource", "as": "s", "buffer": "b"},
+    {"op": "start", "node": "s"},
+    *joined("s", "destination"),
+]
+FILTER: Call = {
+    "op": "createIIRFilter",
+    "as": "i",
+    "feedforward": [ONE],
+    "feedback": [ONE, -ONE // 2],
+}
+BENT: Call = {"op": "createWaveShaper", "as": "w", "curve": [-ONE, 0, ONE]}
+
+RUNS = [
+    Run("a constant for one quantum", script(128, CONSTANT, *joined("c", "destination"), START)),
+    Run(
+        "a curve that is cancelled at a suspension",
+        script(
+            384,
+            CONSTANT,
+            CURVE,
+            {"op": "suspend", "time": 256, "then": HELD},
+            *joined("c", "destination"),
+            START,
+        ),
+    ),
+    Run("feedback through one delay", script(384, *IMPULSE, *joined("s", "destination"), *ECHO)),
+    Run("an asset that is decoded and played", script(128, *DECODED)),
+    Run(
+        "a delay in a cycle, a filter, a shaper, a timeline and buffers",
+        script(
+            512,
+            *IMPULSE,
+            *ECHO,
+            FILTER,
+            BENT,
+            CONSTANT,
+            CURVE,
+            START,
+            *joined("s", "i", "w", "destination"),
+            {"op": "connectParam", "from": "c", "to": "g", "param": "gain"},
+            {"op": "suspend", "time": 256, "then": [*DECODED, {"op": "resume"}]},
+        ),
+    ),
+    Run("a script with a fault", script(128, CONSTANT, {"op": "createFoo"})),
+    Run("a command line that has no reading", b"", ("--bits", "8", "out.wav")),
+]

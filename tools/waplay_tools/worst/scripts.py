@@ -1,0 +1,299 @@
+"""The worst scripts that are known, each of one kind: much that is asked for in few bytes."""
+
+import dataclasses
+import json
+import random
+from collections.abc import Callable, Iterable, Iterator
+from typing import Any
+
+from waplay_tools import wav
+from waplay_tools.random_scripts.kinds import TIME, Asset, Call
+
+MOST = 2**24  # bytes of a script
+RATE = 16384
+LONGEST_DELAY = 2**28
+CHECKED = ("--mode", "check", "out.wav")
+
+
+@dataclasses.dataclass(frozen=True)
+class Worst:
+    """A script: what it shows, how its text is made, its words, and how its assets are."""
+
+    shows: str
+    text: Callable[[], str]
+    words: tuple[str, ...] = ("out.wav",)
+    assets: Callable[[], dict[str, Asset]] = dict
+
+
+def text_of(calls: Iterable[Call], **context: int) -> str:
+    """The text of a script of these calls, in one channel and one frame where no more is said."""
+    whole = {"channels": 1, "length": 1, "rate": RATE, **context}
+    lines = ",".join(json.dumps(call, separators=(",", ":")) for call in calls)
+    return f'{{"version":1,"context":{json.dumps(whole)},"calls":[{lines}]}}'
+
+
+def filled(before: str, part: str, behind: str) -> str:
+    """A text with a part as often as a script has room for it."""
+    times = (MOST - len(before) - len(behind)) // len(part)
+    return before + part * times + behind
+
+
+def member_of(part: str, last: str) -> Callable[[], str]:
+    """A script with a list of parts in a member that nothing reads."""
+    return lambda: filled(text_of([])[:-1] + ',"x":[', part, last + "]}")
+
+
+def listed(call: Call, field: str, before: list[Call]) -> Callable[[], str]:
+    """A script with a call whose list is as long as there is room."""
+    text = text_of([*before, {**call, field: []}])
+    front, behind = text.rsplit("[]", 1)
+    return lambda: filled(front + "[", "0,", "0]" + behind)
+
+
+GAIN: Call = {"op": "createGain", "as": "g"}
+OF_GAIN: Call = {"node": "g", "param": "gain"}
+START = {"op": "startRendering"}
+
+
+def events(count: int, step: int) -> str:
+    """Values that are set at times a step apart, falling where it is below 0, and a frame."""
+    first = 0 if step > 0 else -step * count
+    sets = [
+        {"op": "setValueAtTime", **OF_GAIN, "value": 0, "time": first + step * number}
+        for number in range(count)
+    ]
+    return text_of([GAIN, *sets, START])
+
+
+def events_in_any_order(count: int) -> str:
+    """Values that are set at random times, and a frame."""
+    rng = random.Random(count)
+    sets = [
+        {"op": "setValueAtTime", **OF_GAIN, "value": 0, "time": rng.randrange(TIME)}
+        for _ in range(count)
+    ]
+    return text_of([GAIN, *sets, START])
+
+
+def edits_behind(count: int, edit: Call, times: int) -> str:
+    """A long timeline, and an edit at its end again and again, which changes nothing."""
+    sets = ({"op": "setValueAtTime", **OF_GAIN, "value": 0, "time": at} for at in range(count))
+    return text_of([GAIN, *sets, *[{**edit, **OF_GAIN, "time": TIME}] * times])
+
+
+def splitter() -> Iterator[Call]:
+    """A splitter into eight mergers, with as many connections as there may be."""
+    yield {"op": "createChannelSplitter", "as": "p", "numberOfOutputs": 32}
+    for merger in range(8):
+        yield {"op": "createChannelMerger", "as": f"m{merger}", "numberOfInputs": 32}
+    yield from cables()
+
+
+def cables() -> Iterator[Call]:
+    """The connections of the splitter."""
+    for at in range(8192):
+        yield cable(at)
+
+
+def cable(at: int) -> Call:
+    """One of them."""
+    output, place = at % 32, at // 32 % 32
+    return {"op": "connect", "from": "p", "output": output, "to": f"m{at // 1024}", "input": place}
+
+
+def again(calls: list[Call], times: int) -> str:
+    """Calls behind the splitter again and again, and a frame."""
+    return text_of([*splitter(), *calls * times, START])
+
+
+def suspended(count: int, before: Iterable[Call], lists: Callable[[int], list[Call]]) -> str:
+    """A suspension in each of so many quanta, with its list."""
+    suspensions = [
+        {"op": "suspend", "time": 128 * number, "then": [*lists(number), {"op": "resume"}]}
+        for number in range(1, count + 1)
+    ]
+    return text_of([*before, *suspensions, START], length=128 * (count + 1))
+
+
+def round_of(made: Call) -> str:
+    """A thousand nodes, each connected to the eight behind it and the last ones to the first. One
+    of the connections goes and comes at suspensions."""
+    calls = [{**made, "as": f"n{number}"} for number in range(1000)]
+    for number in range(1000):
+        for further in range(number + 1, number + 9):
+            calls.append({"op": "connect", "from": f"n{number}", "to": f"n{further % 1000}"})
+    ends = {"from": "n4", "to": "n5"}
+    changes = [{"op": "disconnect", **ends}, {"op": "connect", **ends}]
+    return suspended(100, calls, lambda number: [changes[(number + 1) % 2]])
+
+
+SHORT_DELAY: Call = {"op": "createDelay", "maxDelayTime": 128 * 1024}
+
+
+def round_of_gains() -> str:
+    """A cycle through all nodes there may be, which is cut and closed at suspensions."""
+    gains = [{"op": "createGain", "as": f"n{number}"} for number in range(1023)]
+    joined = [
+        {"op": "connect", "from": f"n{number}", "to": f"n{(number + 1) % 1023}"}
+        for number in range(1023)
+    ]
+    cut = {"op": "disconnect", "from": "n0", "to": "n1"}
+    changes = [cut, joined[0]]
+    return suspended(100, [*gains, *joined], lambda number: [changes[(number + 1) % 2]])
+
+
+def made_at_suspensions() -> str:
+    """A gain that is made and connected at each of 1,000 suspensions."""
+    return suspended(
+        1000,
+        [],
+        lambda number: [
+            {"op": "createGain", "as": f"n{number}"},
+            {"op": "connect", "from": f"n{number}", "to": "destination"},
+        ],
+    )
+
+
+def cut_at_suspensions() -> str:
+    """All 8,192 connections of the splitter, which go and come at each of 20 suspensions."""
+    whole = [{"op": "disconnect", "from": "p"}, *cables()]
+    return suspended(20, splitter(), lambda _: whole)
+
+
+def scheduled() -> str:
+    """Suspensions whose times fall."""
+    count = 200000
+    calls = ({"op": "suspend", "time": 128 * (count - number)} for number in range(count))
+    return text_of(calls, length=128 * (count + 1))
+
+
+def named() -> str:
+    """Buffers of one sample, each with a name of its own."""
+    shape = {"channels": 1, "length": 1, "rate": RATE}
+    return text_of({"op": "createBuffer", "as": f"b{at}", **shape} for at in range(200000))
+
+
+def delays_of_32_channels() -> str:
+    """As many frames of delays as there may be, each with 32 channels."""
+    calls: list[Call] = [
+        {"op": "createBuffer", "as": "b", "channels": 32, "length": 128, "rate": RATE}
+    ]
+    written = {"op": "copyToChannel", "buffer": "b", "samples": list(range(128))}
+    calls += [{**written, "channel": channel} for channel in range(32)]
+    calls.append({"op": "createBufferSource", "as": "s", "buffer": "b", "loop": True})
+    calls.append({"op": "start", "node": "s"})
+    for number in range(16):
+        name = f"d{number}"
+        delay = {
+            "op": "createDelay",
+            "as": name,
+            "maxDelayTime": LONGEST_DELAY,
+            "delayTime": 2**20,
+        }
+        calls += [delay, {"op": "connect", "from": "s", "to": name}]
+        calls.append({"op": "connect", "from": name, "to": "destination"})
+    return text_of([*calls, START], length=2 * 2**18)
+
+
+def sources_that_end() -> str:
+    """As many sources as there may be, in the longest session; the last frame ends them."""
+    calls: list[Call] = []
+    for number in range(1023):
+        calls.append({"op": "createConstantSource", "as": f"c{number}"})
+        calls.append({"op": "start", "node": f"c{number}"})
+        calls.append({"op": "stop", "node": f"c{number}", "when": 2**25})
+    return text_of([*calls, START], length=2**25)
+
+
+def largest_buffers() -> str:
+    """As many samples in buffers as there may be."""
+    shape = {"channels": 32, "length": 2**22, "rate": RATE}
+    return text_of([{"op": "createBuffer", "as": "b", **shape}, START])
+
+
+def long_asset(rate: int) -> Callable[[], dict[str, Asset]]:
+    """The longest asset, of samples of 8 bits."""
+    return lambda: {"long.wav": wav.file_of(wav.Form(1, rate, 8), bytes(2**26 - 44))}
+
+
+def decodes(count: int) -> str:
+    """The asset, which is decoded so many times."""
+    return text_of([{"op": "decodeAudioData", "as": "b", "path": "long.wav"}] * count)
+
+
+def refused_disconnect() -> Call:
+    """A disconnect of the splitter from a node that it is not connected to."""
+    return {"op": "disconnect", "from": "p", "to": "destination"}
+
+
+def back_and_forth() -> list[Call]:
+    """One of the connections, which goes and comes."""
+    ends: dict[str, Any] = cable(8191)
+    return [{**ends, "op": "disconnect"}, ends]
+
+
+TIMELINES = [
+    Worst("100,000 events in rising order of time", lambda: events(100000, 1)),
+    Worst("25,000 events in falling order of time", lambda: events(25000, -1)),
+    Worst("50,000 events in falling order of time", lambda: events(50000, -1)),
+    Worst("50,000 events in any order of time", lambda: events_in_any_order(50000)),
+    Worst(
+        "10,000 cancels behind 50,000 events",
+        lambda: edits_behind(50000, {"op": "cancelScheduledValues"}, 10000),
+    ),
+    Worst(
+        "a curve with all points there is room for",
+        listed(
+            {**OF_GAIN, "op": "setValueCurveAtTime", "time": 0, "duration": 1}, "values", [GAIN]
+        ),
+    ),
+]
+CONNECTIONS = [
+    Worst("8,192 connections", lambda: again([], 0)),
+    Worst("100,000 connects that stand already, the last", lambda: again([cable(8191)], 100000)),
+    Worst("100,000 connects that stand already, the first", lambda: again([cable(0)], 100000)),
+    Worst("100,000 refused disconnects", lambda: again([refused_disconnect()], 100000)),
+    Worst("40,000 disconnects and connects", lambda: again(back_and_forth(), 40000)),
+    Worst("all 8,192 disconnected and connected, 20 times", cut_at_suspensions),
+]
+GRAPHS = [
+    Worst("100 changes of 1,000 gains", lambda: round_of({"op": "createGain"})),
+    Worst("100 changes of 1,000 delays", lambda: round_of(SHORT_DELAY)),
+    Worst("100 changes of a cycle through 1,023 gains", round_of_gains),
+    Worst("a gain made at each of 1,000 suspensions", made_at_suspensions),
+]
+TEXTS = [
+    Worst("16 MiB of objects that nothing reads", member_of('{"":0},', "0")),
+    Worst("16 MiB of empty objects", member_of("{},", "0")),
+    Worst("16 MiB of arrays", member_of("[],", "0")),
+    Worst("16 MiB of numbers", member_of("0,", "0")),
+    Worst("16 MiB of texts", member_of('"",', "0")),
+    Worst("a text of 16 MiB", lambda: filled(text_of([])[:-1] + ',"x":"', "\\u0000", '"}')),
+    Worst(
+        "16 MiB of calls",
+        lambda: filled(text_of([])[:-2], '{"op":"readTime"},', '{"op":"readTime"}]}'),
+    ),
+    Worst(
+        "16 MiB of samples",
+        listed(
+            {"op": "copyToChannel", "buffer": "b", "channel": 0},
+            "samples",
+            [{"op": "createBuffer", "as": "b", "channels": 1, "length": 1, "rate": RATE}],
+        ),
+    ),
+]
+ROOM = [
+    Worst(
+        "10 decodings of a 64 MiB asset of another rate",
+        lambda: decodes(10),
+        assets=long_asset(44100),
+    ),
+    Worst("10 decodings of a 64 MiB asset", lambda: decodes(10), assets=long_asset(RATE)),
+    Worst("the largest buffers", largest_buffers),
+    Worst("the largest delays, of 32 channels", delays_of_32_channels),
+    Worst("the largest rendering", lambda: text_of([START], channels=2, length=2**25)),
+    Worst("1,023 sources in the longest session, checked", sources_that_end, CHECKED),
+    Worst("200,000 suspensions in falling order of time", scheduled, CHECKED),
+    Worst("200,000 names", named),
+]
+TABLE = [*TIMELINES, *CONNECTIONS, *GRAPHS, *TEXTS, *ROOM]
