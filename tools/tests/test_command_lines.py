@@ -230,7 +230,8 @@ class Cases(unittest.TestCase):
         for path in sorted(Path(fixtures.TOP, "tests", "cases").rglob("*.json")):
             case = read_case(path)
             words = [os.fsencode(word) for word in case.words]
-            if case.status == 2:
+            # Where standard output fails, the status does not tell that there is no reading.
+            if case.status == 2 or (case.output is not None and words_of(case.words) is None):
                 reasons.add(command_lines.answer(words))
                 self.assertRaises(NoReading, command_lines.reading, words)
                 continue
