@@ -38,9 +38,9 @@ def pages():
     other = bytearray(sound[:-600])  # 200 frames fewer
     other[44 + 3 * 700] ^= 0x55
     other[44 + 3 * 900 + 1] ^= 0x33
-    wide = fixtures.script([{"op": "startRendering"}], 32, 33554)
+    wide = fixtures.script([{"op": "startRendering"}], 32, 30000)
     quiet = fixtures.wav(
-        [[(frame * channel) % 999 for frame in range(33554)] for channel in range(32)]
+        [[(frame * channel) % 999 for frame in range(30000)] for channel in range(32)]
     )
     yield "resumed", data, text, sound, bytes(other)
     yield "stalled", *fixtures.suspended(), None, None
@@ -48,7 +48,7 @@ def pages():
     yield "ended", *fixtures.session_of_case("hi_hat_choked"), None
     yield "decoded", *fixtures.session_of_case("drum_loop"), None
     yield "refused", *fixtures.session_of_case("refused_calls"), None
-    yield "wide", wide, "1 pending\n1 resolved\ncomplete 33554\nend completed\n", quiet, None
+    yield "wide", wide, "1 pending\n1 resolved\ncomplete 30000\nend completed\n", quiet, None
     yield "x" * 120, b'{"version": 1, "context": [}', "script: BadJson\n", None, None
     yield "fault", fixtures.script([{"op": "<b>" * 100}]), "script: 1 op UnknownOp\n", None, None
     yield "idle", fixtures.script(
@@ -257,7 +257,7 @@ class Pages(unittest.TestCase):
             ".filter(it => it.style.display !== 'none').map(it => it.dataset.low)"
         )
         self.assertEqual(
-            sorted(map(int, marks)), [it for it in (512, 700, 900, 1000) if first <= it <= last]
+            sorted(map(int, marks)), [it for it in (512, 900, 900, 1000) if first <= it <= last]
         )
         self.browser.evaluate(
             "(form => { form.elements.first.value = 690; form.elements.last.value = 710; "
@@ -292,7 +292,7 @@ class Pages(unittest.TestCase):
         count = lines + ".filter(it => it.checkVisibility()).length"
         self.assertEqual(self.browser.evaluate(count), 39)
         for choice, rows in ("refusals", 18), ("events", 3), ("all", 39):
-            self.browser.evaluate("document.querySelector('#only-%s').click()" % choice)
+            self.browser.evaluate("document.querySelector('.only-%s').click()" % choice)
             self.assertEqual(self.browser.evaluate(count), rows)
 
     def test_names_for_screen_readers(self):
