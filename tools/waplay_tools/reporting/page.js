@@ -83,6 +83,14 @@
 
   for (const root of document.querySelectorAll(".context")) begin(root);
 
+  // Boxes that are wider than they show say so.
+  function hint() {
+    for (const box of document.querySelectorAll(".scroll")) box.classList.toggle("overflows", box.scrollWidth > box.clientWidth + 1);
+  }
+  hint();
+  addEventListener("resize", hint);
+  document.addEventListener("toggle", hint, true);
+
   function begin(root) {
     const wave = root.querySelector(".wave"), player = root.querySelector('audio[data-sound="sound"]');
     const otherPlayer = root.querySelector('audio[data-sound="other"]');

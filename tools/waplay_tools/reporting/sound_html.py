@@ -149,7 +149,9 @@ class Lanes:
         drawing = waveform.lane(
             columns, len(channel), self.sound.frames, label, attributes, inside
         )
-        ends = f"0 to {waveform.DEEPEST:g} dB, line at {_decibels(differences.tolerance)}"
+        ends = f"0 to {waveform.DEEPEST:g} dB"
+        if differences.tolerance:
+            ends += f", line at {_decibels(differences.tolerance)}"
         return filled(_NAMED, name=name, ends=ends.replace("-", "\u2212"), drawing=drawing)
 
 

@@ -88,8 +88,9 @@ def file_of(path: Path, label: str) -> File | None:
     return File(str(path), data, wav_samples.sound_of(data, visible(str(path))), label)
 
 
-def content_of(folder: Path, number: int, tolerance: float) -> Content:
-    """A context of a take. It wants its transcript: a take is replayed before it is looked at."""
+def replay_of(folder: Path, number: int) -> Content:
+    """A context of a take with what waplay made of it. It wants its transcript: a take is replayed
+    before it is looked at."""
     names = [str(folder / f"{number}{end}") for end in (".json", ".txt")]
     script = script_reading.script_of(script_reading.bytes_of(names[0]))
     if not Path(names[1]).is_file():
@@ -100,6 +101,12 @@ def content_of(folder: Path, number: int, tolerance: float) -> Content:
     content = Content(session, f"Context {number}")
     if session.end().word == "completed":
         content.sound = file_of(folder / f"{number}.wav", "waplay")
+    return content
+
+
+def content_of(folder: Path, number: int, tolerance: float) -> Content:
+    """A context of a take, with what the browser rendered and what the recorder told."""
+    content = replay_of(folder, number)
     if content.sound:
         content.other = file_of(folder / f"{number}.browser.wav", BROWSER)
     if content.sound and content.other:
