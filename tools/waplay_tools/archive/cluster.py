@@ -1,0 +1,88 @@
+"""Replays on a Dask cluster. The bags are checked here; scripts, assets and the program are sent,
+so that the workers need nothing of waplay."""
+
+import importlib
+import time
+from collections.abc import Iterator
+from pathlib import Path
+from typing import Any
+
+from waplay_tools.archive import performing, verifying
+from waplay_tools.archive.adding import Program
+from waplay_tools.archive.verifying import Result
+from waplay_tools.reporting.text import BadInput
+
+SECONDS = 20  # that a scheduler has to answer
+AHEAD = 8  # tasks that are sent for each thread of a worker
+
+
+def client_of(address: str) -> Any:
+    """A client of the scheduler at an address."""
+    try:
+        distributed = importlib.import_module("distributed")
+        cloudpickle = importlib.import_module("cloudpickle")
+    except ImportError:
+        raise BadInput("--scheduler wants the module distributed, of the package"
+                       " python3-distributed") from None
+    cloudpickle.register_pickle_by_value(performing)
+    try:
+        return distributed.Client(address, timeout=SECONDS)
+    except (OSError, ValueError) as fault:
+        raise BadInput(f"no scheduler answers at {address}: {fault}") from None
+
+
+class Sent:
+    """Bags of which the replays are on their way, by the keys of their futures."""
+
+    def __init__(self, archive: Path, client: Any, program: Program) -> None:
+        self.archive, self.client = archive, client
+        with open(program.path, "rb") as file:
+            self.program = client.scatter(file.read(), broadcast=True)
+        self.bags: dict[str, tuple[str, int, float]] = {}
+
+    def send(self, name: str, digest: str) -> tuple[Result | None, Any]:
+        """The result of a bag that is not good, or the future of its replays."""
+        begun = time.monotonic()
+        wrong, task = verifying.checked(self.archive / name, digest, True)
+        if task is None:
+            return Result(name, wrong, 0, round(time.monotonic() - begun, 4)), None
+        future = self.client.submit(performing.perform, task, self.program, pure=False)
+        self.bags[future.key] = (name, len(task.contexts), begun)
+        return None, future
+
+    def result(self, future: Any) -> Result:
+        """The result of a bag whose replays are done."""
+        name, contexts, begun = self.bags.pop(future.key)
+        wrong = []
+        try:
+            for outcome in future.result():
+                wrong += [str(it) for it in verifying.differing(self.archive / name, outcome)]
+        except Exception as fault:  # whatever a worker ends with is a result of this bag
+            wrong.append(f"its replay failed on a worker: {fault}")
+        return Result(name, wrong, contexts, round(time.monotonic() - begun, 4))
+
+
+def on_a_cluster(
+    archive: Path, digests: dict[str, str], program: Program, address: str
+) -> Iterator[Result]:
+    """The results of bags, replayed by the workers of a scheduler, as they come."""
+    client = client_of(address)
+    distributed = importlib.import_module("distributed")
+    try:
+        threads = sum(client.nthreads().values())
+        if not threads:
+            raise BadInput(f"the scheduler at {address} has no workers")
+        sent, arriving = Sent(archive, client, program), distributed.as_completed()
+        left = iter(digests.items())
+        for name, digest in left:
+            result, future = sent.send(name, digest)
+            if result:
+                yield result
+            else:
+                arriving.add(future)
+            while len(sent.bags) >= AHEAD * threads:
+                yield sent.result(next(arriving))
+        while sent.bags:
+            yield sent.result(next(arriving))
+    finally:
+        client.close()
