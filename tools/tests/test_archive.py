@@ -1,4 +1,4 @@
-"""Tests of archives: bags by RFC 8493, adding, verifying, going on, and what a changed byte does."""
+"""Tests of archives: bags by RFC 8493, adding, verifying, going on, and changes of single bytes."""
 
 import contextlib
 import hashlib
@@ -7,8 +7,9 @@ import io
 import json
 import os
 import shutil
-import sys
+import subprocess
 import tempfile
+import time
 import unittest
 import unittest.mock
 from pathlib import Path
@@ -240,6 +241,28 @@ class Archives(unittest.TestCase):
         self.assertEqual(outcome.reason, "the program can't be run: No such file or directory")
 
 
+WAITING = """import os, sys, time
+from waplay_tools.archive.processes import pool
+with pool(1) as made:
+    print(made.submit(os.getpid).result(), flush=True)
+    made.submit(time.sleep, 600).result()
+"""
+
+
+class Processes(unittest.TestCase):
+    def test_they_end_with_the_one_that_started_them(self):
+        with tempfile.TemporaryDirectory() as folder:
+            run = subprocess.Popen(["sh", "-c", f"exec {fixtures.program(folder, WAITING)}"],
+                                   stdout=subprocess.PIPE, text=True)
+            child = int(run.stdout.readline())
+            run.kill()
+            run.communicate()
+        deadline = time.monotonic() + 30
+        while Path(f"/proc/{child}").exists() and time.monotonic() < deadline:
+            time.sleep(0.1)
+        self.assertFalse(Path(f"/proc/{child}").exists())
+
+
 @unittest.skipUnless(importlib.util.find_spec("distributed"), "distributed is not installed")
 class Clusters(Archives):
     """The same, with replays on a cluster of this process."""
@@ -264,5 +287,4 @@ class Clusters(Archives):
 
 
 if __name__ == "__main__":
-    assert sys.version_info >= (3, 11)
     unittest.main()

@@ -13,14 +13,13 @@ import argparse
 import concurrent.futures
 import contextlib
 import importlib
-import json
 import os
 import sys
 from collections.abc import Iterator
 from pathlib import Path
 from typing import Any
 
-from waplay_tools.archive import adding, cluster, summary, verifying
+from waplay_tools.archive import adding, cluster, processes, summary, verifying
 from waplay_tools.archive.adding import LIST, Program
 from waplay_tools.archive.verifying import Result
 from waplay_tools.recorder.replaying import find_program
@@ -91,15 +90,13 @@ def add(words: argparse.Namespace) -> int:
         taken.add(name)
         named[name] = take
     status = 0
-    with concurrent.futures.ProcessPoolExecutor(words.processes) as pool:
-        waiting = [pool.submit(adding.add, words.folder, take, name, program)
+    with processes.pool(words.processes) as made:
+        waiting = [made.submit(adding.prepare, words.folder, take, name, program)
                    for name, take in named.items()]
         with (words.folder / LIST).open("a", encoding="utf-8") as file, bar(len(named), 0) as shown:
             for future in concurrent.futures.as_completed(waiting):
                 try:
-                    told = future.result()
-                    file.write(json.dumps(told, ensure_ascii=False) + "\n")
-                    file.flush()
+                    adding.accept(words.folder, future.result(), file)
                 except BadInput as bad:
                     print(f"archive: {bad}", file=sys.stderr)
                     status = 2
@@ -173,6 +170,7 @@ ACTS = {"add": add, "verify": verify, "list": show}
 def main() -> int:
     """Does what is asked for."""
     words = parser().parse_args()
+    processes.stop_at_signals()
     try:
         if words.act != "add" and words.takes:
             raise BadInput(f"{words.act} takes the folder of an archive alone")

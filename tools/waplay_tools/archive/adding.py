@@ -10,6 +10,7 @@ import re
 import shutil
 import urllib.parse
 from pathlib import Path
+from typing import TextIO
 
 from waplay_tools.archive import bags, performing
 from waplay_tools.recorder.take import OURS
@@ -108,10 +109,15 @@ def name_for(archive: Path, take: Path, taken: set[str]) -> str:
     return name
 
 
-def add(archive: Path, take: Path, name: str, program: Program) -> dict[str, object]:
-    """Adds a take under a name, and gives its line of the list. Nothing of it is left where it
-    fails, with a sentence."""
-    part = archive / f".{name}.part"
+def unfinished(archive: Path, name: str) -> Path:
+    """The folder in which a bag of this name is made."""
+    return archive / f".{name}.part"
+
+
+def prepare(archive: Path, take: Path, name: str, program: Program) -> dict[str, object]:
+    """Makes the bag of a take, beside the others and not yet one of them, and gives its line of the
+    list. Nothing of it is left where it fails, with a sentence."""
+    part = unfinished(archive, name)
     bags.put_away(part)
     try:
         (part / "data").mkdir(parents=True)
@@ -126,7 +132,7 @@ def add(archive: Path, take: Path, name: str, program: Program) -> dict[str, obj
             "Waplay-Program-SHA256": program.digest,
         }
         digest = bags.close(part, info)
-        part.rename(archive / name)
+        contexts = len(takes.numbers_of(part / "data"))
     except (BadInput, OSError) as fault:
         bags.put_away(part)
         reason = fault.strerror if isinstance(fault, OSError) else str(fault)
@@ -136,8 +142,16 @@ def add(archive: Path, take: Path, name: str, program: Program) -> dict[str, obj
         "digest": digest,
         "program": program.digest,
         "page": str(told.get("page") or ""),
-        "contexts": len(takes.numbers_of(archive / name / "data")),
+        "contexts": contexts,
     }
+
+
+def accept(archive: Path, line: dict[str, object], file: TextIO) -> None:
+    """Makes a bag that was prepared one of the archive, and writes its line to the list."""
+    name = str(line["bag"])
+    unfinished(archive, name).rename(archive / name)
+    file.write(json.dumps(line, ensure_ascii=False) + "\n")
+    file.flush()
 
 
 def listed(archive: Path) -> tuple[dict[str, dict], list[str]]:

@@ -6,7 +6,7 @@ import dataclasses
 import datetime
 import json
 import time
-from collections.abc import Callable, Iterator
+from collections.abc import Iterator
 from pathlib import Path
 from typing import Any
 
@@ -14,15 +14,13 @@ from waplay_tools.archive import adding, bags, performing
 from waplay_tools.archive.adding import Program
 from waplay_tools.archive.bags import Wrong
 from waplay_tools.archive.performing import Kept, Outcome, Task
+from waplay_tools.archive.processes import pool
 from waplay_tools.reporting import transcript_reading, wav_samples
 from waplay_tools.reporting.difference import parting
 from waplay_tools.reporting.text import BadInput, grouped, quoted
 from waplay_tools.reporting.wav_samples import Differences
 
 RESULTS = "verified.jsonl"
-
-# Runs tasks, each with a key, and gives their outcomes as they come.
-Performer = Callable[[Iterator[tuple[str, Task]]], Iterator[tuple[str, list[Outcome]]]]
 
 
 @dataclasses.dataclass
@@ -188,13 +186,10 @@ def on_this_machine(
     archive: Path, digests: dict[str, str], program: Program, processes: int
 ) -> Iterator[Result]:
     """The results of bags, side by side on the processors of this machine, as they come."""
-    with concurrent.futures.ProcessPoolExecutor(processes) as pool:
+    with pool(processes) as made:
         waiting = {
-            pool.submit(verify_here, archive / name, digest, program.path)
+            made.submit(verify_here, archive / name, digest, program.path)
             for name, digest in digests.items()
         }
-        try:
-            for future in concurrent.futures.as_completed(waiting):
-                yield future.result()
-        finally:
-            pool.shutdown(cancel_futures=True)
+        for future in concurrent.futures.as_completed(waiting):
+            yield future.result()

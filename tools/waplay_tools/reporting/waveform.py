@@ -83,10 +83,11 @@ def decibel_path(magnitudes: list[float]) -> Html:
 
 def fine_columns(samples: Sequence[float], full: float) -> Html:
     """Columns for zooming, as a page has them: the lowest and the highest sample of each, of which
-    full is 32767."""
-    numbers = array.array("h")
-    for pair in spans(samples, FINE_COLUMNS):
-        numbers.extend(max(-32767, min(32767, round(it * 32767 / full))) for it in pair)
+    full is 32767. No sample is above full."""
+    part = 32767 / full
+    numbers = array.array(
+        "h", [round(it * part) for pair in spans(samples, FINE_COLUMNS) for it in pair]
+    )
     return Html(base64.b64encode(numbers.tobytes()).decode())
 
 
