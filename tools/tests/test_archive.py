@@ -8,6 +8,7 @@ import json
 import os
 import shutil
 import subprocess
+import sys
 import tempfile
 import time
 import unittest
@@ -19,7 +20,7 @@ from test_report import Page
 from test_report_take import CONSTANT, REPORT, floats, take
 
 from waplay_tools.archive import __main__ as command
-from waplay_tools.archive import bags, performing, verifying
+from waplay_tools.archive import bags, cluster, performing, verifying
 from waplay_tools.archive.adding import Program, page_files
 from waplay_tools.archive.performing import Kept, Task
 
@@ -147,6 +148,17 @@ class Archives(unittest.TestCase):
         shutil.rmtree(archive / "piece-2")
         self.assertIn("piece-2: piece-2 is missing", self.run_archive("verify", archive)[1])
 
+    def test_a_byte_that_changes_in_the_list(self):
+        archive = self.copied()
+        text = (archive / "archive.jsonl").read_bytes()
+        for place in range(0, len(text), 7):
+            changed = bytearray(text)
+            changed[place] ^= 1
+            (archive / "archive.jsonl").write_bytes(changed)
+            status, out, _ = self.run_archive("list", archive)
+            self.assertEqual(status, 1, (place, out))
+            self.assertRegex(out, r"line \d of archive.jsonl")
+
     def test_a_list_that_was_changed(self):
         archive = self.copied()
         text = (archive / "archive.jsonl").read_bytes()
@@ -239,6 +251,33 @@ class Archives(unittest.TestCase):
         self.assertEqual((outcome.transcript, outcome.sound, outcome.has_sound), (None, None, True))
         (outcome,) = performing.perform(Task([Kept(1, "", "")], None, task.files), "/nowhere/it")
         self.assertEqual(outcome.reason, "the program can't be run: No such file or directory")
+
+
+ALONE = """import pickle, sys
+work, task, program = pickle.load(open(sys.argv[1], "rb"))
+print(work(task, program))
+try:
+    import waplay_tools
+except ImportError:
+    print("alone")
+"""
+
+
+@unittest.skipUnless(importlib.util.find_spec("cloudpickle"), "cloudpickle is not installed")
+class Sending(unittest.TestCase):
+    def test_what_is_sent_needs_nothing_of_the_tools(self):
+        cloudpickle = importlib.import_module("cloudpickle")
+        calls = fixtures.script(CONSTANT)
+        task = Task([Kept(1, hashlib.sha256(b"").hexdigest(), None)], None, {"1.json": calls})
+        program = b"#!/bin/sh\nexit 0\n"
+        with tempfile.TemporaryDirectory() as folder:
+            data = cloudpickle.dumps((cluster.worker_function(), cluster.packed(task), program))
+            path = fixtures.write(folder, "sent", data)
+            run = subprocess.run([sys.executable, "-I", "-c", ALONE, path], capture_output=True,
+                                 text=True, check=False, cwd=folder)
+        self.assertEqual(run.stderr, "")
+        self.assertEqual(run.stdout, "[{'number': 1, 'transcript': None, 'sound': None,"
+                                     " 'has_sound': False, 'reason': ''}]\nalone\n")
 
 
 WAITING = """import os, sys, time

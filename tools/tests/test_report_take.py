@@ -119,13 +119,13 @@ class Takes(unittest.TestCase):
         take(self.folder, fixtures.script(CONSTANT, length=256), floats([0.25] * 256), REPORT)
         told = {"page": "http://localhost/piece.html", "title": "Rain <b>", "date": "2026-01-02",
                 "browser": "Chromium 140", "program": "waplay 1", "digest": "abc", "status": 1,
-                "reason": "context 1: compressor is refused", "missing": []}
+                "reason": "the page threw Oh", "missing": []}
         fixtures.write(self.folder, "take.json", json.dumps(told))
         text = self.page().text()
         for shown in ("Rain <b>", "http://localhost/piece.html", "2026-01-02", "Chromium 140",
                       "waplay 1", "refused in part", "compressor, value-rounded",
                       "The recorder: refused compressor", "threw ReferenceError: draw",
-                      "The recorder ended with 1: context 1: compressor is refused"):
+                      "The recorder ended with 1: the page threw Oh"):
             self.assertIn(shown, text)
 
     def test_all_contexts_are_in_one_page(self):

@@ -150,8 +150,13 @@ def accept(archive: Path, line: dict[str, object], file: TextIO) -> None:
     """Makes a bag that was prepared one of the archive, and writes its line to the list."""
     name = str(line["bag"])
     unfinished(archive, name).rename(archive / name)
-    file.write(json.dumps(line, ensure_ascii=False) + "\n")
+    file.write(json.dumps({**line, "line": line_digest(line)}, ensure_ascii=False) + "\n")
     file.flush()
+
+
+def line_digest(line: dict[str, object]) -> str:
+    """The digest of a line of the list, which stands in it as well."""
+    return hashlib.sha256(json.dumps(line, sort_keys=True).encode()).hexdigest()
 
 
 def listed(archive: Path) -> tuple[dict[str, dict], list[str]]:
@@ -164,8 +169,11 @@ def listed(archive: Path) -> tuple[dict[str, dict], list[str]]:
     for number, line in enumerate(path.read_bytes().splitlines(), 1):
         try:
             told = json.loads(line)
+            digest = told.pop("line")
             found[told["bag"]] = {**told, "digest": str(told["digest"])}
-        except (ValueError, KeyError, TypeError):
+            if digest != line_digest(told):
+                wrong.append(f"line {number} of {LIST}, of {visible(told['bag'])}, was changed")
+        except (ValueError, KeyError, TypeError, AttributeError):
             wrong.append(f"line {number} of {LIST} can't be read")
     there = {path.name for path in archive.iterdir() if path.is_dir()}
     bags_there = {name for name in there if not name.startswith(".")}

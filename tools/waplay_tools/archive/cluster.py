@@ -1,14 +1,15 @@
 """Replays on a Dask cluster. The bags are checked here; scripts, assets and the program are sent,
-so that the workers need nothing of waplay."""
+and what replays them too, so that the workers need nothing of waplay."""
 
 import importlib
 import time
-from collections.abc import Iterator
+from collections.abc import Callable, Iterator
 from pathlib import Path
 from typing import Any
 
 from waplay_tools.archive import performing, verifying
 from waplay_tools.archive.adding import Program
+from waplay_tools.archive.performing import Outcome, Task
 from waplay_tools.archive.verifying import Result
 from waplay_tools.reporting.text import BadInput
 
@@ -16,19 +17,44 @@ SECONDS = 20  # that a scheduler has to answer
 AHEAD = 8  # tasks that are sent for each thread of a worker
 
 
-def client_of(address: str) -> Any:
-    """A client of the scheduler at an address."""
+def _module(name: str) -> Any:
+    """A module that comes with Dask."""
     try:
-        distributed = importlib.import_module("distributed")
-        cloudpickle = importlib.import_module("cloudpickle")
+        return importlib.import_module(name)
     except ImportError:
         raise BadInput("--scheduler wants the module distributed, of the package"
                        " python3-distributed") from None
-    cloudpickle.register_pickle_by_value(performing)
+
+
+def client_of(address: str) -> Any:
+    """A client of the scheduler at an address."""
+    distributed = _module("distributed")
     try:
         return distributed.Client(address, timeout=SECONDS)
     except (OSError, ValueError) as fault:
         raise BadInput(f"no scheduler answers at {address}: {fault}") from None
+
+
+def packed(task: Task) -> bytes:
+    """A task with the code that does it, as bytes."""
+    cloudpickle = _module("cloudpickle")
+    cloudpickle.register_pickle_by_value(performing)
+    data: bytes = cloudpickle.dumps((performing.perform, task))
+    return data
+
+
+def worker_function() -> Callable[[bytes, bytes], list[dict[str, Any]]]:
+    """What a worker does with a task and a program. It is a function within another one, which is
+    sent as it is."""
+
+    def work(data: bytes, program: bytes) -> list[dict[str, Any]]:
+        """Unpacks a task and does it."""
+        import pickle
+
+        perform, task = pickle.loads(data)
+        return [vars(outcome) for outcome in perform(task, program)]
+
+    return work
 
 
 class Sent:
@@ -38,6 +64,7 @@ class Sent:
         self.archive, self.client = archive, client
         with open(program.path, "rb") as file:
             self.program = client.scatter(file.read(), broadcast=True)
+        self.work = worker_function()
         self.bags: dict[str, tuple[str, int, float]] = {}
 
     def send(self, name: str, digest: str) -> tuple[Result | None, Any]:
@@ -46,7 +73,7 @@ class Sent:
         wrong, task = verifying.checked(self.archive / name, digest, True)
         if task is None:
             return Result(name, wrong, 0, round(time.monotonic() - begun, 4)), None
-        future = self.client.submit(performing.perform, task, self.program, pure=False)
+        future = self.client.submit(self.work, packed(task), self.program, pure=False)
         self.bags[future.key] = (name, len(task.contexts), begun)
         return None, future
 
@@ -55,8 +82,9 @@ class Sent:
         name, contexts, begun = self.bags.pop(future.key)
         wrong = []
         try:
-            for outcome in future.result():
-                wrong += [str(it) for it in verifying.differing(self.archive / name, outcome)]
+            for told in future.result():
+                found = verifying.differing(self.archive / name, Outcome(**told))
+                wrong += [str(it) for it in found]
         except Exception as fault:  # whatever a worker ends with is a result of this bag
             wrong.append(f"its replay failed on a worker: {fault}")
         return Result(name, wrong, contexts, round(time.monotonic() - begun, 4))
@@ -67,14 +95,12 @@ def on_a_cluster(
 ) -> Iterator[Result]:
     """The results of bags, replayed by the workers of a scheduler, as they come."""
     client = client_of(address)
-    distributed = importlib.import_module("distributed")
     try:
         threads = sum(client.nthreads().values())
         if not threads:
             raise BadInput(f"the scheduler at {address} has no workers")
-        sent, arriving = Sent(archive, client, program), distributed.as_completed()
-        left = iter(digests.items())
-        for name, digest in left:
+        sent, arriving = Sent(archive, client, program), _module("distributed").as_completed()
+        for name, digest in digests.items():
             result, future = sent.send(name, digest)
             if result:
                 yield result

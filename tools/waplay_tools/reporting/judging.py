@@ -80,7 +80,7 @@ def _of_sounds(content: Content) -> Iterator[Finding]:
     """What is to be said of the sounds."""
     for file in (content.sound, content.other):
         if file is not None:
-            yield from _of_file(file, content.sound is file)
+            yield from _of_file(file)
     differences = content.differences
     if differences is None or content.other is None:
         return
@@ -99,7 +99,7 @@ def _of_sounds(content: Content) -> Iterator[Finding]:
         yield Finding("bad", f"It has another shape than {content.other.label}.")
 
 
-def _of_file(file: File, is_first: bool) -> Iterator[Finding]:
+def _of_file(file: File) -> Iterator[Finding]:
     """What is to be said of one sound."""
     sound, samples = file.sound, sum(map(len, file.sound.channels))
     name = file.label[0].upper() + file.label[1:]
@@ -108,8 +108,7 @@ def _of_file(file: File, is_first: bool) -> Iterator[Finding]:
     elif clipped := sound.clipped():
         how = "outside -1 to 1" if sound.is_float else "at the end of their range"
         told = counted(clipped, "sample is", "samples are")
-        yield Finding("doubtful" if is_first else "good",
-                      f"{name}: {told} {how.replace('-', chr(0x2212))}, so it clips.")
+        yield Finding("doubtful", f"{name}: {told} {how.replace('-', chr(0x2212))}, so it clips.")
 
 
 def _of_recording(content: Content) -> Iterator[Finding]:

@@ -1,6 +1,7 @@
 """Lanes of what a session does over time: from when to when each source plays, and how parameters
 move."""
 
+import itertools
 from collections.abc import Iterator
 from typing import NamedTuple
 
@@ -20,7 +21,8 @@ from waplay_tools.reporting.text import counted, decimal, grouped
 
 MOST_LANES = 24  # of notes, and of parameters
 MOST_NOTES = 3000  # that are drawn
-MOST_POINTS = 400  # of one parameter's line
+MOST_POINTS = 400  # of one curve
+COLUMNS = 800  # of a parameter's line that has more points than can be seen
 ROW = 18  # units of height of a lane of notes
 HEIGHT = 40  # of a lane of a parameter
 LETTER, NARROW = 7.5, 340  # pixels of a letter, and of the narrowest page
@@ -172,6 +174,23 @@ def points_of(thing: Thing, param: str, first: int, frames: int) -> Iterator[Poi
     yield Point(frames, value)
 
 
+def line_of(thing: Thing, param: str, content: Content) -> list[Point]:
+    """The points of a parameter's line, as many as can be seen. The value that it has by default
+    does not count where another one is set at once."""
+    first = thing.call.field(param) if thing.call else None
+    points = list(points_of(thing, param, first or 0, content.frames))
+    while len(points) > 1 and points[1].frame == 0:
+        del points[0]
+    if len(points) <= 4 * COLUMNS:
+        return points
+    columns: dict[int, list[Point]] = {}
+    for point in points:
+        columns.setdefault(point.frame * COLUMNS // max(1, content.frames), []).append(point)
+    ends = ({min(its, key=lambda it: it.value), max(its, key=lambda it: it.value)}
+            for its in columns.values())
+    return [point for both in ends for point in sorted(both)]
+
+
 def _kept(thing: Thing, param: str) -> list:
     """The events of a parameter without those that a later call cancelled, in order of time."""
     kept: list = []
@@ -194,11 +213,12 @@ _PARAMETER = """<div class="lane-name"><span>{name}</span><span class="aside">{e
 
 
 def _parameter(thing: Thing, param: str, content: Content) -> Html:
-    """The lane of a parameter's automation."""
-    first = thing.call.field(param) if thing.call else None
-    points = list(points_of(thing, param, first or 0, content.frames))[: 20 * MOST_POINTS]
+    """The lane of a parameter's automation; nothing of one that has one value all the time."""
+    points = line_of(thing, param, content)
     low, high = min(it.value for it in points), max(it.value for it in points)
-    span = max(1, high - low)
+    if low == high:
+        return Html()
+    span = high - low
     places = (f"{it.frame},{95 - 90 * (it.value - low) / span:.1f}" for it in points)
     name = f"{thing.name}.{param}"
     ends = f"{decimal(low, ONE)} to {decimal(high, ONE)}"
@@ -226,8 +246,9 @@ def automated(content: Content) -> list[tuple[Thing, str]]:
 def automation_lanes(content: Content) -> Html:
     """The lanes of the parameters that move."""
     every = automated(content)
-    drawn = [_parameter(thing, param, content) for thing, param in every[:MOST_LANES]]
-    if len(every) > MOST_LANES:
-        more = counted(len(every) - MOST_LANES, "more parameter")
-        drawn.append(filled('<p class="aside">and {more} with events</p>', more=more))
+    lanes = (_parameter(thing, param, content) for thing, param in every)
+    drawn = list(itertools.islice((lane for lane in lanes if lane), MOST_LANES))
+    if len(every) > len(drawn):
+        more = counted(len(every) - len(drawn), "more parameter has", "more parameters have")
+        drawn.append(filled('<p class="aside">{more} calls as well.</p>', more=more))
     return joined(drawn)

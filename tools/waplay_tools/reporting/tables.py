@@ -81,7 +81,7 @@ def ordinals(calls: list[int], most: int = 12) -> str:
             runs[-1][1:] = [call]
         else:
             runs.append([call])
-    told = [" to ".join(grouped(it) for it in run) for run in runs[:most]]
+    told = ", ".join(" to ".join(grouped(it) for it in run) for run in runs[:most])
     if len(runs) > most:
-        told.append(counted(len(runs) - most, "more place"))
-    return ", ".join(told)
+        told += f" and at {counted(len(runs) - most, 'more place')}"
+    return told

@@ -146,9 +146,9 @@ def heading_of(folder: Path, contents: list[Content]) -> Heading:
     page = str(told.get("page") or folder.absolute().name)
     title = str(told.get("title") or page.rstrip("/").rsplit("/", 1)[-1] or page)
     found = [Finding("doubtful", f"{line}.") for line in told.get("missing") or []]
-    if told.get("status"):
-        found.append(Finding("bad", f"The recorder ended with {told['status']}:"
-                                    f" {told.get('reason', '')}"))
+    reason = str(told.get("reason") or "")
+    if reason and not reason.startswith("context "):  # which that context tells itself
+        found.append(Finding("bad", f"The recorder ended with {told.get('status')}: {reason}"))
     return Heading(title, _facts(told, contents), found)
 
 

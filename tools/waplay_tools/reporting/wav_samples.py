@@ -3,6 +3,7 @@ differ."""
 
 import array
 import math
+import operator
 import struct
 import sys
 from collections.abc import Iterator, Sequence
@@ -39,14 +40,15 @@ class Sound:
         self.is_float = channels[0].typecode == "f"
         self.full = 1 if self.is_float else 2 ** (bits - 1)  # what stands for 1.0
         self.lost = sum(map(_mend, channels)) if self.is_float else 0
+        self.ends = [(min(channel), max(channel)) for channel in channels]
 
     def is_silent(self) -> bool:
         """Whether every sample is 0."""
-        return not any(max(channel) or min(channel) for channel in self.channels)
+        return not any(low or high for low, high in self.ends)
 
     def greatest(self) -> float:
         """The greatest magnitude of a sample, as a part of 1."""
-        return max(peak(channel)[0] for channel in self.channels) / self.full
+        return max(max(-low, high) for low, high in self.ends) / self.full
 
     def clipped(self) -> int:
         """How many samples are cut off: of whole numbers those at either end of their range, of
@@ -55,10 +57,15 @@ class Sound:
         if self.is_float:
             return sum(
                 sum(it > high or it < low for it in channel)
-                for channel in self.channels
-                if max(channel) > high or min(channel) < low
+                for channel, ends in zip(self.channels, self.ends)
+                if ends[1] > high or ends[0] < low
             )
-        return sum(channel.count(low) + channel.count(high) for channel in self.channels)
+        return sum(
+            channel.count(end)
+            for channel, ends in zip(self.channels, self.ends)
+            for end in (low, high)
+            if end in ends
+        )
 
 
 def _mend(samples: array.array) -> int:
@@ -201,9 +208,11 @@ class Differences:
         self.tolerance, self.other_channels = tolerance, len(second.channels)
         high = 1.0 - 1 / min((it.full for it in (first, second) if not it.is_float), default=2**23)
         self.channels = [
-            array.array("d", [two - one for one, two in zip(_parts(a, first, high), there)])
-            for a, b in zip(first.channels, second.channels)
-            for there in [_parts(b, second, high)]
+            array.array(
+                "d",
+                map(operator.sub, _parts(second, number, high), _parts(first, number, high)),
+            )
+            for number in range(min(len(first.channels), len(second.channels)))
         ]
         self.shapes = _shapes(first, second)
         self.count = sum(len(channel) - channel.count(0) for channel in self.channels)
@@ -263,12 +272,14 @@ class Differences:
         return Place(min(frames), max(frames), max(peak(part)[0] for part in parts))
 
 
-def _parts(samples: array.array, sound: Sound, high: float) -> Sequence[float]:
-    """Samples as parts of 1, those of floats within -1 and the greatest that whole numbers have."""
+def _parts(sound: Sound, number: int, high: float) -> Sequence[float]:
+    """The samples of a channel as parts of 1, those of floats within -1 and the greatest that whole
+    numbers have."""
+    samples, ends = sound.channels[number], sound.ends[number]
     if not sound.is_float:
         full = sound.full
         return [it / full for it in samples]
-    if min(samples) >= -1.0 and max(samples) <= high:
+    if ends[0] >= -1.0 and ends[1] <= high:
         return samples
     return [min(max(it, -1.0), high) for it in samples]
 

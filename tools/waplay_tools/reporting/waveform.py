@@ -2,6 +2,7 @@
 
 import array
 import base64
+import collections
 import math
 from collections.abc import Sequence
 
@@ -13,6 +14,7 @@ from waplay_tools.reporting.wav_samples import Sound, parts_of, peak, spans
 Placed = tuple[Mark, str]  # with where it stands, in percent of the width
 
 COLUMNS = 800
+MOST_LINES = 40  # of marks of one kind across a lane
 MANY_MARKS = 400  # from which on those that are close together are drawn as one
 HEIGHT = 200  # of the drawing's own units
 REACH = 96  # how far the drawing goes up and down from its middle
@@ -38,14 +40,7 @@ BAND = Html(
 def scale_of(sounds: list[Sound]) -> float:
     """The power of two that the drawing goes up and down to: the least that holds all samples, and
     1 of silence."""
-    greatest = max(
-        (
-            max(abs(min(channel)), abs(max(channel))) / sound.full
-            for sound in sounds
-            for channel in sound.channels
-        ),
-        default=0,
-    )
+    greatest = max((sound.greatest() for sound in sounds), default=0)
     scale = 1.0
     while scale / 2 >= greatest > 0:
         scale /= 2
@@ -120,9 +115,13 @@ _INSIDE = """<path class="envelope" d="{outline}"/>{other}<path class="zero"\
 
 
 def _lines(marks: list[Placed]) -> Html:
-    """The lines of marks across a lane."""
+    """The lines of marks across a lane. Those of a kind that has many would hide what is drawn, and
+    stand on the time line alone."""
+    counts = collections.Counter(mark.kind for mark, _ in marks)
     return joined(
-        filled(_LINE, kind=mark.kind, low=mark.low, place=place) for mark, place in marks
+        filled(_LINE, kind=mark.kind, low=mark.low, place=place)
+        for mark, place in marks
+        if counts[mark.kind] <= MOST_LINES
     )
 
 
