@@ -123,22 +123,3 @@ def _of_recording(content: Content) -> Iterator[Finding]:
             yield Finding("doubtful", f"{line}.")
         elif "ended otherwise" in line:
             yield Finding("bad", f"{line}.")
-
-
-_HEADLINES = {
-    "bad": "not as it should be",
-    "doubtful": "to be looked at",
-    "good": "as it should be",
-}
-
-
-def headline(contents: list[Content], grades: list[str]) -> str:
-    """One sentence on all of them."""
-    if len(contents) == 1:
-        return following.summary(contents[0].session)
-    counts = [
-        counted(grades.count(grade), "context is", "contexts are") + " " + _HEADLINES[grade]
-        for grade in GRADES
-        if grade in grades
-    ]
-    return f"{'; '.join(counts)}."

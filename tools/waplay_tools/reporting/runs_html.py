@@ -12,6 +12,7 @@ from waplay_tools.reporting.tables import MOST_ROWS, folded, head, more_rows, pl
 from waplay_tools.reporting.text import grouped, visible
 
 AROUND = 3  # calls that are alike and stand around those that are not
+MOST_CHANGES = 80  # rows of the table of calls; then all changes stand in a text as well
 
 _ROW = """<tr class="{kind}"><th scope="row"><span class="sign" aria-hidden="true">{sign}</span>\
  {word}</th><td class="number">{old}</td><td class="number">{new}</td>\
@@ -62,14 +63,13 @@ def _calls_html(runs: Runs) -> Html:
         return filled("<h3>Calls</h3><p>All {count} are alike.</p>",
                       count=grouped(len(runs.changes)))
     rows = list(_seen(runs.changes))
-    titles = head(("",), ("Old", "New"), ("Call",))
-    shown = [table("changes", "Calls of both runs", titles, map(_row, rows[:MOST_ROWS])),
-             more_rows(len(rows))]
+    titles = head(("Change",), ("Old", "New"), ("Call",))
+    shown = [table("changes", "Calls of both runs", titles, map(_row, rows[:MOST_CHANGES]))]
     lines = (f"{call_changes.SIGNS[it.kind]} {it.old.ordinal if it.old else '':>6}"
              f" {it.new.ordinal if it.new else '':>6}  {it.text()}"
              for it in runs.changes if it.kind != "same")
     after = folded("All changes as text", plain("All changes", lines), is_open=False)
-    return Html("<h3>Calls</h3>" + joined(shown) + (after if len(rows) > MOST_ROWS else ""))
+    return Html("<h3>Calls</h3>" + joined(shown) + (after if len(rows) > MOST_CHANGES else ""))
 
 
 _ANSWER = """<tr><td class="number">{ordinal}</td><td><code>{old}</code></td>\
