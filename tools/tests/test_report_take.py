@@ -152,6 +152,13 @@ class Takes(unittest.TestCase):
         self.assertIn(b'src="1.wav"', written)
         self.assertGreater(len(self.run_report(self.folder, "--whole")[1]), 6_000_000)
 
+    def test_a_tool_writes_the_page_of_its_take(self):
+        take(self.folder, fixtures.script(CONSTANT, length=256))
+        path = os.path.join(self.folder, "index.html")
+        report.write_take(self.folder, path)
+        page = Page(fixtures.read(self.folder, "index.html"))
+        self.assertEqual((page.wrong, len(page.of("audio"))), ([], 1))
+
     def test_folders_that_are_no_take(self):
         status, _, err = self.run_report(self.folder)
         self.assertEqual((status, err), (
@@ -170,6 +177,9 @@ class Takes(unittest.TestCase):
                          [("refused", "compressor", [1]), ("rounded", "value-rounded", [2, 3])])
         self.assertEqual(verdict, "refused in part")
         self.assertEqual(len(lines), 1)
+        losses, _, _ = losses_of("context 1\nfrozen frozen-node: count 1, calls 2: nodes\n")
+        self.assertEqual([(it.grade, it.kind, it.calls) for it in losses],
+                         [("frozen", "frozen-node", [2])])
 
 
 class Tops(unittest.TestCase):
@@ -308,6 +318,14 @@ class Graphs(unittest.TestCase):
         content = self.looped()
         content.losses.append(Loss("lowered", "baked-source", "", [1]))
         self.assertEqual(self.flags(content)["c"], ("frozen",))
+
+    def test_frozen_nodes_are_told_by_their_names(self):
+        content = self.looped()
+        content.frozen = {"g"}
+        content.lines.append("live: 60 % of the sound comes through none of what is frozen")
+        self.assertIn("frozen", self.flags(content)["g"])
+        self.assertIn(("doubtful", "Frozen: 60 % of the sound comes through none of what is"
+                                   " frozen."), texts(content))
 
     def test_nodes_that_are_alike_are_one(self):
         calls = []

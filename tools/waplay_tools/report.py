@@ -77,6 +77,14 @@ def report(words: argparse.Namespace) -> str:
     return page.page(Heading(os.path.basename(words.script)), [content_of(words)], room)
 
 
+def write_take(folder: str, path: str, most: float = TOLERANCE) -> None:
+    """Writes the page of a take to a file: what a tool calls that has made the take. The last word
+    is what samples may differ by. It raises BadInput, with a sentence, where the take can't be
+    used."""
+    heading, contents = takes.take_of(folder, most)
+    write(page.page(heading, contents, Room(os.path.dirname(path) or ".")), path)
+
+
 def write(text: str, path: str | None) -> None:
     """Writes a page to a file, or to standard output."""
     if path:

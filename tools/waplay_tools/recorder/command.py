@@ -199,7 +199,9 @@ def write_summary(words: argparse.Namespace, taken: Take, ending: Ending) -> Non
 
 def program_told(words: argparse.Namespace) -> dict[str, str]:
     """Of the program that replayed, its name and its digest."""
-    program = find_program(words.waplay)[0] if words.replay else None
+    if not getattr(words, "replay", True):
+        return {}
+    program = find_program(getattr(words, "waplay", None))[0]
     if program is None:
         return {}
     return {"program": program.name, "digest": hashlib.sha256(program.read_bytes()).hexdigest()}

@@ -48,6 +48,7 @@ class Content:
     losses: list[Loss] = dataclasses.field(default_factory=list)
     verdict: str = ""
     lines: list[str] = dataclasses.field(default_factory=list)
+    frozen: set[str] = dataclasses.field(default_factory=set)  # names of nodes
 
     @property
     def rate(self) -> int:

@@ -179,7 +179,7 @@ def flags_of(content: Content) -> dict[int, tuple[str, ...]]:
         source = it.buffer.call if it.buffer else None
         calls = {call.ordinal for call in (it.call, source) if call}
         flags = [("muted", _number(it) in muted), ("in a cycle", _number(it) in looped - muted),
-                 ("frozen", bool(calls & frozen_calls))]
+                 ("frozen", bool(calls & frozen_calls) or it.name in content.frozen)]
         told[_number(it)] = tuple(name for name, holds in flags if holds)
     return told
 

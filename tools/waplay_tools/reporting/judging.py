@@ -121,5 +121,7 @@ def _of_recording(content: Content) -> Iterator[Finding]:
     for line in content.lines:
         if line.startswith(("the page ", "replay: failed", "replay: the program")):
             yield Finding("doubtful", f"{line}.")
+        elif line.startswith("live: "):
+            yield Finding("doubtful", f"Frozen: {line[len('live: '):]}.")
         elif "ended otherwise" in line:
             yield Finding("bad", f"{line}.")

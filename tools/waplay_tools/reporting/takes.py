@@ -16,7 +16,7 @@ from waplay_tools.reporting.text import BadInput, visible
 from waplay_tools.reporting.wav_samples import TOLERANCE, Differences
 
 SCRIPT = re.compile(r"(\d+)\.json")
-LOSS = re.compile(r"(exact|rounded|heard|lowered|refused|silent) ([a-z-]+): (.*)")
+LOSS = re.compile(r"(exact|rounded|lowered|frozen|heard|silent|refused) ([a-z-]+): (.*)")
 CALLS = re.compile(r"\bcalls? ([\d ]+)")
 BROWSER = "the browser"
 
@@ -80,6 +80,15 @@ def lengths_of(folder: Path, script: Script) -> dict[str, int]:
     return found
 
 
+def frozen_of(folder: Path, number: int) -> set[str]:
+    """The names of the nodes of a context that are frozen, as take.json tells."""
+    for told in summary_of(folder).get("contexts") or []:
+        if isinstance(told, dict) and told.get("number") == number:
+            names = told.get("frozen") or []
+            return {str(it.get("name")) for it in names if isinstance(it, dict)}
+    return set()
+
+
 def file_of(path: Path, label: str) -> File | None:
     """A WAV file of a take; None where it is not there."""
     if not path.is_file():
@@ -111,6 +120,7 @@ def content_of(folder: Path, number: int, tolerance: float) -> Content:
         content.other = file_of(folder / f"{number}.browser.wav", BROWSER)
     if content.sound and content.other:
         content.differences = Differences(content.sound.sound, content.other.sound, tolerance)
+    content.frozen = frozen_of(folder, number)
     report = folder / f"{number}.report.txt"
     if report.is_file():
         told = script_reading.bytes_of(str(report)).decode(errors="replace")
