@@ -51,6 +51,11 @@ class Calls(unittest.TestCase):
         renamed = json.loads(json.dumps(CONSTANT).replace('"c"', '"c2"'))
         self.assertEqual(told(CONSTANT, renamed), [])
 
+    def test_scripts_with_faults(self):
+        for calls in ([7], [{"op": []}], [{"op": "no"}], [{}]):
+            self.assertEqual(told(calls, calls), [])
+            self.assertEqual([it[0] for it in told(calls, CONSTANT)].count("new"), 4)
+
     def test_a_name_that_stands_for_another_node_of_its_kind_is_a_change(self):
         two = [{"op": "createGain", "as": "a"}, {"op": "createGain", "as": "b"}]
         lead = {"op": "connect", "from": "a", "to": "destination"}

@@ -152,6 +152,15 @@ class Takes(unittest.TestCase):
         self.assertIn(b'src="1.wav"', written)
         self.assertGreater(len(self.run_report(self.folder, "--whole")[1]), 6_000_000)
 
+    def test_a_summary_that_is_none(self):
+        take(self.folder, fixtures.script(CONSTANT, length=256))
+        for told in (
+            "[", "[]", '{"contexts": 5, "missing": {}, "title": [1], "status": "x"}',
+            '{"contexts": [7, {"number": 1, "frozen": [3, {}]}], "reason": [], "page": 1}',
+        ):
+            fixtures.write(self.folder, "take.json", told)
+            self.assertIn("Context 1", self.page().text())
+
     def test_a_tool_writes_the_page_of_its_take(self):
         take(self.folder, fixtures.script(CONSTANT, length=256))
         path = os.path.join(self.folder, "index.html")

@@ -10,7 +10,7 @@ where it could not be done.
 """
 
 import argparse
-import concurrent.futures
+import concurrent.futures.process
 import contextlib
 import importlib
 import os
@@ -182,6 +182,8 @@ def main() -> int:
     except OSError as fault:
         where = visible(str(fault.filename or words.folder))
         print(f"archive: {where} can't be used: {fault.strerror}", file=sys.stderr)
+    except concurrent.futures.process.BrokenProcessPool:
+        print("archive: a process of its own was ended; the same command goes on", file=sys.stderr)
     except KeyboardInterrupt:
         print("archive: stopped; the same command goes on", file=sys.stderr)
     return 2

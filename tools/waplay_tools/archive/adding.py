@@ -8,6 +8,7 @@ import json
 import os
 import re
 import shutil
+import subprocess
 import urllib.parse
 from pathlib import Path
 from typing import TextIO
@@ -133,9 +134,11 @@ def prepare(archive: Path, take: Path, name: str, program: Program) -> dict[str,
         }
         digest = bags.close(part, info)
         contexts = len(takes.numbers_of(part / "data"))
-    except (BadInput, OSError) as fault:
+    except (BadInput, OSError, subprocess.TimeoutExpired) as fault:
         bags.put_away(part)
         reason = fault.strerror if isinstance(fault, OSError) else str(fault)
+        if isinstance(fault, subprocess.TimeoutExpired):
+            reason = f"the program took more than {performing.LIMIT} seconds"
         raise BadInput(f"{visible(str(take))} is not added: {reason}") from None
     return {
         "bag": name,

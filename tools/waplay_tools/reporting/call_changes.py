@@ -61,6 +61,8 @@ class Names:
 
 def names_in(call: Call) -> list[tuple[str, str]]:
     """The names that stand in a call, each with its field."""
+    if not isinstance(call.op, str):
+        return []
     found = []
     for field, kind, *_ in entries.fields_of(call.op):
         value = call.members.get(field)

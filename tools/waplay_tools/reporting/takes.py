@@ -48,6 +48,12 @@ def summary_of(folder: Path) -> dict[str, Any]:
     return told if isinstance(told, dict) else {}
 
 
+def list_of(told: dict[str, Any], name: str) -> list[Any]:
+    """A list of take.json; an empty one where there is none."""
+    found = told.get(name)
+    return found if isinstance(found, list) else []
+
+
 def losses_of(text: str) -> tuple[list[Loss], list[str], str]:
     """The losses of a report of the recorder, its other lines, and its verdict."""
     losses, lines, verdict = [], [], ""
@@ -82,10 +88,9 @@ def lengths_of(folder: Path, script: Script) -> dict[str, int]:
 
 def frozen_of(folder: Path, number: int) -> set[str]:
     """The names of the nodes of a context that are frozen, as take.json tells."""
-    for told in summary_of(folder).get("contexts") or []:
+    for told in list_of(summary_of(folder), "contexts"):
         if isinstance(told, dict) and told.get("number") == number:
-            names = told.get("frozen") or []
-            return {str(it.get("name")) for it in names if isinstance(it, dict)}
+            return {str(it.get("name")) for it in list_of(told, "frozen") if isinstance(it, dict)}
     return set()
 
 
@@ -155,7 +160,7 @@ def heading_of(folder: Path, contents: list[Content]) -> Heading:
     told = summary_of(folder)
     page = str(told.get("page") or folder.absolute().name)
     title = str(told.get("title") or page.rstrip("/").rsplit("/", 1)[-1] or page)
-    found = [Finding("doubtful", f"{line}.") for line in told.get("missing") or []]
+    found = [Finding("doubtful", f"{line}.") for line in list_of(told, "missing")]
     reason = str(told.get("reason") or "")
     if reason and not reason.startswith("context "):  # which that context tells itself
         found.append(Finding("bad", f"The recorder ended with {told.get('status')}: {reason}"))
