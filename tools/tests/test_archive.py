@@ -1,5 +1,6 @@
 """Tests of archives: bags by RFC 8493, adding, verifying, going on, and changes of single bytes."""
 
+import concurrent.futures
 import contextlib
 import hashlib
 import importlib.util
@@ -23,6 +24,7 @@ from waplay_tools.archive import __main__ as command
 from waplay_tools.archive import bags, cluster, performing, verifying
 from waplay_tools.archive.adding import Program, page_files
 from waplay_tools.archive.performing import Kept, Task
+from waplay_tools.reporting.text import BadInput
 
 CALCULATION = """import sys
 from waplay_tools.expecting import sessions
@@ -278,6 +280,19 @@ class Sending(unittest.TestCase):
         self.assertEqual(run.stderr, "")
         self.assertEqual(run.stdout, "[{'number': 1, 'transcript': None, 'sound': None,"
                                      " 'has_sound': False, 'reason': ''}]\nalone\n")
+
+
+    @unittest.skipUnless(importlib.util.find_spec("distributed"), "distributed is not installed")
+    def test_a_scheduler_that_goes_away(self):
+        for fault in (concurrent.futures.CancelledError("it"), OSError("closed")):
+            client = unittest.mock.Mock()
+            client.nthreads.return_value = {"worker": 1}
+            client.scatter.side_effect = fault
+            with unittest.mock.patch.object(cluster, "client_of", lambda address: client):
+                results = cluster.on_a_cluster(Path("."), {}, Program("/bin/sh", ""), "tcp://it")
+                with self.assertRaisesRegex(BadInput, "tcp://it went away; the same command goes"):
+                    list(results)
+            client.close.assert_called_once()
 
 
 WAITING = """import os, sys, time

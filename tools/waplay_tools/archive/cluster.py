@@ -2,8 +2,10 @@
 and what replays them too, so that the workers need nothing of waplay."""
 
 import importlib
+import logging
 import time
 from collections.abc import Callable, Iterator
+from concurrent.futures import CancelledError
 from pathlib import Path
 from typing import Any
 
@@ -29,6 +31,7 @@ def _module(name: str) -> Any:
 def client_of(address: str) -> Any:
     """A client of the scheduler at an address."""
     distributed = _module("distributed")
+    logging.getLogger("distributed").setLevel(logging.CRITICAL)
     try:
         return distributed.Client(address, timeout=SECONDS)
     except (OSError, ValueError) as fault:
@@ -85,7 +88,9 @@ class Sent:
             for told in future.result():
                 found = verifying.differing(self.archive / name, Outcome(**told))
                 wrong += [str(it) for it in found]
-        except Exception as fault:  # whatever a worker ends with is a result of this bag
+        except (CancelledError, OSError):  # the scheduler is gone, which is no result of a bag
+            raise
+        except Exception as fault:  # whatever else a worker ends with is one
             wrong.append(f"its replay failed on a worker: {fault}")
         return Result(name, wrong, contexts, round(time.monotonic() - begun, 4))
 
@@ -99,16 +104,23 @@ def on_a_cluster(
         threads = sum(client.nthreads().values())
         if not threads:
             raise BadInput(f"the scheduler at {address} has no workers")
-        sent, arriving = Sent(archive, client, program), _module("distributed").as_completed()
-        for name, digest in digests.items():
-            result, future = sent.send(name, digest)
-            if result:
-                yield result
-            else:
-                arriving.add(future)
-            while len(sent.bags) >= AHEAD * threads:
-                yield sent.result(next(arriving))
-        while sent.bags:
-            yield sent.result(next(arriving))
+        yield from results_of(Sent(archive, client, program), digests, AHEAD * threads)
+    except (CancelledError, OSError):
+        raise BadInput(f"the scheduler at {address} went away; the same command goes on") from None
     finally:
         client.close()
+
+
+def results_of(sent: Sent, digests: dict[str, str], most: int) -> Iterator[Result]:
+    """The results of bags as they come. At most so many are on their way at a time."""
+    arriving = _module("distributed").as_completed()
+    for name, digest in digests.items():
+        result, future = sent.send(name, digest)
+        if result:
+            yield result
+        else:
+            arriving.add(future)
+        while len(sent.bags) >= most:
+            yield sent.result(next(arriving))
+    while sent.bags:
+        yield sent.result(next(arriving))
