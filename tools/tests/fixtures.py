@@ -100,6 +100,12 @@ def write(folder, name, data):
     return path
 
 
+def read(folder, name):
+    """The bytes of a file."""
+    with open(os.path.join(folder, name), "rb") as file:
+        return file.read()
+
+
 def script_of_case(name):
     """The bytes of the script of the case of this name, of the first subject that has one."""
     path = min(CASES.glob(f"*/{name}.json"))

@@ -5,14 +5,22 @@ script runs.
 The variable REPORT_PICTURES may name a folder, which then gets a picture of each page.
 """
 
+import array
+import json
 import os
 import re
 import struct
 import tempfile
 import unittest
+from pathlib import Path
 
 import fixtures
 import browser
+from test_report_take import REPORT, take
+from waplay_tools.archive import summary
+from waplay_tools.archive.adding import Program
+from waplay_tools.archive.verifying import Result
+from waplay_tools.recorder.results import wav_of_words
 from waplay_tools.reporting import waveform
 from waplay_tools.reporting.wav_samples import sound_of, spans
 
@@ -38,9 +46,9 @@ def pages():
     other = bytearray(sound[:-600])  # 200 frames fewer
     other[44 + 3 * 700] ^= 0x55
     other[44 + 3 * 900 + 1] ^= 0x33
-    wide = fixtures.script([{"op": "startRendering"}], 32, 33554)
+    wide = fixtures.script([{"op": "startRendering"}], 32, 30000)
     quiet = fixtures.wav(
-        [[(frame * channel) % 999 for frame in range(33554)] for channel in range(32)]
+        [[(frame * channel) % 999 for frame in range(30000)] for channel in range(32)]
     )
     yield "resumed", data, text, sound, bytes(other)
     yield "stalled", *fixtures.suspended(), None, None
@@ -48,12 +56,66 @@ def pages():
     yield "ended", *fixtures.session_of_case("hi_hat_choked"), None
     yield "decoded", *fixtures.session_of_case("drum_loop"), None
     yield "refused", *fixtures.session_of_case("refused_calls"), None
-    yield "wide", wide, "1 pending\n1 resolved\ncomplete 33554\nend completed\n", quiet, None
+    yield "wide", wide, "1 pending\n1 resolved\ncomplete 30000\nend completed\n", quiet, None
     yield "x" * 120, b'{"version": 1, "context": [}', "script: BadJson\n", None, None
     yield "fault", fixtures.script([{"op": "<b>" * 100}]), "script: 1 op UnknownOp\n", None, None
     yield "idle", fixtures.script(
         [{"op": "createGain", "as": "g" * 64}]
     ), "1 ok\nend idle\n", None, None
+
+
+def loud(calls):
+    """Calls of a piece with a pluck, a refused compressor and an edit while it plays."""
+    return [
+        {"op": "createConstantSource", "as": "c", "offset": 2**22},
+        {"op": "createGain", "as": "fade"},
+        {"op": "connect", "from": "c", "to": "fade"},
+        {"op": "connect", "from": "fade", "to": "destination"},
+        {"op": "linearRampToValueAtTime", "node": "fade", "param": "gain", "value": 0,
+         "time": 9600},
+        {"op": "start", "node": "c"},
+        {"op": "suspend", "time": 4800, "then": [
+            {"op": "disconnect", "from": "fade"},
+            {"op": "connect", "from": "c", "to": "destination"}, {"op": "resume"}]},
+        *calls,
+        {"op": "startRendering"},
+    ]
+
+
+def take_pages(folder):
+    """Pages of takes, of two runs and of an archive: of each its name and its path."""
+    many = [{"op": "setValueAtTime", "node": "fade", "param": "gain", "value": at,
+             "time": 9600 + at} for at in range(13000)]
+    refused = [{"op": "createDynamicsCompressor", "as": "k"},
+               {"op": "connect", "from": "c", "to": "k"}]
+    silent = [{"op": "createDynamicsCompressor", "as": "k"}, {"op": "startRendering"}]
+    for name, calls, length in (
+        ("take", loud(refused), 9600), ("long", loud(many), 24000), ("beside", loud([]), 480_000),
+        ("silent", silent, 9600),
+    ):
+        path = os.path.join(folder, name)
+        os.mkdir(path)
+        data = fixtures.script(calls, 2, length)
+        take(path, data)
+        sound = sound_of(fixtures.read(path, "1.wav"), "it")
+        samples = [value / 2**23 for pair in zip(*sound.channels) for value in pair]
+        samples[200:400] = [0.75] * 200
+        rendered = wav_of_words(array.array("f", samples), 2, 48000, 3)
+        fixtures.write(path, "1.browser.wav", rendered)
+        fixtures.write(path, "1.report.txt", REPORT)
+        fixtures.write(path, "take.json", json.dumps({"page": "x" * 90, "title": name}))
+        if name == "take":
+            take(path, data, rendered, number=2)
+        page = os.path.join(path, "report.html")
+        assert fixtures.run("report", path, "-o", page).returncode == 0
+        yield name, page
+    page = os.path.join(folder, "compared.html")
+    words = [os.path.join(folder, name) for name in ("take", "long")]
+    assert fixtures.run("compare", *words, "-o", page).returncode == 1
+    yield "compared", page
+    results = [Result("piece", ["data/1.wav has another digest"]), Result("other", [], 1)]
+    summary.write(Path(folder), results, ["line 1 was changed"], Program("waplay", "ab" * 32))
+    yield "archive", os.path.join(folder, "verified.html")
 
 
 @unittest.skipUnless(browser.PROGRAM, "chromium is not installed")
@@ -72,6 +134,7 @@ class Pages(unittest.TestCase):
                 fixtures.write(folder.name, name[:20] + ".html", ran.stdout),
                 sound,
             )
+        cls.paths.update(take_pages(folder.name))
         cls.browser = browser.Browser()
         cls.addClassCleanup(cls.browser.close)
 
@@ -194,15 +257,15 @@ class Pages(unittest.TestCase):
         self.assertLess(max(abs(a - b) for a, b in zip(found, wanted)), 0.11)
 
     def test_drawings_are_the_same_with_and_without_scripts(self):
-        for name in ("resumed", "wide", "decoded"):
+        for name in ("resumed", "wide", "decoded", "take"):
             drawings = []
             for scripts in (True, False):
                 self.show(name, scripts=scripts)
                 drawings.append(
                     self.browser.evaluate(
                         """[...document.querySelectorAll('.drawing')].map(it =>
-                            it.getAttribute('viewBox') + ' ' +
-                            it.querySelector('.envelope').getAttribute('d'))"""
+                            it.getAttribute('viewBox') + ' ' + [...it.querySelectorAll(
+                                '.envelope, .other')].map(one => one.getAttribute('d')))"""
                     )
                 )
             for one, two in zip(*(map(self.numbers, it) for it in drawings)):
@@ -257,7 +320,7 @@ class Pages(unittest.TestCase):
             ".filter(it => it.style.display !== 'none').map(it => it.dataset.low)"
         )
         self.assertEqual(
-            sorted(map(int, marks)), [it for it in (512, 700, 900, 1000) if first <= it <= last]
+            sorted(map(int, marks)), [it for it in (512, 900, 900, 1000) if first <= it <= last]
         )
         self.browser.evaluate(
             "(form => { form.elements.first.value = 690; form.elements.last.value = 710; "
@@ -292,8 +355,70 @@ class Pages(unittest.TestCase):
         count = lines + ".filter(it => it.checkVisibility()).length"
         self.assertEqual(self.browser.evaluate(count), 39)
         for choice, rows in ("refusals", 18), ("events", 3), ("all", 39):
-            self.browser.evaluate("document.querySelector('#only-%s').click()" % choice)
+            self.browser.evaluate("document.querySelector('.only-%s').click()" % choice)
             self.assertEqual(self.browser.evaluate(count), rows)
+
+    def test_sounds_beside_the_page_are_played_and_drawn(self):
+        self.show("beside")
+        paths = "[...document.querySelectorAll('.envelope, .other')].map(" \
+                "it => it.getAttribute('d'))"
+        whole = self.browser.evaluate(paths)
+        self.browser.evaluate("document.querySelector('[data-do=in]').click()")
+        zoomed = self.browser.evaluate(paths)
+        self.assertEqual(len(whole), 6)
+        for one, two in zip(whole, zoomed):
+            self.assertNotEqual(one, two)
+            self.assertGreater(len(self.numbers(two)), 1500)
+        seconds = self.browser.evaluate(
+            """new Promise((done, fail) => {
+            const it = document.querySelector('audio');
+            it.oncanplaythrough = () => done(it.duration);
+            it.onerror = () => fail(it.error.message);
+            it.preload = 'auto';
+            it.load();
+        })"""
+        )
+        self.assertEqual(seconds, 10)
+
+    def test_long_pages_are_small(self):
+        self.assertLess(os.path.getsize(self.paths["long"]), 5_000_000)
+        self.show("long")
+        count = self.browser.evaluate("document.querySelectorAll('*').length")
+        self.assertLess(count, 3000)
+        self.assertIn("13,0", self.text(".rows summary"))
+
+    def test_all_lanes_are_zoomed(self):
+        self.show("take")
+        boxes = "[...document.querySelectorAll('#part-1 .stretched')].map(" \
+                "it => it.viewBox.baseVal.width / it.dataset.width)"
+        self.assertTrue(all(it == 1 for it in self.browser.evaluate(boxes)))
+        self.browser.evaluate("document.querySelector('#part-1 [data-do=in]').click()")
+        widths = self.browser.evaluate(boxes)
+        self.assertGreater(len(widths), 0)
+        self.assertTrue(all(it == 0.5 for it in widths))
+        note = "document.querySelector('#part-1 .note text').textContent"
+        self.assertEqual(self.browser.evaluate(note), "c")
+        other = "document.querySelector('#part-2 .status').textContent"
+        self.assertIn("the whole", self.browser.evaluate(other))
+
+    def test_boxes_that_are_wider_than_they_show_say_so(self):
+        self.show("take", 390)
+        count = "document.querySelectorAll('.scroll.overflows').length"
+        self.assertGreater(self.browser.evaluate(count), 0)
+
+    def test_folded_parts_are_opened_by_keys(self):
+        self.show("long")
+        self.browser.evaluate("document.querySelector('.rows summary').focus()")
+        self.browser.key("Enter")
+        self.assertTrue(self.browser.evaluate("document.querySelector('.rows details').open"))
+
+    def test_names_in_pages_of_takes(self):
+        for name in ("take", "long", "silent", "compared", "archive"):
+            self.show(name, 390)
+            for node in self.browser.call("Accessibility.getFullAXTree")["nodes"]:
+                role = node.get("role", {}).get("value")
+                if not node["ignored"] and role in NAMED | {"link", "DisclosureTriangle"}:
+                    self.assertTrue(node["name"]["value"].strip(), (name, role))
 
     def test_names_for_screen_readers(self):
         for name in ("resumed", "ended", "fault"):

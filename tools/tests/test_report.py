@@ -16,7 +16,9 @@ import test_reading
 
 from waplay_tools import report
 from waplay_tools.expecting import sessions
-from waplay_tools.reporting import sound_html, waveform
+from waplay_tools.reporting import waveform
+from waplay_tools.reporting.content import File, Room
+from waplay_tools.reporting.players import players_html
 from waplay_tools.reporting.wav_samples import Differences, front_of, sound_of
 
 VOID = {"meta", "input", "br", "wbr", "img", "link", "hr"}
@@ -306,23 +308,27 @@ class Report(unittest.TestCase):
         )
         for frame, value in (700, b"\x01\x00\x00"), (900, b"\xff\xff\x7f"), (901, b"\x00\x00\x80"):
             other[44 + 3 * frame : 47 + 3 * frame] = value
-        page = self.report(
-            paths, "--against", fixtures.write(self.folder, "other.wav", bytes(other))
-        )
+        against = ["--against", fixtures.write(self.folder, "other.wav", bytes(other))]
+        page = self.report(paths, *against, "--tolerance", "0")
         ours, theirs = (sound_of(bytes(it), "it").channels[0] for it in (sound, other))
         plain = [(abs(b - a), -frame) for frame, (a, b) in enumerate(zip(ours, theirs)) if a != b]
         self.assertIn("%d of 2,048 samples differ." % len(plain), page.text())
         frames = {"first": -max(it[1] for it in plain), "greatest": -max(plain)[1]}
         for kind, frame in frames.items():
-            numbers = ours[frame], theirs[frame], theirs[frame] - ours[frame]
-            told = "".join("{:,}".format(it) for it in numbers).replace("-", "\u2212")
+            less = (theirs[frame] - ours[frame]) / 2**23
+            told = "".join("%.6f" % (it / 2**23) for it in (ours[frame], theirs[frame]))
             row = next(
-                row.replace("\u00a0", "")
+                row.replace("\u00a0", "").replace("\u2212", "-")
                 for row in page.rows
                 if row.replace(" ", "").startswith(kind)
             )
             self.assertTrue(row.endswith(told), (row, told))
+            self.assertIn(("%.3g" % less).replace("e-0", "e-"), row)
             self.assertIn("%d" % frame, row)
+        page = self.report(paths, *against)
+        beyond = [frame for frame, (a, b) in enumerate(zip(ours, theirs)) if abs(b - a) > 128]
+        told = "By more than the tolerance, 2^\u221216, differ %d." % len(beyond)
+        self.assertIn(told, page.text())
         page = self.report(
             paths,
             "--against",
@@ -391,14 +397,14 @@ class Waveforms(unittest.TestCase):
             self.assertEqual(waveform.scale_of([sound_of(fixtures.wav([samples]), "it")]), scale)
 
     def test_files_that_are_too_large_for_a_page(self):
-        files = fixtures.wav([[1, 2, 3]]), fixtures.wav([[1, 2, 3, 4]])
-        sounds = [sound_of(data, "it") for data in files]
-        differences = Differences(*sounds)
-        for most, players in (1000, 2), (len(files[0]), 1), (10, 0):
-            with unittest.mock.patch.object(sound_html, "MOST_BYTES", most):
-                text = sound_html.sound_html(sounds[0], files[0], [], differences, files[1])
-            self.assertEqual(text.count("<audio"), players)
-            self.assertEqual(text.count("is not in the page"), 2 - players)
+        data = fixtures.wav([[1, 2, 3]]), fixtures.wav([[1, 2, 3, 4]])
+        files = [File("a b.wav", it, sound_of(it, "it")) for it in data]
+        for most, held in (1000, 2), (len(data[0]), 1), (10, 0):
+            text, is_whole = players_html(*files, Room(".", most))
+            self.assertEqual(text.count("data:audio/wav"), held)
+            self.assertEqual(text.count('src="a%20b.wav"'), 2 - held)
+            self.assertEqual(text.count("is not in this page"), 2 - held)
+            self.assertEqual(is_whole, held == 2)
 
     def test_what_is_played_of_many_channels_are_the_first_two(self):
         for bits in (8, 16, 24, 32):

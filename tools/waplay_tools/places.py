@@ -7,3 +7,5 @@ EXAMPLES = TOP / "examples"
 CASES = TOP / "tests" / "cases"
 SHIPPED = TOP / "bin" / "waplay-x86_64-linux"
 BUILT = TOP / "crates" / "waplay" / "out" / "waplay"
+# In an installed package there is no repository: the program and the recorder lie here.
+PACKAGED = Path(__file__).resolve().parent / "packaged"

@@ -20,6 +20,7 @@ FOLDERS = (TOP / "tools" / "tests", TOP / "recorder" / "tests")
 BROWSER = "browser"  # a module of tests whose name has this word wants a browser
 # The modules that take longest, so that none of them is left for the end.
 LONG = (
+    "test_archive",
     "test_command_lines",
     "test_delays",
     "test_generated",

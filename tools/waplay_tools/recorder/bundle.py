@@ -2,9 +2,10 @@
 
 import functools
 import subprocess
-from pathlib import Path
 
-FOLDER = Path(__file__).resolve().parents[3] / "recorder"
+from waplay_tools.places import PACKAGED, TOP
+
+FOLDER = TOP / "recorder"
 
 
 class NoBundle(Exception):
@@ -13,7 +14,9 @@ class NoBundle(Exception):
 
 @functools.cache
 def recorder_text() -> str:
-    """The recorder as one script, as recorder/build bundles it."""
+    """The recorder as one script, as recorder/build bundles it; an installed package has it."""
+    if (PACKAGED / "recorder.js").is_file():
+        return (PACKAGED / "recorder.js").read_text(encoding="utf-8")
     try:
         run = subprocess.run([FOLDER / "build", "-"], capture_output=True, text=True, check=False)
     except OSError as fault:

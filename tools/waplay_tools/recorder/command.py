@@ -2,6 +2,8 @@
 
 import argparse
 import dataclasses
+import datetime
+import hashlib
 import json
 import os
 import re
@@ -187,10 +189,22 @@ def write_summary(words: argparse.Namespace, taken: Take, ending: Ending) -> Non
     """Writes take.json: what the take is of, for programs that read it."""
     contexts = [{"number": each.number, "verdict": each.verdict, "seconds": each.seconds,
                  "silent": each.is_silent, "losses": each.kinds} for each in taken.contexts]
-    summary = {"page": words.page, "status": ending.status, "reason": ending.reason,
+    now = datetime.datetime.now(datetime.timezone.utc).isoformat(timespec="seconds")
+    summary = {"page": words.page, "title": taken.title, "date": now, "browser": taken.browser,
+               **program_told(words), "status": ending.status, "reason": ending.reason,
                "contexts": contexts, "troubles": taken.troubles, "missing": taken.missing}
     text = json.dumps(summary, indent=2, ensure_ascii=False) + "\n"
     (words.out / "take.json").write_text(text, encoding="utf-8")
+
+
+def program_told(words: argparse.Namespace) -> dict[str, str]:
+    """Of the program that replayed, its name and its digest."""
+    if not getattr(words, "replay", True):
+        return {}
+    program = find_program(getattr(words, "waplay", None))[0]
+    if program is None:
+        return {}
+    return {"program": program.name, "digest": hashlib.sha256(program.read_bytes()).hexdigest()}
 
 
 def stop_at(number: int, _: FrameType | None) -> None:

@@ -289,6 +289,12 @@ class Session:
                          f"asks for {self.wishes.contexts}")
         return found
 
+    def title(self) -> str:
+        """What the page calls itself."""
+        with contextlib.suppress(BrowserFault):
+            return str(self.browser.evaluate("document.title", timeout=LEAST))
+        return ""
+
     def why_nothing(self) -> str:
         """One sentence on a page of which nothing was recorded."""
         progress, wishes = self.progress, self.wishes
@@ -335,6 +341,8 @@ class Take:
     exceptions: list[str]
     missing: list[str]
     faults: list[str]  # of the recorder
+    title: str = ""  # of the page
+    browser: str = ""  # what the browser calls itself
 
 
 def open_recorded(browser: Browser, url: str, wishes: Wishes, origin: str = "") -> Take:
@@ -355,7 +363,8 @@ def open_recorded(browser: Browser, url: str, wishes: Wishes, origin: str = "") 
         for recorded in contexts:
             recorded.troubles = news.lines()
         return Take(contexts, news.lines(), news.exceptions(), session.missing(),
-                    session.progress.faults)
+                    session.progress.faults, session.title(),
+                    str(browser.call("Browser.getVersion").get("product", "")))
     finally:
         session.leaving.close()
         news.close()

@@ -12,10 +12,10 @@ import wave
 from collections.abc import Sequence
 from pathlib import Path
 
+from waplay_tools.places import PACKAGED, TOP
 from waplay_tools.recorder.departures import all_calls, known_departures
 from waplay_tools.recorder.results import Recorded
 
-TOP = Path(__file__).resolve().parents[3]
 FULL = 2**23  # the samples of a file of 24 bits are whole numbers of 2^-23
 TOLERANCE = 2.0**-16
 SHOWN = 8  # calls that ended otherwise, in a line
@@ -41,8 +41,10 @@ def is_launcher(path: Path) -> bool:
 
 
 def find_built(top: Path) -> tuple[Path | None, str]:
-    """The program that a checkout has: what was built there, or what comes with it."""
-    places = [top / "bin" / "waplay-x86_64-linux", top / "crates" / "waplay" / "out" / "waplay"]
+    """The program that a checkout has: what was built there, or what comes with it; or that of an
+    installed package."""
+    places = [top / "bin" / "waplay-x86_64-linux", top / "crates" / "waplay" / "out" / "waplay",
+              PACKAGED / "waplay"]
     there = [path for path in places if path.is_file()]
     if not there:
         return None, "waplay is not built, and no build is started; --waplay names a program"

@@ -5,7 +5,7 @@ from pathlib import Path
 
 # The names of the files of a take. A replay by hand is out.wav, as the documents have it.
 OURS = re.compile(r"take\.json|\d+\.json|\d+-b\d+\.wav|\d+\.browser\.wav|\d+\.wav|\d+\.txt"
-                  r"|\d+\.report\.txt|out\.wav")
+                  r"|\d+\.report\.txt|out\.wav|report\.html|index\.html")
 
 
 class NoTake(Exception):

@@ -1,12 +1,18 @@
 """The transcript beside the script's calls, as tables of HTML."""
 
+from collections.abc import Iterator
 from typing import Any
 
 from waplay_tools.reporting import entries, rules
+from waplay_tools.reporting.difference import call_text
 from waplay_tools.reporting.following import Row, Session
 from waplay_tools.reporting.markup import Html, escaped, filled, isolated, joined, sentence
 from waplay_tools.reporting.script_reading import Call, Script
+from waplay_tools.reporting.tables import MOST_ROWS, more_rows, plain
 from waplay_tools.reporting.text import LONG, counted, grouped, shown
+
+MANY_LINES = 100  # from which on the transcript is folded
+MOST_LINES = 1000  # from which on it is a plain text
 
 # Of each class of rows its sign. The word that goes with it is in the row's own text.
 SIGNS = {
@@ -151,8 +157,8 @@ def _row(row: Row, script: Script) -> Html:
     )
 
 
-def _filters(session: Session) -> Html:
-    """The choice of rows, which needs no script."""
+def _filters(session: Session, key: str) -> Html:
+    """The choice of rows, which needs no script. The key tells the parts of a page apart."""
     refused = sum(line.is_refusal() for line in session.lines)
     events = sum(_is_told(row) for part in session.parts for row in part.rows)
     choices = [
@@ -162,8 +168,9 @@ def _filters(session: Session) -> Html:
     ]
     inputs = (
         filled(
-            '<label><input type="radio" name="rows" id="only-{name}"{checked}> {text} <span'
-            ' class="aside">({count})</span></label>',
+            '<label><input type="radio" name="rows-{key}" class="only-{name}"{checked}> {text}'
+            ' <span class="aside">({count})</span></label>',
+            key=key,
             name=name,
             checked=" checked" if name == "all" else "",
             text=text,
@@ -192,9 +199,7 @@ _PART = """<tbody role="rowgroup"><tr role="row" class="part">\
 {rows}
 </tbody>"""
 
-_TRANSCRIPT = """<section aria-labelledby="transcript-title">
-<h2 id="transcript-title">Transcript and calls</h2>
-{filters}
+_TABLE = """{filters}
 <ul class="legend" aria-label="Signs of the lines">{legend}</ul>
 <div class="scroll" tabindex="0" role="region" aria-label="Transcript beside the calls">
 <table role="table" class="transcript">
@@ -203,12 +208,18 @@ _TRANSCRIPT = """<section aria-labelledby="transcript-title">
 <th role="columnheader" scope="col">Answer</th>
 <th role="columnheader" scope="col">What was called, and the rule</th></tr></thead>
 {parts}
-</table></div>
-</section>"""
+</table></div>"""
+
+_TRANSCRIPT = """<h3>Transcript and calls</h3>
+<div class="rows">{shown}</div>"""
+
+_FOLDED = """<details><summary>{count}</summary>
+{shown}
+</details>"""
 
 
-def transcript_html(session: Session) -> Html:
-    """The section of the transcript."""
+def _table(session: Session, key: str) -> Html:
+    """The transcript as a table."""
     legend = (filled(_SIGN, name=name, sign=SIGNS[name], text=text) for name, text in _LEGEND)
     parts = (
         filled(
@@ -219,12 +230,35 @@ def transcript_html(session: Session) -> Html:
         for part in session.parts
     )
     return filled(
-        _TRANSCRIPT, filters=_filters(session), legend=joined(legend), parts=joined(parts, "\n")
+        _TABLE, filters=_filters(session, key), legend=joined(legend), parts=joined(parts, "\n")
     )
 
 
-_NOT_RUN = """<section aria-labelledby="not-run-title">
-<h2 id="not-run-title">Calls that were not run</h2>
+def _plain_lines(session: Session) -> Iterator[str]:
+    """The transcript as lines of text, each beside its call."""
+    for part in session.parts:
+        yield f"-- {part.title}"
+        for row in part.rows:
+            answer = row.line.text if row.line.kind == "script" else row.line.answer()
+            sign = SIGNS[class_of(row)]
+            number = "" if row.line.ordinal is None else str(row.line.ordinal)
+            yield f"{number:>6} {sign} {answer:<12} {call_text(row.call) if row.call else ''}"
+
+
+def transcript_html(session: Session, key: str = "") -> Html:
+    """The part of the transcript: a table, which is folded where it is long, and plain lines where
+    it is very long. The key tells the parts of a page apart."""
+    count = len(session.lines)
+    if count > MOST_LINES:
+        shown = plain("Transcript beside the calls", _plain_lines(session))
+    else:
+        shown = _table(session, key)
+    if count > MANY_LINES:
+        shown = filled(_FOLDED, count=f"All {grouped(count)} lines", shown=shown)
+    return filled(_TRANSCRIPT, shown=shown)
+
+
+_NOT_RUN = """<h3>Calls that were not run</h3>
 <p>{calls} of the script {have} no line: the script or the context was refused, or the call stands\
  in a list
 whose promise was rejected or never resolved.</p>
@@ -234,12 +268,11 @@ whose promise was rejected or never resolved.</p>
 <th scope="col">What would have been called</th></tr></thead>
 <tbody>
 {rows}
-</tbody></table></div>
-</section>"""
+</tbody></table></div>{more}"""
 
 
 def not_run_html(session: Session) -> Html:
-    """The section of the calls that were not run; nothing where there are none."""
+    """The part of the calls that were not run; nothing where there are none."""
     if not session.not_run:
         return Html()
     rows = (
@@ -248,11 +281,12 @@ def not_run_html(session: Session) -> Html:
             ordinal=call.ordinal,
             call=call_html(call),
         )
-        for call in session.not_run
+        for call in session.not_run[:MOST_ROWS]
     )
     return filled(
         _NOT_RUN,
         calls=counted(len(session.not_run), "call"),
         have="has" if len(session.not_run) == 1 else "have",
         rows=joined(rows, "\n"),
+        more=more_rows(len(session.not_run), "calls more"),
     )

@@ -3,6 +3,7 @@ of the time line. It raises BadInput, with a sentence, where the transcript does
 script.
 """
 
+from collections.abc import Mapping
 from typing import Any, NoReturn
 
 from waplay_tools.reporting import entries
@@ -41,15 +42,22 @@ class Mark:
 
 
 class Session:
-    """A transcript along its script: its parts, its marks, and the calls that were never run."""
+    """A transcript along its script: its parts, its marks, and the calls that were never run. The
+    lengths are those of the files that it decodes, in frames, by their paths."""
 
-    def __init__(self, script: Script, lines: list[Line], names: tuple[str, str]) -> None:
+    def __init__(
+        self,
+        script: Script,
+        lines: list[Line],
+        names: tuple[str, str],
+        lengths: Mapping[str, int] | None = None,
+    ) -> None:
         self.script, self.lines = script, lines
         self.script_name, self.transcript_name = names
         self.parts: list[Part] = []
         self.marks: list[Mark] = []
         self.answered: set[int] = set()
-        self.book, self.now, self.at = Book(), 0, 0
+        self.book, self.now, self.at = Book(lengths), 0, 0
         self.rendering: int | None = None
         self.suspensions: dict[int, int] = {}  # of ordinals, the frames at which they are due
         self.length = script.context("length")

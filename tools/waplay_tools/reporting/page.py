@@ -1,17 +1,37 @@
-"""The page of a report: one file that needs nothing beside it."""
+"""The page of a report: one file, with all sessions or contexts that it is of."""
 
 import base64
+import dataclasses
 import hashlib
 import os
 from collections.abc import Iterator
 
-from waplay_tools.reporting import calls_html, following, sound_html
-from waplay_tools.reporting.following import Session
+from waplay_tools.reporting import (
+    calls_html,
+    graph_html,
+    judging,
+    notes_html,
+    refusals_html,
+    sound_html,
+    waveform,
+)
+from waplay_tools.reporting.content import Content, Room
+from waplay_tools.reporting.judging import Finding
 from waplay_tools.reporting.markup import Html, filled, isolated, joined, seconds
 from waplay_tools.reporting.text import counted, grouped
-from waplay_tools.reporting.wav_samples import Differences, Sound
 
 HERE = os.path.dirname(os.path.abspath(__file__))
+
+Facts = list[tuple[str, str]]
+
+
+@dataclasses.dataclass
+class Heading:
+    """What a page is headed by: the piece, what is known of it, and findings on all of it."""
+
+    title: str
+    facts: Facts = dataclasses.field(default_factory=list)
+    findings: list[Finding] = dataclasses.field(default_factory=list)
 
 
 def _own(name: str) -> Html:
@@ -25,17 +45,17 @@ def _hash(text: str) -> str:
     return f"'sha256-{base64.b64encode(hashlib.sha256(text.encode()).digest()).decode()}'"
 
 
-def _facts(session: Session, sound: Sound | None) -> Iterator[tuple[str, str]]:
-    """The facts of the overview, each with its name."""
+def _facts(content: Content) -> Iterator[tuple[str, str]]:
+    """The facts of a session, each with its name."""
+    session = content.session
     script, end = session.script, session.end()
-    rate = script.context("rate")
     yield "Script", isolated(session.script_name)
     yield "Transcript", isolated(session.transcript_name)
     yield "Last line", filled("<code>{line}</code>", line=end.text)
     if end.kind == "script":
         yield "Calls", grouped(len(script.calls))
     else:
-        length = script.context("length")
+        length, rate = script.context("length"), script.context("rate")
         channels = counted(script.context("channels"), "channel")
         frames = counted(length, "frame")
         yield "Context", f"{channels}, {frames}, {grouped(rate)} frames a second"
@@ -46,77 +66,168 @@ def _facts(session: Session, sound: Sound | None) -> Iterator[tuple[str, str]]:
         yield "Suspensions", grouped(
             sum(mark.kind in ("suspended", "stalled") for mark in session.marks)
         )
-    if sound:
-        peak = max(max(-min(channel), max(channel)) for channel in sound.channels)
-        total = sum(sum(channel) for channel in sound.channels)
-        told = f"greatest absolute value {grouped(peak)}, sum {grouped(total)}"
-        yield "Samples", f"{sound.bits} bits, {told}"
+    if content.sound:
+        sound = content.sound.sound
+        kind = "floats of 32 bits" if sound.is_float else f"{sound.bits} bits"
+        yield "Samples", f"{kind}, greatest absolute value {sound.greatest():.6f}"
+    if content.verdict:
+        yield "Verdict of the recorder", content.verdict
 
 
-def _overview(session: Session, sound: Sound | None) -> Html:
-    """The section of the overview."""
-    facts = (
+def facts_html(facts: Facts) -> Html:
+    """A list of facts."""
+    rows = (
         filled("<div><dt>{name}</dt><dd>{fact}</dd></div>", name=name, fact=fact)
-        for name, fact in _facts(session, sound)
+        for name, fact in facts
     )
+    return filled('<dl class="facts">{rows}</dl>', rows=joined(rows))
+
+
+def findings_html(found: list[Finding]) -> Html:
+    """Findings as a list, each with its sign."""
+    rows = (
+        filled(
+            '<li class="outcome {grade}"><span class="sign" aria-hidden="true">{sign}</span>'
+            " <span>{text}</span></li>",
+            grade=it.grade,
+            sign=judging.SIGNS[it.grade],
+            text=it.text,
+        )
+        for it in found
+    )
+    return filled('<ul class="findings">{rows}</ul>' if found else "", rows=joined(rows))
+
+
+def _losses_html(content: Content) -> Html:
+    """What the recorder lost, and what else it tells."""
+    if not content.losses and not content.lines:
+        return Html()
+    rows = (
+        filled(
+            '<tr><th scope="row">{grade}</th><td><code>{kind}</code></td><td>{told}</td></tr>',
+            grade=loss.grade,
+            kind=loss.kind,
+            told=loss.told,
+        )
+        for loss in content.losses
+    )
+    lines = (filled("<li>{line}</li>", line=line) for line in content.lines)
     return filled(
-        '<section aria-labelledby="overview-title"><h2 id="overview-title">Overview</h2>'
-        '<dl class="facts">{facts}</dl></section>',
-        facts=joined(facts),
+        _LOSSES,
+        table=filled(_LOSS_TABLE, rows=joined(rows)) if content.losses else "",
+        lines=filled('<ul class="lines">{lines}</ul>', lines=joined(lines)),
     )
 
 
-def _no_sound(session: Session, wav_name: str | None) -> Html:
-    """The section in place of the sound, where the session wrote no file."""
+_LOSSES = """<h3>What the recorder tells</h3>
+{table}{lines}"""
+
+_LOSS_TABLE = """<div class="scroll" tabindex="0" role="region" aria-label="Losses">
+<table class="losses" aria-label="Losses"><thead><tr><th scope="col">Grade</th>
+<th scope="col">Kind</th><th scope="col">What it is</th></tr></thead>
+<tbody>{rows}</tbody></table></div>"""
+
+
+def _no_sound(content: Content) -> Html:
+    """The part in place of the sound, where the session wrote no file."""
     told = filled(
         "The session wrote no WAV file.{more}",
         more=filled(
-            " What is at {name} is not of this session, and was not read.", name=isolated(wav_name)
+            " What is at {name} is not of this session, and was not read.",
+            name=isolated(content.wav_name),
         )
-        if wav_name
+        if content.wav_name
         else "",
     )
-    rate = session.script.context("rate")
-    return sound_html.no_sound_html(told, session.marks, session.length, rate)
+    session = content.session
+    return sound_html.no_sound_html(told, session.marks, session.length, content.rate)
 
 
-def page(
-    session: Session,
-    names: tuple[str, str | None],
-    sound: Sound | None = None,
-    data: bytes = b"",
-    against: tuple[Differences, str, bytes] | None = None,
-) -> Html:
-    """The page. The names are those of the script and of the WAV file; `against` is the differences
-    from another file, its name and its bytes."""
+_CONTENT = """<section class="context" id="{key}" aria-labelledby="{key}-title">
+<h2 id="{key}-title">{title}</h2>
+{findings}
+{facts}
+{body}
+</section>"""
+
+
+def content_html(content: Content, room: Room, key: str, is_alone: bool) -> Html:
+    """The section of a session. Where it is alone, what is found stands at the top of the page."""
+    has_time = content.session.script.context("length") > 0
+    lanes = Html()
+    if has_time:
+        lanes = joined([notes_html.note_lanes(content), notes_html.automation_lanes(content)])
+    body = [
+        refusals_html.refusals_html(content.session),
+        _losses_html(content),
+        sound_html.sound_html(content, room, lanes) if content.sound else _no_sound(content),
+        notes_html.notes_table(content) if has_time else Html(),
+        graph_html.graph_html(content),
+        calls_html.transcript_html(content.session, key),
+        calls_html.not_run_html(content.session),
+    ]
+    return filled(
+        _CONTENT,
+        key=key,
+        title=content.title or "Session",
+        findings="" if is_alone else findings_html(judging.findings(content)),
+        facts=facts_html(list(_facts(content))),
+        body=joined(body, "\n"),
+    )
+
+
+def _links(contents: list[Content]) -> Html:
+    """The list of the contexts of a page, each with its gravest finding."""
+    if len(contents) == 1:
+        return Html()
+    rows = []
+    for number, content in enumerate(contents, 1):
+        found = judging.findings(content)
+        grade = judging.worst(found)
+        row = (
+            '<li class="outcome {grade}"><span class="sign" aria-hidden="true">{sign}</span>'
+            ' <span><a href="#part-{number}">{title}</a>: {text}</span></li>'
+        )
+        rows.append(
+            filled(row, grade=grade, sign=judging.SIGNS[grade], number=number,
+                   title=content.title, text=found[0].text)
+        )
+    return filled('<ul class="findings" aria-label="Contexts">{rows}</ul>', rows=joined(rows))
+
+
+def page(heading: Heading, contents: list[Content], room: Room) -> Html:
+    """The page of these sessions or contexts."""
+    is_alone = len(contents) == 1
+    found = heading.findings + (judging.findings(contents[0]) if is_alone else [])
+    found.sort(key=lambda it: judging.GRADES.index(it.grade))
+    top = [findings_html(found), _links(contents)]
+    top += [facts_html(heading.facts)] if heading.facts else []
+    sections = [
+        content_html(content, room, f"part-{number}", is_alone)
+        for number, content in enumerate(contents, 1)
+    ]
+    return framed(heading.title, joined(top, "\n"), joined(sections, "\n"))
+
+
+def framed(title: str, top: Html, body: Html) -> Html:
+    """A whole page, whose policy allows its own script and style alone."""
     style, code = _own("page.css"), _own("page.js")
-    is_good = session.end().word == "completed"
-    differences, other_name, other = against or (None, "", None)
-    if sound:
-        parts = [sound_html.sound_html(sound, data, session.marks, differences, other)]
-        if differences:
-            parts.insert(0, sound_html.differences_html(differences, other_name, sound.rate))
-    else:
-        parts = [_no_sound(session, names[1])]
-    parts += [calls_html.transcript_html(session), calls_html.not_run_html(session)]
-    name = os.path.basename(names[0])
     return filled(
         _FRAME,
         policy=Html(_POLICY.format(script=_hash(code), style=_hash(style))),
-        title=name,
-        heading=isolated(name),
+        title=title,
+        heading=isolated(title),
         style=style,
         script=code,
-        outcome="good" if is_good else "bad",
-        sign="\u2713" if is_good else "\u2715",
-        summary=following.summary(session),
-        body=joined([_overview(session, sound), *parts], "\n"),
+        signs=waveform.signs(),
+        top=top,
+        body=body,
     )
 
 
 _POLICY = (
-    "default-src 'none'; media-src data:; script-src {script}; style-src {style}; base-uri 'none';"
-    " form-action 'none'"
+    "default-src 'none'; media-src data: file: 'self'; img-src data:; script-src {script};"
+    " style-src {style}; base-uri 'none'; form-action 'none'"
 )
 
 _FRAME = """<!DOCTYPE html>
@@ -130,10 +241,11 @@ _FRAME = """<!DOCTYPE html>
 <style>{style}</style>
 </head>
 <body>
+{signs}
 <header>
 <p class="product">waplay report</p>
 <h1>{heading}</h1>
-<p class="outcome {outcome}"><span class="sign" aria-hidden="true">{sign}</span> {summary}</p>
+{top}
 </header>
 <main>
 {body}

@@ -1,55 +1,39 @@
-"""The section of the sound: what plays it, its waveforms, its numbers, and how another file
-differs."""
+"""The section of the sound: what plays it, its waveforms with those of another file over them, its
+numbers, and how the other file differs."""
 
-import base64
 import functools
-from collections.abc import Iterable
 
-from waplay_tools.reporting import waveform
+from waplay_tools.reporting import spectrogram, waveform
+from waplay_tools.reporting.content import Content, File, Room, level, value_text
 from waplay_tools.reporting.following import Mark
 from waplay_tools.reporting.markup import Html, filled, isolated, joined, seconds, sentence
+from waplay_tools.reporting.players import lost_html, players_html
+from waplay_tools.reporting.tables import (
+    MOST_ROWS,
+    folded,
+    frame_html,
+    head,
+    more_rows,
+    numbers,
+    table,
+)
 from waplay_tools.reporting.text import counted, decimal, grouped
-from waplay_tools.reporting.wav_samples import Difference, Differences, Sound, front_of, peak
+from waplay_tools.reporting.wav_samples import Difference, Differences, Sound, peak
 from waplay_tools.reporting.waveform import Placed
-
-MOST_BYTES = 64 * 2**20  # of a file that is put into the page
-MOST_PLAYED = 8  # channels of a file that browsers are sure to play
-
-_PLAYER = """<div class="player"><span id="player-{name}">{label}</span><audio controls\
- preload="metadata" data-sound="{name}"{whole} aria-labelledby="player-{name}"\
- src="data:audio/wav;base64,{source}"></audio></div>"""
-
-
-def _base64(data: bytes) -> Html:
-    """Bytes as a page has them."""
-    return Html(base64.b64encode(data).decode())
-
-
-def _player(data: bytes, channels: int, label: str, name: str) -> Html:
-    """What plays a file that is put into the page."""
-    if len(data) > MOST_BYTES:
-        return filled(
-            "<p>{label}: the file has {size} bytes, and a page holds at most {most}. So it is not"
-            " in the page, and the waveform can't be zoomed.</p>",
-            label=label,
-            size=grouped(len(data)),
-            most=grouped(MOST_BYTES),
-        )
-    source, whole = _base64(data), Html()
-    if channels > MOST_PLAYED:
-        label += f", channels 0 and 1: browsers may not play more than {MOST_PLAYED} channels"
-        source, whole = _base64(front_of(data)), filled(' data-file="{source}"', source=source)
-    return filled(_PLAYER, name=name, label=label, whole=whole, source=source)
 
 
 @functools.lru_cache(maxsize=None)
-def _peaks(sound: Sound) -> list[tuple[int, int, int]]:
+def _peaks(sound: Sound) -> list[tuple[float, float, int]]:
     """The peak of each channel."""
     return [peak(channel) for channel in sound.channels]
 
 
-_NUMBERS = """<h3 id="numbers-title">Peak and sum</h3>
-<p class="aside">Of the file's samples, whole numbers of {bits} bits: {full} stands for 1.0.</p>
+def _own(sample: float, sound: Sound) -> str:
+    """A sample as its file has it."""
+    return decimal(sample, 1) if sound.is_float else grouped(int(sample))
+
+
+_NUMBERS = """<p class="aside">Of the file's samples, {kind}.</p>
 {table}"""
 
 
@@ -58,59 +42,26 @@ def numbers_html(sound: Sound, rate: int) -> Html:
     rows = []
     for number, (greatest, value, frame) in enumerate(_peaks(sound)):
         cells = (
-            grouped(greatest),
+            _own(greatest, sound),
             decimal(value, sound.full),
             frame_html(frame),
             seconds(frame, rate),
-            grouped(sum(sound.channels[number])),
+            _own(sum(sound.channels[number]), sound),
         )
         row = '<tr><th scope="row" class="number">{number}</th>{cells}</tr>'
-        rows.append(filled(row, number=number, cells=_numbers(*cells)))
+        rows.append(filled(row, number=number, cells=numbers(*cells)))
     total = sum(sum(channel) for channel in sound.channels)
     greatest = max(it[0] for it in _peaks(sound))
-    both = _numbers(grouped(greatest), "", "", "", grouped(total))
+    both = numbers(_own(greatest, sound), "", "", "", _own(total, sound))
     rows.append(filled('<tr class="total"><th scope="row">all</th>{cells}</tr>', cells=both))
-    head = _head(numbers=("Channel", "Peak", "as a value", "first at frame", "Time", "Sum"))
-    label = Html('aria-labelledby="numbers-title"')
-    table = _table("numbers", label, head, rows)
-    return filled(_NUMBERS, bits=sound.bits, full=grouped(sound.full), table=table)
-
-
-def _numbers(*cells: str | int) -> Html:
-    """Cells of numbers."""
-    return joined(filled('<td class="number">{cell}</td>', cell=cell) for cell in cells)
-
-
-_TABLE = """<div class="scroll" tabindex="0" role="region" {label}>
-<table class="{name}" {label}>
-{head}
-<tbody>
-{rows}
-</tbody></table></div>"""
-
-
-def _table(name: str, label: Html, head: Html, rows: Iterable[Html]) -> Html:
-    """A table in a box in which it can be scrolled; both have the label."""
-    return filled(_TABLE, name=name, label=label, head=head, rows=joined(rows, "\n"))
-
-
-def _head(
-    words: tuple[str, ...] = (), numbers: tuple[str, ...] = (), last: tuple[str, ...] = ()
-) -> Html:
-    """The head of a table: columns of words, then of numbers, then again of words."""
-    cells = (
-        filled('<th scope="col"{number}>{text}</th>', number=number, text=text)
-        for texts, number in ((words, ""), (numbers, Html(' class="number"')), (last, ""))
-        for text in texts
+    titles = head(figures=("Channel", "Peak", "as a value", "first at frame", "Time", "Sum"))
+    kind = f"whole numbers of {sound.bits} bits: {grouped(sound.full)} stands for 1.0"
+    shown = filled(
+        _NUMBERS,
+        kind="floats of 32 bits" if sound.is_float else kind,
+        table=table("numbers", "Peak and sum", titles, rows),
     )
-    return filled("<thead><tr>{cells}</tr></thead>", cells=joined(cells))
-
-
-def frame_html(frame: int) -> Html:
-    """A frame, which a script makes a button that shows it."""
-    return filled(
-        '<span class="frame" data-frame="{frame}">{text}</span>', frame=frame, text=grouped(frame)
-    )
+    return folded("Peak and sum", shown, len(rows))
 
 
 _TOOLS = """<div class="tools" hidden>
@@ -124,45 +75,91 @@ _TOOLS = """<div class="tools" hidden>
 <label>to frame <input type="number" name="last" min="1" max="{frames}" value="{frames}" step="1">\
 </label>
 <button type="submit">Show</button></form>
-<p class="hint" id="wave-keys">Drag over the waveform to zoom, click to play from there. Keys on the
+<p class="hint">Drag over the waveform to zoom, click to play from there. Keys on the
 waveform: + and \u2212 zoom, \u2190 and \u2192 move, Home and End go to the ends, 0 shows the\
  whole.</p>
 <p class="status" role="status"></p></div>"""
 
-_LANE = """<div class="lane-name"><span>{name}</span><span class="aside">\u2212{low} to {high}\
-</span></div>{drawing}"""
+_NAMED = """<div class="lane-name"><span>{name}</span><span class="aside">{ends}</span></div>\
+{drawing}"""
 
-_ATTRIBUTES = 'data-sound="{sound}" data-channel="{channel}" data-scale="{scale!r}"'
+_ATTRIBUTES = 'data-sound="{sound}" data-channel="{channel}" data-scale="{scale!r}"{fine}'
 
 
-def _lanes(sound: Sound, marks: list[Placed], scale: float) -> Html:
-    """A drawing for each channel."""
-    lanes = []
-    for number, samples in enumerate(sound.channels):
-        greatest, value, frame = _peaks(sound)[number]
-        label = f"Channel {number}: peak {decimal(value, sound.full)} at frame {grouped(frame)}"
-        attributes = filled(_ATTRIBUTES, sound="sound", channel=number, scale=scale)
-        drawing = waveform.lane(
-            samples, sound.full * scale, "Waveform. " + label, marks, attributes, sound.frames
+class Lanes:
+    """The lanes of the channels of a content: over which scale, with which marks, and whether the
+    page has the samples or columns in their place."""
+
+    def __init__(self, content: Content, marks: list[Placed], is_whole: bool) -> None:
+        assert content.sound is not None
+        self.content, self.marks, self.is_whole = content, marks, is_whole
+        self.sound = content.sound.sound
+        self.other = content.other.sound if content.other else None
+        self.scale = waveform.scale_of([it for it in (self.sound, self.other) if it])
+
+    def _fine(self, number: int) -> Html:
+        """The columns for zooming, where the samples are not in the page."""
+        if self.is_whole:
+            return Html()
+        found = []
+        for name, sound in (("columns", self.sound), ("over", self.other)):
+            if sound and number < len(sound.channels):
+                columns = waveform.fine_columns(
+                    sound.channels[number], sound.full * self.scale
+                )
+                found.append(filled(' data-{name}="{it}"', name=name, it=columns))
+        return joined(found)
+
+    def wave(self, number: int) -> Html:
+        """The lane of a channel."""
+        samples, sound = self.sound.channels[number], self.sound
+        _, value, frame = _peaks(sound)[number]
+        name = f"Channel {number}"
+        label = f"Waveform. {name}: peak {decimal(value, sound.full)} at frame {grouped(frame)}"
+        over = Html()
+        if self.other and number < len(self.other.channels):
+            label += ", with the other sound drawn over it"
+            there = self.other.channels[number][: sound.frames]
+            over = waveform.other_path(there, self.other.full * self.scale)
+        attributes = filled(
+            _ATTRIBUTES, sound="sound", channel=number, scale=self.scale, fine=self._fine(number)
         )
-        end = f"{scale:g}"
-        lanes.append(filled(_LANE, name=f"Channel {number}", low=end, high=end, drawing=drawing))
-    return joined(lanes)
+        columns = min(waveform.COLUMNS, sound.frames)
+        inside = waveform.wave_inside(samples, sound.full * self.scale, self.marks, over)
+        drawing = waveform.lane(columns, sound.frames, sound.frames, label, attributes, inside)
+        ends = f"\u2212{self.scale:g} to {self.scale:g}"
+        return filled(_NAMED, name=name, ends=ends, drawing=drawing)
 
-
-def _difference_lanes(differences: Differences, marks: list[Placed], frames: int) -> Html:
-    """A drawing of the differences of each channel, over so many frames."""
-    full = max((peak(channel)[0] for channel in differences.channels), default=0) or 1
-    lanes = []
-    for number, samples in enumerate(differences.channels):
+    def difference(self, differences: Differences, number: int, marks: list[Placed]) -> Html:
+        """The lane of the differences of a channel, in decibels."""
+        channel = differences.channels[number]
         name = f"Difference of channel {number}"
-        label = f"{name}: the greatest is {grouped(peak(samples)[0])}"
-        scale = full / differences.full
-        attributes = filled(_ATTRIBUTES, sound="difference", channel=number, scale=scale)
-        drawing = waveform.lane(samples, full, label, marks, attributes, frames)
-        end = grouped(full)
-        lanes.append(filled(_LANE, name=name, low=end, high=end, drawing=drawing))
-    return joined(lanes)
+        greatest = peak(channel)[0]
+        label = f"{name}, in decibels: the greatest is {_decibels(greatest)}"
+        fine = Html()
+        if not self.is_whole:
+            fine = filled(
+                ' data-columns="{it}"', it=waveform.fine_columns(channel, greatest or 1.0)
+            )
+        attributes = filled(
+            _ATTRIBUTES, sound="difference", channel=number, scale=greatest or 1.0, fine=fine
+        )
+        columns = min(waveform.COLUMNS, len(channel))
+        inside = waveform.decibel_inside(channel, differences.tolerance, marks)
+        drawing = waveform.lane(
+            columns, len(channel), self.sound.frames, label, attributes, inside
+        )
+        ends = f"0 to {waveform.DEEPEST:g} dB"
+        if differences.tolerance:
+            ends += f", line at {_decibels(differences.tolerance)}"
+        return filled(_NAMED, name=name, ends=ends.replace("-", "\u2212"), drawing=drawing)
+
+
+def _decibels(magnitude: float) -> str:
+    """A magnitude in decibels, in words."""
+    if not magnitude:
+        return "none"
+    return f"{waveform.decibels(magnitude):.1f} dB".replace("-", "\u2212")
 
 
 _EVENT = """<tr>{cells}<td class="event">{sign} {name}<p class="rule">{text}.</p></td></tr>"""
@@ -176,7 +173,7 @@ def _event(mark: Mark, rate: int) -> Html:
         time = filled("{begin} to {end}", begin=time, end=seconds(mark.high, rate))
     return filled(
         _EVENT,
-        cells=_numbers(when, time),
+        cells=numbers(when, time),
         sign=waveform.sign(mark.kind),
         name=waveform.MARKS[mark.kind][2],
         text=sentence(mark.text),
@@ -185,24 +182,27 @@ def _event(mark: Mark, rate: int) -> Html:
 
 _SPANS = Html(
     "<p>Where two frames stand, the source ended between them: it played a decoded file,"
-    " whose length the script does not tell.</p>"
+    " whose length is not known.</p>"
 )
 
 
 def events_html(marks: list[Mark], rate: int) -> Html:
     """The table of the marks."""
-    title = Html('<h3 id="events-title">Events of the time line</h3>')
     if not marks:
-        return Html(title + "<p>No source ended, and nothing was suspended.</p>")
-    head = _head(numbers=("Frame", "Time"), last=("Event",))
-    rows = [_event(mark, rate) for mark in marks]
-    table = _table("events", Html('aria-labelledby="events-title"'), head, rows)
+        return Html('<p class="aside">No source ended, and nothing was suspended.</p>')
+    titles = head(figures=("Frame", "Time"), last=("Event",))
+    rows = [_event(mark, rate) for mark in marks[:MOST_ROWS]]
     has_spans = any(mark.low != mark.high for mark in marks)
-    return joined([title, table, *([_SPANS] if has_spans else [])])
+    shown = [
+        table("events", "Events of the time line", titles, rows),
+        more_rows(len(marks), "events more, which the transcript has"),
+        *([_SPANS] if has_spans else []),
+    ]
+    return folded(f"Events of the time line ({grouped(len(marks))})", joined(shown), len(marks))
 
 
 def _kinds(differences: Differences) -> list[tuple[str, Difference]]:
-    """The first and the greatest difference, where there is any, each with its kind."""
+    """The first difference beyond the tolerance and the greatest one, where there are any."""
     both = ("first", differences.first), ("greatest", differences.greatest)
     return [(kind, it) for kind, it in both if it is not None]
 
@@ -210,12 +210,20 @@ def _kinds(differences: Differences) -> list[tuple[str, Difference]]:
 def _difference_marks(differences: Differences | None) -> list[Mark]:
     """The marks of the first and of the greatest difference."""
     return [
-        Mark(kind, at, at, f"channel {channel}: {grouped(here)} here, {grouped(there)} there")
-        for kind, (at, channel, here, there, _) in (_kinds(differences) if differences else [])
+        Mark(kind, it.frame, it.frame, f"channel {it.channel}: {level(abs(it.less))}")
+        for kind, it in (_kinds(differences) if differences else [])
     ]
 
 
-def _told(differences: Differences) -> str:
+def tolerance_text(tolerance: float) -> str:
+    """A tolerance as people name it."""
+    power = 0
+    while power < 40 and 2.0**-power > tolerance:
+        power += 1
+    return f"2^\u2212{power}" if power and 2.0**-power == tolerance else level(tolerance)
+
+
+def differences_told(differences: Differences) -> str:
     """In words, in what the files differ, and how many samples."""
     lines, samples = [], sum(map(len, differences.channels))
     if differences.shapes:
@@ -226,47 +234,88 @@ def _told(differences: Differences) -> str:
         lines.append(
             f"The files differ in {shapes}. Compared are the channels and frames that both have."
         )
-    if differences.first is None:
+    allowed = tolerance_text(differences.tolerance)
+    if not differences.count:
         lines.append(f"No sample differs, of {grouped(samples)} that were compared.")
     else:
         differ = counted(samples, "sample differs", "samples differ")
         lines.append(f"{grouped(differences.count)} of {differ}.")
+        beyond = "none" if not differences.beyond else grouped(differences.beyond)
+        verb = "differs" if differences.beyond == 1 else "differ"
+        lines.append(f"By more than the tolerance, {allowed}, {verb} {beyond}.")
     return " ".join(lines)
 
 
 _DIFFERENCE = '<tr><th scope="row">{sign} {kind}</th>{cells}</tr>'
 
-_UNIT = """<p class="aside">The last column is in units of which {full} stand for 1.0.</p>{table}"""
+_DIFFERENCES = """<h3>Differences</h3>
+<p>{here} against {there}. {told}</p>{numbers}{places}"""
 
 
-def differences_html(differences: Differences, name: str, rate: int) -> Html:
-    """The section of the differences from the file of this name."""
+def differences_html(content: Content) -> Html:
+    """What differs between the two files of a content."""
+    differences, sound, other = content.differences, content.sound, content.other
+    assert differences and sound and other
     rows = [
         filled(
             _DIFFERENCE,
             sign=waveform.sign(kind),
             kind=kind,
-            cells=_numbers(frame_html(at), seconds(at, rate), channel, *map(grouped, samples)),
+            cells=numbers(
+                _signed(it.less),
+                _decibels(abs(it.less)),
+                frame_html(it.frame),
+                seconds(it.frame, sound.sound.rate),
+                it.channel,
+                value_text(it.here, sound.sound),
+                value_text(it.there, other.sound),
+            ),
         )
-        for kind, (at, channel, *samples) in _kinds(differences)
+        for kind, it in _kinds(differences)
     ]
-    head = _head(
+    titles = head(
         ("Difference",),
-        ("Frame", "Time", "Channel", "Sample here", "Sample there", "There less here"),
+        ("There less here", "Decibels", "Frame", "Time", "Channel", "Sample here", "Sample there"),
     )
-    label = Html('aria-label="First and greatest difference"')
-    table = _table("numbers", label, head, rows)
     return filled(
-        '<section aria-labelledby="against-title"><h2 id="against-title">Differences</h2>'
-        "<p>Against {name}. {told}</p>{numbers}</section>",
-        name=isolated(name),
-        told=_told(differences),
-        numbers=filled(_UNIT, full=grouped(differences.full), table=table) if rows else "",
+        _DIFFERENCES,
+        here=isolated(sound.label),
+        there=isolated(other.label),
+        told=differences_told(differences),
+        numbers=table("numbers", "First and greatest difference", titles, rows) if rows else "",
+        places=_places_html(differences, sound.sound.rate) if differences.beyond else "",
     )
 
 
-def legend_html(marks: list[Mark]) -> Html:
-    """What the signs of these marks mean."""
+def _signed(value: float) -> str:
+    """A difference with its sign."""
+    return ("\u2212" if value < 0 else "") + level(abs(value))
+
+
+def _places_html(differences: Differences, rate: int) -> Html:
+    """The table of the places beyond the tolerance."""
+    places = differences.places()
+    rows = [
+        filled(
+            "<tr>{cells}</tr>",
+            cells=numbers(
+                frame_html(it.first),
+                grouped(it.last),
+                seconds(it.first, rate),
+                level(it.greatest),
+                _decibels(it.greatest),
+            ),
+        )
+        for it in places[:MOST_ROWS]
+    ]
+    titles = head(figures=("From frame", "To frame", "Time", "Greatest", "Decibels"))
+    title = f"Places beyond the tolerance ({grouped(len(places))})"
+    shown = table("numbers", "Places beyond the tolerance", titles, rows)
+    return folded(title, joined([shown, more_rows(len(places))]), len(places))
+
+
+def legend_html(marks: list[Mark], over: tuple[str, str] | None = None) -> Html:
+    """What the signs of these marks mean, and which of two sounds is drawn how."""
     texts = [
         filled("<li>{sign} {text}</li>", sign=waveform.sign(kind), text=text)
         for kind, (_, _, text) in waveform.MARKS.items()
@@ -276,21 +325,27 @@ def legend_html(marks: list[Mark]) -> Html:
         texts.append(
             filled("<li>{band} a source ended somewhere in this span</li>", band=waveform.BAND)
         )
+    if over:
+        sample = '<li><span class="swatch {kind}" aria-hidden="true"></span> {text}</li>'
+        pairs = ("filled", f"filled: {over[0]}"), ("outlined", f"outline: {over[1]}")
+        texts[:0] = [filled(sample, kind=kind, text=text) for kind, text in pairs]
     legend = '<ul class="legend" aria-label="Signs of the time line">{texts}</ul>'
     return filled(legend if texts else "", texts=joined(texts))
 
 
+_NO_SOUND = """<h3>Sound</h3>
+<p>{told}</p>{line}"""
+
+
 def no_sound_html(told: Html, marks: list[Mark], length: int, rate: int) -> Html:
-    """The section in place of the sound, where the session wrote no file, for a reason that is
+    """The part in place of the sound, where the session wrote no file, for a reason that is
     HTML."""
-    line = '{signs}<div class="wave">{line}</div>{legend}{events}'
+    line = '<div class="wave">{line}</div>{legend}{events}'
     return filled(
-        '<section aria-labelledby="sound-title"><h2 id="sound-title">Sound</h2>'
-        "<p>{told}</p>{line}</section>",
+        _NO_SOUND,
         told=told,
         line=filled(
             line if marks else "",
-            signs=waveform.signs(),
             line=waveform.time_line(marks, max(1, length), rate),
             legend=legend_html(marks),
             events=events_html(marks, rate),
@@ -298,47 +353,51 @@ def no_sound_html(told: Html, marks: list[Mark], length: int, rate: int) -> Html
     )
 
 
-_SOUND = """<section aria-labelledby="sound-title">
-<h2 id="sound-title">Sound</h2>
-{signs}
-<div class="players">{players}</div>
+_SOUND = """<h3>Sound</h3>
+{players}{lost}
 {tools}
 <div class="wave" role="group" aria-label="Waveform by channel" data-frames="{frames}"\
- data-rate="{rate}">
+ data-rate="{rate}" data-tolerance="{tolerance!r}">
 {lanes}{time_line}<div class="selection" hidden></div><div class="playhead" hidden></div></div>
 {legend}
+{differences}
 {numbers}
-{events}
-</section>"""
+{events}"""
 
 
-def sound_html(
-    sound: Sound,
-    data: bytes,
-    marks: list[Mark],
-    differences: Differences | None = None,
-    other: bytes | None = None,
-) -> Html:
-    """The section of the sound. The other is the bytes of the file that it is held against."""
+def sound_html(content: Content, room: Room, further: Html = Html()) -> Html:
+    """The part of the sound, with further lanes below those of the channels."""
+    file, other, differences = content.sound, content.other, content.differences
+    assert file is not None
+    sound, marks = file.sound, content.session.marks
     all_marks = marks + _difference_marks(differences)
-    places = waveform.placed(all_marks, sound.frames)
-    lanes = [_lanes(sound, places, waveform.scale_of([sound]))]
+    players, is_whole = players_html(file, other, room)
+    lanes = Lanes(content, waveform.placed(all_marks, sound.frames), is_whole)
+    drawn = [lanes.wave(number) for number in range(len(sound.channels))]
     if differences is not None and differences.count:
         marked = waveform.placed(_difference_marks(differences), sound.frames)
-        lanes.append(_difference_lanes(differences, marked, sound.frames))
-    players = [_player(data, len(sound.channels), "The sound", "sound")]
-    if other and differences:
-        players.append(_player(other, differences.other_channels, "The other file", "other"))
+        drawn += [
+            lanes.difference(differences, number, marked)
+            for number in range(len(differences.channels))
+        ]
+    drawn += [spectrogram.lane(sound), further]
     return filled(
         _SOUND,
-        signs=waveform.signs(),
-        players=joined(players),
+        players=players,
+        lost=joined(lost_html(it) for it in (file, other) if it),
         tools=filled(_TOOLS, last=sound.frames - 1, frames=sound.frames),
         frames=sound.frames,
         rate=sound.rate,
-        lanes=joined(lanes),
+        tolerance=differences.tolerance if differences else 0.0,
+        lanes=joined(drawn),
         time_line=waveform.time_line(all_marks, sound.frames, sound.rate),
-        legend=legend_html(all_marks),
+        legend=legend_html(all_marks, (file.label, other.label) if other else None),
+        differences=differences_html(content) if differences else "",
         numbers=numbers_html(sound, sound.rate),
         events=events_html(marks, sound.rate),
     )
+
+
+def named(file: File, label: str) -> File:
+    """The file under another label."""
+    return File(file.path, file.data, file.sound, label)

@@ -81,7 +81,7 @@ def counted(number: int, what: str, several: str | None = None) -> str:
     return f"{grouped(number)} {what if number == 1 else several or what + 's'}"
 
 
-def decimal(numerator: int, denominator: int) -> str:
+def decimal(numerator: float, denominator: int) -> str:
     """A quotient, with six digits after its point."""
     return "{:.6f}".format(numerator / denominator).replace("-", "\u2212")
 

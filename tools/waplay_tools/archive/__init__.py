@@ -1,0 +1,1 @@
+"""What tools/archive is made of: takes that are kept as bags, and replayed to prove themselves."""

@@ -1,0 +1,221 @@
+"""Makes a package of the program, the recorder and the tools: a wheel for Linux on x86-64, or a
+Debian package.
+
+Both have the commands waplay, waplay-record, waplay-report, waplay-compare and waplay-archive, and
+waplay-piece where this checkout has it. A wheel wants setuptools and wheel, a Debian package
+dpkg-deb, and both esbuild; nothing is fetched. The same sources give the same bytes. The status is
+0, or 2 with a sentence on standard error.
+"""
+
+import argparse
+import datetime
+import os
+import re
+import shutil
+import subprocess
+import sys
+import tempfile
+from pathlib import Path
+
+from waplay_tools.places import SHIPPED, TOP
+from waplay_tools.recorder.bundle import NoBundle, recorder_text
+from waplay_tools.reporting.text import BadInput
+
+PACKAGE = TOP / "tools" / "waplay_tools"
+# What the commands need of the tools; the rest is for those who work on the program.
+PARTS = ("__init__.py", "archive", "chromium.py", "compare.py", "expecting", "launching.py",
+         "places.py", "recorder", "report.py", "reporting", "wav.py")
+COMMANDS = ("record", "report", "compare", "archive")
+SUMMARY = "Replays sessions of the Web Audio API, offline and in whole numbers"
+
+PYPROJECT = """[build-system]
+requires = ["setuptools"]
+build-backend = "setuptools.build_meta"
+
+[project]
+name = "waplay"
+version = "{version}"
+description = "{summary}"
+requires-python = ">=3.11"
+
+[project.optional-dependencies]
+all = ["distributed", "junitparser", "numpy", "tqdm"]
+
+[project.scripts]
+{scripts}
+
+[tool.setuptools]
+packages = {packages}
+
+[tool.setuptools.package-data]
+"*" = ["*.css", "*.js", "packaged/*"]
+"""
+
+SETUP = """[bdist_wheel]
+plat_name = linux_x86_64
+"""
+
+CONTROL = """Package: waplay
+Version: {version}
+Architecture: amd64
+Maintainer: waplay <waplay@localhost>
+Installed-Size: {size}
+Depends: python3 (>= 3.11), libc6
+Recommends: chromium, graphviz, python3-numpy, python3-tqdm
+Suggests: python3-distributed, python3-junitparser
+Section: sound
+Priority: optional
+Description: {summary}
+ Records the Web Audio calls of a page, replays them, and makes reports and archives of them.
+"""
+
+PRERM = """#!/bin/sh
+set -e
+find /usr/lib/python3/dist-packages/waplay_tools -name __pycache__ -prune -exec rm -rf {} +
+"""
+
+COMMAND = """#!/usr/bin/python3
+from waplay_tools.launching import {name}
+
+{name}()
+"""
+
+
+def released() -> datetime.date:
+    """The day of the newest part of CHANGES.md."""
+    text = (TOP / "docs" / "CHANGES.md").read_text(encoding="utf-8")
+    found = re.search(r"^## (\d+ [A-Z][a-z]+ \d{4})$", text, re.M)
+    if not found:
+        raise BadInput("docs/CHANGES.md has no day")
+    return datetime.datetime.strptime(found[1], "%d %B %Y").date()
+
+
+def environment() -> dict[str, str]:
+    """The environment in which packages are made, with that day as their time."""
+    noon = datetime.datetime.combine(released(), datetime.time(12), datetime.timezone.utc)
+    return {**os.environ, "SOURCE_DATE_EPOCH": str(int(noon.timestamp()))}
+
+
+def commands() -> tuple[str, ...]:
+    """The commands but the program."""
+    has_piece = (PACKAGE / "piece").is_dir() or (PACKAGE / "piece.py").is_file()
+    return (*COMMANDS, *(("piece",) if has_piece else ()))
+
+
+def stage(folder: Path) -> None:
+    """Puts the parts of the package into a folder: the tools, the program and the recorder."""
+    ignored = shutil.ignore_patterns("__pycache__", "*.pyc")
+    parts = [PACKAGE / name for name in PARTS]
+    parts += [path for path in (PACKAGE / "piece", PACKAGE / "piece.py") if path.exists()]
+    made = folder / "waplay_tools"
+    made.mkdir(parents=True)
+    for part in parts:
+        if part.is_dir():
+            shutil.copytree(part, made / part.name, ignore=ignored)
+        else:
+            shutil.copyfile(part, made / part.name)
+    packaged = made / "packaged"
+    packaged.mkdir()
+    shutil.copyfile(SHIPPED, packaged / "waplay")
+    (packaged / "waplay").chmod(0o755)
+    shutil.copyfile(SHIPPED.parent / "built-from", packaged / "built-from")
+    (packaged / "recorder.js").write_text(recorder_text(), encoding="utf-8")
+
+
+def version() -> str:
+    """The version of a package: the day of its newest change."""
+    return f"1.{released():%Y%m%d}"
+
+
+def wheel(out: Path) -> Path:
+    """Makes a wheel in a folder."""
+    with tempfile.TemporaryDirectory(prefix="waplay-package-") as room:
+        folder = Path(room)
+        stage(folder)
+        packages = sorted(
+            path.parent.relative_to(folder).as_posix().replace("/", ".")
+            for path in folder.rglob("__init__.py")
+        )
+        scripts = ['waplay = "waplay_tools.launching:program"']
+        scripts += [f'waplay-{name} = "waplay_tools.launching:{name}"' for name in commands()]
+        text = PYPROJECT.format(version=version(), summary=SUMMARY, scripts="\n".join(scripts),
+                                packages=packages)
+        (folder / "pyproject.toml").write_text(text, encoding="utf-8")
+        (folder / "setup.cfg").write_text(SETUP, encoding="utf-8")
+        code = "from setuptools import build_meta; build_meta.build_wheel('made')"
+        run = subprocess.run([sys.executable, "-c", code], cwd=folder, capture_output=True,
+                             text=True, env=environment(), check=False)
+        made = list((folder / "made").glob("*.whl")) if run.returncode == 0 else []
+        if not made:
+            last = (run.stderr.strip().splitlines() or ["it says nothing"])[-1]
+            raise BadInput(f"the wheel is not made, which wants setuptools and wheel: {last}")
+        return Path(shutil.copy(made[0], out))
+
+
+def debian(out: Path) -> Path:
+    """Makes a Debian package in a folder."""
+    if not shutil.which("dpkg-deb"):
+        raise BadInput("a Debian package wants dpkg-deb, which is not installed")
+    with tempfile.TemporaryDirectory(prefix="waplay-package-") as room:
+        folder = Path(room) / "root"
+        stage(folder / "usr/lib/python3/dist-packages")
+        binaries = folder / "usr/bin"
+        binaries.mkdir()
+        program = "../lib/python3/dist-packages/waplay_tools/packaged/waplay"
+        (binaries / "waplay").symlink_to(program)
+        for name in commands():
+            path = binaries / f"waplay-{name}"
+            path.write_text(COMMAND.format(name=name), encoding="utf-8")
+            path.chmod(0o755)
+        shutil.copytree(TOP / "docs", folder / "usr/share/doc/waplay",
+                        ignore=shutil.ignore_patterns("pictures"))
+        shutil.copyfile(TOP / "README.md", folder / "usr/share/doc/waplay/README.md")
+        size = sum(it.stat().st_size for it in folder.rglob("*") if it.is_file()) // 1024
+        control = folder / "DEBIAN"
+        control.mkdir()
+        text = CONTROL.format(version=version(), size=size, summary=SUMMARY)
+        (control / "control").write_text(text, encoding="utf-8")
+        (control / "prerm").write_text(PRERM, encoding="utf-8")
+        (control / "prerm").chmod(0o755)
+        path = out / f"waplay_{version()}_amd64.deb"
+        run = subprocess.run(["dpkg-deb", "--root-owner-group", "--build", folder, path],
+                             capture_output=True, text=True, env=environment(), check=False)
+        if run.returncode:
+            raise BadInput(f"the Debian package is not made: {run.stderr.strip()}")
+        return path
+
+
+KINDS = {"wheel": wheel, "deb": debian}
+
+
+def parser() -> argparse.ArgumentParser:
+    """The words of the command line."""
+    made = argparse.ArgumentParser(
+        prog="tools/package",
+        description=__doc__,
+        formatter_class=argparse.RawDescriptionHelpFormatter,
+    )
+    made.add_argument("kind", choices=sorted(KINDS), help="what is made")
+    made.add_argument("out", metavar="OUT", type=Path, help="the folder that gets it")
+    return made
+
+
+def main() -> int:
+    """Makes a package, and prints its path."""
+    words = parser().parse_args()
+    os.umask(0o022)
+    try:
+        words.out.mkdir(parents=True, exist_ok=True)
+        print(KINDS[words.kind](words.out))
+    except (BadInput, NoBundle) as bad:
+        print(f"package: {bad}", file=sys.stderr)
+        return 2
+    except OSError as fault:
+        print(f"package: {fault.filename or words.out} can't be used: {fault.strerror}",
+              file=sys.stderr)
+        return 2
+    return 0
+
+
+if __name__ == "__main__":
+    sys.exit(main())
