@@ -37,6 +37,12 @@ export class Recording {
     this.rows = [];            // of filters, with the coefficients that the page gave, see filter_rows.js
     this.work = 0;             // grows while this is finished
     this.analysers = [];
+    this.panners = [];
+    this.entries = new Map();  // name -> the entry of a node
+    this.listener = null;      // the entry of the listener
+    this.frozen = [];          // {name, kind, why} of nodes that are frozen, see freezing.js
+    this.live = 1;             // how much of the sound comes through none of them
+    this.log = [];             // all that was done to nodes, in order, see journal.js
     this.versions = [];        // versions of buffers, see buffers.js
     this.acquired = new Map(); // AudioBuffer -> the version that a source acquired last
   }

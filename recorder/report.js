@@ -38,12 +38,19 @@ function verdictOf(losses) {
   return {refused: 'refused in part', exact: 'whole'}[worst] || worst || 'whole';
 }
 
+// A line for each node that is frozen, and one on how much is not.
+function frozenLines({frozen, live}) {
+  if (!frozen.length) return [];
+  return [...frozen.map(({name, kind, why}) => `frozen: ${name}, ${/^[AEIO]/.test(kind) ? 'an' : 'a'} ${kind}: ${why}`),
+          `live: ${(100 * live).toFixed(live > 0.99 || live < 0.01 ? 2 : 0)} % of the sound comes through none of what is frozen`];
+}
+
 // The report of a recording whose script was written: {lines, verdict, grades}.
 export function writeReport(recording, {numbers, count, assets}) {
   const losses = lossesByKind(recording, numbers);
   const {number, channels, length, rate} = recording;
   const head = `context ${number}: ${channels} channels, ${length} frames, ${rate} frames a second; ` +
                `${count} calls, ${assets.length} assets`;
-  return {lines: [head, ...losses.map(lossLine)], verdict: verdictOf(losses),
+  return {lines: [head, ...losses.map(lossLine), ...frozenLines(recording)], verdict: verdictOf(losses),
           kinds: losses.map(({kind, grade, count, error}) => ({kind, grade, count, error})), grades: [...new Set(losses.map(({grade}) => grade))]};
 }

@@ -2,11 +2,15 @@
 
 import {bakeSources} from './baking.js';
 import {equalSamples, isSilent} from './buffers.js';
+import {freeze, planOf} from './freezing.js';
+import {Graph} from './graph.js';
 import {ASSET_LIMIT, SCRIPT_LIMIT, loseOfContext, loseOfSizes} from './limits.js';
 import {loseOfFilters, lowerFilters} from './filter_rows.js';
+import {lowerPanners} from './panning.js';
 import {Replacements} from './replacing.js';
 import {settings} from './settings.js';
 import {ONE} from './values.js';
+import {Widths} from './widths.js';
 import {faults} from './wrapping.js';
 
 // Suspensions that changed nothing, as those at which a timer found nothing to do.
@@ -43,14 +47,18 @@ function lowerAnalysers(recording, replacements) {
 // Replaces what can be replaced of a recording that is complete. Filters come last, as the levels inside them are
 // measured in what is there by then.
 async function lower(recording) {
-  const nodes = new Replacements(recording);
+  const nodes = new Replacements(recording), graph = new Graph(recording), widths = new Widths(graph);
+  const plan = planOf(recording, graph, widths);
+  if (plan.reasons.size) await freeze(recording, graph, widths, plan, nodes);
   await bakeSources(recording, nodes);
   lowerAnalysers(recording, nodes);
+  lowerPanners(recording, plan.panners, nodes);
+  recording.removeCalls(call => call.op === 'setListener'); // panners alone hear of it
   nodes.apply();
   const isLeft = recording.sources.some(source => source.creation.op === 'createOscillator');
   if (!isLeft) recording.removeCalls(call => call.op === 'createPeriodicWave');
   const filters = new Replacements(recording);
-  await lowerFilters(recording, filters);
+  await lowerFilters(recording, filters, graph);
   filters.apply();
 }
 

@@ -11,7 +11,7 @@ Each has a head and a body. The head says what its recording must give:
                   source and a gain and the rendering
     TYPE          words that make a page each, where the body has the word TYPE
 
-The pages of recorder/pages/lowered.md are recorded with the option lower.
+The pages are recorded with the option plain, but for those of lowered.md and frozen.md.
 """
 
 import dataclasses
@@ -65,7 +65,7 @@ class Page:
     tolerance: float | None
     realtime: float
     seconds: float
-    lower: bool
+    plain: bool
     text: str
 
 
@@ -84,7 +84,8 @@ def pages_of(path: Path) -> Iterator[Page]:
                 kinds=set(fields["kinds"].split()) - {"none"}, verdict=fields["verdict"],
                 tolerance=None if tolerance is None else float(tolerance),
                 realtime=float(fields.get("realtime", 0)),
-                seconds=float(fields.get("timeout", 20)), lower=path.name == "lowered.md",
+                seconds=float(fields.get("timeout", 20)),
+                plain=path.name not in ("lowered.md", "frozen.md"),
                 text=HEAD + before + script.replace("TYPE", word) + after + "</script>\n")
 
 

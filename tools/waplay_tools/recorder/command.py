@@ -78,7 +78,8 @@ def parser() -> argparse.ArgumentParser:
     add("--realtime", type=piece_length, default=0, metavar="SECONDS",
         help="record a real-time piece of this length")
     add("--click", metavar="SELECTOR", help="click on this element once the page is loaded")
-    add("--lower", action="store_true", help="rewrite what a script has no word for")
+    add("--plain", action="store_true",
+        help="rewrite nothing of what a script has no word for")
     add("--contexts", type=count, default=0, metavar="N", help="wait for this many contexts")
     add("--until", metavar="EXPRESSION", help="wait until this holds in the page")
     add("--quiet", type=positive, default=1, metavar="SECONDS",

@@ -42,7 +42,7 @@ class Wishes:
     root: Path | None = None
     realtime: float = 0
     click: str | None = None
-    lower: bool = False
+    plain: bool = False
     timeout: float = 60
     quiet: float = 1
     contexts: int = 0
@@ -55,7 +55,7 @@ class Wishes:
 
     def options(self) -> str:
         """The script that tells the recorder in the page."""
-        words = {"lower": self.lower, "realtime": self.realtime, "click": self.click is not None}
+        words = {"plain": self.plain, "realtime": self.realtime, "click": self.click is not None}
         return f"globalThis.waplayRecorderOptions = {json.dumps(words)};\n"
 
 
