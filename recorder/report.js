@@ -52,5 +52,6 @@ export function writeReport(recording, {numbers, count, assets}) {
   const head = `context ${number}: ${channels} channels, ${length} frames, ${rate} frames a second; ` +
                `${count} calls, ${assets.length} assets`;
   return {lines: [head, ...losses.map(lossLine), ...frozenLines(recording)], verdict: verdictOf(losses),
+          frozen: recording.frozen, live: recording.live, calls: count,
           kinds: losses.map(({kind, grade, count, error}) => ({kind, grade, count, error})), grades: [...new Set(losses.map(({grade}) => grade))]};
 }

@@ -108,6 +108,8 @@ const waplayRecorder = {
   //   script     the text
   //   lines, verdict, grades   the report; `grades` are those that occur, see losses.js
   //   kinds      [{kind, grade, count, error}, ..]
+  //   frozen     [{name, kind, why}, ..] of the nodes that are frozen; `live` is how much of the sound is not, from 0 to 1
+  //   calls      how many calls the script has
   //   outcomes   [[number of the call, name of its exception], ..]
   //   assets     [{path, channels, length, rate}, ..]
   //   rendered   {channels, length, rate}, or null where rendering did not end

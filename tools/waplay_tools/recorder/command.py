@@ -187,7 +187,8 @@ def write(words: argparse.Namespace, taken: Take, ending: Ending) -> None:
 def write_summary(words: argparse.Namespace, taken: Take, ending: Ending) -> None:
     """Writes take.json: what the take is of, for programs that read it."""
     contexts = [{"number": each.number, "verdict": each.verdict, "seconds": each.seconds,
-                 "silent": each.is_silent, "losses": each.kinds} for each in taken.contexts]
+                 "silent": each.is_silent, "losses": each.kinds, "frozen": each.frozen,
+                 "live": each.live} for each in taken.contexts]
     summary = {"page": words.page, "status": ending.status, "reason": ending.reason,
                "contexts": contexts, "troubles": taken.troubles, "missing": taken.missing}
     text = json.dumps(summary, indent=2, ensure_ascii=False) + "\n"

@@ -4,7 +4,7 @@ import contextlib
 import dataclasses
 import json
 import time
-from collections.abc import Iterator
+from collections.abc import Callable, Iterator
 from pathlib import Path
 
 from waplay_tools.chromium import Browser, BrowserFault, Frame, FrameGone, NoAnswer
@@ -96,11 +96,19 @@ class Progress:
         return 0 < self.started == self.complete
 
 
+Tell = Callable[[str], None]  # is told what is being done
+
+
+def say_nothing(_: str) -> None:
+    """Where nobody wants to know what is being done."""
+
+
 class Session:
     """A page in the browser while it is recorded."""
 
-    def __init__(self, browser: Browser, news: News, wishes: Wishes) -> None:
-        self.browser, self.news, self.wishes = browser, news, wishes
+    def __init__(self, browser: Browser, news: News, wishes: Wishes,
+                 tell: Tell = say_nothing) -> None:
+        self.browser, self.news, self.wishes, self.tell = browser, news, wishes, tell
         self.began = time.monotonic()
         self.progress = Progress()
         self.leaving = Leaving(browser, wishes.timeout)
@@ -138,6 +146,8 @@ class Session:
                 progress.add(self._told(frame), frame.is_main)
         for recorded in self.leaving.kept:
             progress.keep(recorded)
+        if progress.started > self.progress.started:
+            self.tell(f"rendering {progress.seconds:.4g} s of sound")
         self.progress = progress
         return progress
 
@@ -260,6 +270,7 @@ class Session:
         found = []
         for inside in range(1, count + 1):
             number = before + inside
+            self.tell(f"rewriting and freezing context {number}")
             try:
                 found.append(results.take_out(
                     lambda text: self.browser.evaluate(text, timeout=seconds, frame=frame),
@@ -337,11 +348,12 @@ class Take:
     faults: list[str]  # of the recorder
 
 
-def open_recorded(browser: Browser, url: str, wishes: Wishes, origin: str = "") -> Take:
+def open_recorded(browser: Browser, url: str, wishes: Wishes, origin: str = "",
+                  tell: Tell = say_nothing) -> Take:
     """Opens a page with the recorder in front of it, lets it play, and gives what it recorded."""
     injected = browser.inject(wishes.options() + LEAVING + recorder_text())
     news = News(browser, origin)
-    session = Session(browser, news, wishes)
+    session = Session(browser, news, wishes, tell)
     try:
         try:
             browser.open(url, timeout=max(LEAST, wishes.timeout))
@@ -362,11 +374,12 @@ def open_recorded(browser: Browser, url: str, wishes: Wishes, origin: str = "") 
         browser.remove(injected)
 
 
-def record(wishes: Wishes, chromium: str) -> Take:
+def record(wishes: Wishes, chromium: str, tell: Tell = say_nothing) -> Take:
     """Records a page in a browser of its own."""
+    tell(f"recording {wishes.page}")
     with Browser(chromium) as browser:
         if wishes.is_url:
-            return open_recorded(browser, wishes.page, wishes)
+            return open_recorded(browser, wishes.page, wishes, tell=tell)
         page = Path(wishes.page)
         with Folder(wishes.root or page.absolute().parent) as served:
-            return open_recorded(browser, served.url_of(page), wishes, served.origin)
+            return open_recorded(browser, served.url_of(page), wishes, served.origin, tell)

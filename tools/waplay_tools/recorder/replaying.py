@@ -88,6 +88,15 @@ def greatest_difference(ours: Sequence[Sequence[int]],
     return best
 
 
+def greatest_between(one: Sequence[Sequence[int]],
+                     other: Sequence[Sequence[int]]) -> tuple[float, int, int]:
+    """The same of two lists of channels of whole numbers."""
+    return max(((abs(mine - theirs) / FULL, channel, frame)
+                for channel, (ours, its) in enumerate(zip(one, other))
+                for frame, (mine, theirs) in enumerate(zip(ours, its)) if mine != theirs),
+               key=lambda found: found[0], default=(0.0, 0, 0))
+
+
 def outcome_lines(transcript: str, outcomes: dict[int, str]) -> list[str]:
     """A line on the calls that ended otherwise in the program than in the browser."""
     told = {}
