@@ -69,7 +69,8 @@ function suspensionAsked(recording, [seconds]) {
   call.time = frameOf(recording, +seconds, call, 'next');
   if (call.time < 0 || call.time <= recording.now - recording.quantum || call.time >= recording.length + recording.quantum)
     return refused(recording, call);
-  recording.emit([call]);
+  if (recording.isAskingItself) recording.own.push(call);
+  else recording.emit([call]);
   return {
     fulfilled() {
       recording.phase = 'suspended';

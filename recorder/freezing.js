@@ -10,11 +10,12 @@ import {BUFFER_LIMIT} from './limits.js';
 import {LOSS_KINDS} from './losses.js';
 import {planOfPanner} from './panning.js';
 import {Performance, apart, roomsOf} from './performing.js';
-import {loseOfList, nearestFixedList} from './values.js';
+import {ONE, loseOfList, nearestFixedList} from './values.js';
 
 const MOST_CHANNELS = 32;
 const LONGEST_PART = 2 ** 22; // frames of a buffer
-const SAME = 2 ** -20;        // how far two renderings of the browser may be apart without a word
+export const SAME = 2 ** -20;        // how far two renderings of the browser may be apart without a word
+const MOST_OUTSIDE = 500;     // samples that are written into a buffer one by one
 const TRIALS = 8;          // where they are: Chromium takes the nodes of a loop in another order from run to run
 
 // Losses of calls on nodes that waplay has, which make it play something else.
@@ -56,7 +57,7 @@ const whyOfPanner = ({kind, node}) => kind === 'PannerNode' && node.panningModel
                                                                                           : 'it moves, or hears one channel and two';
 
 // The nodes that lie on a way from themselves back to themselves, loop by loop.
-function loopsOf(graph) {
+export function loopsOf(graph) {
   const loops = [], seen = new Set();
   for (const name of graph.entries.keys()) {
     if (seen.has(name)) continue;
@@ -69,9 +70,10 @@ function loopsOf(graph) {
   return loops;
 }
 
-// What is to become of the nodes: {reasons, panners, frozen, dropped}. `reasons` has why a node cannot be as it is, by
-// its name; `frozen` has the names of those that are heard, and `dropped` of what is not needed any more.
-export function planOf(recording, graph, widths) {
+// What is to become of the nodes: {reasons, loops, panners, frozen, dropped, heard}. `reasons` has why a node cannot be as
+// it is, by its name; `frozen` has the names of those that are heard, and `dropped` of what is not needed any more. Where
+// `voices` are taps, what they hear is not live.
+export function planOf(recording, graph, widths, voices = []) {
   const refusals = new Refusals(recording, graph, widths), reasons = new Map(), loops = new Set();
   for (const [name, entry] of graph.entries) {
     const reason = refusals.of(entry);
@@ -85,15 +87,16 @@ export function planOf(recording, graph, widths) {
         if (!reasons.has(name)) reasons.set(name, `it is in a loop with ${cause}`);
       }
     }
-  const heard = graph.upstream(['destination'], name => !reasons.has(name));
+  const cut = new Set(voices.flatMap(({edges}) => edges)), singing = voices.flatMap(({from}) => [...from]);
+  const heard = graph.upstream(['destination'], name => !reasons.has(name), edge => !cut.has(edge));
   const frozen = new Set([...heard].filter(name => reasons.has(name)));
-  const dropped = new Set([...graph.upstream(reasons.keys())].filter(name => !heard.has(name)));
+  const dropped = new Set([...graph.upstream([...reasons.keys(), ...singing])].filter(name => !heard.has(name)));
   const panners = new Map([...refusals.panners].filter(([entry, plan]) => plan && !reasons.has(entry.name) && !dropped.has(entry.name)));
-  return {reasons, loops, panners, frozen, dropped, heard};
+  return {reasons, loops, panners, frozen, dropped, heard, voices, singing};
 }
 
 // How many channels of an output are kept: as many as there may be where it sounds.
-const widthOf = (widths, name, output) => Math.max(1, ...widths.of(name, output));
+export const widthOf = (widths, name, output) => Math.max(1, ...widths.of(name, output));
 
 // Whether it is heard what number of channels a node has: where it is mixed as discrete, or to others than 1 and 2.
 function isWidthHeard(graph, name) {
@@ -132,13 +135,16 @@ async function listen(recording, taps, muted) {
   return {tapped, distance, rendered};
 }
 
-// The same again where it is off: a change at a suspension may come a quantum late in one run and not in the next, and the
+// The same again where it is off, as long as that is another time another thing: a change at a suspension may come a quantum late in one run and not in the next, and the
 // nodes of a loop may be taken in another order.
-async function listenWell(recording, taps) {
+export async function listenWell(recording, taps) {
+  const distances = new Set();
   let best = null;
   for (let trial = 0; trial < TRIALS && !(best && best.distance <= SAME); trial++) {
     const found = await listen(recording, taps);
     if (!best || found.distance < best.distance) best = found;
+    if (distances.has(found.distance)) break;
+    distances.add(found.distance);
   }
   return best;
 }
@@ -166,6 +172,16 @@ function partsOf(channels) {
   return parts;
 }
 
+// A file holds what is from -1 to 1. Where much is beyond, all is made softer by a power of two, and louder again behind.
+function loudnessOf(channels) {
+  let outside = 0, most = 0;
+  for (const samples of channels) for (const sample of samples) if (Math.abs(sample) > 1) {
+    outside++;
+    most = Math.max(most, Math.abs(sample));
+  }
+  return outside > MOST_OUTSIDE ? 2 ** Math.min(7, Math.ceil(Math.log2(most))) : 1;
+}
+
 // The calls that play one part of a sound under a name.
 function partCalls(recording, channels, {first, end}, name, kind) {
   const lists = channels.map(samples => nearestFixedList(samples.subarray(first, end)));
@@ -179,15 +195,16 @@ function partCalls(recording, channels, {first, end}, name, kind) {
 
 // The calls that play what came out of a node. What is silent all the time is a source that is never started.
 export function playingCalls(recording, channels, name, kind) {
-  const parts = isSilent(channels) ? [] : partsOf(channels);
-  if (parts.length === 1) return partCalls(recording, channels, parts[0], name, kind);
+  const parts = isSilent(channels) ? [] : partsOf(channels), loudness = loudnessOf(channels);
+  if (loudness > 1) channels = channels.map(samples => samples.map(sample => sample / loudness));
+  if (parts.length === 1 && loudness === 1) return partCalls(recording, channels, parts[0], name, kind);
   if (!parts.length) {
     const call = {op: 'createConstantSource', as: name};
     recording.lose(kind, call);
     return [call];
   }
   const inner = parts.map((_, place) => `${name}_part${place + 1}`);
-  return [{op: 'createGain', as: name}, ...parts.flatMap((part, place) => partCalls(recording, channels, part, inner[place], kind)),
+  return [{op: 'createGain', as: name, ...(loudness > 1 ? {gain: loudness * ONE} : {})}, ...parts.flatMap((part, place) => partCalls(recording, channels, part, inner[place], kind)),
           ...inner.map(from => ({op: 'connect', from, to: name}))];
 }
 
@@ -219,9 +236,20 @@ function usedBuffers(recording) {
   return used;
 }
 
-// Freezes what has to be, of a recording that is complete.
-export async function freeze(recording, graph, widths, plan, replacements) {
-  const {frozen, reasons, loops} = plan, taps = tapsOf(graph, widths, plan), buffers = usedBuffers(recording);
+// Puts what plays the voices that lead to one place behind the call that makes the node there.
+function playVoices(recording, graph, {to, param, input, from}, channels, limit) {
+  const name = recording.newName('voices'), entry = graph.entries.get(to), isNode = to !== 'destination';
+  const calls = playingCalls(recording, channels, name, 'frozen-voices');
+  calls.push(param ? {op: 'connectParam', from: name, to, param} : {op: 'connect', from: name, to, ...(input ? {input} : {})});
+  const list = isNode ? entry.list : recording.main;
+  list.splice(isNode ? list.indexOf(entry.creation) + 1 : list.indexOf(recording.start), 0, ...calls);
+  recording.frozen.push({name, kind: `${from.size} voices`, why: `the piece would pass the limit of ${limit}`});
+}
+
+// Freezes what has to be, of a recording that is complete. `limit` is what it would pass without its voices frozen.
+export async function freeze(recording, graph, widths, plan, replacements, limit = null) {
+  const {frozen, reasons, loops, voices, singing} = plan;
+  const taps = [...tapsOf(graph, widths, plan), ...voices], buffers = usedBuffers(recording);
   const narrow = taps.filter(({width}) => recording.channels + width <= MOST_CHANNELS);
   const samples = narrow.reduce((sum, {width}) => sum + width * recording.length, 0);
   if (narrow.length < taps.length || samples > 2 * BUFFER_LIMIT) {
@@ -233,12 +261,15 @@ export async function freeze(recording, graph, widths, plan, replacements) {
   rewrite(recording, plan);
   dropBuffers(recording, buffers);
   const calls = new Map([...frozen].map(name => [name, []]));
+  for (const [tap, channels] of tapped) if (tap.from) playVoices(recording, graph, tap, channels, limit);
   for (const [{name, output, isMixed}, channels] of tapped) {
+    if (name === undefined) continue;
     if (isMixed) recording.lose('frozen-mixed');
     const kind = loops.has(name) ? 'frozen-loop' : 'frozen-node';
     calls.get(name).push(...playingCalls(recording, channels, nameOfOutput(name, output), kind));
   }
   for (const [name, made] of calls) replacements.put(graph.entries.get(name), made);
-  recording.frozen = [...frozen].map(name => ({name, kind: graph.entries.get(name).kind, why: reasons.get(name)}));
-  recording.live = frozen.size ? await livePart(recording, frozen) : 1;
+  recording.frozen.push(...[...frozen].map(name => ({name, kind: graph.entries.get(name).kind, why: reasons.get(name)})));
+  const muted = new Set([...frozen, ...singing]);
+  recording.live = muted.size ? await livePart(recording, muted) : 1;
 }

@@ -45,8 +45,8 @@ export class Graph {
   }
 
   // The nodes from which some nodes hear something, these among them.
-  upstream(names, isThrough = () => true) {
-    return this.reached(names, name => isThrough(name) ? this.entering(name).map(edge => edge.from) : []);
+  upstream(names, isThrough = () => true, isWay = () => true) {
+    return this.reached(names, name => isThrough(name) ? this.entering(name).filter(isWay).map(edge => edge.from) : []);
   }
 
   downstream(names) {

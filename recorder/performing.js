@@ -8,17 +8,20 @@ import {native} from './native.js';
 import {isTapped, tappedSamples} from './taps.js';
 
 const MOST_CHANNELS = 32; // of one rendering
+const QUANTUM = 128;
 
 const connect = (from, to, ...places) => native.connect.call(from, to, ...places);
 
 // What is kept of a performance: what comes out of a node, as {name, output, width}; or what comes from some nodes to an
 // input or a parameter of another one, as {from, to, param, input, width, interpretation}, where `from` is a set of names.
+// The nodes whose names are in `muted` lead nowhere. Connections in `cut`, by their keys as in loops.js, come from what is
+// played in their place, a quantum late.
 export class Performance {
-  constructor(recording, taps, muted = new Set()) {
+  constructor(recording, taps, muted = new Set(), cut = new Map()) {
     const {length, rate, channels} = recording;
     this.total = taps.reduce((sum, tap) => sum + tap.width, channels);
     this.context = new native.OfflineAudioContext(this.total, length, rate);
-    Object.assign(this, {recording, taps, muted, outputs: new Map(), inputs: new Map(), taken: new Map(), faults: []});
+    Object.assign(this, {recording, taps, muted, cut, outputs: new Map(), inputs: new Map(), taken: new Map(), faults: []});
     this.context.destination.channelInterpretation = 'discrete';
     this.merger = new native.ChannelMergerNode(this.context, {numberOfInputs: this.total});
     connect(this.merger, this.context.destination);
@@ -42,7 +45,7 @@ export class Performance {
 
   make(entry) {
     const {context} = this;
-    if (entry.tap) this.outputs.set(entry.name, tappedSamples(entry).map(channels => this.player(channels, entry)));
+    if (entry.tap) this.outputs.set(entry.name, tappedSamples(entry).map(channels => this.player(channels, entry.recording, entry.bornAt)));
     else if (!isTapped(entry)) {
       const copy = new native[entry.kind](context, entry.options);
       this.inputs.set(entry.name, copy);
@@ -51,10 +54,10 @@ export class Performance {
     this.listenTo(entry.name);
   }
 
-  // Plays what a node gave, from its birth on.
-  player(channels, {recording, bornAt}) {
-    const source = new native.AudioBufferSourceNode(this.context, {buffer: bufferOf(channels, recording.rate)});
-    source.start(bornAt / recording.rate);
+  // Plays what a node gave, from a frame on.
+  player(channels, {rate}, frame) {
+    const source = new native.AudioBufferSourceNode(this.context, {buffer: bufferOf(channels, rate)});
+    source.start(frame / rate);
     return [source, 0];
   }
 
@@ -77,8 +80,10 @@ export class Performance {
     const found = this.outputs.get(entry.name), target = this.inputs.get(place.to.name);
     if (!found || !target || this.muted.has(entry.name)) return;
     const [node, output] = found[place.output || 0];
-    if (place.param) connect(node, target[place.param], output);
-    else connect(node, target, output, place.input || 0);
+    const late = this.cut.get([entry.name, place.output || 0, place.to.name, place.param, place.input || 0].join(' '));
+    const [from, its] = late ? this.player(late, this.recording, QUANTUM) : [node, output];
+    if (place.param) connect(from, target[place.param], its);
+    else connect(from, target, its, place.input || 0);
     for (const tap of this.tapsOf(entry, place)) connect(node, tap, output);
   }
 

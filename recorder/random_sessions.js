@@ -124,7 +124,6 @@ export class RandomSession {
       () => new DynamicsCompressorNode(context),
       () => new ConvolverNode(context, {buffer: this.buffer(this.one([1, 2]))}),
       () => new WaveShaperNode(context, {curve: [-this.value(), 0, this.value()], oversample: this.one(['2x', '4x'])}),
-      () => new PannerNode(context, {panningModel: 'HRTF', positionX: this.draw(5) - 2}),
     ])();
   }
 

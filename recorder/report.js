@@ -38,10 +38,12 @@ function verdictOf(losses) {
   return {refused: 'refused in part', exact: 'whole'}[worst] || worst || 'whole';
 }
 
+const articleOf = kind => /^\d/.test(kind) ? '' : /^[AEIO]/.test(kind) ? 'an ' : 'a ';
+
 // A line for each node that is frozen, and one on how much is not.
 function frozenLines({frozen, live}) {
   if (!frozen.length) return [];
-  return [...frozen.map(({name, kind, why}) => `frozen: ${name}, ${/^[AEIO]/.test(kind) ? 'an' : 'a'} ${kind}: ${why}`),
+  return [...frozen.map(({name, kind, why}) => `frozen: ${name}, ${articleOf(kind)}${kind}: ${why}`),
           `live: ${(100 * live).toFixed(live > 0.99 || live < 0.01 ? 2 : 0)} % of the sound comes through none of what is frozen`];
 }
 

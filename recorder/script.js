@@ -6,10 +6,12 @@ import {freeze, planOf} from './freezing.js';
 import {Graph} from './graph.js';
 import {ASSET_LIMIT, SCRIPT_LIMIT, loseOfContext, loseOfSizes} from './limits.js';
 import {loseOfFilters, lowerFilters} from './filter_rows.js';
+import {lowerLoops} from './loops.js';
 import {lowerPanners} from './panning.js';
 import {Replacements} from './replacing.js';
 import {settings} from './settings.js';
 import {ONE} from './values.js';
+import {passedLimit, voicesOf} from './voices.js';
 import {Widths} from './widths.js';
 import {faults} from './wrapping.js';
 
@@ -25,15 +27,14 @@ function depthOf(list) {
 // Suspensions that were asked for within others come to the main list: lists nest only so deep, and the frames
 // alone say in which order suspensions come.
 function flattenSuspensions(recording) {
-  const found = [];
+  const found = new Set(), {main} = recording;
   recording.eachCall((call, list) => {
-    if (call.op !== 'suspend' || list === recording.main || recording.outcomes.has(call)) return;
-    list.splice(list.indexOf(call), 1);
-    found.push(call);
+    if (call.op === 'suspend' && list !== main && !recording.outcomes.has(call)) found.add(call);
   });
-  found.sort((one, other) => one.time - other.time);
-  const start = recording.main.indexOf(recording.start);
-  recording.main.splice(start < 0 ? recording.main.length : start, 0, ...found);
+  recording.removeCalls(call => found.has(call));
+  const start = main.indexOf(recording.start), rest = main.splice(start < 0 ? main.length : start);
+  for (const call of [...found].sort((one, other) => one.time - other.time)) main.push(call);
+  for (const call of rest) main.push(call);
 }
 
 function lowerAnalysers(recording, replacements) {
@@ -48,8 +49,11 @@ function lowerAnalysers(recording, replacements) {
 // measured in what is there by then.
 async function lower(recording) {
   const nodes = new Replacements(recording), graph = new Graph(recording), widths = new Widths(graph);
-  const plan = planOf(recording, graph, widths);
-  if (plan.reasons.size) await freeze(recording, graph, widths, plan, nodes);
+  let plan = planOf(recording, graph, widths);
+  const limit = passedLimit(recording, graph, plan);
+  if (limit) plan = planOf(recording, graph, widths, voicesOf(recording, graph, widths));
+  await lowerLoops(recording, graph, widths, plan);
+  if (plan.reasons.size || plan.voices.length) await freeze(recording, graph, widths, plan, nodes, limit);
   await bakeSources(recording, nodes);
   lowerAnalysers(recording, nodes);
   lowerPanners(recording, plan.panners, nodes);
@@ -66,12 +70,13 @@ async function lower(recording) {
 export async function finish(recording) {
   if (recording.isFinished) return;
   recording.isFinished = true;
+  if (recording.isRealTime) flattenSuspensions(recording);
   if (recording.phase !== 'complete') recording.lose('not-finished');
   else if (settings.lower) await lower(recording).catch(fault => {
     faults.push(String(fault && fault.stack || fault));
     recording.lose('recorder-fault');
   });
-  if (recording.isRealTime || depthOf(recording.main) > 40) flattenSuspensions(recording);
+  if (depthOf(recording.main) > 40) flattenSuspensions(recording);
   if (recording.isRealTime) dropIdleSuspensions(recording);
   loseOfFilters(recording);
   if (loseOfContext(recording)) loseOfSizes(recording);

@@ -1,5 +1,6 @@
 // Start: the recorder steps in, and what people and tools call is put under the name waplayRecorder.
 
+import {act} from './actions.js';
 import {wrapBuffers} from './buffers.js';
 import {holdClock, realTime} from './clock.js';
 import {wrapConnections} from './connections.js';
@@ -78,6 +79,11 @@ const waplayRecorder = {
 
   // Says that the piece begins with what comes next, as a click. Only with the options realtime and click.
   hold: holdClock,
+
+  // Begins to do what a text of actions says, see actions.js. In a real-time piece `hold` comes before it.
+  act(text) {
+    act(text); // what it throws is told as an exception of the page
+  },
 
   // Records a real-time piece, once it was started. Only with the option realtime.
   go: () => settings.realtime ? goRealTime() : Promise.resolve(false),

@@ -6,6 +6,7 @@ Each has a head and a body. The head says what its recording must give:
     verdict       the verdict
     played again  the greatest difference from the page, if the browser plays the script again
     realtime      that it is a real-time piece, and its length in seconds
+    loops         that it is recorded with loops as long as the browser has them
     timeout       the seconds after which it is given up, 20 where nothing is said
     form          own where the body is a whole script. Else it comes between the creation of a
                   source and a gain and the rendering
@@ -66,6 +67,7 @@ class Page:
     realtime: float
     seconds: float
     plain: bool
+    loops: bool
     text: str
 
 
@@ -85,7 +87,7 @@ def pages_of(path: Path) -> Iterator[Page]:
                 tolerance=None if tolerance is None else float(tolerance),
                 realtime=float(fields.get("realtime", 0)),
                 seconds=float(fields.get("timeout", 20)),
-                plain=path.name not in ("lowered.md", "frozen.md"),
+                plain=path.name not in ("lowered.md", "frozen.md"), loops="loops" in fields,
                 text=HEAD + before + script.replace("TYPE", word) + after + "</script>\n")
 
 

@@ -20,6 +20,26 @@ context.startRendering();
 </script>"""
 
 
+KEYBOARD = """<!doctype html><button id="go">go</button><input id="level" value="1"><script>
+let context, source;
+document.querySelector('#go').onclick = () => { context = new AudioContext(); };
+document.onkeydown = ({key}) => {
+  if (key !== 'a') return;
+  source = new ConstantSourceNode(context, {offset: +document.querySelector('#level').value});
+  source.connect(context.destination);
+  source.start();
+};
+document.onkeyup = () => source.stop();
+</script>"""
+
+ACTIONS = """
+input('#level', 0.25);
+click('#go');
+await wait(0.25);
+await key('a', 0.25);
+"""
+
+
 def run_piece(*words: object) -> subprocess.CompletedProcess:
     """Runs tools/piece to its end."""
     return subprocess.run([TOP / "tools" / "piece", *map(str, words)], text=True, timeout=300,
@@ -61,6 +81,22 @@ class Pieces(unittest.TestCase):
         rows = run.stdout.splitlines()
         self.assertRegex(rows[2], r"^\| a \| 0\.5 \| frozen \| 0 % \| \S+ \| \d+ \| 1 \| \d+ s \| ")
         self.assertRegex(rows[3], r"^\| b \| \| nothing \|")
+
+    def test_actions_on_the_clock_of_the_audio(self) -> None:
+        folder = temporary_folder(self)
+        write_files(folder, {"a.html": KEYBOARD, "actions.js": ACTIONS, "wrong.js": "click('#b')"})
+        run = run_piece(folder / "a.html", "--realtime", 1, "--do", folder / "actions.js")
+        self.assertEqual(run.returncode, 0, run.stderr)
+        script = json.loads((folder / "a.waplay" / "1.json").read_text(encoding="utf-8"))
+        # The key goes down at the first quantum from 12,000 frames on, and up 12,000 frames later.
+        self.assertEqual([(call["time"], [inner["op"] for inner in call["then"]])
+                          for call in script["calls"] if call["op"] == "suspend"], [
+            (12032, ["createConstantSource", "connect", "start", "resume"]),
+            (24064, ["stop", "resume"])])
+        self.assertEqual(script["calls"][0]["then"][0]["offset"], 2**22)
+        run = run_piece(folder / "a.html", "--realtime", 1, "--do", folder / "wrong.js")
+        self.assertEqual(run.returncode, 2)
+        self.assertIn("the actions find no element #b", run.stderr)
 
     def test_an_example(self) -> None:
         room = temporary_folder(self)

@@ -35,6 +35,8 @@ def add_recording(add: argparse._ArgumentGroup) -> None:
                      help="record a real-time piece of this length")
     add.add_argument("--click", metavar="SELECTOR",
                      help="click on this element once the page is loaded")
+    add.add_argument("--do", type=Path, metavar="ACTIONS.js",
+                     help="clicks, keys and the like over time, which docs/RECORDING.md tells of")
     add.add_argument("--contexts", type=count, default=0, metavar="N",
                      help="wait for this many contexts")
     add.add_argument("--until", metavar="EXPRESSION", help="wait until this holds in the page")
@@ -42,6 +44,8 @@ def add_recording(add: argparse._ArgumentGroup) -> None:
                      help="how long nothing new must come; 1 by default")
     add.add_argument("--timeout", type=positive, default=60, metavar="SECONDS",
                      help="how long the page has, 60 by default, and four times its length more")
+    add.add_argument("--loops-as-browser", action="store_true",
+                     help="make loops through delays as long as Chromium has them")
     add.add_argument("--plain", action="store_true",
                      help="rewrite nothing of what a script has no word for")
 

@@ -16,7 +16,7 @@ from waplay_tools.recorder.command import Refused, wishes_of
 
 # What a page may say of how it is recorded, as <meta name="waplay" content="--realtime 20">.
 ASKED = re.compile(r"<meta\s+name=[\"']?waplay[\"']?\s+content=\"([^\"]*)\"", re.IGNORECASE)
-ALLOWED = {"--realtime", "--click", "--until", "--quiet", "--contexts", "--timeout"}
+ALLOWED = {"--realtime", "--click", "--do", "--until", "--quiet", "--contexts", "--timeout"}
 
 HEAD = ("| piece | s | verdict | live | from the browser | calls | nodes frozen | took | |\n"
         "|---|---|---|---|---|---|---|---|---|")
@@ -46,7 +46,8 @@ def take_page(words: argparse.Namespace, made: argparse.ArgumentParser, path: Pa
               tell: Callable[[str], None]) -> Piece:
     """Takes one page as it asks for."""
     own = made.parse_args([str(path), *words_of(path)])
-    for name in ("tolerance", "waplay", "chromium", "plain", "root"):
+    own.do = own.do and path.parent / own.do
+    for name in ("tolerance", "waplay", "chromium", "plain", "root", "loops_as_browser"):
         setattr(own, name, getattr(words, name))
     room = words.out / path.stem if words.out else taking.default_out(str(path))
     return taking.take_piece(own, wishes_of(own), room, tell)

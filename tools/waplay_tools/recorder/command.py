@@ -78,8 +78,12 @@ def parser() -> argparse.ArgumentParser:
     add("--realtime", type=piece_length, default=0, metavar="SECONDS",
         help="record a real-time piece of this length")
     add("--click", metavar="SELECTOR", help="click on this element once the page is loaded")
+    add("--do", type=Path, metavar="ACTIONS.js",
+        help="clicks, keys and the like over time, which docs/RECORDING.md tells of")
     add("--plain", action="store_true",
         help="rewrite nothing of what a script has no word for")
+    add("--loops-as-browser", action="store_true",
+        help="make loops through delays as long as Chromium has them")
     add("--contexts", type=count, default=0, metavar="N", help="wait for this many contexts")
     add("--until", metavar="EXPRESSION", help="wait until this holds in the page")
     add("--quiet", type=positive, default=1, metavar="SECONDS",
@@ -113,6 +117,8 @@ def wishes_of(words: argparse.Namespace) -> Wishes:
         if wishes.root:
             raise Refused("--root is for a file, and a URL is served already.")
         return wishes
+    if wishes.do and not wishes.do.is_file():
+        raise Refused(f"There is no file of actions {wishes.do}.")
     if not os.path.isfile(wishes.page):
         raise Refused(f"There is no page {wishes.page}.")
     if wishes.root:

@@ -42,7 +42,9 @@ class Wishes:
     root: Path | None = None
     realtime: float = 0
     click: str | None = None
+    do: Path | None = None
     plain: bool = False
+    loops_as_browser: bool = False
     timeout: float = 60
     quiet: float = 1
     contexts: int = 0
@@ -55,7 +57,9 @@ class Wishes:
 
     def options(self) -> str:
         """The script that tells the recorder in the page."""
-        words = {"plain": self.plain, "realtime": self.realtime, "click": self.click is not None}
+        is_begun_by_hand = self.click is not None or self.do is not None
+        words = {"plain": self.plain, "loops": self.loops_as_browser, "realtime": self.realtime,
+                 "click": is_begun_by_hand}
         return f"globalThis.waplayRecorderOptions = {json.dumps(words)};\n"
 
 
@@ -245,6 +249,14 @@ class Session:
                     return True
         return False
 
+    def act(self) -> None:
+        """Begins to do what the file of actions says, as soon as the page is there."""
+        text = json.dumps(self.wishes.do.read_text(encoding="utf-8") if self.wishes.do else "")
+        for progress, _, calm in self.looks():
+            if progress.is_loaded or self.is_hopeless(progress, calm):
+                break
+        self.browser.evaluate(f"waplayRecorder.hold(); void waplayRecorder.act({text})")
+
     def begin_pieces(self) -> None:
         """Lets the clock of real-time pieces run."""
         for frame in list(self.browser.frames):
@@ -257,6 +269,8 @@ class Session:
         """Lets the page play."""
         if self.wishes.click is not None:
             self.click()
+        if self.wishes.do is not None:
+            self.act()
         if self.wishes.realtime and self.wait_for_piece():
             self.begin_pieces()
         if not self.wishes.realtime or self.progress.realTime:
