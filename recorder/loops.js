@@ -51,7 +51,7 @@ async function longerEdges(recording, graph, widths, loop) {
   const taps = new Map(inner.map(({from, output}) => [`${from} ${output}`, {name: from, output, width: widthOf(widths, from, output)}]));
   const fits = [...taps.values()].every(({width}) => recording.channels + width <= 32);
   if (isParted || !fits) return null;
-  const {tapped, distance} = await listenWell(recording, [...taps.values()]);
+  const {tapped, distance} = await listenWell(recording, [...taps.values()], true);
   if (distance > SAME) return null;
   for (const edges of guessesOf(graph, loop)) {
     const cut = new Map(edges.map(edge => [keyOf(edge), tapped.get(taps.get(`${edge.from} ${edge.output}`))]));

@@ -31,7 +31,7 @@ function curveCall(parameter, first, last, count, valueAt) {
 // Curves from one frame to another. `distanceAt` says how far apart points may lie at a frame, so that the line
 // between them is near enough: what bends little needs few points, and one for each frame is always enough. Where
 // the distance has doubled or halved, the next curve begins, but none that is short: browsers have faults there.
-function curveCalls(parameter, first, last, valueAt, distanceAt) {
+export function curveCalls(parameter, first, last, valueAt, distanceAt) {
   const calls = [], distance = frame => Math.min(LAST_FRAME, Math.max(1, distanceAt(frame)));
   for (let frame = first; frame < last;) {
     const here = distance(frame);
@@ -54,6 +54,15 @@ function distanceOfRamp(event, begin, startValue) {
   if (event.kind === 'ramp') return () => Infinity;
   const growth = Math.abs(Math.log(event.value / startValue)) / (event.place - begin);
   return frame => Math.sqrt(8 * NEAR / Math.abs(rampValue(event, begin, startValue, frame))) / growth;
+}
+
+// The same for any value, by its differences, and 1 where it jumps or breaks off.
+export function distanceOfValues(valueAt, first, last) {
+  return frame => {
+    const middle = Math.min(Math.max(frame, first + 1), last - 1);
+    const bend = Math.abs(valueAt(middle - 1) - 2 * valueAt(middle) + valueAt(middle + 1));
+    return Math.sqrt(8 * NEAR / Math.max(bend, 1e-15));
+  };
 }
 
 function setCall(parameter, frame, value) {

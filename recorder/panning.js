@@ -1,8 +1,10 @@
-// Panning: panners whose position stands still become gains, by the formulas of the recommendation.
+// Panning: panners whose position stands still become gains, by the formulas of the recommendation. Stereo panners that
+// move become gains that move, see pan_curves.js.
 //
 // A panner has one rule for one channel and another for two, so the number of channels that it hears must be known.
 
 import {steadyValues} from './graph.js';
+import {knownPan, movingCalls} from './pan_curves.js';
 import {fixedValue} from './values.js';
 
 const minus = (one, other) => one.map((term, axis) => term - other[axis]);
@@ -107,7 +109,9 @@ export function channelsOf(entry, widths) {
 export function planOfPanner(entry, graph, widths) {
   const channels = channelsOf(entry, widths), sounding = graph.soundingOf(entry.name);
   const gains = channels && gainsOf(entry, sounding === Infinity ? 0 : sounding, channels === 2);
-  return gains && {...gains, isStereo: channels === 2};
+  if (gains) return {...gains, isStereo: channels === 2};
+  const parameter = channels && knownPan(entry);
+  return parameter ? {parameter, isStereo: channels === 2} : null;
 }
 
 function gainCall(recording, name, gain) {
@@ -143,7 +147,7 @@ function callsOf(recording, {name}, plan) {
 // Lets gains come in the place of the panners that have a plan.
 export function lowerPanners(recording, plans, replacements) {
   for (const [entry, plan] of plans) {
-    const {calls, head} = callsOf(recording, entry, plan);
+    const {calls, head} = plan.parameter ? movingCalls(recording, entry, plan, connectCall) : callsOf(recording, entry, plan);
     replacements.put(entry, calls, head);
   }
 }

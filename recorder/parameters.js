@@ -86,6 +86,8 @@ function becomesCreationOption(parameter, value, isNow) {
 // Keeps the page's events in the parameter's timeline.
 function keepEvent(parameter, event, call) {
   const {timeline, recording} = parameter;
+  event.madeAt = recording.now;
+  if (event.kind === 'cancel' || event.kind === 'hold') parameter.isCancelled = true;
   if (event.kind === 'cancel') timeline.cancel(event.place);
   else if (event.kind === 'hold') timeline.hold(event.place, recording.now);
   else {

@@ -4,6 +4,7 @@
 // goes on. So the page and its sound have one clock, however fast it is rendered.
 
 import {holdClock, nextDue, realTime, runDueTimers} from './clock.js';
+import {playElement} from './media.js';
 import {native} from './native.js';
 import {NODE_KINDS} from './nodes.js';
 import {recordingOfContext} from './recording.js';
@@ -30,9 +31,12 @@ const members = {
   get [Symbol.toStringTag]() { return 'AudioContext'; },
 };
 
-// Media nodes are only in real-time contexts: a silent gain stands for each, and the script has its refusal.
+// Media nodes are only in real-time contexts. Elements are played by sources; for streams a silent gain stands, and the
+// script has their refusal.
 for (const {op, prefix, feature} of Object.values(NODE_KINDS).filter(kind => kind.prefix === 'media'))
-  members[op] = function () {
+  members[op] = function (given) {
+    const element = op === 'createMediaElementSource' && given instanceof HTMLMediaElement ? given : Object(given).mediaElement;
+    if (settings.lower && element instanceof HTMLMediaElement) return playElement(this, element);
     const recording = recordingOfContext.get(this), call = {op, as: recording.newName(prefix)};
     recording.emit([call]);
     recording.lose(feature, call);

@@ -1,6 +1,7 @@
 """Sets two takes of a piece side by side: verdicts, losses, scripts, transcripts and sounds."""
 
 import argparse
+import array
 import dataclasses
 import itertools
 import json
@@ -52,7 +53,7 @@ class Side:
         path = self.folder / f"{self.number}.{name}"
         return path.read_text(encoding="utf-8").splitlines() if path.is_file() else []
 
-    def samples(self) -> list[list[int]] | None:
+    def samples(self) -> list[array.array] | None:
         """The samples of its replay."""
         path = self.folder / f"{self.number}.wav"
         return channels_of(path.read_bytes()) if path.is_file() else None
