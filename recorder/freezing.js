@@ -8,7 +8,7 @@ import {isSilent} from './buffers.js';
 import {steadyBiquad} from './filter_rows.js';
 import {BUFFER_LIMIT} from './limits.js';
 import {LOSS_KINDS} from './losses.js';
-import {planOfPanner} from './panning.js';
+import {planOfPanner} from './panners.js';
 import {Performance, apart, roomsOf} from './performing.js';
 import {ONE, loseOfList, nearestFixedList} from './values.js';
 
@@ -92,7 +92,8 @@ export function planOf(recording, graph, widths, voices = []) {
   const frozen = new Set([...heard].filter(name => reasons.has(name)));
   const dropped = new Set([...graph.upstream([...reasons.keys(), ...singing])].filter(name => !heard.has(name)));
   const panners = new Map([...refusals.panners].filter(([entry, plan]) => plan && !reasons.has(entry.name) && !dropped.has(entry.name)));
-  return {reasons, loops, panners, frozen, dropped, heard, voices, singing};
+  const live = voices.filter(({to}) => heard.has(to) && !reasons.has(to)); // voices in what is frozen itself need no taps
+  return {reasons, loops, panners, frozen, dropped, heard, singing, voices: live};
 }
 
 // How many channels of an output are kept: as many as there may be where it sounds.
@@ -152,8 +153,11 @@ export async function listenWell(recording, taps, hasLoops) {
 const energyOf = channels => channels.reduce((sum, samples) => samples.reduce((whole, sample) => whole + sample * sample, sum), 0);
 
 // How much of the sound does not come through frozen nodes, from 0 to 1.
-async function livePart(recording, frozen) {
-  const {rendered} = await listen(recording, [], frozen), live = energyOf(rendered);
+async function livePart(recording, graph, {heard, frozen, singing}) {
+  const muted = new Set([...frozen, ...singing]), isLive = name => graph.ownSounding(graph.entries.get(name)) < Infinity;
+  if (!muted.size) return 1;
+  if (![...heard].some(name => !frozen.has(name) && isLive(name))) return 0;
+  const {rendered} = await listen(recording, [], muted), live = energyOf(rendered);
   const others = rendered.map((samples, channel) => samples.map((sample, frame) => recording.rendered[channel][frame] - sample));
   return live > 0 ? live / (live + energyOf(others)) : 0;
 }
@@ -204,19 +208,23 @@ export function playingCalls(recording, channels, name, kind) {
     return [call];
   }
   const inner = parts.map((_, place) => `${name}_part${place + 1}`);
-  return [{op: 'createGain', as: name, ...(loudness > 1 ? {gain: loudness * ONE} : {})}, ...parts.flatMap((part, place) => partCalls(recording, channels, part, inner[place], kind)),
+  return [{op: 'createGain', as: name, ...(loudness > 1 ? {gain: loudness * ONE} : {})},
+          ...parts.flatMap((part, place) => partCalls(recording, channels, part, inner[place], kind)),
           ...inner.map(from => ({op: 'connect', from, to: name}))];
 }
 
 // Takes the calls away that are on nodes which are gone, and those that lead into them. What is connected from a frozen
 // node comes from what plays its output.
-function rewrite(recording, {frozen, dropped}) {
+function rewrite(recording, {frozen, dropped}, outputs) {
   const isGone = name => dropped.has(name) || frozen.has(name);
   const isUnwanted = call => dropped.has(call.as) || isGone(call.node) || dropped.has(call.from) || isGone(call.to);
   recording.removeCalls(isUnwanted);
-  recording.eachCall(call => {
-    if (!frozen.has(call.from) || !call.output) return;
-    call.from = nameOfOutput(call.from, call.output);
+  recording.eachCall((call, list) => {
+    if (!frozen.has(call.from)) return;
+    const further = call.op === 'disconnect' && call.output === undefined ? outputs.get(call.from) - 1 : 0;
+    for (let output = further; output > 0; output--)
+      list.splice(list.indexOf(call) + 1, 0, {...call, from: nameOfOutput(call.from, output)});
+    if (call.output) call.from = nameOfOutput(call.from, call.output);
     delete call.output;
   });
   for (const list of ['sources', 'filters', 'analysers', 'panners'])
@@ -258,7 +266,7 @@ export async function freeze(recording, graph, widths, plan, replacements, limit
   }
   const {tapped, distance} = taps.length ? await listenWell(recording, taps, loopsOf(graph).length > 0) : {tapped: new Map(), distance: 0};
   if (distance > SAME) recording.lose('frozen-off', null, distance);
-  rewrite(recording, plan);
+  rewrite(recording, plan, new Map([...frozen].map(name => [name, graph.entries.get(name).node.numberOfOutputs])));
   dropBuffers(recording, buffers);
   const calls = new Map([...frozen].map(name => [name, []]));
   for (const [tap, channels] of tapped) if (tap.from) playVoices(recording, graph, tap, channels, limit);
@@ -270,6 +278,5 @@ export async function freeze(recording, graph, widths, plan, replacements, limit
   }
   for (const [name, made] of calls) replacements.put(graph.entries.get(name), made);
   recording.frozen.push(...[...frozen].map(name => ({name, kind: graph.entries.get(name).kind, why: reasons.get(name)})));
-  const muted = new Set([...frozen, ...singing]);
-  recording.live = muted.size ? await livePart(recording, muted) : 1;
+  recording.live = await livePart(recording, graph, plan);
 }

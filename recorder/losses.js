@@ -46,7 +46,7 @@ export const LOSS_KINDS = {
 
   // Rewritten calls.
   'lowered-ramp': {grade: 'lowered', says: 'linear ramps between frames; curves and values'},
-  'lowered-curve': {grade: 'lowered', says: 'curves between frames; curves with one point for each frame'},
+  'lowered-curve': {grade: 'lowered', says: 'curves between frames; curves with one point for each frame, or with two for each of the page'},
   'lowered-exponential': {grade: 'lowered', says: 'exponential ramps; curves that are within 2^-25'},
   'lowered-target': {grade: 'lowered', says: 'setTargetAtTime; curves that are within 2^-25, up to the next event'},
   'lowered-hold': {grade: 'lowered', says: 'cancels and holds between frames or over a rewritten event; written out'},

@@ -13,6 +13,7 @@ import {LAST_FRAME, fixedList, nearestFixed} from './values.js';
 export const CALL_ALONE = null;
 const SMALLEST_STEP = 2 ** -26; // a target that is this near counts as reached
 const NEAR = 2 ** -25;          // how far the line between two points of a curve may be from the page's value
+const BYTES_OF_A_POINT = 9, BYTES_OF_A_CALL = 120; // in a script
 const SHORTEST = 256;           // frames of a curve, where there are more of them
 
 const isRamp = event => event.kind === 'ramp' || event.kind === 'exponential';
@@ -204,26 +205,42 @@ function lowerTarget(parameter, event) {
   return {calls, keepsCall: false, kind, failed};
 }
 
+// A curve between frames, from one frame to another: with a point for each frame, or where that is less, a line between the
+// frames next to each of the page's points.
+function curveBetweenFrames(parameter, event, first, last) {
+  const valueAt = frame => curveValue(event, frame), parts = event.values.length - 1, frames = new Set([first]);
+  for (let point = 1; point <= parts; point++) {
+    const place = event.place + event.duration * point / parts;
+    for (const frame of [Math.floor(place), Math.ceil(place)]) if (frame > first && frame < last) frames.add(frame);
+  }
+  if (frames.size * BYTES_OF_A_CALL > (last - first) * BYTES_OF_A_POINT) return curveCalls(parameter, first, last, valueAt, () => 1);
+  const ends = [...frames].slice(1).concat(last);
+  return [...frames].map((frame, place) => curveCall(parameter, frame, ends[place], 1, valueAt));
+}
+
 function lowerCurve(parameter, event) {
   const cut = cutTarget(parameter, event.place), calls = cut || [];
   const failed = !cut || bendsCurve(parameter, event.place);
   if (Number.isInteger(event.place) && Number.isInteger(event.duration)) return {calls, keepsCall: true, failed};
   const first = Math.ceil(event.place);
   const last = Math.min(Math.ceil(event.place + event.duration), Math.max(parameter.recording.length + 1024, first + 1));
-  event.calls = last > first ? curveCalls(parameter, first, last, frame => curveValue(event, frame), () => 1)
+  event.startValue = parameter.timeline.valueAfter(parameter.timeline.indexAt(event.place), event.place);
+  event.calls = last > first ? curveBetweenFrames(parameter, event, first, last)
                              : [setCall(parameter, first, event.values[event.values.length - 1])];
   Object.assign(event, {first, last});
   calls.push(...event.calls);
   return {calls, keepsCall: false, kind: 'lowered-curve', failed};
 }
 
+const isSeveral = event => isRamp(event) || (event.kind === 'curve' && event.calls.length > 1);
+
 // A cancel takes away a script's curve that it lies in. Where the page's event goes on, its rest is put in again.
-// Where a ramp goes that is several calls, all of them have to go, and the value before it comes back.
+// Where a ramp or a curve goes that is several calls, all of them have to go, and the value before it comes back.
 function lowerCancel(parameter, {place}) {
   const {timeline, recording} = parameter, frame = Math.ceil(place), kind = 'lowered-hold';
   const isGone = event => timeline.isCancelled(event, place);
   const reaching = timeline.events.find(event => event.calls && !isGone(event) && event.last >= frame);
-  const ramp = timeline.events.find(event => event.calls && isRamp(event) && isGone(event) && event.first < frame);
+  const ramp = timeline.events.find(event => event.calls && isSeveral(event) && isGone(event) && event.first < frame);
   if (ramp) {
     const from = Math.max(ramp.first, recording.now);
     return {calls: [holdCall(parameter, from), setCall(parameter, from, ramp.startValue)], keepsCall: false, kind, failed: Boolean(reaching)};

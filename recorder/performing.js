@@ -142,9 +142,10 @@ export class Performance {
 // How far two lists of channels are apart at most.
 export function apart(one, other) {
   let most = 0;
-  one.forEach((samples, channel) => samples.forEach((sample, frame) => {
-    most = Math.max(most, Math.abs(sample - other[channel][frame]));
-  }));
+  one.forEach((samples, channel) => {
+    const others = other[channel];
+    for (let frame = 0; frame < samples.length; frame++) most = Math.max(most, Math.abs(samples[frame] - others[frame]));
+  });
   return most;
 }
 

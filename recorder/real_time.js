@@ -35,8 +35,8 @@ const members = {
 // script has their refusal.
 for (const {op, prefix, feature} of Object.values(NODE_KINDS).filter(kind => kind.prefix === 'media'))
   members[op] = function (given) {
-    const element = op === 'createMediaElementSource' && given instanceof HTMLMediaElement ? given : Object(given).mediaElement;
-    if (settings.lower && element instanceof HTMLMediaElement) return playElement(this, element);
+    const isElement = op === 'createMediaElementSource' && given instanceof HTMLMediaElement;
+    if (settings.lower && isElement) return playElement(this, given);
     const recording = recordingOfContext.get(this), call = {op, as: recording.newName(prefix)};
     recording.emit([call]);
     recording.lose(feature, call);
@@ -65,6 +65,10 @@ export function replaceAudioContext() {
   });
   Object.setPrototypeOf(AudioContext, BaseAudioContext);
   globalThis.AudioContext = globalThis.webkitAudioContext = AudioContext;
+  const {MediaElementAudioSourceNode} = globalThis; // its constructor takes none but a real-time context
+  if (MediaElementAudioSourceNode) globalThis.MediaElementAudioSourceNode = new Proxy(MediaElementAudioSourceNode, {
+    construct: (target, [context, options]) => context.createMediaElementSource(Object(options).mediaElement),
+  });
 }
 
 // Asks for a suspension at the next time at which a timer is due.

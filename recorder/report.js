@@ -2,7 +2,7 @@
 
 import {GRADES, LOSS_KINDS, gradeOf} from './losses.js';
 
-const MOST_NUMBERS = 12; // of calls in a line
+const MOST_NUMBERS = 12; // of calls or nodes in a line
 
 // The losses by kind, with the numbers of the calls. A loss of a call that was rewritten is none any more.
 function lossesByKind(recording, numbers) {
@@ -40,10 +40,13 @@ function verdictOf(losses) {
 
 const articleOf = kind => /^\d/.test(kind) ? '' : /^[AEIO]/.test(kind) ? 'an ' : 'a ';
 
-// A line for each node that is frozen, and one on how much is not.
+// The nodes that are frozen, those of one kind and for one reason in a line, and how much is not.
 function frozenLines({frozen, live}) {
   if (!frozen.length) return [];
-  return [...frozen.map(({name, kind, why}) => `frozen: ${name}, ${articleOf(kind)}${kind}: ${why}`),
+  const groups = Map.groupBy(frozen, ({kind, why}) => `${articleOf(kind)}${kind}: ${why}`);
+  const namesOf = nodes => nodes.slice(0, MOST_NUMBERS).map(({name}) => name).join(' ') +
+    (nodes.length > MOST_NUMBERS ? ` and ${nodes.length - MOST_NUMBERS} more` : '');
+  return [...[...groups].map(([words, nodes]) => `frozen: ${namesOf(nodes)}, ${nodes.length > 1 ? 'each ' : ''}${words}`),
           `live: ${(100 * live).toFixed(live > 0.99 || live < 0.01 ? 2 : 0)} % of the sound comes through none of what is frozen`];
 }
 

@@ -7,7 +7,7 @@ import {Graph} from './graph.js';
 import {ASSET_LIMIT, SCRIPT_LIMIT, loseOfContext, loseOfSizes} from './limits.js';
 import {loseOfFilters, lowerFilters} from './filter_rows.js';
 import {lowerLoops} from './loops.js';
-import {lowerPanners} from './panning.js';
+import {lowerPanners} from './panners.js';
 import {Replacements} from './replacing.js';
 import {settings} from './settings.js';
 import {ONE} from './values.js';

@@ -25,8 +25,8 @@ and N.report.txt (what was lost). docs/RECORDING.md says more."""
 
 EPILOG = """The status is 0; 1 where something was refused, the page threw an exception, or
 something that was asked for did not come (with --strict also where something is heard to differ,
-with --exact also where anything was rounded or rewritten); 2 where nothing was recorded; 3 where a
-recording is silent; 4 where a replay differs, fails or has no program. Of several it is the
+with --exact also where anything was rounded, rewritten or frozen); 2 where nothing was recorded;
+3 where a recording is silent; 4 where a replay differs, fails or has no program. Of several it is the
 greatest."""
 
 FINE, LOST, NOTHING, SILENT, DIFFERS = range(5)
@@ -93,7 +93,7 @@ def parser() -> argparse.ArgumentParser:
     add("--strict", action="store_true",
         help="end with 1 where something is heard to differ, too")
     add("--exact", action="store_true",
-        help="end with 1 where anything was rounded or rewritten, too")
+        help="end with 1 where anything was rounded, rewritten or frozen, too")
     add("--replay", action="store_true",
         help="replay the scripts and compare them with the browser")
     add("--tolerance", type=magnitude, default=TOLERANCE, metavar="VALUE",
@@ -147,7 +147,7 @@ def judge(words: argparse.Namespace, recorded: Recorded, ending: Ending) -> None
     name = f"context {recorded.number}"
     wanted = ["refused"]
     wanted += ["heard"] if words.strict or words.exact else []
-    wanted += ["lowered", "rounded"] if words.exact else []
+    wanted += ["frozen", "lowered", "rounded"] if words.exact else []
     found = next((grade for grade in wanted if grade in recorded.grades), None)
     if found:
         ending.add(LOST, f"{name}: {recorded.kind_of(found)} is {found}")
