@@ -205,17 +205,23 @@ function lowerTarget(parameter, event) {
   return {calls, keepsCall: false, kind, failed};
 }
 
-// A curve between frames, from one frame to another: with a point for each frame, or where that is less, a line between the
-// frames next to each of the page's points.
-function curveBetweenFrames(parameter, event, first, last) {
-  const valueAt = frame => curveValue(event, frame), parts = event.values.length - 1, frames = new Set([first]);
-  for (let point = 1; point <= parts; point++) {
-    const place = event.place + event.duration * point / parts;
-    for (const frame of [Math.floor(place), Math.ceil(place)]) if (frame > first && frame < last) frames.add(frame);
+// The lines of a curve between frames, each from the first frame behind a point to the last one before the next.
+function lineCalls(parameter, event, first, last) {
+  const parts = event.values.length - 1, calls = [], placeOf = point => event.place + event.duration * point / parts;
+  const valueAt = frame => curveValue(event, frame);
+  for (let point = 0; point < parts; point++) {
+    const begin = Math.max(first, Math.ceil(placeOf(point))), end = Math.min(last, Math.floor(placeOf(point + 1)));
+    if (end > begin) calls.push(curveCall(parameter, begin, end, 1, valueAt));
+    else if (end === begin) calls.push(setCall(parameter, begin, valueAt(begin)));
   }
-  if (frames.size * BYTES_OF_A_CALL > (last - first) * BYTES_OF_A_POINT) return curveCalls(parameter, first, last, valueAt, () => 1);
-  const ends = [...frames].slice(1).concat(last);
-  return [...frames].map((frame, place) => curveCall(parameter, frame, ends[place], 1, valueAt));
+  if (last > placeOf(parts)) calls.push(setCall(parameter, last, valueAt(last)));
+  return calls;
+}
+
+// A curve between frames, from one frame to another: a point for each frame, or where that is less, lines.
+function curveBetweenFrames(parameter, event, first, last) {
+  const isLess = event.values.length * BYTES_OF_A_CALL < (last - first) * BYTES_OF_A_POINT;
+  return isLess ? lineCalls(parameter, event, first, last) : curveCalls(parameter, first, last, frame => curveValue(event, frame), () => 1);
 }
 
 function lowerCurve(parameter, event) {
