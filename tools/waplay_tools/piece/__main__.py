@@ -85,7 +85,7 @@ def run_one(words: argparse.Namespace) -> tuple[int, str]:
     for context in piece.contexts:
         print(f"{context.line} -> {out / 'index.html'}")
     for line in [*piece.taken.troubles[:20], *piece.taken.missing]:
-        print(line)
+        print(line, file=sys.stderr)
     if words.open:
         webbrowser.open((out / "index.html").absolute().as_uri())
     return piece.status, piece.reason
