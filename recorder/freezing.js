@@ -4,7 +4,6 @@
 // dropped, also what feeds only their parameters; what they lead to stays as it is. A loop with a refused node is
 // frozen whole, since a loop in Chromium is a quantum longer, and nothing of it may be played twice.
 
-import {isSilent} from './buffers.js';
 import {steadyBiquad} from './filter_rows.js';
 import {BUFFER_LIMIT} from './limits.js';
 import {LOSS_KINDS} from './losses.js';
@@ -13,6 +12,7 @@ import {Performance, apart, roomsOf} from './performing.js';
 import {ONE, loseOfList, nearestFixedList} from './values.js';
 
 const MOST_CHANNELS = 32;
+const QUANTUM = 128;
 const LONGEST_PART = 2 ** 22; // frames of a buffer
 export const SAME = 2 ** -20;        // how far two renderings of the browser may be apart without a word
 const MOST_OUTSIDE = 500;     // samples that are written into a buffer one by one
@@ -122,13 +122,23 @@ function tapsOf(graph, widths, {frozen, dropped}) {
   return taps;
 }
 
+// What is not silent of some channels, from the beginning of a quantum on: {first, channels}.
+function trimmed(channels) {
+  const isSounding = frame => channels.some(samples => samples[frame] !== 0);
+  let first = 0, end = channels[0].length;
+  while (first < end && !isSounding(first)) first++;
+  while (end > first && !isSounding(end - 1)) end--;
+  first = Math.floor(first / QUANTUM) * QUANTUM;
+  return {first, channels: channels.map(samples => samples.slice(first, end))};
+}
+
 // Renders the piece again with these taps. Gives of each tap what it heard, and how far the piece is from the page's.
 async function listen(recording, taps, muted) {
   const tapped = new Map();
   let distance = 0, rendered = null;
   for (const room of taps.length ? roomsOf(taps, recording.channels) : [[]]) {
     const found = await new Performance(recording, room, muted).render();
-    for (const [tap, channels] of found.tapped) tapped.set(tap, channels);
+    for (const [tap, channels] of found.tapped) tapped.set(tap, trimmed(channels));
     rendered = found.rendered;
     distance = Math.max(distance, apart(rendered, recording.rendered));
     recording.work++;
@@ -165,14 +175,10 @@ async function livePart(recording, graph, {heard, frozen, singing}) {
 // The name of what plays an output of a frozen node.
 export const nameOfOutput = (name, output) => output ? `${name}_out${output + 1}` : name;
 
-// The parts of a sound, from the first sample to the last that is not 0: [{first, end}, ..].
-function partsOf(channels) {
-  const isSounding = frame => channels.some(samples => samples[frame] !== 0);
-  let first = 0, end = channels[0].length;
-  while (first < end && !isSounding(first)) first++;
-  while (end > first && !isSounding(end - 1)) end--;
+// The parts of a sound that are buffers: [{begin, end}, ..].
+function partsOf([{length}]) {
   const parts = [];
-  for (let place = first; place < end; place += LONGEST_PART) parts.push({first: place, end: Math.min(end, place + LONGEST_PART)});
+  for (let begin = 0; begin < length; begin += LONGEST_PART) parts.push({begin, end: Math.min(length, begin + LONGEST_PART)});
   return parts;
 }
 
@@ -187,21 +193,21 @@ function loudnessOf(channels) {
 }
 
 // The calls that play one part of a sound under a name.
-function partCalls(recording, channels, {first, end}, name, kind) {
-  const lists = channels.map(samples => nearestFixedList(samples.subarray(first, end)));
-  const buffer = {op: 'createBuffer', as: recording.newName('frozen'), channels: lists.length, length: end - first, rate: recording.rate};
+function partCalls(recording, {first, channels}, {begin, end}, name, kind) {
+  const lists = channels.map(samples => nearestFixedList(samples.subarray(begin, end)));
+  const buffer = {op: 'createBuffer', as: recording.newName('frozen'), channels: lists.length, length: end - begin, rate: recording.rate};
   recording.versions.push({name: buffer.as, call: buffer, samples: lists.map(({wholes}) => wholes)});
   for (const list of lists) loseOfList(recording, list, buffer);
   const creation = {op: 'createBufferSource', as: name, buffer: buffer.as};
   recording.lose(kind, creation);
-  return [buffer, creation, {op: 'start', node: name, when: first}];
+  return [buffer, creation, {op: 'start', node: name, when: first + begin}];
 }
 
 // The calls that play what came out of a node. What is silent all the time is a source that is never started.
-export function playingCalls(recording, channels, name, kind) {
-  const parts = isSilent(channels) ? [] : partsOf(channels), loudness = loudnessOf(channels);
-  if (loudness > 1) channels = channels.map(samples => samples.map(sample => sample / loudness));
-  if (parts.length === 1 && loudness === 1) return partCalls(recording, channels, parts[0], name, kind);
+function playingCalls(recording, {first, channels}, name, kind) {
+  const parts = partsOf(channels), loudness = loudnessOf(channels);
+  const sound = {first, channels: loudness > 1 ? channels.map(samples => samples.map(sample => sample / loudness)) : channels};
+  if (parts.length === 1 && loudness === 1) return partCalls(recording, sound, parts[0], name, kind);
   if (!parts.length) {
     const call = {op: 'createConstantSource', as: name};
     recording.lose(kind, call);
@@ -209,7 +215,7 @@ export function playingCalls(recording, channels, name, kind) {
   }
   const inner = parts.map((_, place) => `${name}_part${place + 1}`);
   return [{op: 'createGain', as: name, ...(loudness > 1 ? {gain: loudness * ONE} : {})},
-          ...parts.flatMap((part, place) => partCalls(recording, channels, part, inner[place], kind)),
+          ...parts.flatMap((part, place) => partCalls(recording, sound, part, inner[place], kind)),
           ...inner.map(from => ({op: 'connect', from, to: name}))];
 }
 
@@ -245,38 +251,38 @@ function usedBuffers(recording) {
 }
 
 // Puts what plays the voices that lead to one place behind the call that makes the node there.
-function playVoices(recording, graph, {to, param, input, from}, channels, limit) {
+function playVoices(recording, graph, {to, param, input, from}, sound, limit) {
   const name = recording.newName('voices'), entry = graph.entries.get(to), isNode = to !== 'destination';
-  const calls = playingCalls(recording, channels, name, 'frozen-voices');
+  const calls = playingCalls(recording, sound, name, 'frozen-voices');
   calls.push(param ? {op: 'connectParam', from: name, to, param} : {op: 'connect', from: name, to, ...(input ? {input} : {})});
   const list = isNode ? entry.list : recording.main;
   list.splice(isNode ? list.indexOf(entry.creation) + 1 : list.indexOf(recording.start), 0, ...calls);
   recording.frozen.push({name, kind: `${from.size} voices`, why: `the piece would pass the limit of ${limit}`});
 }
 
-// Freezes what has to be, of a recording that is complete. `limit` is what it would pass without its voices frozen.
+const samplesOf = tapped => [...tapped.values()].reduce((sum, {channels}) => sum + channels.length * channels[0].length, 0);
+
+// Freezes what has to be, of a recording that is complete. `limit` is what it would pass without its voices frozen. Gives
+// whether there was room for it.
 export async function freeze(recording, graph, widths, plan, replacements, limit = null) {
   const {frozen, reasons, loops, voices, singing} = plan;
   const taps = [...tapsOf(graph, widths, plan), ...voices], buffers = usedBuffers(recording);
-  const narrow = taps.filter(({width}) => recording.channels + width <= MOST_CHANNELS);
-  const samples = narrow.reduce((sum, {width}) => sum + width * recording.length, 0);
-  if (narrow.length < taps.length || samples > 2 * BUFFER_LIMIT) {
-    recording.lose('freezing-failed', null, 0, frozen.size);
-    return;
-  }
+  if (taps.some(({width}) => recording.channels + width > MOST_CHANNELS)) return false;
   const {tapped, distance} = taps.length ? await listenWell(recording, taps, loopsOf(graph).length > 0) : {tapped: new Map(), distance: 0};
+  if (samplesOf(tapped) > BUFFER_LIMIT) return false;
   if (distance > SAME) recording.lose('frozen-off', null, distance);
   rewrite(recording, plan, new Map([...frozen].map(name => [name, graph.entries.get(name).node.numberOfOutputs])));
   dropBuffers(recording, buffers);
   const calls = new Map([...frozen].map(name => [name, []]));
-  for (const [tap, channels] of tapped) if (tap.from) playVoices(recording, graph, tap, channels, limit);
-  for (const [{name, output, isMixed}, channels] of tapped) {
+  for (const [tap, sound] of tapped) if (tap.from) playVoices(recording, graph, tap, sound, limit);
+  for (const [{name, output, isMixed}, sound] of tapped) {
     if (name === undefined) continue;
     if (isMixed) recording.lose('frozen-mixed');
     const kind = loops.has(name) ? 'frozen-loop' : 'frozen-node';
-    calls.get(name).push(...playingCalls(recording, channels, nameOfOutput(name, output), kind));
+    calls.get(name).push(...playingCalls(recording, sound, nameOfOutput(name, output), kind));
   }
   for (const [name, made] of calls) replacements.put(graph.entries.get(name), made);
   recording.frozen.push(...[...frozen].map(name => ({name, kind: graph.entries.get(name).kind, why: reasons.get(name)})));
   recording.live = await livePart(recording, graph, plan);
+  return true;
 }

@@ -56,6 +56,7 @@ export class Performance {
 
   // Plays what a node gave, from a frame on.
   player(channels, {rate}, frame) {
+    if (!channels[0].length) return [new native.GainNode(this.context), 0]; // it was silent
     const source = new native.AudioBufferSourceNode(this.context, {buffer: bufferOf(channels, rate)});
     source.start(frame / rate);
     return [source, 0];
@@ -81,7 +82,7 @@ export class Performance {
     if (!found || !target || this.muted.has(entry.name)) return;
     const [node, output] = found[place.output || 0];
     const late = this.cut.get([entry.name, place.output || 0, place.to.name, place.param, place.input || 0].join(' '));
-    const [from, its] = late ? this.player(late, this.recording, QUANTUM) : [node, output];
+    const [from, its] = late ? this.player(late.channels, this.recording, QUANTUM + late.first) : [node, output];
     if (place.param) connect(from, target[place.param], its);
     else connect(from, target, its, place.input || 0);
     for (const tap of this.tapsOf(entry, place)) connect(node, tap, output);

@@ -4,7 +4,7 @@ import {bakeSources} from './baking.js';
 import {equalSamples, isSilent} from './buffers.js';
 import {freeze, planOf} from './freezing.js';
 import {Graph} from './graph.js';
-import {ASSET_LIMIT, SCRIPT_LIMIT, loseOfContext, loseOfSizes} from './limits.js';
+import {ASSET_LIMIT, BUFFER_LIMIT, SCRIPT_LIMIT, loseOfContext, loseOfSizes} from './limits.js';
 import {loseOfFilters, lowerFilters} from './filter_rows.js';
 import {lowerLoops} from './loops.js';
 import {lowerPanners} from './panners.js';
@@ -45,15 +45,25 @@ function lowerAnalysers(recording, replacements) {
   }
 }
 
+// Freezes what has to be, and gives the plan of it. Where the sound of single nodes has no room, that of voices may have.
+async function freezeAll(recording, graph, widths, replacements) {
+  const plain = planOf(recording, graph, widths), passed = passedLimit(recording, graph, plain);
+  const withVoices = () => planOf(recording, graph, widths, voicesOf(recording, graph, widths));
+  const done = plan => plan.reasons.size + plan.voices.length === 0 ||
+    freeze(recording, graph, widths, plan, replacements, passed || `${BUFFER_LIMIT} samples`);
+  const plan = passed ? withVoices() : plain;
+  await lowerLoops(recording, graph, widths, plan);
+  if (await done(plan)) return plan;
+  const other = passed ? plan : withVoices();
+  if (!other.voices.length || other === plan || !await done(other)) recording.lose('freezing-failed', null, 0, plan.frozen.size);
+  return other;
+}
+
 // Replaces what can be replaced of a recording that is complete. Filters come last, as the levels inside them are
 // measured in what is there by then.
 async function lower(recording) {
   const nodes = new Replacements(recording), graph = new Graph(recording), widths = new Widths(graph);
-  let plan = planOf(recording, graph, widths);
-  const limit = passedLimit(recording, graph, plan);
-  if (limit) plan = planOf(recording, graph, widths, voicesOf(recording, graph, widths));
-  await lowerLoops(recording, graph, widths, plan);
-  if (plan.reasons.size || plan.voices.length) await freeze(recording, graph, widths, plan, nodes, limit);
+  const plan = await freezeAll(recording, graph, widths, nodes);
   await bakeSources(recording, nodes);
   lowerAnalysers(recording, nodes);
   lowerPanners(recording, plan.panners, nodes);
