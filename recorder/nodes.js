@@ -1,13 +1,13 @@
 // Nodes: their creation by factories and constructors, and their attributes.
 
 import {Timeline} from './automation.js';
-import {bufferName, bufferOf, contentOf} from './buffers.js';
+import {bufferName} from './buffers.js';
 import {keepEndingBack} from './endings.js';
 import {putCoefficients} from './filters.js';
 import {journal, note} from './journal.js';
+import {responseSet, wrapLeftOut} from './left_out.js';
 import {native} from './native.js';
 import {creationOf, featureOf, wordsOf} from './operations.js';
-import {valueTaken} from './parameters.js';
 import {entryOfNode, entryOfParameter, recordingOfContext} from './recording.js';
 import {settings} from './settings.js';
 import {isTapped, tapInPage} from './taps.js';
@@ -243,46 +243,8 @@ function wrapAttributeAsCall(prototype, name, op, valueOf) {
   });
 }
 
-// Attributes of panners that are no parameters.
-const PANNER_ATTRIBUTES = ['panningModel', 'distanceModel', 'refDistance', 'maxDistance', 'rolloffFactor', 'coneInnerAngle',
-  'coneOuterAngle', 'coneOuterGain'];
-
-// An attribute was set that a script has not. It counts from now on.
-function attributeSet(node, name, value, exception) {
-  const entry = entryOfNode.get(node);
-  if (!entry || exception) return;
-  entry.attributesAt = entry.recording.now;
-  journal(entry, copy => { copy[name] = value; });
-}
-
-// A convolver takes the content of its buffer.
-function responseSet(entry, buffer) {
-  if (!entry) return;
-  const channels = isGiven(buffer) ? contentOf(buffer).map(samples => Float32Array.from(samples)) : null;
-  if (channels) entry.responses = [...(entry.responses || []), channels.length];
-  journal(entry, copy => { copy.buffer = channels && bufferOf(channels, buffer.sampleRate); });
-}
-
-// The old methods of panners set three parameters at once.
-function vectorSet(node, name, args, exception) {
-  const entry = entryOfNode.get(node);
-  if (!entry || exception) return;
-  ['X', 'Y', 'Z'].forEach((axis, place) => valueTaken(node[name + axis], Math.fround(+args[place])));
-}
-
-// Those of the listener.
-const LISTENER_NAMES = {setPosition: ['positionX', 'positionY', 'positionZ'],
-  setOrientation: ['forwardX', 'forwardY', 'forwardZ', 'upX', 'upY', 'upZ']};
-
-function wrapListener() {
-  for (const [method, names] of Object.entries(LISTENER_NAMES))
-    wrapMethod(globalThis.AudioListener.prototype, method, (listener, args, result, exception) => {
-      if (!exception) names.forEach((name, place) => valueTaken(listener[name], Math.fround(+args[place])));
-    });
-}
-
 export function wrapNodes() {
-  wrapListener();
+  wrapLeftOut();
   for (const [kind, {op}] of Object.entries(NODE_KINDS)) {
     const optionsOf = kind === 'AudioWorkletNode' ? optionsOfWorklet : ([, options]) => Object(options);
     wrapConstructor(kind, (args, node, exception) => nodeCreated(kind, args[0], optionsOf(args), node, exception),
@@ -316,20 +278,4 @@ export function wrapNodes() {
     entry.recording.emit([call], exception);
     if (!exception) curveTaken(entry, call);
   });
-  // What counts for baking and for the rewriting of biquads.
-  wrapAttribute(globalThis.OscillatorNode.prototype, 'type', (node, type, exception) => {
-    if (!exception) journal(entryOfNode.get(node), copy => { copy.type = type; });
-  });
-  wrapMethod(globalThis.OscillatorNode.prototype, 'setPeriodicWave', (node, [wave], result, exception) => {
-    if (!exception) journal(entryOfNode.get(node), copy => copy.setPeriodicWave(wave));
-  });
-  wrapAttribute(globalThis.BiquadFilterNode.prototype, 'type', (node, type, exception) => attributeSet(node, 'type', type, exception));
-  wrapAttribute(globalThis.ConvolverNode.prototype, 'normalize', (node, value, exception) => attributeSet(node, 'normalize', value, exception));
-  wrapAttribute(globalThis.ConvolverNode.prototype, 'buffer', (node, buffer, exception) => {
-    if (!exception) responseSet(entryOfNode.get(node), buffer);
-  });
-  wrapMethod(globalThis.PannerNode.prototype, 'setPosition', (node, args, result, exception) => vectorSet(node, 'position', args, exception));
-  wrapMethod(globalThis.PannerNode.prototype, 'setOrientation', (node, args, result, exception) => vectorSet(node, 'orientation', args, exception));
-  for (const name of PANNER_ATTRIBUTES)
-    wrapAttribute(globalThis.PannerNode.prototype, name, (node, value, exception) => attributeSet(node, name, value, exception));
 }
