@@ -230,8 +230,7 @@ function rewrite(recording, {frozen, dropped}, outputs) {
     const further = call.op === 'disconnect' && call.output === undefined ? outputs.get(call.from) - 1 : 0;
     for (let output = further; output > 0; output--)
       list.splice(list.indexOf(call) + 1, 0, {...call, from: nameOfOutput(call.from, output)});
-    if (call.output) call.from = nameOfOutput(call.from, call.output);
-    delete call.output;
+    if (call.output) Object.assign(call, {from: nameOfOutput(call.from, call.output), output: 0});
   });
   for (const list of ['sources', 'filters', 'analysers', 'panners'])
     recording[list] = recording[list].filter(({name}) => !isGone(name));

@@ -96,11 +96,12 @@ export class Performance {
       for (const [node, output] of outputs) native.disconnect.call(node, output);
       this.listenTo(entry.name);
     } else if (this.inputs.has(place.to.name))
-      for (const node of new Set(outputs.map(([each]) => each))) this.disconnectFrom(entry, node, place);
+      for (const [node, output] of new Map(outputs)) this.disconnectFrom(entry, node, output, place);
   }
 
-  disconnectFrom(entry, node, place) {
-    const target = this.inputs.get(place.to.name), inner = [place.output, place.param ? undefined : place.input];
+  disconnectFrom(entry, node, output, place) {
+    const target = this.inputs.get(place.to.name);
+    const inner = place.output === undefined ? [] : [output, place.param ? undefined : place.input];
     native.disconnect.call(node, place.param ? target[place.param] : target, ...inner.filter(word => word !== undefined));
     for (const tap of this.tapsOf(entry, place)) native.disconnect.call(node, tap);
   }
