@@ -44,6 +44,15 @@ export class Timeline {
     return place <= begin ? this.valueAfter(index, place) : rampValue(next, begin, this.valueAfter(index, begin), place);
   }
 
+  // The value that stays from a place on, or undefined where it changes.
+  steadyValue(place) {
+    const index = this.indexAt(place), event = this.events[index], value = this.valueAfter(index, place);
+    const isLevel = ({kind, values, value: other}) => kind === 'curve' ? values.every(each => each === value) : other === value;
+    const isUnderWay = event && ((event.kind === 'target' && event.value !== value) ||
+      (event.kind === 'curve' && place < Timeline.endOf(event) && !isLevel(event)));
+    return isUnderWay || !this.events.slice(index + 1).every(isLevel) ? undefined : value;
+  }
+
   // Whether a cancel at a place takes an event away: those from the place on, and a curve that it lies in.
   isCancelled(event, place) {
     return event.place >= place || (event.kind === 'curve' && place <= Timeline.endOf(event));

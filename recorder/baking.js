@@ -1,4 +1,4 @@
-// Baking: sources that a script has not, or has only in whole frames, become buffers, with the option `lower`.
+// Baking: sources that a script has not, or has only in whole frames, become buffers, but with the option `plain`.
 //
 // Once rendering is over the browser renders copies of them, of each from its start to its stop. Many copies
 // share a rendering: each has channels of its own, and sources that do not sound at one time may have the same

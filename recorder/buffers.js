@@ -57,9 +57,20 @@ export const gatesOf = channels => channels > 1 && channels < 32 ? 1 : 0;
 // A buffer with the content that a source acquired, for its copy.
 export function bufferOfCopy({length, sampleRate}, floats) {
   const channels = gatesOf(floats.length) ? [...floats, new Float32Array(length).fill(1)] : floats;
-  const buffer = new native.AudioBuffer({length, numberOfChannels: channels.length, sampleRate});
+  return bufferOf(channels, sampleRate);
+}
+
+// A buffer of the browser with these channels.
+export function bufferOf(channels, sampleRate) {
+  const buffer = new native.AudioBuffer({length: channels[0].length, numberOfChannels: channels.length, sampleRate});
   channels.forEach((samples, number) => native.getChannelData.call(buffer, number).set(samples));
   return buffer;
+}
+
+// The same for a version. Many sources may play it, so there is one.
+export function bufferOfVersion(version, sampleRate) {
+  version.copy = version.copy || bufferOf(version.floats, sampleRate);
+  return version.copy;
 }
 
 export function equalSamples(one, other) {

@@ -1,5 +1,6 @@
 // Connections: connect and disconnect in all their forms, to nodes and to parameters.
 
+import {note} from './journal.js';
 import {loseOfParameter} from './parameters.js';
 import {entryOfNode, entryOfParameter} from './recording.js';
 import {wrapMethod} from './wrapping.js';
@@ -20,6 +21,10 @@ function parameterConnected(recording, parameter, call) {
   loseOfParameter(recording, parameter, call);
 }
 
+// Where a connection leads, for the log: the entry of a node, the name of one of its parameters, an output and an input.
+const placeOf = ({node, parameter}, {output, input}) =>
+  ({to: parameter ? parameter.node : node, param: parameter ? parameter.name : null, output, input});
+
 export function wrapConnections() {
   wrapMethod(AudioNode.prototype, 'connect', (node, [target, output, input], result, exception) => {
     const from = entryOfNode.get(node);
@@ -35,6 +40,7 @@ export function wrapConnections() {
     if (output) call.output = output >>> 0;
     if (input && !parameter) call.input = input >>> 0;
     recording.emit([call], exception);
+    if (!exception) note(from, {connect: placeOf(end, call)});
     if (from.kind === 'destination') recording.lose('destination-output', call);
     else if (parameter && !exception) parameterConnected(recording, parameter, call);
   });
@@ -44,8 +50,9 @@ export function wrapConnections() {
     if (!from || from.recording.leavesOut(exception)) return;
     const recording = from.recording, [target, output, input] = args;
     const call = {op: 'disconnect', from: from.name};
+    let end = {};
     if (target instanceof AudioNode || target instanceof AudioParam) {
-      const end = endOf(recording, target);
+      end = endOf(recording, target);
       if (!end) {
         recording.lose('call-left-out');
         return;
@@ -56,6 +63,7 @@ export function wrapConnections() {
       if (args.length > 2 && !end.parameter) call.input = input >>> 0;
     } else if (args.length && target !== undefined) call.output = target >>> 0;
     recording.emit([call], exception);
+    if (!exception) note(from, {disconnect: placeOf(end, call)});
     if (from.kind === 'destination') recording.lose('destination-output', call);
   });
 }

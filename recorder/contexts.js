@@ -19,8 +19,12 @@ function contextCreated(args, context, exception) {
   recording.context = context;
   recordingOfContext.set(context, recording);
   if (!Number.isInteger(recording.rate)) recording.lose('context-rate');
-  entryOfNode.set(context.destination, {recording, name: 'destination', kind: 'destination', list: recording.main, journal: []});
-  registerParameters({recording, name: 'listener', kind: 'listener', journal: []}, context.listener);
+  const shared = {recording, list: recording.main, journal: [], isSteady: true};
+  const destination = {...shared, name: 'destination', kind: 'destination', node: context.destination};
+  entryOfNode.set(context.destination, destination);
+  recording.entries.set('destination', destination);
+  recording.listener = {...shared, name: 'listener', kind: 'listener', node: context.listener};
+  registerParameters(recording.listener, context.listener);
   context.addEventListener('complete', event => {
     if (event.isTrusted) quietly(context, () => renderingFinished(recording, event.renderedBuffer));
   });
@@ -65,7 +69,8 @@ function suspensionAsked(recording, [seconds]) {
   call.time = frameOf(recording, +seconds, call, 'next');
   if (call.time < 0 || call.time <= recording.now - recording.quantum || call.time >= recording.length + recording.quantum)
     return refused(recording, call);
-  recording.emit([call]);
+  if (recording.isAskingItself) recording.own.push(call);
+  else recording.emit([call]);
   return {
     fulfilled() {
       recording.phase = 'suspended';

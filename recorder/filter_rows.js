@@ -1,11 +1,11 @@
-// Filter rows: with the option `lower` biquads and IIR filters become rows of IIR filters of order 2.
+// Filter rows: biquads and IIR filters become rows of IIR filters of order 2.
 //
 // What a filter puts out is rounded to 2^-24 before it is fed back, and small coefficients have few bits. So a row
 // runs louder inside, as far as its levels leave room, and a gain behind it takes that back.
 
 import {biquadCoefficients, coefficientError, putCoefficients} from './filters.js';
+import {steadyValues} from './graph.js';
 import {levelsOf} from './levels.js';
-import {native} from './native.js';
 import {biquadErrorOfBrowser, feedbackError, filterErrorOfBrowser} from './responses.js';
 import {rowOf, sectionsOf} from './sections.js';
 import {ONE, fixedValue} from './values.js';
@@ -16,11 +16,18 @@ const ENOUGH = ROOM / 8;       // a level that leaves room for a guard of 8
 const LEAST_TOLD = 2 ** -20;   // errors of what is fed back below this are not told
 const LEAST_OF_BROWSER = 2 ** -16; // and of what the browser feeds back
 
+// The values that a biquad's parameters keep from where it hears something first, or null where they move.
+export function steadyBiquad(entry, graph) {
+  const sounding = graph.soundingOf(entry.name);
+  if ((entry.attributesAt || 0) > sounding) return null;
+  return steadyValues(entry, ['frequency', 'Q', 'gain', 'detune'], sounding === Infinity ? 0 : sounding);
+}
+
 // A biquad with steady parameters: {gain}, or {row, gain, kind, page}, where `page` has the coefficients as they were.
-function planOfBiquad({node}, rate) {
-  const valueOf = name => native.value.call(node[name]);
-  const found = biquadCoefficients({type: node.type, frequency: valueOf('frequency'), Q: valueOf('Q'),
-    gain: valueOf('gain'), detune: valueOf('detune')}, rate);
+function planOfBiquad(entry, rate, graph) {
+  const values = steadyBiquad(entry, graph);
+  if (!values) return null;
+  const found = biquadCoefficients({type: entry.node.type, ...values}, rate);
   if (found.gain !== undefined) return found;
   return {...rowOf([found]), kind: 'lowered-biquad', page: found};
 }
@@ -92,10 +99,10 @@ function loseOfBrowser(recording, plans) {
 }
 
 // Lowers the filters of a recording that is complete.
-export async function lowerFilters(recording, replacements) {
+export async function lowerFilters(recording, replacements, graph) {
   const plans = new Map();
   for (const entry of recording.filters) {
-    const plan = entry.kind === 'IIRFilterNode' ? planOfFilter(entry) : entry.isSteady ? planOfBiquad(entry, recording.rate) : null;
+    const plan = entry.kind === 'IIRFilterNode' ? planOfFilter(entry) : planOfBiquad(entry, recording.rate, graph);
     if (plan && plan.row) plans.set(entry, plan);
     else if (plan) replaceByGain(recording, entry, plan.gain, replacements);
   }

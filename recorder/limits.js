@@ -4,7 +4,8 @@ import {LOSS_KINDS} from './losses.js';
 import {ONE, isGiven} from './values.js';
 
 export const BUFFER_LIMIT = 2 ** 27;
-const NODE_LIMIT = 1024, CONNECTION_LIMIT = 8192, DELAY_LIMIT = 2 ** 22;
+export const NODE_LIMIT = 1024, CONNECTION_LIMIT = 8192;
+const DELAY_LIMIT = 2 ** 22;
 export const ASSET_LIMIT = 2 ** 26, SCRIPT_LIMIT = 2 ** 24;
 
 // Gives whether waplay takes the context: else no call is done.

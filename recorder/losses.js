@@ -4,13 +4,14 @@
 //   refused   waplay refuses the call, or the script stands for something else than the page did
 //   silent    the browser rendered nothing but zeros
 //   heard     a number or a time is rounded so far that it may be heard
-//   lowered   a call was rewritten into others that sound the same (with the option `lower`)
+//   frozen    the sound of a node is played in its place
+//   lowered   a call was rewritten into others that sound the same (but with the option `plain`)
 //   rounded   a number or a time is the nearest one that a script can hold
 //   exact     nothing is lost; the script says the same in other words
 //
 // A rounded kind that `isMeasured` has errors of the sound: from HEARD_FROM on its grade is `heard`.
 
-export const GRADES = ['refused', 'silent', 'heard', 'lowered', 'rounded', 'exact'];
+export const GRADES = ['refused', 'silent', 'heard', 'frozen', 'lowered', 'rounded', 'exact'];
 const HEARD_FROM = 2 ** -16;
 
 export const LOSS_KINDS = {
@@ -45,7 +46,7 @@ export const LOSS_KINDS = {
 
   // Rewritten calls.
   'lowered-ramp': {grade: 'lowered', says: 'linear ramps between frames; curves and values'},
-  'lowered-curve': {grade: 'lowered', says: 'curves between frames; curves with one point for each frame'},
+  'lowered-curve': {grade: 'lowered', says: 'curves between frames; curves with one point for each frame, or with two for each of the page'},
   'lowered-exponential': {grade: 'lowered', says: 'exponential ramps; curves that are within 2^-25'},
   'lowered-target': {grade: 'lowered', says: 'setTargetAtTime; curves that are within 2^-25, up to the next event'},
   'lowered-hold': {grade: 'lowered', says: 'cancels and holds between frames or over a rewritten event; written out'},
@@ -54,6 +55,20 @@ export const LOSS_KINDS = {
   'lowered-biquad': {grade: 'lowered', says: 'biquads with steady parameters; IIR filters by the standard\'s formulas'},
   'lowered-sections': {grade: 'lowered', says: 'filters of an order above 2; split into sections of order 2'},
   'guarded-filter': {grade: 'lowered', says: 'filters run 32 times louder inside, with a gain behind them'},
+  'frozen-node': {grade: 'frozen', says: 'nodes that a script has no word for; the sound that came out of them is played in their place'},
+  'frozen-voices': {grade: 'frozen',
+    says: 'voices that have ended, of a piece that is too long for a script; what they put out is played in their place'},
+  'frozen-loop': {grade: 'frozen', says: 'loops with such a node; frozen whole, and as long as Chromium has them'},
+  'frozen-mixed': {grade: 'heard',
+    says: 'frozen nodes with fewer channels now and then, which have the most of them in the script; heard where these are not mono and stereo'},
+  'freezing-failed': {grade: 'refused', says: 'nodes that are not frozen, as their sound has no room: in 32 channels, or in the buffers'},
+  'frozen-off': {grade: 'exact', isMeasured: true,
+    says: 'how far a second rendering, in which frozen nodes were listened to, is from the first one'},
+  'loop-longer': {grade: 'heard',
+    says: 'A LOOP THROUGH A DELAY is a quantum longer in Chromium than in the recommendation; the option --loops-as-browser makes it so'},
+  'loop-as-browser': {grade: 'lowered', says: 'loops that Chromium has a quantum longer; a delay of a quantum stands where it does'},
+  'media-decoded': {grade: 'lowered', says: 'media elements; their files are decoded, and played on the clock of the audio'},
+  'lowered-panner': {grade: 'lowered', says: 'panners whose position stands still; gains by the standard\'s formulas'},
   'lowered-analyser': {grade: 'lowered', says: 'analysers; gains of 1, as they pass their input on'},
 
   // What a script cannot say.
@@ -81,23 +96,23 @@ export const LOSS_KINDS = {
 
 // What waplay refuses by a feature word. The word is the kind of the loss.
 const FEATURES = {
-  'oscillator': 'OscillatorNode; the option lower bakes it',
-  'periodic-wave': 'PeriodicWave; baked with its oscillators by the option lower',
-  'biquad': 'BiquadFilterNode; the option lower rewrites one with steady parameters',
+  'oscillator': 'OscillatorNode',
+  'periodic-wave': 'PeriodicWave',
+  'biquad': 'BiquadFilterNode',
   'stereo-panner': 'StereoPannerNode', 'panner': 'PannerNode', 'listener': 'parameters of the listener',
-  'compressor': 'DynamicsCompressorNode', 'analyser': 'AnalyserNode; the option lower makes it a gain',
+  'compressor': 'DynamicsCompressorNode', 'analyser': 'AnalyserNode',
   'convolver': 'ConvolverNode', 'script-processor': 'ScriptProcessorNode', 'audio-worklet': 'AudioWorkletNode',
   'media-element-source': 'MediaElementAudioSourceNode', 'media-stream-source': 'MediaStreamAudioSourceNode',
   'media-stream-track-source': 'MediaStreamTrackAudioSourceNode',
   'media-stream-destination': 'MediaStreamAudioDestinationNode',
-  'exponential-ramp': 'exponentialRampToValueAtTime; the option lower rewrites it',
-  'set-target': 'setTargetAtTime; the option lower rewrites it',
+  'exponential-ramp': 'exponentialRampToValueAtTime',
+  'set-target': 'setTargetAtTime',
   'oversample': 'oversampling of a WaveShaperNode',
-  'resampling': 'a buffer of another rate than the context\'s; the option lower bakes its source',
-  'playback-rate': 'a playback rate that is no whole number from 1 on; the option lower bakes the source',
+  'resampling': 'a buffer of another rate than the context\'s',
+  'playback-rate': 'a playback rate that is no whole number from 1 on',
   'playback-rate-automation':
-    'a playbackRate that is automated, set late or connected to; the option lower bakes the source, but for the latter',
-  'detune': 'detune of a buffer source; the option lower bakes the source if nothing is connected to it',
+    'a playbackRate that is automated, set late or connected to',
+  'detune': 'detune of a buffer source',
   'loop-change': 'a loop changed after the start', 'late-buffer': 'a buffer set after the start',
   'long-delay': 'a delay of more than 16 seconds',
   'asset-size': 'a buffer of more than 67,108,864 bytes; silence stands for it',

@@ -13,6 +13,7 @@ import {LAST_FRAME, fixedList, nearestFixed} from './values.js';
 export const CALL_ALONE = null;
 const SMALLEST_STEP = 2 ** -26; // a target that is this near counts as reached
 const NEAR = 2 ** -25;          // how far the line between two points of a curve may be from the page's value
+const BYTES_OF_A_POINT = 9, BYTES_OF_A_CALL = 120; // in a script
 const SHORTEST = 256;           // frames of a curve, where there are more of them
 
 const isRamp = event => event.kind === 'ramp' || event.kind === 'exponential';
@@ -31,7 +32,7 @@ function curveCall(parameter, first, last, count, valueAt) {
 // Curves from one frame to another. `distanceAt` says how far apart points may lie at a frame, so that the line
 // between them is near enough: what bends little needs few points, and one for each frame is always enough. Where
 // the distance has doubled or halved, the next curve begins, but none that is short: browsers have faults there.
-function curveCalls(parameter, first, last, valueAt, distanceAt) {
+export function curveCalls(parameter, first, last, valueAt, distanceAt) {
   const calls = [], distance = frame => Math.min(LAST_FRAME, Math.max(1, distanceAt(frame)));
   for (let frame = first; frame < last;) {
     const here = distance(frame);
@@ -54,6 +55,15 @@ function distanceOfRamp(event, begin, startValue) {
   if (event.kind === 'ramp') return () => Infinity;
   const growth = Math.abs(Math.log(event.value / startValue)) / (event.place - begin);
   return frame => Math.sqrt(8 * NEAR / Math.abs(rampValue(event, begin, startValue, frame))) / growth;
+}
+
+// The same for any value, by its differences, and 1 where it jumps or breaks off.
+export function distanceOfValues(valueAt, first, last) {
+  return frame => {
+    const middle = Math.min(Math.max(frame, first + 1), last - 1);
+    const bend = Math.abs(valueAt(middle - 1) - 2 * valueAt(middle) + valueAt(middle + 1));
+    return Math.sqrt(8 * NEAR / Math.max(bend, 1e-15));
+  };
 }
 
 function setCall(parameter, frame, value) {
@@ -195,26 +205,48 @@ function lowerTarget(parameter, event) {
   return {calls, keepsCall: false, kind, failed};
 }
 
+// The lines of a curve between frames, each from the first frame behind a point to the last one before the next.
+function lineCalls(parameter, event, first, last) {
+  const parts = event.values.length - 1, calls = [], placeOf = point => event.place + event.duration * point / parts;
+  const valueAt = frame => curveValue(event, frame);
+  for (let point = 0; point < parts; point++) {
+    const begin = Math.max(first, Math.ceil(placeOf(point))), end = Math.min(last, Math.floor(placeOf(point + 1)));
+    if (end > begin) calls.push(curveCall(parameter, begin, end, 1, valueAt));
+    else if (end === begin) calls.push(setCall(parameter, begin, valueAt(begin)));
+  }
+  if (last > placeOf(parts)) calls.push(setCall(parameter, last, valueAt(last)));
+  return calls;
+}
+
+// A curve between frames, from one frame to another: a point for each frame, or where that is less, lines.
+function curveBetweenFrames(parameter, event, first, last) {
+  const isLess = event.values.length * BYTES_OF_A_CALL < (last - first) * BYTES_OF_A_POINT;
+  return isLess ? lineCalls(parameter, event, first, last) : curveCalls(parameter, first, last, frame => curveValue(event, frame), () => 1);
+}
+
 function lowerCurve(parameter, event) {
   const cut = cutTarget(parameter, event.place), calls = cut || [];
   const failed = !cut || bendsCurve(parameter, event.place);
   if (Number.isInteger(event.place) && Number.isInteger(event.duration)) return {calls, keepsCall: true, failed};
   const first = Math.ceil(event.place);
   const last = Math.min(Math.ceil(event.place + event.duration), Math.max(parameter.recording.length + 1024, first + 1));
-  event.calls = last > first ? curveCalls(parameter, first, last, frame => curveValue(event, frame), () => 1)
+  event.startValue = parameter.timeline.valueAfter(parameter.timeline.indexAt(event.place), event.place);
+  event.calls = last > first ? curveBetweenFrames(parameter, event, first, last)
                              : [setCall(parameter, first, event.values[event.values.length - 1])];
   Object.assign(event, {first, last});
   calls.push(...event.calls);
   return {calls, keepsCall: false, kind: 'lowered-curve', failed};
 }
 
+const isSeveral = event => isRamp(event) || (event.kind === 'curve' && event.calls.length > 1);
+
 // A cancel takes away a script's curve that it lies in. Where the page's event goes on, its rest is put in again.
-// Where a ramp goes that is several calls, all of them have to go, and the value before it comes back.
+// Where a ramp or a curve goes that is several calls, all of them have to go, and the value before it comes back.
 function lowerCancel(parameter, {place}) {
   const {timeline, recording} = parameter, frame = Math.ceil(place), kind = 'lowered-hold';
   const isGone = event => timeline.isCancelled(event, place);
   const reaching = timeline.events.find(event => event.calls && !isGone(event) && event.last >= frame);
-  const ramp = timeline.events.find(event => event.calls && isRamp(event) && isGone(event) && event.first < frame);
+  const ramp = timeline.events.find(event => event.calls && isSeveral(event) && isGone(event) && event.first < frame);
   if (ramp) {
     const from = Math.max(ramp.first, recording.now);
     return {calls: [holdCall(parameter, from), setCall(parameter, from, ramp.startValue)], keepsCall: false, kind, failed: Boolean(reaching)};

@@ -8,11 +8,15 @@ export const native = {
   clearTimeout: globalThis.clearTimeout.bind(globalThis),
   then: Promise.prototype.then,
   getChannelData: prototypeOf('AudioBuffer').getChannelData,
+  connect: prototypeOf('AudioNode').connect,
+  disconnect: prototypeOf('AudioNode').disconnect,
+  createScriptProcessor: prototypeOf('BaseAudioContext').createScriptProcessor,
   value: getterOf('AudioParam', 'value'),
   currentTime: getterOf('BaseAudioContext', 'currentTime'),
   OfflineAudioContext: globalThis.OfflineAudioContext,
   AudioBuffer: globalThis.AudioBuffer,
-  OscillatorNode: globalThis.OscillatorNode,
-  AnalyserNode: globalThis.AnalyserNode,
-  AudioBufferSourceNode: globalThis.AudioBufferSourceNode,
 };
+
+for (const kind of ['AnalyserNode', 'AudioBufferSourceNode', 'BiquadFilterNode', 'ChannelMergerNode', 'ChannelSplitterNode',
+  'ConstantSourceNode', 'ConvolverNode', 'DelayNode', 'DynamicsCompressorNode', 'GainNode', 'IIRFilterNode', 'OscillatorNode',
+  'PannerNode', 'StereoPannerNode', 'WaveShaperNode']) native[kind] = globalThis[kind];

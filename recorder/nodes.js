@@ -4,10 +4,13 @@ import {Timeline} from './automation.js';
 import {bufferName} from './buffers.js';
 import {keepEndingBack} from './endings.js';
 import {putCoefficients} from './filters.js';
-import {journal} from './journal.js';
+import {journal, note} from './journal.js';
+import {responseSet, wrapLeftOut} from './left_out.js';
 import {native} from './native.js';
 import {creationOf, featureOf, wordsOf} from './operations.js';
 import {entryOfNode, entryOfParameter, recordingOfContext} from './recording.js';
+import {settings} from './settings.js';
+import {isTapped, tapInPage} from './taps.js';
 import {ONE, fixedList, fixedSeconds, fixedValue, frameOf, isGiven, nearestFixed} from './values.js';
 import {takenNumbers, wrapAttribute, wrapConstructor, wrapMethod} from './wrapping.js';
 
@@ -122,11 +125,15 @@ function registerNode(recording, node, entry) {
   Object.assign(entry, {recording, node, list: recording.current, bornAt: recording.now, startCall: null, journal: [],
     isBakeable: true, isSteady: true});
   entryOfNode.set(node, entry);
+  recording.entries.set(entry.name, entry);
   registerParameters(entry, node);
+  note(entry, {isMade: true});
+  if (settings.lower && isTapped(entry)) tapInPage(entry);
   if (recording.isRealTime && node instanceof AudioScheduledSourceNode) keepEndingBack(entry);
   if (entry.kind === 'OscillatorNode' || entry.kind === 'AudioBufferSourceNode') recording.sources.push(entry);
   if (entry.kind === 'BiquadFilterNode' || entry.kind === 'IIRFilterNode') recording.filters.push(entry);
   if (entry.kind === 'AnalyserNode') recording.analysers.push(entry);
+  if (entry.kind === 'StereoPannerNode' || entry.kind === 'PannerNode') recording.panners.push(entry);
 }
 
 const isSameCurve = (one, other) => one.length === other.length && one.every((point, place) => point === other[place]);
@@ -167,6 +174,7 @@ function nodeCreated(kind, context, options, node, exception) {
     Object.assign(entry, {buffer: options.buffer, bufferCall: creation, bufferList: recording.current});
   if (kind === 'IIRFilterNode') entry.coefficients = recording.rows[recording.rows.length - 1].sections[0];
   if (kind === 'WaveShaperNode') curveTaken(entry, creation);
+  if (kind === 'ConvolverNode' && isGiven(options.buffer)) responseSet(entry, options.buffer);
 }
 
 const CHANNELS = ['channelCount', 'channelCountMode', 'channelInterpretation'];
@@ -180,6 +188,11 @@ const MEMBERS = {
   OscillatorNode: [...CHANNELS, 'detune', 'frequency', 'periodicWave', 'type'],
   BiquadFilterNode: [...CHANNELS, 'Q', 'detune', 'frequency', 'gain', 'type'],
   AnalyserNode: [...CHANNELS, 'fftSize', 'maxDecibels', 'minDecibels', 'smoothingTimeConstant'],
+  ConvolverNode: [...CHANNELS, 'buffer', 'disableNormalization'],
+  DynamicsCompressorNode: [...CHANNELS, 'attack', 'knee', 'ratio', 'release', 'threshold'],
+  StereoPannerNode: [...CHANNELS, 'pan'],
+  PannerNode: [...CHANNELS, 'coneInnerAngle', 'coneOuterAngle', 'coneOuterGain', 'distanceModel', 'maxDistance', 'orientationX',
+    'orientationY', 'orientationZ', 'panningModel', 'positionX', 'positionY', 'positionZ', 'refDistance', 'rolloffFactor'],
 };
 const LISTS = ['feedforward', 'feedback', 'curve'];
 
@@ -195,14 +208,11 @@ function takenOptions(kind, [context, options, ...others]) {
   return [context, taken, ...others];
 }
 
-// What a copy of a source needs of the options.
-const KEPT_OPTIONS = {
-  OscillatorNode: ['type', 'frequency', 'detune', 'periodicWave'],
-  AudioBufferSourceNode: ['playbackRate', 'detune', 'loop', 'loopStart', 'loopEnd'],
-};
+// What a copy of a node needs of the options. The content of a buffer is in the journal.
+const OF_PROCESSORS = ['inputs', 'outputs', 'outputChannelCount'];
 
-const keptOptions = (kind, options) => Object.fromEntries(
-  (KEPT_OPTIONS[kind] || []).filter(name => options[name] !== undefined).map(name => [name, options[name]]));
+const keptOptions = (kind, options) => Object.fromEntries((MEMBERS[kind] || OF_PROCESSORS)
+  .filter(name => name !== 'buffer' && options[name] !== undefined).map(name => [name, options[name]]));
 
 // The arguments of a factory as the options of its constructor.
 const FACTORY_OPTIONS = {
@@ -210,7 +220,14 @@ const FACTORY_OPTIONS = {
   createChannelSplitter: ([numberOfOutputs]) => ({numberOfOutputs}),
   createChannelMerger: ([numberOfInputs]) => ({numberOfInputs}),
   createIIRFilter: ([feedforward, feedback]) => ({feedforward, feedback}),
+  createScriptProcessor: ([, inputs = 2, outputs = 2]) => ({inputs: inputs >>> 0, outputs: outputs >>> 0}),
 };
+
+// What a worklet says of its outputs, where no code of the page is run by asking.
+function optionsOfWorklet([, , options]) {
+  const found = Object.getOwnPropertyDescriptor(Object(options), 'outputChannelCount');
+  return found && found.value ? {outputChannelCount: Array.from(found.value)} : {};
+}
 
 // Attributes that become one call each: of a prototype, a name, an operation, and the value as the script has it.
 function wrapAttributeAsCall(prototype, name, op, valueOf) {
@@ -219,6 +236,7 @@ function wrapAttributeAsCall(prototype, name, op, valueOf) {
     if (!entry || entry.recording.leavesOut(exception)) return;
     const written = valueOf(value);
     if (written === undefined) return; // a word that is none of the enumeration: the browser ignores it
+    if (!exception) journal(entry, copy => { copy[name] = value; });
     const call = {op, node: entry.name, value: written};
     entry.recording.emit([call], exception);
     if (op === 'setOversample' && written !== 'none') entry.recording.lose('oversample', call);
@@ -226,8 +244,10 @@ function wrapAttributeAsCall(prototype, name, op, valueOf) {
 }
 
 export function wrapNodes() {
+  wrapLeftOut();
   for (const [kind, {op}] of Object.entries(NODE_KINDS)) {
-    wrapConstructor(kind, ([context, options], node, exception) => nodeCreated(kind, context, Object(options), node, exception),
+    const optionsOf = kind === 'AudioWorkletNode' ? optionsOfWorklet : ([, options]) => Object(options);
+    wrapConstructor(kind, (args, node, exception) => nodeCreated(kind, args[0], optionsOf(args), node, exception),
       args => args.length > 1 ? takenOptions(kind, args) : args);
     wrapMethod(BaseAudioContext.prototype, op, (context, args, node, exception) =>
       nodeCreated(kind, context, FACTORY_OPTIONS[op] ? FACTORY_OPTIONS[op](args) : {}, node, exception), args => op === 'createIIRFilter' ? args.map(takenNumbers) : args);
@@ -251,20 +271,11 @@ export function wrapNodes() {
     const entry = entryOfNode.get(node);
     if (!entry || entry.recording.leavesOut(exception)) return;
     const call = {op: 'setCurve', node: entry.name, curve: null};
-    if (isGiven(curve)) call.curve = fixedList(entry.recording, Float32Array.from(curve), call);
+    const points = isGiven(curve) ? Float32Array.from(curve) : null;
+    if (points) call.curve = fixedList(entry.recording, points, call);
+    if (!exception) journal(entry, copy => { copy.curve = points; });
     if (!exception && isCurveSettled(entry, call)) return;
     entry.recording.emit([call], exception);
     if (!exception) curveTaken(entry, call);
-  });
-  // What counts for baking and for the rewriting of biquads.
-  wrapAttribute(globalThis.OscillatorNode.prototype, 'type', (node, type, exception) => {
-    if (!exception) journal(entryOfNode.get(node), copy => { copy.type = type; });
-  });
-  wrapMethod(globalThis.OscillatorNode.prototype, 'setPeriodicWave', (node, [wave], result, exception) => {
-    if (!exception) journal(entryOfNode.get(node), copy => copy.setPeriodicWave(wave));
-  });
-  wrapAttribute(globalThis.BiquadFilterNode.prototype, 'type', node => {
-    const entry = entryOfNode.get(node);
-    if (entry && entry.recording.current !== entry.list) entry.isSteady = false;
   });
 }

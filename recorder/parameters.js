@@ -86,6 +86,8 @@ function becomesCreationOption(parameter, value, isNow) {
 // Keeps the page's events in the parameter's timeline.
 function keepEvent(parameter, event, call) {
   const {timeline, recording} = parameter;
+  event.madeAt = recording.now;
+  if (event.kind === 'cancel' || event.kind === 'hold') parameter.isCancelled = true;
   if (event.kind === 'cancel') timeline.cancel(event.place);
   else if (event.kind === 'hold') timeline.hold(event.place, recording.now);
   else {
@@ -97,7 +99,7 @@ function keepEvent(parameter, event, call) {
   }
 }
 
-// The calls for a page's call on a parameter, rewritten where the option `lower` asks for it.
+// The calls for a page's call on a parameter, rewritten where the option `plain` does not forbid it.
 function automationCalls(parameter, call, event, fill) {
   const {recording} = parameter;
   const lowered = event && settings.lower && isInScript(parameter) ? LOWERING[event.kind](parameter, event) : CALL_ALONE;
@@ -115,8 +117,10 @@ function automationCalls(parameter, call, event, fill) {
   return calls;
 }
 
-function emitOfListener(recording, exception) {
-  const call = {op: 'setListener'};
+// The listener has no place in a script. What its parameters do is kept for the panners.
+function emitOfListener(parameter, event, exception) {
+  const {recording} = parameter, call = {op: 'setListener'};
+  if (event) keepEvent(parameter, event, call);
   recording.emit([call], exception);
   recording.lose('listener', call);
 }
@@ -132,13 +136,12 @@ function automated(method, object, args, result, exception) {
   if (!exception) {
     journal(node, copy => copy[parameter.name][method](...args));
     const isNow = method === 'setValueAtTime' && +args[1] <= 0 && recording.phase === 'before';
-    if (!isNow || recording.current !== node.list) node.isSteady = false;
     if (becomesCreationOption(parameter, Math.fround(+args[0]), isNow)) return;
   }
-  if (node.kind === 'listener') return emitOfListener(recording, exception);
+  const event = exception ? null : eventOf(parameter, method, args);
+  if (node.kind === 'listener') return emitOfListener(parameter, event, exception);
   parameter.events++;
   const call = {op: method, node: node.name, param: parameter.name};
-  const event = exception ? null : eventOf(parameter, method, args);
   const calls = automationCalls(parameter, call, event, made => AUTOMATION[method](recording, parameter, made, args));
   loseOfParameter(recording, parameter, call);
   recording.emit(calls, exception);
@@ -149,17 +152,24 @@ function valueSet(object, value, exception) {
   if (!parameter || parameter.recording.leavesOut(exception)) return;
   const {recording, node} = parameter, number = Math.fround(+value);
   if (!exception) {
-    if (recording.current !== node.list) node.isSteady = false;
     journal(node, copy => { copy[parameter.name].value = number; });
     if (becomesCreationOption(parameter, number, true)) return;
   }
-  if (node.kind === 'listener') return emitOfListener(recording, exception);
+  const event = exception ? null : eventOf(parameter, 'value', [number]);
+  if (node.kind === 'listener') return emitOfListener(parameter, event, exception);
   parameter.events++;
   const call = {op: 'setValue', node: node.name, param: parameter.name};
-  const event = exception ? null : eventOf(parameter, 'value', [number]);
   const calls = automationCalls(parameter, call, event, made => { made.value = fixedParameterValue(parameter, number, made); });
   loseOfParameter(recording, parameter, call);
   recording.emit(calls, exception);
+}
+
+// A value that is set without the attribute, as by the old methods of panners and of the listener.
+export function valueTaken(object, number) {
+  const parameter = entryOfParameter.get(object);
+  if (!parameter) return;
+  journal(parameter.node, copy => { copy[parameter.name].value = number; });
+  parameter.timeline.put(eventOf(parameter, 'value', [number]));
 }
 
 function rateSet(object, rate, exception) {
@@ -167,7 +177,7 @@ function rateSet(object, rate, exception) {
   if (!parameter || !['a-rate', 'k-rate'].includes(rate) || parameter.recording.leavesOut(exception)) return;
   const {recording, node} = parameter;
   if (!exception) journal(node, copy => { copy[parameter.name].automationRate = rate; });
-  if (node.kind === 'listener') return emitOfListener(recording, exception);
+  if (node.kind === 'listener') return emitOfListener(parameter, null, exception);
   if (isOfBufferSource(parameter)) return; // k-rate is all that they have
   recording.emit([{op: 'setAutomationRate', node: node.name, param: parameter.name, value: rate}], exception);
 }

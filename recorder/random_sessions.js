@@ -4,8 +4,8 @@
 // and changes some of all this later: at suspensions, or in a real-time piece at timers.
 //
 // Without lowering all times lie on frames and all values on multiples of 2^-10, so that nothing is rounded.
-// With it there are oscillators, biquads, filters of high orders, targets, exponential ramps, cancels and holds,
-// and times between frames. Browsers let nodes that hear nothing, or that nothing hears, stand still: so what is
+// With it there are oscillators, biquads, filters of high orders, panners, nodes that are frozen, targets, exponential
+// ramps, cancels and holds, and times between frames. Browsers let nodes that hear nothing, or that nothing hears, stand still: so what is
 // automated or has a history hears a hum all the time, and is heard by a silent gain.
 
 import {play, textsOf} from './playback.js';
@@ -53,8 +53,8 @@ export class RandomSession {
   seconds(from, frames) { return (from + this.draw(frames) + this.fraction()) / SESSION_RATE; }
   fraction() { return this.canLower && this.draw(2) ? 0.375 : 0; }
 
-  buffer() {
-    const buffer = this.context.createBuffer(1 + this.draw(3), 200 + this.draw(800), SESSION_RATE);
+  buffer(channels = 1 + this.draw(3)) {
+    const buffer = this.context.createBuffer(channels, 200 + this.draw(800), SESSION_RATE);
     for (let channel = 0; channel < buffer.numberOfChannels; channel++)
       buffer.getChannelData(channel).forEach((_, frame, samples) => { samples[frame] = (this.draw(2049) - 1024) / 1024; });
     return buffer;
@@ -108,6 +108,25 @@ export class RandomSession {
     return this.context.createPeriodicWave(this.scratch, this.scratch);
   }
 
+  // Panners of both kinds, some of which stand still.
+  panner() {
+    const {context} = this, pan = this.one([-1, 0, 1, this.between(-1, 1)]);
+    if (this.draw(2)) return new StereoPannerNode(context, {pan});
+    const [positionX, positionY, positionZ] = [0, 0, 0].map(() => this.draw(9) - 4);
+    return new PannerNode(context, {positionX, positionY, positionZ, distanceModel: this.one(['inverse', 'linear', 'exponential']),
+      orientationX: this.draw(2), coneInnerAngle: 90, coneOuterAngle: 270, coneOuterGain: 0.5});
+  }
+
+  // Nodes that are frozen in any case.
+  refused() {
+    const {context} = this;
+    return this.one([
+      () => new DynamicsCompressorNode(context),
+      () => new ConvolverNode(context, {buffer: this.buffer(this.one([1, 2]))}),
+      () => new WaveShaperNode(context, {curve: [-this.value(), 0, this.value()], oversample: this.one(['2x', '4x'])}),
+    ])();
+  }
+
   node() {
     const {context} = this, plain = [
       () => new ConstantSourceNode(context, {offset: this.value()}),
@@ -125,7 +144,7 @@ export class RandomSession {
     ];
     const more = [() => this.oscillator(), () => this.oscillator(), () => this.biquad(), () => this.filter(),
       () => new AudioBufferSourceNode(context, {buffer: this.buffer(), loop: this.draw(2) === 0, playbackRate: this.between(0.5, 2)}),
-      () => new AnalyserNode(context)];
+      () => new AnalyserNode(context), () => this.panner(), () => this.panner(), () => this.refused()];
     return this.one(this.canLower ? [...plain, ...more] : plain)();
   }
 
@@ -149,6 +168,7 @@ export class RandomSession {
     if (from === target) return;
     const output = this.draw(from.numberOfOutputs);
     if (target instanceof GainNode && this.draw(4) === 0) from.connect(target.gain, output);
+    else if (target instanceof OscillatorNode && this.canLower) from.connect(target.detune, output);
     else from.connect(target, output, this.draw(Math.max(1, target.numberOfInputs)));
   }
 
@@ -168,6 +188,8 @@ export class RandomSession {
     if (node instanceof OscillatorNode)
       return this.one([{parameter: node.frequency, low: 60, high: 2000}, {parameter: node.detune, low: 100, high: 1200}]);
     if (node instanceof AudioBufferSourceNode) return {parameter: node.playbackRate, low: 0.5, high: 2};
+    if (node instanceof BiquadFilterNode) return {parameter: node.frequency, low: 60, high: 4000};
+    if (node instanceof StereoPannerNode) return {parameter: node.pan, low: 1 / 16, high: 1};
     return null;
   }
 

@@ -4,6 +4,7 @@
 // goes on. So the page and its sound have one clock, however fast it is rendered.
 
 import {holdClock, nextDue, realTime, runDueTimers} from './clock.js';
+import {playElement} from './media.js';
 import {native} from './native.js';
 import {NODE_KINDS} from './nodes.js';
 import {recordingOfContext} from './recording.js';
@@ -30,9 +31,12 @@ const members = {
   get [Symbol.toStringTag]() { return 'AudioContext'; },
 };
 
-// Media nodes are only in real-time contexts: a silent gain stands for each, and the script has its refusal.
+// Media nodes are only in real-time contexts. Elements are played by sources; for streams a silent gain stands, and the
+// script has their refusal.
 for (const {op, prefix, feature} of Object.values(NODE_KINDS).filter(kind => kind.prefix === 'media'))
-  members[op] = function () {
+  members[op] = function (given) {
+    const isElement = op === 'createMediaElementSource' && given instanceof HTMLMediaElement;
+    if (settings.lower && isElement) return playElement(this, given);
     const recording = recordingOfContext.get(this), call = {op, as: recording.newName(prefix)};
     recording.emit([call]);
     recording.lose(feature, call);
@@ -61,6 +65,10 @@ export function replaceAudioContext() {
   });
   Object.setPrototypeOf(AudioContext, BaseAudioContext);
   globalThis.AudioContext = globalThis.webkitAudioContext = AudioContext;
+  const {MediaElementAudioSourceNode} = globalThis; // its constructor takes none but a real-time context
+  if (MediaElementAudioSourceNode) globalThis.MediaElementAudioSourceNode = new Proxy(MediaElementAudioSourceNode, {
+    construct: (target, [context, options]) => context.createMediaElementSource(Object(options).mediaElement),
+  });
 }
 
 // Asks for a suspension at the next time at which a timer is due.

@@ -20,6 +20,7 @@ export class Recording {
     this.context = null;
     this.main = [];
     this.current = this.main;
+    this.own = [];             // suspensions that the recorder asked for, which are in no list of another one
     this.start = null;        // the accepted startRendering
     this.phase = 'before';    // before, rendering, suspended, complete
     this.sameTurn = false;    // startRendering or resume was called in this turn of the page's event loop
@@ -37,6 +38,12 @@ export class Recording {
     this.rows = [];            // of filters, with the coefficients that the page gave, see filter_rows.js
     this.work = 0;             // grows while this is finished
     this.analysers = [];
+    this.panners = [];
+    this.entries = new Map();  // name -> the entry of a node
+    this.listener = null;      // the entry of the listener
+    this.frozen = [];          // {name, kind, why} of nodes that are frozen, see freezing.js
+    this.live = 1;             // how much of the sound comes through none of them
+    this.log = [];             // all that was done to nodes, in order, see journal.js
     this.versions = [];        // versions of buffers, see buffers.js
     this.acquired = new Map(); // AudioBuffer -> the version that a source acquired last
   }
@@ -84,18 +91,21 @@ export class Recording {
     native.setTimeout(() => { this.sameTurn = false; }, 0);
   }
 
-  // Every call of the script in document order, with the list that it stands in.
+  // Every call of the script, with the list that it stands in.
   eachCall(visit, list = this.main) {
     for (const call of [...list]) {
       visit(call, list);
       if (call.then) this.eachCall(visit, call.then);
     }
+    if (list === this.main) this.eachCall(visit, this.own);
   }
 
   // Takes away the calls that `isUnwanted` names.
-  removeCalls(isUnwanted) {
-    this.eachCall((call, list) => {
-      if (isUnwanted(call)) list.splice(list.indexOf(call), 1);
-    });
+  removeCalls(isUnwanted, list = this.main) {
+    let kept = 0;
+    for (const call of list) if (!isUnwanted(call)) list[kept++] = call;
+    list.length = kept;
+    for (const call of list) if (call.then) this.removeCalls(isUnwanted, call.then);
+    if (list === this.main) this.removeCalls(isUnwanted, this.own);
   }
 }

@@ -18,6 +18,11 @@ export class Replacements {
     this.byName.set(entry.name, {entry, calls, head});
   }
 
+  // Whether a panner refused an attribute, which what comes in its place would take.
+  refuses(call) {
+    return this.recording.outcomes.has(call) && this.byName.get(call.node).entry.kind.endsWith('PannerNode');
+  }
+
   headOf(name) {
     const found = this.byName.get(name);
     return found ? found.head : name;
@@ -27,7 +32,7 @@ export class Replacements {
   callsFor(call) {
     const made = this.byName.get(call.as);
     if (made && made.entry.creation === call) return made.calls;
-    if (isCallOn(call) && this.byName.has(call.node)) return [];
+    if (this.byName.has(call.node) && (isCallOn(call) || this.refuses(call))) return [];
     if (call.to !== undefined && !call.param) call.to = this.headOf(call.to);
     if (call.node !== undefined) call.node = this.headOf(call.node);
     return [call];
@@ -43,7 +48,7 @@ export class Replacements {
   apply() {
     this.applyTo(this.recording.main);
     for (const [name, {entry, calls}] of this.byName) {
-      entry.creation = calls.find(call => call.as === name);
+      entry.creation = calls.find(call => call.as === name) || entry.creation;
       this.recording.refusedNames.delete(name);
     }
   }

@@ -2,7 +2,7 @@
 
 import {GRADES, LOSS_KINDS, gradeOf} from './losses.js';
 
-const MOST_NUMBERS = 12; // of calls in a line
+const MOST_NUMBERS = 12; // of calls or nodes in a line
 
 // The losses by kind, with the numbers of the calls. A loss of a call that was rewritten is none any more.
 function lossesByKind(recording, numbers) {
@@ -38,12 +38,25 @@ function verdictOf(losses) {
   return {refused: 'refused in part', exact: 'whole'}[worst] || worst || 'whole';
 }
 
+const articleOf = kind => /^\d/.test(kind) ? '' : /^[AEIO]/.test(kind) ? 'an ' : 'a ';
+
+// The nodes that are frozen, those of one kind and for one reason in a line, and how much is not.
+function frozenLines({frozen, live}) {
+  if (!frozen.length) return [];
+  const groups = Map.groupBy(frozen, ({kind, why}) => `${articleOf(kind)}${kind}: ${why}`);
+  const namesOf = nodes => nodes.slice(0, MOST_NUMBERS).map(({name}) => name).join(' ') +
+    (nodes.length > MOST_NUMBERS ? ` and ${nodes.length - MOST_NUMBERS} more` : '');
+  return [...[...groups].map(([words, nodes]) => `frozen: ${namesOf(nodes)}, ${nodes.length > 1 ? 'each ' : ''}${words}`),
+          `live: ${(100 * live).toFixed(live > 0.99 || live < 0.01 ? 2 : 0)} % of the sound comes through none of what is frozen`];
+}
+
 // The report of a recording whose script was written: {lines, verdict, grades}.
 export function writeReport(recording, {numbers, count, assets}) {
   const losses = lossesByKind(recording, numbers);
   const {number, channels, length, rate} = recording;
   const head = `context ${number}: ${channels} channels, ${length} frames, ${rate} frames a second; ` +
                `${count} calls, ${assets.length} assets`;
-  return {lines: [head, ...losses.map(lossLine)], verdict: verdictOf(losses),
+  return {lines: [head, ...losses.map(lossLine), ...frozenLines(recording)], verdict: verdictOf(losses),
+          frozen: recording.frozen, live: recording.live, calls: count,
           kinds: losses.map(({kind, grade, count, error}) => ({kind, grade, count, error})), grades: [...new Set(losses.map(({grade}) => grade))]};
 }

@@ -2,11 +2,17 @@
 
 import {bakeSources} from './baking.js';
 import {equalSamples, isSilent} from './buffers.js';
-import {ASSET_LIMIT, SCRIPT_LIMIT, loseOfContext, loseOfSizes} from './limits.js';
+import {freeze, planOf} from './freezing.js';
+import {Graph} from './graph.js';
+import {ASSET_LIMIT, BUFFER_LIMIT, SCRIPT_LIMIT, loseOfContext, loseOfSizes} from './limits.js';
 import {loseOfFilters, lowerFilters} from './filter_rows.js';
+import {lowerLoops} from './loops.js';
+import {lowerPanners} from './panners.js';
 import {Replacements} from './replacing.js';
 import {settings} from './settings.js';
 import {ONE} from './values.js';
+import {passedLimit, voicesOf} from './voices.js';
+import {Widths} from './widths.js';
 import {faults} from './wrapping.js';
 
 // Suspensions that changed nothing, as those at which a timer found nothing to do.
@@ -21,15 +27,14 @@ function depthOf(list) {
 // Suspensions that were asked for within others come to the main list: lists nest only so deep, and the frames
 // alone say in which order suspensions come.
 function flattenSuspensions(recording) {
-  const found = [];
+  const found = new Set(), {main} = recording;
   recording.eachCall((call, list) => {
-    if (call.op !== 'suspend' || list === recording.main || recording.outcomes.has(call)) return;
-    list.splice(list.indexOf(call), 1);
-    found.push(call);
+    if (call.op === 'suspend' && list !== main && !recording.outcomes.has(call)) found.add(call);
   });
-  found.sort((one, other) => one.time - other.time);
-  const start = recording.main.indexOf(recording.start);
-  recording.main.splice(start < 0 ? recording.main.length : start, 0, ...found);
+  recording.removeCalls(call => found.has(call));
+  const start = main.indexOf(recording.start), rest = main.splice(start < 0 ? main.length : start);
+  for (const call of [...found].sort((one, other) => one.time - other.time)) main.push(call);
+  for (const call of rest) main.push(call);
 }
 
 function lowerAnalysers(recording, replacements) {
@@ -40,17 +45,34 @@ function lowerAnalysers(recording, replacements) {
   }
 }
 
+// Freezes what has to be, and gives the plan of it. Where the sound of single nodes has no room, that of voices may have.
+async function freezeAll(recording, graph, widths, replacements) {
+  const plain = planOf(recording, graph, widths), passed = passedLimit(recording, graph, plain);
+  const withVoices = () => planOf(recording, graph, widths, voicesOf(recording, graph, widths));
+  const done = plan => plan.reasons.size + plan.voices.length === 0 ||
+    freeze(recording, graph, widths, plan, replacements, passed || `${BUFFER_LIMIT} samples`);
+  const plan = passed ? withVoices() : plain;
+  await lowerLoops(recording, graph, widths, plan);
+  if (await done(plan)) return plan;
+  const other = passed ? plan : withVoices();
+  if (!other.voices.length || other === plan || !await done(other)) recording.lose('freezing-failed', null, 0, plan.frozen.size);
+  return other;
+}
+
 // Replaces what can be replaced of a recording that is complete. Filters come last, as the levels inside them are
 // measured in what is there by then.
 async function lower(recording) {
-  const nodes = new Replacements(recording);
+  const nodes = new Replacements(recording), graph = new Graph(recording), widths = new Widths(graph);
+  const plan = await freezeAll(recording, graph, widths, nodes);
   await bakeSources(recording, nodes);
   lowerAnalysers(recording, nodes);
+  lowerPanners(recording, plan.panners, nodes);
+  recording.removeCalls(call => call.op === 'setListener'); // panners alone hear of it
   nodes.apply();
   const isLeft = recording.sources.some(source => source.creation.op === 'createOscillator');
   if (!isLeft) recording.removeCalls(call => call.op === 'createPeriodicWave');
   const filters = new Replacements(recording);
-  await lowerFilters(recording, filters);
+  await lowerFilters(recording, filters, graph);
   filters.apply();
 }
 
@@ -58,12 +80,13 @@ async function lower(recording) {
 export async function finish(recording) {
   if (recording.isFinished) return;
   recording.isFinished = true;
+  if (recording.isRealTime) flattenSuspensions(recording);
   if (recording.phase !== 'complete') recording.lose('not-finished');
   else if (settings.lower) await lower(recording).catch(fault => {
     faults.push(String(fault && fault.stack || fault));
     recording.lose('recorder-fault');
   });
-  if (recording.isRealTime || depthOf(recording.main) > 40) flattenSuspensions(recording);
+  if (depthOf(recording.main) > 40) flattenSuspensions(recording);
   if (recording.isRealTime) dropIdleSuspensions(recording);
   loseOfFilters(recording);
   if (loseOfContext(recording)) loseOfSizes(recording);

@@ -1,7 +1,10 @@
 // Settings: what the page or the tool asks for before the recorder is loaded, as globalThis.waplayRecorderOptions.
 //
-//   lower      rewrites what a script has no word for
+//   plain      leaves what a script has no word for as it is, where else it is rewritten
+//   loops      makes loops through delays as long as the browser has them, see loops.js
 //   realtime   the seconds of a real-time piece to record
 //   click      says that the piece begins with a click, before which `hold` is called
 
-export const settings = {lower: false, realtime: 0, click: false, ...globalThis.waplayRecorderOptions};
+const asked = {plain: false, loops: false, realtime: 0, click: false, ...globalThis.waplayRecorderOptions};
+
+export const settings = {...asked, lower: !asked.plain};

@@ -1,6 +1,6 @@
 // Sources: start and stop, and the buffer and the loop of a buffer source.
 
-import {acquireBuffer, bufferName, bufferOfCopy} from './buffers.js';
+import {acquireBuffer, bufferName, bufferOfCopy, bufferOfVersion} from './buffers.js';
 import {scheduleEnding} from './endings.js';
 import {journal} from './journal.js';
 import {entryOfNode} from './recording.js';
@@ -50,9 +50,10 @@ function bufferSet(node, buffer, exception) {
 // The source acquires the content of its buffer, and so does its copy, if it is baked later.
 function sourceAcquires(entry) {
   const {recording, buffer} = entry;
-  const {floats} = acquireBuffer(recording, entry, buffer);
+  const version = acquireBuffer(recording, entry, buffer), {floats} = version;
   entry.channels = buffer.numberOfChannels;
-  journal(entry, copy => { copy.buffer = bufferOfCopy(buffer, floats); });
+  entry.widths = [...(entry.widths || []), buffer.numberOfChannels];
+  journal(entry, copy => { copy.buffer = bufferOfCopy(buffer, floats); }, copy => { copy.buffer = bufferOfVersion(version, buffer.sampleRate); });
 }
 
 function sourceStarted(node, [when, offset, duration], result, exception) {

@@ -1,5 +1,6 @@
 // Start: the recorder steps in, and what people and tools call is put under the name waplayRecorder.
 
+import {act} from './actions.js';
 import {wrapBuffers} from './buffers.js';
 import {holdClock, realTime} from './clock.js';
 import {wrapConnections} from './connections.js';
@@ -79,6 +80,11 @@ const waplayRecorder = {
   // Says that the piece begins with what comes next, as a click. Only with the options realtime and click.
   hold: holdClock,
 
+  // Begins to do what a text of actions says, see actions.js. In a real-time piece `hold` comes before it.
+  act(text) {
+    act(text); // what it throws is told as an exception of the page
+  },
+
   // Records a real-time piece, once it was started. Only with the option realtime.
   go: () => settings.realtime ? goRealTime() : Promise.resolve(false),
 
@@ -108,6 +114,8 @@ const waplayRecorder = {
   //   script     the text
   //   lines, verdict, grades   the report; `grades` are those that occur, see losses.js
   //   kinds      [{kind, grade, count, error}, ..]
+  //   frozen     [{name, kind, why}, ..] of the nodes that are frozen; `live` is how much of the sound is not, from 0 to 1
+  //   calls      how many calls the script has
   //   outcomes   [[number of the call, name of its exception], ..]
   //   assets     [{path, channels, length, rate}, ..]
   //   rendered   {channels, length, rate}, or null where rendering did not end

@@ -38,15 +38,15 @@ export function nearestFixedList(numbers) {
       unreal++;
       continue;
     }
-    const {whole, error, inRange} = nearestFixed(number);
-    wholes[place] = whole;
-    if (!inRange) outside++;
+    const exact = number * ONE, whole = Math.round(exact), error = Math.abs(whole - exact); // as nearestFixed, but quicker
+    wholes[place] = Math.min(HIGHEST, Math.max(LOWEST, whole));
+    if (whole < LOWEST || whole > HIGHEST) outside++;
     else if (error > 0) {
       rounded++;
-      greatest = Math.max(greatest, error);
+      if (error > greatest) greatest = error;
     }
   }
-  return {wholes, rounded, outside, unreal, greatest};
+  return {wholes, rounded, outside, unreal, greatest: greatest / ONE};
 }
 
 // The same for a call. One loss of a kind stands for the whole list, with the number of its items.

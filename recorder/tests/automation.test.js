@@ -45,3 +45,13 @@ test('a cancel takes away what is not over, and a hold keeps what was reached', 
   held.hold(50, 0);
   near(held.valueAt(80, 0), 0.5);
 });
+
+test('a value is steady from where nothing changes it any more', () => {
+  const ramp = timelineOf({kind: 'set', place: 0, value: 1}, {kind: 'ramp', place: 100, value: 3});
+  assert.equal(ramp.steadyValue(50), undefined);
+  assert.equal(ramp.steadyValue(100), 3);
+  assert.equal(timelineOf().steadyValue(0), 0.5);
+  assert.equal(timelineOf({kind: 'set', place: 10, value: 0.5}).steadyValue(0), 0.5);
+  assert.equal(timelineOf({kind: 'target', place: 10, value: 0, timeConstant: 5}).steadyValue(100), undefined);
+  assert.equal(timelineOf({kind: 'curve', place: 10, duration: 20, values: [0, 1, 0.25]}).steadyValue(30), 0.25);
+});

@@ -6,12 +6,13 @@ Each has a head and a body. The head says what its recording must give:
     verdict       the verdict
     played again  the greatest difference from the page, if the browser plays the script again
     realtime      that it is a real-time piece, and its length in seconds
+    loops         that it is recorded with loops as long as the browser has them
     timeout       the seconds after which it is given up, 20 where nothing is said
-    form          own where the body is a whole script. Else it comes between the creation of a
-                  source and a gain and the rendering
+    form          own where the body is a whole script, chain where it gives a node between others.
+                  Else it comes between the creation of a source and a gain and the rendering
     TYPE          words that make a page each, where the body has the word TYPE
 
-The pages of recorder/pages/lowered.md are recorded with the option lower.
+The pages are recorded with the option plain, but for those of some files.
 """
 
 import dataclasses
@@ -52,7 +53,20 @@ function plain() {
 FORMS = {
     "plain": ("const {context, source, gain} = plain();\n", "await context.startRendering();\n"),
     "own": ("", ""),
+    "chain": ("""const context = make(9600, 2);
+const tone = new OscillatorNode(context, {type: 'triangle', frequency: 330});
+const filter = new BiquadFilterNode(context, {frequency: 1500});
+const echo = new DelayNode(context, {delayTime: 0.0625}), out = new GainNode(context, {gain: 0.5});
+function made() {
+""", """}
+tone.connect(made()).connect(filter).connect(out).connect(context.destination);
+filter.connect(echo).connect(out);
+tone.start();
+await context.startRendering();
+"""),
 }
+
+REWRITTEN = ("lowered.md", "frozen.md", "chains.md")  # the others are recorded with the option plain
 
 
 @dataclasses.dataclass(frozen=True)
@@ -65,7 +79,8 @@ class Page:
     tolerance: float | None
     realtime: float
     seconds: float
-    lower: bool
+    plain: bool
+    loops: bool
     text: str
 
 
@@ -84,7 +99,8 @@ def pages_of(path: Path) -> Iterator[Page]:
                 kinds=set(fields["kinds"].split()) - {"none"}, verdict=fields["verdict"],
                 tolerance=None if tolerance is None else float(tolerance),
                 realtime=float(fields.get("realtime", 0)),
-                seconds=float(fields.get("timeout", 20)), lower=path.name == "lowered.md",
+                seconds=float(fields.get("timeout", 20)),
+                plain=path.name not in REWRITTEN, loops="loops" in fields,
                 text=HEAD + before + script.replace("TYPE", word) + after + "</script>\n")
 
 

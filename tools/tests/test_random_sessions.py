@@ -188,7 +188,7 @@ class Runs(unittest.TestCase):
         log = str(temporary_folder(self) / "log")
         self.run_of("1", "1", "--log", log)
         with self.assertRaises(SystemExit):
-            self.run_of("1", "2", "--log", log, "--lower")
+            self.run_of("1", "2", "--log", log, "--plain")
 
 
 if __name__ == "__main__":

@@ -57,7 +57,7 @@ SPECIAL: dict[str, tuple[Any, Look]] = {
 }
 
 # Random sessions: the options, and the last seed.
-SESSIONS = [([], 150), (["--lower"], 150), (["--realtime"], 30), (["--realtime", "--lower"], 30)]
+SESSIONS = [(["--plain"], 150), ([], 150), (["--realtime", "--plain"], 30), (["--realtime"], 30)]
 
 # Where a replay of an example differs, its cause: the echo of the bells feeds back.
 LOOP = "known departure: a loop through a delay is one quantum longer in Chromium"
@@ -65,7 +65,7 @@ DEPARTURES = {"bells": LOOP}
 
 # Of the examples: options, number of files, verdict, greatest difference when played again.
 EXAMPLES = {
-    "bells": (["--lower"], 10, "lowered", 3e-7),
+    "bells": ([], 10, "heard", 3e-7),
     "drums": ([], 6, "rounded", 1e-7),
     "sequencer": (["--realtime", "5", "--click", "#start"], 8, "rounded", 1e-7),
 }
@@ -89,7 +89,8 @@ class Pages(unittest.TestCase):
     def recorded(self, served: Folder, page: Page) -> Recorded:
         path = served.root / "page.html"
         path.write_text(page.text, encoding="utf-8")
-        wishes = Wishes(page=str(path), lower=page.lower, realtime=page.realtime,
+        wishes = Wishes(page=str(path), plain=page.plain, realtime=page.realtime,
+                        loops_as_browser=page.loops,
                         timeout=page.seconds, quiet=0.2)
         recorded = open_recorded(self.browser, served.url_of(path), wishes).contexts[0]
         recorded.write(served.root)

@@ -178,7 +178,7 @@ TROUBLES = {
         "context 1: delay-fraction is heard", status=1, words=("--strict",)),
     "refused": Trouble(
         script(SOUND + "context.createPanner(); context.startRendering();"),
-        "context 1: panner is refused", status=1),
+        "context 1: panner is refused", status=1, words=("--plain",)),
 }
 
 

@@ -46,8 +46,8 @@ def parser() -> argparse.ArgumentParser:
     add = made.add_argument
     add("first", type=int, help="the first seed")
     add("last", type=int, help="the last seed")
-    add("--lower", action="store_true",
-        help="sessions of all kinds, recorded with the option lower")
+    add("--plain", action="store_true",
+        help="sessions of what a script has words for, recorded with the option plain")
     add("--realtime", action="store_true", help="sessions of real-time contexts, with timers")
     add("--browsers", type=int, choices=(1, 2), default=1, help="how many run side by side")
     add("--log", type=Path, metavar="FILE",
@@ -66,7 +66,7 @@ class Sessions:
     def __init__(self, browser: Browser, served: Folder, words: argparse.Namespace,
                  program: Path) -> None:
         self.browser, self.served, self.words, self.program = browser, served, words, program
-        wishes = Wishes(page="", lower=words.lower, realtime=LENGTH if words.realtime else 0)
+        wishes = Wishes(page="", plain=words.plain, realtime=LENGTH if words.realtime else 0)
         browser.inject(wishes.options() + recorder_text())
 
     def ask(self, expression: str) -> Any:
@@ -76,7 +76,7 @@ class Sessions:
     def recorded(self, seed: int) -> tuple[Recorded, list[array.array]]:
         """Records a session in a page of its own, and plays its script."""
         open_modules(self.browser, self.served, ["random_sessions.js"])
-        options = f"{str(self.words.lower).lower()}, {str(self.words.realtime).lower()}"
+        options = f"{str(not self.words.plain).lower()}, {str(self.words.realtime).lower()}"
         number = int(self.ask(f"recordRandomSession({seed}, {options})"))
         recorded = results.take_out(self.ask, number, number)
         if recorded is None:
@@ -100,7 +100,7 @@ class Sessions:
             folder, runs = Path(name), list[Run]()
             while len(runs) < MOST_RUNS:
                 runs.append(self.run(seed, folder))
-                found = judging.judge(runs, self.words.lower)
+                found = judging.judge(runs, not self.words.plain)
                 if found.kind not in (judging.TOLD, judging.NOT_TOLD):
                     break
             if self.words.keep and found.kind in (judging.TOLD, *judging.BAD):
@@ -138,7 +138,7 @@ class Lines:
     def __init__(self, words: argparse.Namespace) -> None:
         self.path, self.lock = words.log, threading.Lock()
         self.head = "random sessions"
-        self.head += ", lowered" * words.lower + ", in real time" * words.realtime
+        self.head += ", plain" * words.plain + ", in real time" * words.realtime
         self.kinds: dict[int, str] = {}
         if self.path and self.path.exists():
             head, *lines = self.path.read_text(encoding="utf-8").splitlines() or [""]

@@ -17,6 +17,7 @@ from waplay_tools.recorder.results import Recorded, greatest
 
 TOLERANCE = 1e-4
 APART = 1e-6  # how far a script that is not lowered may be from its page where the browser plays it
+WITHOUT_ERROR = ("delay-fraction", "frozen-mixed", "loop-longer")  # losses that are always heard
 LOUDER = 16.0  # how much louder than a filter what is heard of it may be, by several connections
 
 EXACT, NEAR = "exact", "within 0.0001"
@@ -43,7 +44,7 @@ class Run:
     recorded: Recorded
     played: list[array.array]  # by the browser
     replay: Replay  # by the program
-    replayed: list[list[int]]  # whole numbers of 2^-23
+    replayed: Sequence[Sequence[int]]  # whole numbers of 2^-23
 
     @property
     def rendered(self) -> Sequence[array.array]:
@@ -98,7 +99,7 @@ def may_be_heard(run: Run, kind: str, distances: Distances) -> bool:
     """Whether a number that is rounded so far that it may be heard may be the cause. What is fed
     back is rounded by the program alone, and other numbers are rounded in the script."""
     side = distances.script if kind == "feedback-rounded" else distances.page
-    is_enough = kind == "delay-fraction" or is_large(run, kind, distances.greatest())
+    is_enough = kind in WITHOUT_ERROR or is_large(run, kind, distances.greatest())
     return distances.part(side) and is_enough
 
 

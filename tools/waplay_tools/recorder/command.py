@@ -27,8 +27,8 @@ and N.report.txt (what was lost). docs/RECORDING.md says more."""
 
 EPILOG = """The status is 0; 1 where something was refused, the page threw an exception, or
 something that was asked for did not come (with --strict also where something is heard to differ,
-with --exact also where anything was rounded or rewritten); 2 where nothing was recorded; 3 where a
-recording is silent; 4 where a replay differs, fails or has no program. Of several it is the
+with --exact also where anything was rounded, rewritten or frozen); 2 where nothing was recorded;
+3 where a recording is silent; 4 where a replay differs, fails or has no program. Of several it is the
 greatest."""
 
 FINE, LOST, NOTHING, SILENT, DIFFERS = range(5)
@@ -80,7 +80,12 @@ def parser() -> argparse.ArgumentParser:
     add("--realtime", type=piece_length, default=0, metavar="SECONDS",
         help="record a real-time piece of this length")
     add("--click", metavar="SELECTOR", help="click on this element once the page is loaded")
-    add("--lower", action="store_true", help="rewrite what a script has no word for")
+    add("--do", type=Path, metavar="ACTIONS.js",
+        help="clicks, keys and the like over time, which docs/RECORDING.md tells of")
+    add("--plain", action="store_true",
+        help="rewrite nothing of what a script has no word for")
+    add("--loops-as-browser", action="store_true",
+        help="make loops through delays as long as Chromium has them")
     add("--contexts", type=count, default=0, metavar="N", help="wait for this many contexts")
     add("--until", metavar="EXPRESSION", help="wait until this holds in the page")
     add("--quiet", type=positive, default=1, metavar="SECONDS",
@@ -90,7 +95,7 @@ def parser() -> argparse.ArgumentParser:
     add("--strict", action="store_true",
         help="end with 1 where something is heard to differ, too")
     add("--exact", action="store_true",
-        help="end with 1 where anything was rounded or rewritten, too")
+        help="end with 1 where anything was rounded, rewritten or frozen, too")
     add("--replay", action="store_true",
         help="replay the scripts and compare them with the browser")
     add("--tolerance", type=magnitude, default=TOLERANCE, metavar="VALUE",
@@ -114,6 +119,8 @@ def wishes_of(words: argparse.Namespace) -> Wishes:
         if wishes.root:
             raise Refused("--root is for a file, and a URL is served already.")
         return wishes
+    if wishes.do and not wishes.do.is_file():
+        raise Refused(f"There is no file of actions {wishes.do}.")
     if not os.path.isfile(wishes.page):
         raise Refused(f"There is no page {wishes.page}.")
     if wishes.root:
@@ -142,7 +149,7 @@ def judge(words: argparse.Namespace, recorded: Recorded, ending: Ending) -> None
     name = f"context {recorded.number}"
     wanted = ["refused"]
     wanted += ["heard"] if words.strict or words.exact else []
-    wanted += ["lowered", "rounded"] if words.exact else []
+    wanted += ["frozen", "lowered", "rounded"] if words.exact else []
     found = next((grade for grade in wanted if grade in recorded.grades), None)
     if found:
         ending.add(LOST, f"{name}: {recorded.kind_of(found)} is {found}")
@@ -188,7 +195,8 @@ def write(words: argparse.Namespace, taken: Take, ending: Ending) -> None:
 def write_summary(words: argparse.Namespace, taken: Take, ending: Ending) -> None:
     """Writes take.json: what the take is of, for programs that read it."""
     contexts = [{"number": each.number, "verdict": each.verdict, "seconds": each.seconds,
-                 "silent": each.is_silent, "losses": each.kinds} for each in taken.contexts]
+                 "silent": each.is_silent, "losses": each.kinds, "frozen": each.frozen,
+                 "live": each.live} for each in taken.contexts]
     now = datetime.datetime.now(datetime.timezone.utc).isoformat(timespec="seconds")
     summary = {"page": words.page, "title": taken.title, "date": now, "browser": taken.browser,
                **program_told(words), "status": ending.status, "reason": ending.reason,

@@ -4,7 +4,7 @@ import contextlib
 import dataclasses
 import json
 import time
-from collections.abc import Iterator
+from collections.abc import Callable, Iterator
 from pathlib import Path
 
 from waplay_tools.chromium import Browser, BrowserFault, Frame, FrameGone, NoAnswer
@@ -42,7 +42,9 @@ class Wishes:
     root: Path | None = None
     realtime: float = 0
     click: str | None = None
-    lower: bool = False
+    do: Path | None = None
+    plain: bool = False
+    loops_as_browser: bool = False
     timeout: float = 60
     quiet: float = 1
     contexts: int = 0
@@ -55,7 +57,9 @@ class Wishes:
 
     def options(self) -> str:
         """The script that tells the recorder in the page."""
-        words = {"lower": self.lower, "realtime": self.realtime, "click": self.click is not None}
+        is_begun_by_hand = self.click is not None or self.do is not None
+        words = {"plain": self.plain, "loops": self.loops_as_browser, "realtime": self.realtime,
+                 "click": is_begun_by_hand}
         return f"globalThis.waplayRecorderOptions = {json.dumps(words)};\n"
 
 
@@ -96,11 +100,19 @@ class Progress:
         return 0 < self.started == self.complete
 
 
+Tell = Callable[[str], None]  # is told what is being done
+
+
+def say_nothing(_: str) -> None:
+    """Where nobody wants to know what is being done."""
+
+
 class Session:
     """A page in the browser while it is recorded."""
 
-    def __init__(self, browser: Browser, news: News, wishes: Wishes) -> None:
-        self.browser, self.news, self.wishes = browser, news, wishes
+    def __init__(self, browser: Browser, news: News, wishes: Wishes,
+                 tell: Tell = say_nothing) -> None:
+        self.browser, self.news, self.wishes, self.tell = browser, news, wishes, tell
         self.began = time.monotonic()
         self.progress = Progress()
         self.leaving = Leaving(browser, wishes.timeout)
@@ -138,6 +150,8 @@ class Session:
                 progress.add(self._told(frame), frame.is_main)
         for recorded in self.leaving.kept:
             progress.keep(recorded)
+        if progress.started > self.progress.started:
+            self.tell(f"rendering {progress.seconds:.4g} s of sound")
         self.progress = progress
         return progress
 
@@ -235,6 +249,14 @@ class Session:
                     return True
         return False
 
+    def act(self) -> None:
+        """Begins to do what the file of actions says, as soon as the page is there."""
+        text = json.dumps(self.wishes.do.read_text(encoding="utf-8") if self.wishes.do else "")
+        for progress, _, calm in self.looks():
+            if progress.is_loaded or self.is_hopeless(progress, calm):
+                break
+        self.browser.evaluate(f"waplayRecorder.hold(); void waplayRecorder.act({text})")
+
     def begin_pieces(self) -> None:
         """Lets the clock of real-time pieces run."""
         for frame in list(self.browser.frames):
@@ -247,6 +269,8 @@ class Session:
         """Lets the page play."""
         if self.wishes.click is not None:
             self.click()
+        if self.wishes.do is not None:
+            self.act()
         if self.wishes.realtime and self.wait_for_piece():
             self.begin_pieces()
         if not self.wishes.realtime or self.progress.realTime:
@@ -260,6 +284,7 @@ class Session:
         found = []
         for inside in range(1, count + 1):
             number = before + inside
+            self.tell(f"rewriting and freezing context {number}")
             try:
                 found.append(results.take_out(
                     lambda text: self.browser.evaluate(text, timeout=seconds, frame=frame),
@@ -345,11 +370,12 @@ class Take:
     browser: str = ""  # what the browser calls itself
 
 
-def open_recorded(browser: Browser, url: str, wishes: Wishes, origin: str = "") -> Take:
+def open_recorded(browser: Browser, url: str, wishes: Wishes, origin: str = "",
+                  tell: Tell = say_nothing) -> Take:
     """Opens a page with the recorder in front of it, lets it play, and gives what it recorded."""
     injected = browser.inject(wishes.options() + LEAVING + recorder_text())
     news = News(browser, origin)
-    session = Session(browser, news, wishes)
+    session = Session(browser, news, wishes, tell)
     try:
         try:
             browser.open(url, timeout=max(LEAST, wishes.timeout))
@@ -371,11 +397,12 @@ def open_recorded(browser: Browser, url: str, wishes: Wishes, origin: str = "") 
         browser.remove(injected)
 
 
-def record(wishes: Wishes, chromium: str) -> Take:
+def record(wishes: Wishes, chromium: str, tell: Tell = say_nothing) -> Take:
     """Records a page in a browser of its own."""
+    tell(f"recording {wishes.page}")
     with Browser(chromium) as browser:
         if wishes.is_url:
-            return open_recorded(browser, wishes.page, wishes)
+            return open_recorded(browser, wishes.page, wishes, tell=tell)
         page = Path(wishes.page)
         with Folder(wishes.root or page.absolute().parent) as served:
-            return open_recorded(browser, served.url_of(page), wishes, served.origin)
+            return open_recorded(browser, served.url_of(page), wishes, served.origin, tell)

@@ -4,10 +4,13 @@
 import array
 import dataclasses
 import io
+import itertools
 import json
+import operator
 import re
 import shutil
 import subprocess
+import sys
 import wave
 from collections.abc import Sequence
 from pathlib import Path
@@ -18,6 +21,7 @@ from waplay_tools.recorder.results import Recorded
 
 FULL = 2**23  # the samples of a file of 24 bits are whole numbers of 2^-23
 TOLERANCE = 2.0**-16
+BLOCK = 65536  # frames that are compared at once
 SHOWN = 8  # calls that ended otherwise, in a line
 
 
@@ -61,7 +65,10 @@ class Replay:
     is_silent: bool = False
 
 
-def channels_of(data: bytes) -> list[list[int]]:
+SIGNS = bytes(255 if byte >= 128 else 0 for byte in range(256))  # the byte above the uppermost one
+
+
+def channels_of(data: bytes) -> list[array.array]:
     """The channels of a WAV file of 24 bits, as the program writes it."""
     try:
         with wave.open(io.BytesIO(data)) as file:
@@ -71,9 +78,14 @@ def channels_of(data: bytes) -> list[list[int]]:
         raise ValueError(f"its WAV file cannot be read: {fault}") from None
     if width != 3:
         raise ValueError("its WAV file has not 24 bits a sample")
-    return [[int.from_bytes(body[at:at + 3], "little", signed=True)
-             for at in range(3 * channel, len(body) - 2, 3 * channels)]
-            for channel in range(channels)]
+    wide = bytearray(len(body) // 3 * 4)
+    for at in range(3):
+        wide[at::4] = body[at::3]
+    wide[3::4] = body[2::3].translate(SIGNS)
+    words = array.array("i", bytes(wide))
+    if sys.byteorder == "big":
+        words.byteswap()
+    return [words[channel::channels] for channel in range(channels)]
 
 
 def greatest_difference(ours: Sequence[Sequence[int]],
@@ -81,12 +93,26 @@ def greatest_difference(ours: Sequence[Sequence[int]],
     """The greatest difference of two lists of channels, its channel and its frame. A file of 24
     bits holds values from -1 to below 1, so what the browser has outside counts as what is next to
     it."""
+    scaled = []
+    for other in browser:
+        is_wide = len(other) > 0 and (max(other) >= 1.0 or min(other) < -1.0)
+        kept = [min(max(theirs, -1.0), 1.0 - 1.0 / FULL) for theirs in other] if is_wide else other
+        scaled.append(array.array("d", map(operator.mul, kept, itertools.repeat(float(FULL)))))
+    return greatest_between(ours, scaled)
+
+
+def greatest_between(one: Sequence[Sequence[int]],
+                     other: Sequence[Sequence[float]]) -> tuple[float, int, int]:
+    """The same of two lists of channels, whose numbers are of 2^-23."""
     best = (0.0, 0, 0)
-    for channel, (one, other) in enumerate(zip(ours, browser)):
-        for frame, (mine, theirs) in enumerate(zip(one, other)):
-            difference = abs(mine / FULL - min(max(theirs, -1.0), 1.0 - 1.0 / FULL))
-            if difference > best[0]:
-                best = (difference, channel, frame)
+    for channel, (ours, its) in enumerate(zip(one, other)):
+        for first in range(0, min(len(ours), len(its)), BLOCK):
+            last = first + BLOCK
+            apart = array.array("d", map(abs, map(operator.sub, ours[first:last],
+                                                  its[first:last])))
+            most = max(apart)
+            if most / FULL > best[0]:
+                best = (most / FULL, channel, first + apart.index(most))
     return best
 
 

@@ -88,6 +88,9 @@ class Recorded:
     rendered: list[array.array] | None = None
     rate: int = 0
     troubles: list[str] = dataclasses.field(default_factory=list)  # of its page
+    frozen: list[dict[str, str]] = dataclasses.field(default_factory=list)  # name, kind and why
+    live: float = 1.0  # how much of the sound comes through nothing that is frozen
+    calls: int = 0
 
     @property
     def grades(self) -> set[str]:
@@ -150,7 +153,8 @@ def take_out(ask: Callable[[str], Any], inside: int, number: int) -> Recorded | 
     if not result["started"]:
         return None
     recorded = Recorded(number, result["script"], result["lines"], result["verdict"],
-                        result["kinds"], dict(result["outcomes"]))
+                        result["kinds"], dict(result["outcomes"]), frozen=result["frozen"],
+                        live=result["live"], calls=result["calls"])
     for place, asset in enumerate(result["assets"]):
         count = asset["channels"] * asset["length"]
         words = words_in_chunks(

@@ -5,7 +5,7 @@ from pathlib import Path
 
 # The names of the files of a take. A replay by hand is out.wav, as the documents have it.
 OURS = re.compile(r"take\.json|\d+\.json|\d+-b\d+\.wav|\d+\.browser\.wav|\d+\.wav|\d+\.txt"
-                  r"|\d+\.report\.txt|out\.wav|report\.html|index\.html")
+                  r"|\d+\.report\.txt|out\.wav|report\.html|\d+\.html|index\.html|compared\.html")
 
 
 class NoTake(Exception):

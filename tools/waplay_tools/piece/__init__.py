@@ -1,0 +1,1 @@
+"""One command from a page to what came of it."""
