@@ -126,11 +126,37 @@ pub struct DirFiles<R: rt::Files> {
     write_faults: u64,
 }
 
-// A file that was created, and stays open.
+/// The bytes of the longest path that the system takes, and one more.
+const PATH_ROOM: usize = 4096;
+
+// A file that was created, and stays open. Its path is kept without memory that could be refused.
 #[derive(Drop)]
 struct Created<F> {
-    path: String,
+    path: [u8; PATH_ROOM],
+    length: usize,
     file: F,
+}
+
+impl<F: Drop> Created<F> {
+    // The file that was created at a path, where there is room for that.
+    fn at(path: &str, file: F) -> Option<Created<F>> {
+        let length = path.len();
+        let mut kept = [0; PATH_ROOM];
+        if length > PATH_ROOM {
+            return None;
+        }
+        kept[..length].copy_from_slice(path.as_bytes());
+        Some(Created {
+            path: kept,
+            length,
+            file,
+        })
+    }
+
+    // Whether this is the path at which the file was created.
+    fn is_at(&self, path: &str) -> bool {
+        self.path.get(..self.length) == Some(path.as_bytes())
+    }
 }
 
 impl<R: rt::Files> Model for DirFiles<R> {
@@ -156,7 +182,7 @@ impl<R: rt::Files> DirFiles<R> {
     }
 }
 
-impl<R: rt::Files + AllocGlobal> Files for DirFiles<R> {
+impl<R: rt::Files> Files for DirFiles<R> {
     ghost tells = { λ _. false };
 
     ghost paths = { λ _ _. None };
@@ -189,24 +215,20 @@ impl<R: rt::Files + AllocGlobal> Files for DirFiles<R> {
         }
     }
 
-    /// Keeps the file open, and lets go of the one before. `NoMemory` comes before the system is asked.
+    /// Keeps the file open, and lets go of the one before.
     fn create(&mut self, path: &str) -> Result<(), EdgeErr>
         ensures later { self.old.writes ≤ self.new.writes }
         ensures cause { IsErrOf result EdgeErr.Failed → Rose self.old.writes self.new.writes }
-        ensures counted { self.new.writes ≡ count_faults self.old.writes (is_fault result) }
+        ensures failed { IfErr result (λ e. e ≡ EdgeErr.Failed) }
+        ensures counted { self.new.writes ≡ count_faults self.old.writes (is_err result) }
         ensures reads { self.new.reads ≡ self.old.reads }
     {
-        let name = String::from_str(self.system.alloc(), path)?;
-        match File::create(&self.system, path) {
-            Ok(file) => {
-                self.created = Some(Created { path: name, file });
-                Ok(())
-            }
-            Err(_) => {
-                self.write_faults = self.write_faults.saturating_add(1);
-                Err(EdgeErr::Failed)
-            }
+        if let Ok(file) = File::create(&self.system, path) {
+            self.created = Created::at(path, file);
+            return Ok(());
         }
+        self.write_faults = self.write_faults.saturating_add(1);
+        Err(EdgeErr::Failed)
     }
 
     fn append(&mut self, path: &str, piece: &[u8]) -> Result<usize, EdgeErr>
@@ -219,9 +241,7 @@ impl<R: rt::Files + AllocGlobal> Files for DirFiles<R> {
         ensures reads { self.new.reads ≡ self.old.reads }
     {
         let written = match &mut self.created {
-            Some(created) if created.path.as_str() == path => {
-                write_through(&mut created.file, piece)
-            }
+            Some(created) if created.is_at(path) => write_through(&mut created.file, piece),
             _ => append_through(&self.system, path, piece),
         };
         if let Some(count) = written {
