@@ -281,7 +281,6 @@ class Sending(unittest.TestCase):
         self.assertEqual(run.stdout, "[{'number': 1, 'transcript': None, 'sound': None,"
                                      " 'has_sound': False, 'reason': ''}]\nalone\n")
 
-
     @unittest.skipUnless(importlib.util.find_spec("distributed"), "distributed is not installed")
     def test_a_scheduler_that_goes_away(self):
         for fault in (concurrent.futures.CancelledError("it"), OSError("closed")):

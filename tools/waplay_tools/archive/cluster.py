@@ -1,6 +1,7 @@
 """Replays on a Dask cluster. The bags are checked here; scripts, assets and the program are sent,
 and what replays them too, so that the workers need nothing of waplay."""
 
+import contextlib
 import importlib
 import logging
 import time
@@ -36,6 +37,16 @@ def client_of(address: str) -> Any:
         return distributed.Client(address, timeout=SECONDS)
     except (OSError, ValueError) as fault:
         raise BadInput(f"no scheduler answers at {address}: {fault}") from None
+
+
+def threads_of(client: Any, address: str) -> int:
+    """How many threads the workers of a scheduler have. Workers may come a little later."""
+    with contextlib.suppress(TimeoutError):
+        client.wait_for_workers(1, timeout=SECONDS)
+    threads = sum(client.nthreads().values())
+    if not threads:
+        raise BadInput(f"the scheduler at {address} has no workers")
+    return threads
 
 
 def packed(task: Task) -> bytes:
@@ -101,9 +112,7 @@ def on_a_cluster(
     """The results of bags, replayed by the workers of a scheduler, as they come."""
     client = client_of(address)
     try:
-        threads = sum(client.nthreads().values())
-        if not threads:
-            raise BadInput(f"the scheduler at {address} has no workers")
+        threads = threads_of(client, address)
         yield from results_of(Sent(archive, client, program), digests, AHEAD * threads)
     except (CancelledError, OSError):
         raise BadInput(f"the scheduler at {address} went away; the same command goes on") from None
