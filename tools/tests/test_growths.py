@@ -15,9 +15,6 @@ from waplay_tools.growths.scripts import ASSET, RUNS
 from waplay_tools.places import SHIPPED
 
 PROGRAM = Path(os.environ.get("WAPLAY") or SHIPPED).absolute()
-# Growths for the words themselves, which main asks for before the call that has the contract: where
-# one is refused, it hands on no words.
-OF_MAIN = "status 2 in place of 10"
 
 
 @unittest.skipUnless(os.access(PROGRAM, os.X_OK), "there is no program")
@@ -41,7 +38,7 @@ class Growths(unittest.TestCase):
     def test_each_growth_of_a_run_is_refused(self) -> None:
         with contextlib.redirect_stdout(io.StringIO()) as text:
             growths, wrong = refused_in(PROGRAM, self.library, RUNS[0])
-        self.assertEqual([line for line in wrong if OF_MAIN not in line], [])
+        self.assertEqual(wrong, [])
         self.assertIn(f"status 0, {growths} growths, each refused twice", text.getvalue())
 
     def test_a_number_past_the_last_growth_refuses_none(self) -> None:

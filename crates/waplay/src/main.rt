@@ -7,6 +7,7 @@ use replay_top::{Status, run};
 use std::alloc::AllocError;
 use std::env;
 use std::env::Env;
+use std::io::ErrorKind;
 use std::process::ExitCode;
 
 fn main(rt: HostRuntime) -> ExitCode {
@@ -30,6 +31,7 @@ fn main(rt: HostRuntime) -> ExitCode {
 fn words_of<R: Env + AllocGlobal>(rt: &R) -> Result<Vec<String>, AllocError> {
     match env::args(rt) {
         Ok(args) => args.skip(1).collect(rt.alloc()),
+        Err(e) if e.kind() == ErrorKind::OutOfMemory => Err(AllocError),
         Err(_) => Ok(Vec::new(rt.alloc())),
     }
 }
