@@ -7,6 +7,7 @@ import unittest
 from pathlib import Path
 
 from recording import CHROMIUM, RECORDER, TOP, needs_browser, temporary_folder, write_files
+from test_report import Page
 
 from waplay_tools.recorder.replaying import find_program
 
@@ -19,6 +20,14 @@ tone.start();
 context.startRendering();
 </script>"""
 
+
+CONSTANT = """<!doctype html><script>
+const context = new OfflineAudioContext(1, 128, 48000);
+const source = new ConstantSourceNode(context, {offset: 0.5});
+source.connect(context.destination);
+try { source.start(); } catch { /* it was started */ }
+context.startRendering();
+</script>"""
 
 KEYBOARD = """<!doctype html><button id="go">go</button><input id="level" value="1"><script>
 let context, source;
@@ -59,12 +68,34 @@ class Pieces(unittest.TestCase):
             self.assertRegex(run.stdout, r"^1: 0\.5 s, frozen, 0 % live, agrees with the browser "
                                          rf"to \S+ -> {folder}/a\.waplay/index\.html\n$")
         names = {path.name for path in (folder / "a.waplay").iterdir()}
-        self.assertLessEqual({"index.html", "1.html", "1.json", "1.txt", "1.wav",
-                              "1.browser.wav", "take.json"}, names)
+        self.assertEqual(names, {"index.html", "1.json", "1.txt", "1.wav", "1.browser.wav",
+                                 "1.report.txt", "1-b1.wav", "take.json"})
+        shown = Page((folder / "a.waplay" / "index.html").read_bytes())
+        self.assertEqual((shown.wrong, len(shown.of("audio"))), ([], 2))
+        self.assertIn("It differs from the browser by", shown.text())
         told = json.loads((folder / "a.waplay" / "take.json").read_text(encoding="utf-8"))
         self.assertEqual([each["name"] for each in told["contexts"][0]["frozen"]], ["compressor1"])
         for words in ("recording", "rendering", "freezing", "replaying"):
             self.assertIn(words, run.stderr)
+
+    def test_a_take_that_is_expected(self) -> None:
+        folder = temporary_folder(self)
+        write_files(folder, {"a.html": CONSTANT})
+        kept, page = folder / "kept", folder / "a.html"
+        self.assertEqual(run_piece(page, "-o", kept).returncode, 0)
+        run = run_piece(page, "--expect", kept)
+        self.assertEqual(run.returncode, 0, run.stderr)
+        page.write_text(CONSTANT.replace("0.5", "0.25"), encoding="utf-8")
+        run = run_piece(page, "--expect", kept)
+        self.assertEqual(run.returncode, 1, run.stderr)
+        self.assertRegex(run.stderr.splitlines()[-1], r"^tools/piece: Context 1: calls are other "
+                         r"ones \(1 changed\), first call 1: changed createConstantSource ")
+        self.assertEqual(run.stdout.splitlines()[-1], "Context 1: 128 samples differ, first at "
+                         "frame 0 of channel 0, by 0.25 at most.")
+        page.write_text(CONSTANT.replace("source.start();", "source.start();" * 2),
+                        encoding="utf-8")
+        run = run_piece(page, "--expect", kept)
+        self.assertEqual(run.returncode, 1, run.stderr)
 
     def test_a_page_with_nothing(self) -> None:
         folder = temporary_folder(self)
@@ -79,7 +110,8 @@ class Pieces(unittest.TestCase):
         run = run_piece("--all", folder)
         self.assertEqual(run.returncode, 2)
         rows = run.stdout.splitlines()
-        self.assertRegex(rows[2], r"^\| a \| 0\.5 \| frozen \| 0 % \| \S+ \| \d+ \| 1 \| \d+ s \| ")
+        self.assertRegex(rows[2], r"^\| \[a\]\(\S+/a\.waplay/index\.html\) "
+                                  r"\| 0\.5 \| frozen \| 0 % \| \S+ \| \d+ \| 1 \| \d+ s \| ")
         self.assertRegex(rows[3], r"^\| b \| \| nothing \|")
 
     def test_actions_on_the_clock_of_the_audio(self) -> None:

@@ -112,7 +112,7 @@ class CommandLine(unittest.TestCase):
             ([page, out, "--realtime", "-1"], "it takes seconds above 0, up to 3600"),
             ([page, out, "--timeout", "0"], "it takes seconds above 0, up to 86400"),
             ([page, out, "--contexts", "0"], "it takes a number from 1 on"),
-            ([page, out, "--tolerance", "3"], "it takes a difference from 0 to 2"),
+            ([page, out, "--tolerance", "3"], "is no difference from 0 to 2"),
             ([page, out, "more"], "unrecognized arguments"),
             ([page], "OUT"),
             ([page, str(folder / "full"), "--chromium", "true"], "files that are of no take, as "

@@ -168,6 +168,14 @@ class Takes(unittest.TestCase):
         page = Page(fixtures.read(self.folder, "index.html"))
         self.assertEqual((page.wrong, len(page.of("audio"))), ([], 1))
 
+    def test_a_context_that_was_not_replayed_is_told(self):
+        take(self.folder, fixtures.script(CONSTANT, length=256))
+        fixtures.write(self.folder, "2.json", fixtures.script(CONSTANT))
+        page = self.page()
+        self.assertEqual(len(page.of("section", **{"class": "context"})), 1)
+        self.assertIn("Context 2 can't be shown:", page.text())
+        self.assertIn("2.txt is not there: tools/record makes it with --replay.", page.text())
+
     def test_folders_that_are_no_take(self):
         status, _, err = self.run_report(self.folder)
         self.assertEqual((status, err), (

@@ -34,9 +34,14 @@ def parser() -> argparse.ArgumentParser:
         "--tolerance", metavar="VALUE", type=tolerance, default=0.0,
         help="what two samples may differ by, as 2^-16; 0 where nothing is said",
     )
-    made.add_argument("--junit", metavar="FILE", help="write JUnit XML there")
-    made.add_argument("--tap", action="store_true", help="print lines of TAP")
+    add_results(made)
     return made
+
+
+def add_results(made: argparse.ArgumentParser) -> None:
+    """The words for results as test suites read them."""
+    made.add_argument("--junit", metavar="FILE", help="write what differs as JUnit XML there")
+    made.add_argument("--tap", action="store_true", help="print what differs as lines of TAP")
 
 
 def told(found: list[checks.Check]) -> str:
@@ -44,8 +49,9 @@ def told(found: list[checks.Check]) -> str:
     return "".join(f"{it.wrong or f'{it.name}: the same'}\n" for it in found)
 
 
-def compared(words: argparse.Namespace) -> int:
-    """Compares, writes what is asked for, and gives the status."""
+def compared(words: argparse.Namespace) -> list[str]:
+    """Compares two takes, prints what came of it, and writes what is asked for. Gives a sentence
+    for each thing that differs. The words are those of `parser`."""
     every = runs.compare(words.old, words.new, words.tolerance)
     found = [check for it in every for check in it.checks()]
     if words.output:
@@ -55,14 +61,14 @@ def compared(words: argparse.Namespace) -> int:
     if words.junit:
         Path(words.junit).write_text(checks.junit(words.old, found), encoding="utf-8")
     print(checks.tap(found) if words.tap else told(found), end="", flush=True)
-    return int(any(it.wrong for it in found))
+    return [it.wrong for it in found if it.wrong]
 
 
 def main() -> int:
     """Compares two runs."""
     words = parser().parse_args()
     try:
-        return compared(words)
+        return int(bool(compared(words)))
     except BadInput as bad:
         print(f"compare: {bad}", file=sys.stderr)
     except OSError as error:

@@ -7,6 +7,7 @@ import time
 from collections.abc import Callable
 from html import unescape
 from pathlib import Path
+from urllib.parse import quote
 
 from waplay_tools.chromium import BrowserFault
 from waplay_tools.piece import taking
@@ -30,6 +31,11 @@ def words_of(path: Path) -> list[str]:
         if word.startswith("--") and word.split("=")[0] not in ALLOWED:
             raise Refused(f"{path} asks for {word}, which a page may not.")
     return words
+
+
+def link_of(name: str, piece: Piece) -> str:
+    """A name that leads to the page of a piece, as seen from the working folder."""
+    return f"[{name}]({quote(piece.shown.as_posix())})"
 
 
 def row_of(name: str, context: Context, seconds: float) -> str:
@@ -66,7 +72,7 @@ def run(words: argparse.Namespace, made: argparse.ArgumentParser,
         try:
             piece = take_page(words, made, path, tell)
             status, reason = piece.status, piece.reason
-            rows = [row_of(path.stem, context, time.monotonic() - began)
+            rows = [row_of(link_of(path.stem, piece), context, time.monotonic() - began)
                     for context in piece.contexts]
         except (BrowserFault, Refused, take.NoTake) as fault:
             status, reason = NOTHING, str(fault)

@@ -1,19 +1,18 @@
-"""Takes a piece: records its page, replays its scripts, and makes the pages that show it."""
+"""Takes a piece: records its page, replays its scripts, and makes the page that shows it."""
 
 import argparse
 import dataclasses
-import subprocess
 from collections.abc import Callable
 from pathlib import Path
 
+from waplay_tools import report
 from waplay_tools.chromium import find_chromium
-from waplay_tools.piece import index
-from waplay_tools.places import TOP
 from waplay_tools.recorder import command, take
 from waplay_tools.recorder.command import Ending, Refused
 from waplay_tools.recorder.driving import Take, Wishes, record
 from waplay_tools.recorder.replaying import Replay, find_program, replay
 from waplay_tools.recorder.results import Recorded
+from waplay_tools.reporting.text import BadInput
 
 FINE, NO, NOTHING = range(3)
 
@@ -24,7 +23,6 @@ class Context:
 
     recorded: Recorded
     replay: Replay
-    has_report: bool = False
 
     @property
     def worst(self) -> tuple[int, str]:
@@ -67,6 +65,12 @@ class Piece:
     taken: Take
     status: int = FINE
     reason: str = ""
+    no_page: str = ""  # why it has no page
+
+    @property
+    def shown(self) -> Path:
+        """What is to be looked at: the page, or the folder where there is none."""
+        return self.out if self.no_page else self.out / "index.html"
 
 
 def default_out(page: str) -> Path:
@@ -94,20 +98,12 @@ def replay_of(words: argparse.Namespace, out: Path, recorded: Recorded) -> Repla
     return replay(program, out, recorded, words.tolerance)
 
 
-def make_report(out: Path, number: int) -> bool:
-    """Makes the page of one session with tools/report, beside the browser's sound where the report
-    reads that. Gives whether it was made."""
-    names = [f"{number}.json", f"{number}.txt", f"{number}.wav"]
-    if not all((out / name).is_file() for name in names):
-        return False
-    attempts: list[list[str]] = [["--against", f"{number}.browser.wav"], []]
-    for further in attempts:
-        run = subprocess.run([str(TOP / "tools" / "report"), *names, *further], cwd=out,
-                             stdin=subprocess.DEVNULL, capture_output=True, check=False)
-        if run.returncode == 0:
-            (out / f"{number}.html").write_bytes(run.stdout)
-            return True
-    return False
+def make_page(piece: Piece, tolerance: float) -> None:
+    """Makes the page of a piece, as tools/report does; or notes why there is none."""
+    try:
+        report.write_take(str(piece.out), str(piece.out / "index.html"), tolerance)
+    except BadInput as bad:
+        piece.no_page = f"There is no page of it: {bad}."
 
 
 def judge(piece: Piece) -> None:
@@ -122,7 +118,7 @@ def judge(piece: Piece) -> None:
 
 def summarize(words: argparse.Namespace, piece: Piece) -> None:
     """Writes take.json, as tools/record does."""
-    told = argparse.Namespace(page=piece.page, out=piece.out)
+    told = argparse.Namespace(page=piece.page, out=piece.out, waplay=words.waplay)
     command.write_summary(told, piece.taken, Ending(piece.status, piece.reason))
 
 
@@ -138,11 +134,10 @@ def take_piece(words: argparse.Namespace, wishes: Wishes, out: Path,
         tell(f"replaying context {recorded.number}")
         replayed = replay_of(words, out, recorded)
         recorded.write_report(out, replayed.lines)
-        tell(f"making the report of context {recorded.number}")
-        contexts.append(Context(recorded, replayed, make_report(out, recorded.number)))
+        contexts.append(Context(recorded, replayed))
     piece = Piece(wishes.page, out, contexts, taken)
     judge(piece)
     summarize(words, piece)
-    text = index.index_of(piece, index.version_of(chromium))
-    (out / "index.html").write_text(text, encoding="utf-8")
+    tell("making the page")
+    make_page(piece, words.tolerance)
     return piece

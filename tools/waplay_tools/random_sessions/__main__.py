@@ -10,6 +10,7 @@ failed.
 import argparse
 import array
 import collections
+import functools
 import contextlib
 import os
 import queue
@@ -181,10 +182,11 @@ def run(words: argparse.Namespace) -> int:
     for seed in wanted:
         if seed not in lines.kinds:
             seeds.put(seed)
+    judge = functools.partial(judgements, words, program, chromium, seeds)
 
     def work() -> None:
         """Judges one seed after another, as long as there is one."""
-        for seed, found in judgements(words, program, chromium, seeds):
+        for seed, found in judge():
             lines.add(seed, found)
 
     threads = [threading.Thread(target=work) for _ in range(words.browsers)]

@@ -6,7 +6,6 @@ import datetime
 import hashlib
 import json
 import os
-import re
 import shutil
 import signal
 import sys
@@ -17,8 +16,10 @@ from waplay_tools.chromium import BrowserFault, find_chromium
 from waplay_tools.recorder import take
 from waplay_tools.recorder.bundle import NoBundle
 from waplay_tools.recorder.driving import Take, Wishes, record
-from waplay_tools.recorder.replaying import TOLERANCE, Replay, find_program, replay
+from waplay_tools.recorder.replaying import Replay, find_program, replay
 from waplay_tools.recorder.results import Recorded
+from waplay_tools.reporting.tolerances import tolerance
+from waplay_tools.reporting.wav_samples import TOLERANCE
 
 DESCRIPTION = """Records the Web Audio calls of a page as scripts for waplay. It opens the page in a
 headless Chromium, with the recorder in front of it. For each context N that starts rendering, the
@@ -28,8 +29,8 @@ and N.report.txt (what was lost). docs/RECORDING.md says more."""
 EPILOG = """The status is 0; 1 where something was refused, the page threw an exception, or
 something that was asked for did not come (with --strict also where something is heard to differ,
 with --exact also where anything was rounded, rewritten or frozen); 2 where nothing was recorded;
-3 where a recording is silent; 4 where a replay differs, fails or has no program. Of several it is the
-greatest."""
+3 where a recording is silent; 4 where a replay differs, fails or has no program. Of several it is
+the greatest."""
 
 FINE, LOST, NOTHING, SILENT, DIFFERS = range(5)
 MOST_LINES = 20  # on what went wrong in a page
@@ -57,15 +58,6 @@ def count(text: str) -> int:
     if number < 1:
         raise argparse.ArgumentTypeError("it takes a number from 1 on")
     return number
-
-
-def magnitude(text: str) -> float:
-    """A difference of samples, as 0.001 or 2^-16."""
-    match = re.fullmatch(r"2\^(-\d+)", text)
-    value = 2.0 ** int(match.group(1)) if match else float(text)
-    if not 0 <= value <= 2:
-        raise argparse.ArgumentTypeError("it takes a difference from 0 to 2")
-    return value
 
 
 def parser() -> argparse.ArgumentParser:
@@ -98,7 +90,7 @@ def parser() -> argparse.ArgumentParser:
         help="end with 1 where anything was rounded, rewritten or frozen, too")
     add("--replay", action="store_true",
         help="replay the scripts and compare them with the browser")
-    add("--tolerance", type=magnitude, default=TOLERANCE, metavar="VALUE",
+    add("--tolerance", type=tolerance, default=TOLERANCE, metavar="VALUE",
         help="the difference from which a replay differs, 2^-16 by default")
     add("--waplay", default=os.environ.get("WAPLAY"), metavar="PATH",
         help="the program that replays; also the variable WAPLAY; that of this checkout by default")

@@ -18,9 +18,9 @@ from pathlib import Path
 from waplay_tools.places import PACKAGED, TOP
 from waplay_tools.recorder.departures import all_calls, known_departures
 from waplay_tools.recorder.results import Recorded
+from waplay_tools.reporting.wav_samples import TOLERANCE
 
 FULL = 2**23  # the samples of a file of 24 bits are whole numbers of 2^-23
-TOLERANCE = 2.0**-16
 BLOCK = 65536  # frames that are compared at once
 SHOWN = 8  # calls that ended otherwise, in a line
 

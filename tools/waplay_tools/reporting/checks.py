@@ -2,6 +2,7 @@
 
 import dataclasses
 import importlib
+import types
 from collections.abc import Sequence
 
 from waplay_tools.reporting.text import BadInput, visible
@@ -28,13 +29,18 @@ def tap(checks: Sequence[Check]) -> str:
     return "\n".join(lines) + "\n"
 
 
-def junit(suite: str, checks: Sequence[Check]) -> str:
-    """The checks as JUnit XML, one suite of this name. It wants the module junitparser."""
+def junit_module() -> types.ModuleType:
+    """The module junitparser. It raises BadInput where that is not installed."""
     try:
-        junitparser = importlib.import_module("junitparser")
+        return importlib.import_module("junitparser")
     except ImportError:
         raise BadInput("JUnit XML wants the module junitparser, of the package"
                        " python3-junitparser") from None
+
+
+def junit(suite: str, checks: Sequence[Check]) -> str:
+    """The checks as JUnit XML, one suite of this name. It wants the module junitparser."""
+    junitparser = junit_module()
     made = junitparser.TestSuite(visible(suite))
     for check in checks:
         case = junitparser.TestCase(visible(check.name), visible(suite), check.seconds)

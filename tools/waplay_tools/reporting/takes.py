@@ -168,7 +168,18 @@ def heading_of(folder: Path, contents: list[Content]) -> Heading:
 
 
 def take_of(path: str, tolerance: float = TOLERANCE) -> tuple[Heading, list[Content]]:
-    """What a take is headed by, and its contexts."""
+    """What a take is headed by, and its contexts. A context that can't be shown has a sentence at
+    the top; where none can, it raises BadInput."""
     folder = Path(path)
-    contents = [content_of(folder, number, tolerance) for number in numbers_of(folder)]
-    return heading_of(folder, contents), contents
+    contents, faults = [], []
+    for number in numbers_of(folder):
+        try:
+            contents.append(content_of(folder, number, tolerance))
+        except BadInput as bad:
+            faults.append((number, bad))
+    if not contents:
+        raise faults[0][1]
+    heading = heading_of(folder, contents)
+    heading.findings += [Finding("bad", f"Context {number} can't be shown: {bad}.")
+                         for number, bad in faults]
+    return heading, contents
