@@ -66,7 +66,7 @@ await context.startRendering();
 """),
 }
 
-REWRITTEN = ("lowered.md", "frozen.md", "chains.md")  # the others are recorded with the option plain
+REWRITTEN = ("lowered.md", "frozen.md", "chains.md")  # the others have --plain
 
 
 @dataclasses.dataclass(frozen=True)

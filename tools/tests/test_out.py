@@ -1,4 +1,4 @@
-"""Tests of what becomes of OUT while it is written: that it is moved, replaced, or is no plain file.
+"""Tests of what becomes of OUT while it is written: it is moved, replaced, or no plain file.
 
 The program is the one that the variable WAPLAY names, or else the shipped one. Where neither is
 there, the tests are skipped."""
@@ -60,7 +60,8 @@ class Out(unittest.TestCase):
 
     def check_whole(self, path: Path) -> None:
         data = path.read_bytes()
-        self.assertEqual((len(data), data[:4], data[40:44]), (BYTES, b"RIFF", (BYTES - 44).to_bytes(4, "little")))
+        size = (BYTES - 44).to_bytes(4, "little")
+        self.assertEqual((len(data), data[:4], data[40:44]), (BYTES, b"RIFF", size))
         self.assertEqual(data[44:].strip(b"\0"), b"")
 
     def test_a_file_that_is_moved_is_written_to_its_end(self) -> None:

@@ -64,8 +64,9 @@ class Statuses(unittest.TestCase):
 
     def test_grades(self) -> None:
         # Without an option, with --strict, with --exact.
-        for grade, wanted in {"exact": (0, 0, 0), "rounded": (0, 0, 1), "lowered": (0, 0, 1),
-                              "frozen": (0, 0, 1), "heard": (0, 1, 1), "refused": (1, 1, 1)}.items():
+        grades = {"exact": (0, 0, 0), "rounded": (0, 0, 1), "lowered": (0, 0, 1),
+                  "frozen": (0, 0, 1), "heard": (0, 1, 1), "refused": (1, 1, 1)}
+        for grade, wanted in grades.items():
             found = [self.status(recorded(grades=(grade,)), *options)
                      for options in ([], ["--strict"], ["--exact"])]
             self.assertEqual(tuple(found), wanted, grade)
