@@ -3,6 +3,7 @@ use Rattle.std.proofs.Common.{ℕ, ℤ, Bool, ◌≡◌, ◌<◌, length, List, 
 use Rattle.std.specs.Prelude.{is_some, unwrap_or, if◌then◌else◌, IfSome}
 use Rattle.wa_base.specs.declared.exceptions.Exc.{Exc}
 use Rattle.wa_base.specs.Contexts.{quantum_of}
+use Rattle.wa_base.specs.declared.contexts.ContextSpec.{ContextSpec}
 use Rattle.wa_base.specs.declared.exceptions.Exc.TheVariants.{NotSupported, InvalidState, WrongType}
 use Rattle.wa_base.specs.declared.features.Feature.TheVariants as feature
 use Rattle.wa_base.specs.declared.graph_names.BufId.{BufId}
@@ -18,8 +19,9 @@ use Rattle.script_ast.specs.declared.operations.Oversample.{Oversample}
 use Rattle.name_book.specs.Book.{object_of}
 use Rattle.name_book.specs.declared.book.Object.{Object}
 use Rattle.name_book.specs.declared.book.Object.TheVariants as object
-use Rattle.causal_core.specs.declared.equation.Equation.TheVariants.{Filter}
-use Rattle.node_table.specs.declared.kinds.Kind.TheVariants.{Constant, Gain, Splitter, Merger, Shaper, Causal}
+use Rattle.node_table.specs.Kinds.{is_delay_kind}
+use Rattle.node_table.specs.declared.kinds.Kind.{Kind}
+use Rattle.node_table.specs.declared.kinds.Kind.TheVariants.{Delay, Shaper}
 use Rattle.conn_graph.specs.Edges.{form_node}
 use Rattle.meaning.specs.declared.automation.ParamEdit.{ParamEdit}
 use Rattle.meaning.specs.declared.automation.ParamEdit.TheVariants as line
@@ -31,6 +33,7 @@ use Rattle.meaning.specs.declared.scheds.LoopPart.TheVariants as part
 use Rattle.meaning.specs.declared.sources.SourceEdit.TheVariants as source
 use Rattle.meaning.specs.World.{kind_of, slot_of}
 use Rattle.meaning.specs.Sources.{IsBufferOf}
+use Rattle.meaning.specs.Worlds.{HasCapacity}
 use Rattle.meaning.specs.Changes.{creates, refusal, IsNamed}
 use Rattle.control_side.specs.declared.decide.Decided.{Decided}
 use Rattle.control_side.specs.declared.decide.Decided.TheVariants as comes_to
@@ -73,15 +76,15 @@ Comes m o (comes_to.Answer said) = Unit {0}
 Comes m o comes_to.Start = (is_start o ≡ true) × (start_refusal m.context ≡ None)
 Comes m o (comes_to.Suspend frame) = (is_suspension o ≡ true) × (may_suspend m.context frame ≡ true)
 Comes m o comes_to.Resume = (is_resume o ≡ true) × (resume_refusal m.context ≡ None)
-Comes m o (comes_to.Change e) = (IsSteady m → IsAccepted m e) × (creates e ≡ is_some (new_name o))
+Comes m o (comes_to.Change e) = (IsSteady m → IsInRange o → IsAccepted m e) × (creates e ≡ is_some (new_name o))
 
 module _ (m : Machine) (o : Op) where
   -- an edit names what is there, and creates what gets a name
   abbrev IsOwn : Edit → Type 0
-  IsOwn e = (IsSteady m → IsNamed m.world e) × (creates e ≡ is_some (new_name o))
+  IsOwn e = (IsSteady m → IsInRange o → IsNamed m.world e) × (creates e ≡ is_some (new_name o))
 
   unless_comes : (r : Option Exc) (e : Edit) → refusal m.world m.context.time e ≡ r → IsOwn e → Comes m o (unless r e)
-  unless_comes None e fine own = ((λ steady. record { time = let low = steady.time in omega arith; named = own.0 steady; accepted = fine }), own.1)
+  unless_comes None e fine own = ((λ steady in_range. record { time = let low = steady.time in omega arith; named = own.0 steady in_range; accepted = fine }), own.1)
   unless_comes (Some exc) e thrown own = tt
 
   edits_come : (e : Edit) → IsOwn e → Comes m o (edits m e)
@@ -105,7 +108,7 @@ module _ (m : Machine) (o : Op) where
 
   sets_buffer_comes : new_name o ≡ None → (node : Option NodeId) (name : Option (List ℕ)) → Comes m o (sets_buffer m node name)
   sets_buffer_comes none None name = tt
-  sets_buffer_comes none (Some n) name = with_buffer_comes name (λ b. edit.Source n (source.SetBuffer b)) (λ b there. (there, sym (ap is_some none)))
+  sets_buffer_comes none (Some n) name = with_buffer_comes name (λ b. edit.Source n (source.SetBuffer b)) (λ b there. ((λ steady in_range. there steady), sym (ap is_some none)))
 
   unless_refused_comes : (r : Option Exc) (d : Decided) → (r ≡ None → Comes m o d) → Comes m o (unless_refused r d)
   unless_refused_comes None d kept = kept refl
@@ -118,7 +121,7 @@ module _ (m : Machine) (o : Op) where
   edits_param_comes : new_name o ≡ None → (node word : List ℕ) (e : ParamEdit) → Comes m o (edits_param m node word e)
   edits_param_comes none node word e =
       on_param_comes (param_at m (node_named m node) word) (λ i. edits m (edit.Param i e))
-      (λ i is kept. edits_come (edit.Param i e) ((λ steady. param_there m steady (node_named m node) word (λ n found. node_there m steady node n found) i is kept), sym (ap is_some none)))
+      (λ i is kept. edits_come (edit.Param i e) ((λ steady in_range. param_there m steady (node_named m node) word (λ n found. node_there m steady node n found) i is kept), sym (ap is_some none)))
 
   lead_comes : (from : Option NodeId) (to : Option ParamId) (what : NodeId → ParamId → Decided)
       → ((n : NodeId) (i : ParamId) → from ≡ Some n → to ≡ Some i → lead_refusal n i ≡ None → Comes m o (what n i)) → Comes m o (leads from to what)
@@ -163,66 +166,62 @@ may_be c time fine = by_frame (quantised (quantum_of c.spec) time) fine
         by_test true fine = refl
         by_test false fine = absurd cc
 
+-- what hangs on no context has the frames that it keeps
+no_capacity : (q : ℕ) (spec : ContextSpec) (kind : Kind) → is_delay_kind kind ≡ false → HasCapacity q spec kind
+no_capacity q spec (Delay longest time capacity) none = absurd cc
+no_capacity q spec other none = tt
+
 -- what each operation comes to is what it may come to
 pub comes : (m : Machine) (o : Op) → Comes m o (decided m o)
 unfolding decided
-comes m (op.CreateConstantSource name offset) = edits_come m (op.CreateConstantSource name offset) (edit.Create (Constant offset)) ((λ steady. (refl, tt)), refl)
-comes m (op.CreateGain name gain) = edits_come m (op.CreateGain name gain) (edit.Create (Gain gain)) ((λ steady. (refl, tt)), refl)
+comes m (op.Create name kind) =
+    edits_come m (op.Create name kind) (edit.Create kind) ((λ steady in_range. (in_range.1.0, no_capacity (quantum_of m.world.spec) m.world.spec kind in_range.1.1)), refl)
 comes m (op.CreateDelay name max_delay_time delay_time) =
     edits_come m (op.CreateDelay name max_delay_time delay_time) (edit.Create (delay_of m.world.spec max_delay_time delay_time))
-    ((λ steady. (refl, refl)), refl)
-comes m (op.CreateChannelSplitter name number_of_outputs) =
-    edits_come m (op.CreateChannelSplitter name number_of_outputs) (edit.Create (Splitter number_of_outputs))
-    ((λ steady. (refl, tt)), refl)
-comes m (op.CreateChannelMerger name number_of_inputs) =
-    edits_come m (op.CreateChannelMerger name number_of_inputs) (edit.Create (Merger number_of_inputs))
-    ((λ steady. (refl, tt)), refl)
+    ((λ steady in_range. (refl, refl)), refl)
 comes m (op.Connect from output to input) =
     nodes_come m (op.Connect from output to input) (node_named m from) (node_named m to) (λ node target. edit.Connect (edge_of output input node target))
-    (λ a b from_is to_is. ((λ steady. (node_there m steady from a from_is, node_there m steady to b to_is)), refl))
+    (λ a b from_is to_is. ((λ steady in_range. (node_there m steady from a from_is, node_there m steady to b to_is)), refl))
 comes m (op.Disconnect from output None input) =
     node_comes m (op.Disconnect from output None input) (node_named m from) (λ node. edit.Disconnect node (form_from output))
-    (λ a from_is. ((λ steady. (node_there m steady from a from_is, form_from_names (length m.world.nodes) output)), refl))
+    (λ a from_is. ((λ steady in_range. (node_there m steady from a from_is, form_from_names (length m.world.nodes) output)), refl))
 comes m (op.Disconnect from output (Some to) input) =
     nodes_come m (op.Disconnect from output (Some to) input) (node_named m from) (node_named m to) (λ node target. edit.Disconnect node (form_to output input target))
-    (λ a b from_is to_is. ((λ steady. (node_there m steady from a from_is, form_to_names (length m.world.nodes) output input b (node_there m steady to b to_is))), refl))
+    (λ a b from_is to_is. ((λ steady in_range. (node_there m steady from a from_is, form_to_names (length m.world.nodes) output input b (node_there m steady to b to_is))), refl))
 comes m (op.SetChannelCount node value) =
     node_comes m (op.SetChannelCount node value) (node_named m node) (λ n. edit.Attribute n (attribute.Count value))
-    (λ a is. ((λ steady. node_there m steady node a is), refl))
+    (λ a is. ((λ steady in_range. node_there m steady node a is), refl))
 comes m (op.SetChannelCountMode node value) =
     node_comes m (op.SetChannelCountMode node value) (node_named m node) (λ n. edit.Attribute n (attribute.Mode value))
-    (λ a is. ((λ steady. node_there m steady node a is), refl))
+    (λ a is. ((λ steady in_range. node_there m steady node a is), refl))
 comes m (op.SetChannelInterpretation node value) =
     node_comes m (op.SetChannelInterpretation node value) (node_named m node) (λ n. edit.Attribute n (attribute.Interp value))
-    (λ a is. ((λ steady. node_there m steady node a is), refl))
+    (λ a is. ((λ steady in_range. node_there m steady node a is), refl))
 comes m (op.Start node when offset duration) =
     node_comes m (op.Start node when offset duration) (node_named m node) (λ n. edit.Source n (source.Start when offset duration))
-    (λ a is. ((λ steady. tt), refl))
-comes m (op.Stop node when) = node_comes m (op.Stop node when) (node_named m node) (λ n. edit.Source n (source.Stop when)) (λ a is. ((λ steady. tt), refl))
+    (λ a is. ((λ steady in_range. tt), refl))
+comes m (op.Stop node when) = node_comes m (op.Stop node when) (node_named m node) (λ n. edit.Source n (source.Stop when)) (λ a is. ((λ steady in_range. tt), refl))
 comes m (op.SetBuffer node buffer) = sets_buffer_comes m (op.SetBuffer node buffer) refl (node_named m node) buffer
-comes m (op.SetLoop node value) = node_comes m (op.SetLoop node value) (node_named m node) (λ n. edit.Source n (source.SetLoop (part.On value))) (λ a is. ((λ steady. tt), refl))
+comes m (op.SetLoop node value) = node_comes m (op.SetLoop node value) (node_named m node) (λ n. edit.Source n (source.SetLoop (part.On value))) (λ a is. ((λ steady in_range. tt), refl))
 comes m (op.SetLoopStart node value) =
     node_comes m (op.SetLoopStart node value) (node_named m node) (λ n. edit.Source n (source.SetLoop (part.First value)))
-    (λ a is. ((λ steady. tt), refl))
+    (λ a is. ((λ steady in_range. tt), refl))
 comes m (op.SetLoopEnd node value) =
     node_comes m (op.SetLoopEnd node value) (node_named m node) (λ n. edit.Source n (source.SetLoop (part.End value)))
-    (λ a is. ((λ steady. tt), refl))
+    (λ a is. ((λ steady in_range. tt), refl))
 comes m (op.CreateBufferSource name buffer looping loop_start loop_end playback_rate) =
     with_buffer_comes m (op.CreateBufferSource name buffer looping loop_start loop_end playback_rate) buffer (λ source. edit.CreateBufferSource (rate_of playback_rate) source (record { on = looping; first = loop_start; end = loop_end }))
-    (λ b there. (there, refl))
+    (λ b there. ((λ steady in_range. there steady), refl))
 comes m (op.CreateBuffer name channels frames rate) =
     edits_come m (op.CreateBuffer name channels frames rate) (edit.Buffers (buffer_edit.Create channels frames rate))
-    ((λ steady. tt), refl)
+    ((λ steady in_range. tt), refl)
 comes m (op.CopyToChannel buffer channel samples first) =
     buffer_comes m (op.CopyToChannel buffer channel samples first) (buffer_named m buffer) (λ written. edit.Buffers (buffer_edit.Write written channel samples first))
-    (λ b is. ((λ steady. buffer_there m steady buffer b is), refl))
+    (λ b is. ((λ steady in_range. buffer_there m steady buffer b is), refl))
 comes m (op.CreateWaveShaper name curve oversample) =
     let e : Edit = edit.Create (Shaper curve (is_some curve)) in
-    unless_refused_comes m (op.CreateWaveShaper name curve oversample) (oversample_refusal oversample) (edits m e) (λ fine. edits_come m (op.CreateWaveShaper name curve oversample) e ((λ steady. (refl, tt)), refl))
-comes m (op.CreateIIRFilter name feedforward feedback) =
-    edits_come m (op.CreateIIRFilter name feedforward feedback) (edit.Create (Causal (Filter feedforward feedback)))
-    ((λ steady. (refl, tt)), refl)
-comes m (op.SetCurve node curve) = node_comes m (op.SetCurve node curve) (node_named m node) (λ n. edit.SetCurve n curve) (λ a is. ((λ steady. node_there m steady node a is), refl))
+    unless_refused_comes m (op.CreateWaveShaper name curve oversample) (oversample_refusal oversample) (edits m e) (λ fine. edits_come m (op.CreateWaveShaper name curve oversample) e ((λ steady in_range. (refl, tt)), refl))
+comes m (op.SetCurve node curve) = node_comes m (op.SetCurve node curve) (node_named m node) (λ n. edit.SetCurve n curve) (λ a is. ((λ steady in_range. node_there m steady node a is), refl))
 comes m (op.SetOversample node value) = oversample_comes m (op.SetOversample node value) (node_named m node) value
 comes m (op.SetValue node param value) = edits_param_comes m (op.SetValue node param value) refl node param (line.SetNow value)
 comes m (op.SetValueAtTime node param value time) = edits_param_comes m (op.SetValueAtTime node param value time) refl node param (line.Set value time)
@@ -234,12 +233,12 @@ comes m (op.ConnectParam from output to param) =
     lead_comes m (op.ConnectParam from output to param) (node_named m from) (param_at m (node_named m to) param) (λ node id. edits m (edit.Connect (edge_to_param output node id)))
     (λ n i from_is to_is kept.
     edits_come m (op.ConnectParam from output to param) (edit.Connect (edge_to_param output n i))
-    ((λ steady. (node_there m steady from n from_is, param_there m steady (node_named m to) param (λ k found. node_there m steady to k found) i to_is (lead_kept n i kept))), refl))
+    ((λ steady in_range. (node_there m steady from n from_is, param_there m steady (node_named m to) param (λ k found. node_there m steady to k found) i to_is (lead_kept n i kept))), refl))
 comes m (op.DisconnectParam from to param output) =
     lead_comes m (op.DisconnectParam from to param output) (node_named m from) (param_at m (node_named m to) param) (λ node id. edits m (edit.Disconnect node (form_of_param output id)))
     (λ n i from_is to_is kept.
     edits_come m (op.DisconnectParam from to param output) (edit.Disconnect n (form_of_param output i))
-    ((λ steady. (node_there m steady from n from_is, form_of_param_names (length m.world.nodes) output i (param_low m (node_named m to) param (λ k found. node_there m steady to k found) i to_is))), refl))
+    ((λ steady in_range. (node_there m steady from n from_is, form_of_param_names (length m.world.nodes) output i (param_low m (node_named m to) param (λ k found. node_there m steady to k found) i to_is))), refl))
 comes m (op.SetAutomationRate node param value) = edits_param_comes m (op.SetAutomationRate node param value) refl node param (line.Rate value)
 comes m (op.ExponentialRampToValueAtTime node param) =
     on_param_comes m (op.ExponentialRampToValueAtTime node param) (param_at m (node_named m node) param) (λ id. refused (NotSupported (Some feature.ExponentialRamp)))
@@ -260,25 +259,21 @@ comes m op.ReadTime = tt
 comes m (op.LeftOut left_out) = tt
 comes m (op.DecodeAudioData name path) = tt
 
-comes_for : (m : Machine) → IsSteady m → (o : Op) (d : Decided) → Comes m o d → IsFor m o d
-comes_for m steady o (comes_to.Answer said) may = tt
-comes_for m steady o comes_to.Start may = may
-comes_for m steady o (comes_to.Suspend frame) may = may.1
-comes_for m steady o comes_to.Resume may = may.1
-comes_for m steady o (comes_to.Change e) may = (may.0 steady, may.1)
+comes_for : (m : Machine) → IsSteady m → (o : Op) → IsInRange o → (d : Decided) → Comes m o d → IsFor m o d
+comes_for m steady o in_range (comes_to.Answer said) may = tt
+comes_for m steady o in_range comes_to.Start may = may
+comes_for m steady o in_range (comes_to.Suspend frame) may = may.1
+comes_for m steady o in_range comes_to.Resume may = may.1
+comes_for m steady o in_range (comes_to.Change e) may = (may.0 steady in_range, may.1)
 
-pub decided_for : (m : Machine) → IsSteady m → (o : Op) → IsFor m o (decided m o)
-decided_for m steady o = comes_for m steady o (decided m o) (comes m o)
+pub decided_for : (m : Machine) → IsSteady m → (o : Op) → IsInRange o → IsFor m o (decided m o)
+decided_for m steady o in_range = comes_for m steady o in_range (decided m o) (comes m o)
 
 -- a new name is one that may be given
 pub is_new : (o : Op) (name : List ℕ) → IsInRange o → new_name o ≡ Some name → IsNewName name
-is_new (op.CreateConstantSource new offset) name in_range is = subst (λ (x : Option (List ℕ)). IfSome x IsNewName) is in_range.0
-is_new (op.CreateGain new gain) name in_range is = subst (λ (x : Option (List ℕ)). IfSome x IsNewName) is in_range.0
+is_new (op.Create new kind) name in_range is = subst (λ (x : Option (List ℕ)). IfSome x IsNewName) is in_range.0
 is_new (op.CreateDelay new longest time) name in_range is = subst (λ (x : Option (List ℕ)). IfSome x IsNewName) is in_range.0
-is_new (op.CreateChannelSplitter new outputs) name in_range is = subst (λ (x : Option (List ℕ)). IfSome x IsNewName) is in_range.0
-is_new (op.CreateChannelMerger new inputs) name in_range is = subst (λ (x : Option (List ℕ)). IfSome x IsNewName) is in_range.0
 is_new (op.CreateWaveShaper new curve oversample) name in_range is = subst (λ (x : Option (List ℕ)). IfSome x IsNewName) is in_range.0
-is_new (op.CreateIIRFilter new feedforward feedback) name in_range is = subst (λ (x : Option (List ℕ)). IfSome x IsNewName) is in_range.0
 is_new (op.CreateBufferSource new buffer looping loop_start loop_end rate) name in_range is = subst (λ (x : Option (List ℕ)). IfSome x IsNewName) is in_range.0
 is_new (op.CreateBuffer new channels frames rate) name in_range is = subst (λ (x : Option (List ℕ)). IfSome x IsNewName) is in_range.0
 is_new (op.DecodeAudioData new path) name in_range is = subst (λ (x : Option (List ℕ)). IfSome x IsNewName) is in_range.0

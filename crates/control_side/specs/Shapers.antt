@@ -1,4 +1,4 @@
--- What the operations on wave shapers and IIR filters come to (the WaveShaperNode and IIRFilterNode interfaces).
+-- What the operations on wave shapers come to (the WaveShaperNode interface).
 use Rattle.std.specs.Prelude.{ℤ, List, Bool, true, false, if◌then◌else◌, is_some, Option, Some, None}
 use Rattle.wa_base.specs.declared.exceptions.Exc.{Exc}
 use Rattle.wa_base.specs.declared.exceptions.Exc.TheVariants.{NotSupported, WrongType}

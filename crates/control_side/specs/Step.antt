@@ -20,8 +20,7 @@ use Rattle.name_book.specs.declared.book.Object.TheVariants as object
 use Rattle.name_book.specs.Book.{bound, first_named}
 use Rattle.node_table.specs.Delays.{delay_capacity}
 use Rattle.node_table.specs.declared.kinds.Kind.{Kind}
-use Rattle.causal_core.specs.declared.equation.Equation.TheVariants.{Filter}
-use Rattle.node_table.specs.declared.kinds.Kind.TheVariants.{Constant, Gain, Delay, Splitter, Merger, Causal}
+use Rattle.node_table.specs.declared.kinds.Kind.TheVariants.{Delay}
 use Rattle.conn_graph.specs.declared.edges.Edge.{Edge}
 use Rattle.conn_graph.specs.declared.edges.Form.{Form}
 use Rattle.conn_graph.specs.declared.edges.Form.TheVariants as form
@@ -81,11 +80,8 @@ promises (Some exception) decided = comes_to.Answer (answer.Rejected exception)
 -- what an operation comes to that looks at nothing outside
 unfoldable pub decided : Machine → Op → Decided
 -- nodes are created (BaseAudioContext)
-decided machine (op.CreateConstantSource name offset) = edits machine (edit.Create (Constant offset))
-decided machine (op.CreateGain name gain) = edits machine (edit.Create (Gain gain))
+decided machine (op.Create name kind) = edits machine (edit.Create kind)
 decided machine (op.CreateDelay name max_delay_time delay_time) = edits machine (edit.Create (delay_of machine.world.spec max_delay_time delay_time))
-decided machine (op.CreateChannelSplitter name number_of_outputs) = edits machine (edit.Create (Splitter number_of_outputs))
-decided machine (op.CreateChannelMerger name number_of_inputs) = edits machine (edit.Create (Merger number_of_inputs))
 -- on any node (AudioNode)
 decided machine (op.Connect from output to input) = edits_nodes machine (node_named machine from) (node_named machine to) (λ node target. edit.Connect (edge_of output input node target))
 decided machine (op.Disconnect from output to input) = disconnects machine (node_named machine from) output to input
@@ -105,9 +101,8 @@ decided machine (op.CreateBufferSource name buffer looping loop_start loop_end p
 decided machine (op.CreateBuffer name channels frames rate) = edits machine (edit.Buffers (buffer_edit.Create channels frames rate))
 decided machine (op.CopyToChannel buffer channel samples first) =
     edits_buffer machine (buffer_named machine buffer) (λ written. edit.Buffers (buffer_edit.Write written channel samples first))
--- on wave shapers and filters (WaveShaperNode, IIRFilterNode)
+-- on wave shapers (WaveShaperNode)
 decided machine (op.CreateWaveShaper name curve oversample) = creates_shaper machine curve oversample
-decided machine (op.CreateIIRFilter name feedforward feedback) = edits machine (edit.Create (Causal (Filter feedforward feedback)))
 decided machine (op.SetCurve node curve) = edits_node machine (node_named machine node) (λ n. edit.SetCurve n curve)
 decided machine (op.SetOversample node value) = sets_oversample machine (node_named machine node) value
 -- on the timelines of parameters (AudioParam)

@@ -54,11 +54,12 @@ impl Control {
 
     // What any other operation comes to.
     fn decide(&self, op: &Op) -> Result<Decided, NoMemory>
-        requires { interface_of op.now ≢ Interface.Asset }
+        requires in_range { IsInRange op.now }
+        requires looks_away { interface_of op.now ≢ Interface.Asset }
         ensures { IfOk result (λ decided. decided ≡ spec.decided self.now op.now) }
     {
         match op.interface() {
-            Interface::Creation => Ok(self.decide_creation(op)),
+            Interface::Creation => self.decide_creation(op),
             Interface::Node => Ok(self.decide_on_node(op)),
             Interface::Source => Ok(self.decide_on_source(op)),
             Interface::Buffer => self.decide_on_buffer(op),

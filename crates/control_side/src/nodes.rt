@@ -1,6 +1,6 @@
-ghost use Rattle.std.specs.Prelude.{◌≡◌};
+ghost use Rattle.std.specs.Prelude.{◌≡◌, IfOk};
 ghost use Rattle.meaning.specs.Changes.{IsNamed};
-ghost use Rattle.script_ast.specs.Operations.{interface_of};
+ghost use Rattle.script_ast.specs.Operations.{IsInRange, interface_of};
 ghost use Rattle.control_side.specs.Step as spec;
 
 use crate::control::Control;
@@ -9,39 +9,25 @@ use conn_graph::{Edge, Form, Target};
 use meaning::{AttributeEdit, Edit};
 use node_table::{Kind, delay_capacity};
 use script_ast::{Interface, Op};
-use wa_base::{Exc, Fix, Name, NodeId, QUANTUM};
+use wa_base::{Exc, Fix, Name, NoMemory, NodeId, QUANTUM};
 
 // What the operations on nodes come to, whatever their kind (the BaseAudioContext and AudioNode
 // interfaces).
 impl Control {
-    // What the creation of a node comes to that has neither a list nor a buffer.
+    // What the creation of a node comes to that its numbers alone tell.
     #[tactic(auto, unfolding(crate::specs::Step::decided))]
-    pub(crate) fn decide_creation(&self, op: &Op) -> Decided
-        requires { interface_of op.now ≡ Interface.Creation }
-        ensures { result ≡ spec.decided self.now op.now }
+    pub(crate) fn decide_creation(&self, op: &Op) -> Result<Decided, NoMemory>
+        requires in_range { IsInRange op.now }
+        requires creation { interface_of op.now ≡ Interface.Creation }
+        ensures { IfOk result (λ decided. decided ≡ spec.decided self.now op.now) }
     {
         match op {
-            Op::CreateConstantSource { offset, .. } => {
-                self.create_node(Kind::Constant { offset: *offset })
-            }
-            Op::CreateGain { gain, .. } => self.create_node(Kind::Gain { gain: *gain }),
+            Op::Create { kind, .. } => Ok(self.create_node(kind.copy()?)),
             Op::CreateDelay {
                 max_delay_time,
                 delay_time,
                 ..
-            } => self.create_delay(*max_delay_time, *delay_time),
-            Op::CreateChannelSplitter {
-                number_of_outputs,
-                ..
-            } => self.create_node(Kind::Splitter {
-                outputs: *number_of_outputs,
-            }),
-            Op::CreateChannelMerger {
-                number_of_inputs,
-                ..
-            } => self.create_node(Kind::Merger {
-                inputs: *number_of_inputs,
-            }),
+            } => Ok(self.create_delay(*max_delay_time, *delay_time)),
             _ => unreachable!(),
         }
     }

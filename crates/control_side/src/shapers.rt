@@ -2,20 +2,16 @@ ghost use Rattle.std.specs.Prelude.{◌≡◌, is_some, IfOk};
 ghost use Rattle.script_ast.specs.Operations.{interface_of};
 ghost use Rattle.control_side.specs.Shapers as spec;
 ghost use Rattle.control_side.specs.Step.{node_named, edits, edits_node, decided};
-ghost use Rattle.causal_core.specs.declared.equation.Equation.TheVariants as equations;
-ghost use Rattle.node_table.specs.declared.kinds.Kind.TheVariants as kinds;
 
 use crate::control::Control;
 use crate::decide::{Decided, refused};
-use causal_core::Equation;
 use meaning::Edit;
 use node_table::Kind;
 use script_ast::{Interface, Op, Oversample};
 use transcript::Answer;
 use wa_base::{Exc, Feature, Name, NoMemory, Samples};
 
-// What the operations on wave shapers and IIR filters come to (the WaveShaperNode and IIRFilterNode
-// interfaces).
+// What the operations on wave shapers come to (the WaveShaperNode interface).
 impl Control {
     #[tactic(auto, unfolding(crate::specs::Step::decided))]
     pub(crate) fn decide_on_shaper(&self, op: &Op) -> Result<Decided, NoMemory>
@@ -30,11 +26,6 @@ impl Control {
             } => self.create_shaper(curve, *oversample),
             Op::SetCurve { node, curve } => self.set_curve(node, curve),
             Op::SetOversample { node, value } => Ok(self.set_oversample(node, *value)),
-            Op::CreateIIRFilter {
-                feedforward,
-                feedback,
-                ..
-            } => self.create_filter(feedforward, feedback),
             _ => unreachable!(),
         }
     }
@@ -53,17 +44,6 @@ impl Control {
             curve: copy_of(curve)?,
             was_set: curve.is_some(),
         };
-        Ok(self.edits(Edit::Create { kind }))
-    }
-
-    fn create_filter(&self, feedforward: &Samples, feedback: &Samples) -> Result<Decided, NoMemory>
-        ensures { IfOk result (λ decided. decided ≡ edits self.now (Edit.Create (kinds.Causal (equations.Filter feedforward.now feedback.now)))) }
-    {
-        let equation = Equation::Filter {
-            forward: feedforward.copy()?,
-            back: feedback.copy()?,
-        };
-        let kind = Kind::Causal { equation };
         Ok(self.edits(Edit::Create { kind }))
     }
 

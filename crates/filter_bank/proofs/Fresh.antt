@@ -4,22 +4,15 @@ use Rattle.causal_core.specs.declared.equation.Equation.{Equation}
 use Rattle.causal_core.specs.declared.equation.Equation.TheVariants as equation
 use Rattle.shaper_iir.proofs.Recalling.{born_stands}
 use Rattle.node_table.specs.declared.kinds.Kind.{Kind}
-use Rattle.node_table.specs.declared.kinds.Kind.TheVariants.{Destination, Constant, Buffer, Gain, Delay, Splitter, Merger, Shaper, Causal}
+use Rattle.node_table.specs.declared.kinds.Kind.TheVariants.{Causal}
 use Rattle.meaning.specs.Lists.{since}
 use Rattle.filter_bank.specs.Heard.{FilterView, IsHeard, HasOutputs, first_filter}
 use Rattle.filter_bank.specs.States.{stands, first_state}
 
 -- a kind that is no filter has none
 pub none_for : (kind : Kind) (birth : ℕ) → ((equation : Equation) → kind ≡ Causal equation → ⊥) → (let none : Option FilterView = None in none) ≡ first_filter kind birth
-none_for Destination birth not = refl
-none_for (Constant offset) birth not = refl
-none_for (Buffer rate) birth not = refl
-none_for (Gain gain) birth not = refl
-none_for (Delay longest time capacity) birth not = refl
-none_for (Splitter ports) birth not = refl
-none_for (Merger ports) birth not = refl
-none_for (Shaper curve was_set) birth not = refl
 none_for (Causal equation) birth not = absurd (not equation refl)
+none_for other birth not = refl
 
 -- a first state stands for no frames, and goes by its equation
 first_stands : (e : Equation) (c : ℕ) → stands (first_state e) c []

@@ -2,12 +2,13 @@
 use Rattle.std.proofs.Common.{◌≡◌, ◌≤◌, ◌<◌, ℕ, suc, zero, List, [], ◌∷◌, ◌++◌, ◌+◌, ◌*◌, ◌%◌, ◌==◌, refl, subst, length, arith, Bool, true, false, if◌then◌else◌, pos, None}
 use Rattle.std.proofs.lemmas.Int.{ints}
 use Rattle.std.specs.Prelude.{codes}
+use Rattle.node_table.specs.declared.kinds.Kind.TheVariants as node
 use Rattle.script_ast.specs.Operations.{IsInRange}
 use Rattle.script_ast.specs.Ranges.{IsCount}
 use Rattle.script_ast.specs.WellFormed.{IsWellFormed, AreCallsAfter}
 use Rattle.script_ast.specs.declared.call_list.Call.{Call}
 use Rattle.script_ast.specs.declared.operations.Op.{Op}
-use Rattle.script_ast.specs.declared.operations.Op.TheVariants.{CreateConstantSource, CreateGain, CreateDelay, LinearRampToValueAtTime, SetValue, Start, Stop, Suspend, Resume, StartRendering}
+use Rattle.script_ast.specs.declared.operations.Op.TheVariants.{Create, CreateDelay, LinearRampToValueAtTime, SetValue, Start, Stop, Suspend, Resume, StartRendering}
 use Rattle.load_gen.specs.Voices.{Voice, IsVoice, voice, ramp_ops, way_ops, delay_ops, time_ops, voice_ops, ops_of_voices, connected, level_of, source, gain, delay, feedback}
 use Rattle.load_gen.specs.Generator.{in_list, muting_ops, ops_before, held_ops, calls, script}
 use Rattle.load_gen.proofs.Listing.{in_list_length}
@@ -27,11 +28,11 @@ either_in_range false xs ys first second = second
 
 -- ---- voices
 
-in_source : (v : Voice) → IsVoice v → IsInRange (CreateConstantSource (source v.place) (level_of v.offset))
-in_source v is = ((names_are_new v.place is.place).source, (omega (arith, ints, is.offset), omega (arith, ints, is.offset)))
+in_source : (v : Voice) → IsVoice v → IsInRange (Create (source v.place) (node.Constant (level_of v.offset)))
+in_source v is = ((names_are_new v.place is.place).source, (refl, refl), (omega (arith, ints, is.offset), omega (arith, ints, is.offset)))
 
-in_gain : (v : Voice) → IsVoice v → IsInRange (CreateGain (gain v.place) (pos 0))
-in_gain v is = ((names_are_new v.place is.place).gain, (omega (arith, ints), omega (arith, ints)))
+in_gain : (v : Voice) → IsVoice v → IsInRange (Create (gain v.place) (node.Gain (pos 0)))
+in_gain v is = ((names_are_new v.place is.place).gain, (refl, refl), (omega (arith, ints), omega (arith, ints)))
 
 in_ramp : (v : Voice) → IsVoice v → IsInRange (LinearRampToValueAtTime (gain v.place) (codes "gain") (pos (v.gain * 256)) (pos (1 + 64 * v.time)))
 in_ramp v is = ((omega (arith, ints, is.gain), omega (arith, ints, is.gain)), (omega (arith, ints, is.time), omega (arith, ints, is.time)))
@@ -39,8 +40,8 @@ in_ramp v is = ((omega (arith, ints, is.gain), omega (arith, ints, is.gain)), (o
 in_delay : (v : Voice) → IsVoice v → IsInRange (CreateDelay (delay v.place) (pos 16777216) (pos (v.delay * 65536)))
 in_delay v is = ((names_are_new v.place is.place).delay, (omega (arith, ints), omega (arith, ints)), (omega (arith, ints, is.delay), omega (arith, ints, is.delay)))
 
-in_feedback : (v : Voice) → IsVoice v → IsInRange (CreateGain (feedback v.place) (pos 8388608))
-in_feedback v is = ((names_are_new v.place is.place).feedback, (omega (arith, ints), omega (arith, ints)))
+in_feedback : (v : Voice) → IsVoice v → IsInRange (Create (feedback v.place) (node.Gain (pos 8388608)))
+in_feedback v is = ((names_are_new v.place is.place).feedback, (refl, refl), (omega (arith, ints), omega (arith, ints)))
 
 -- whatever is connected
 in_connection : IsCount 0 × IsCount 0

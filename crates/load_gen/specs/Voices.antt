@@ -1,5 +1,6 @@
 -- The voices of a generated script: what is drawn for each, and the calls that make it.
 use Rattle.std.specs.Prelude.{ℕ, zero, suc, ◌+◌, ◌*◌, ◌/◌, ◌%◌, ◌<◌, ◌==◌, ℤ, pos, ◌*ℤ◌, ◌-ℤ◌, List, [], ◌∷◌, ◌++◌, codes, decimal, None, if◌then◌else◌}
+use Rattle.node_table.specs.declared.kinds.Kind.TheVariants as node
 use Rattle.script_ast.specs.declared.operations.Op.{Op}
 use Rattle.script_ast.specs.declared.operations.Op.TheVariants as op
 
@@ -86,8 +87,8 @@ level_of offset = (pos offset -ℤ pos 1024) *ℤ pos 64
 -- a source through a gain, whose gain goes from 0 along a ramp
 abbrev pub ramp_ops : Voice → List Op
 ramp_ops v =
-    op.CreateConstantSource (source v.place) (level_of v.offset) ∷
-    op.CreateGain (gain v.place) (pos 0) ∷
+    op.Create (source v.place) (node.Constant (level_of v.offset)) ∷
+    op.Create (gain v.place) (node.Gain (pos 0)) ∷
     op.SetValueAtTime (gain v.place) (codes "gain") (pos 0) (pos 0) ∷
     op.LinearRampToValueAtTime (gain v.place) (codes "gain") (pos (v.gain * 256)) (pos (1 + 64 * v.time)) ∷
     connected (source v.place) (gain v.place) ∷ []
@@ -96,7 +97,7 @@ ramp_ops v =
 abbrev pub delay_ops : Voice → List Op
 delay_ops v =
     op.CreateDelay (delay v.place) (pos 16777216) (pos (v.delay * 65536)) ∷
-    op.CreateGain (feedback v.place) (pos 8388608) ∷
+    op.Create (feedback v.place) (node.Gain (pos 8388608)) ∷
     connected (gain v.place) (delay v.place) ∷
     connected (delay v.place) (feedback v.place) ∷
     connected (feedback v.place) (delay v.place) ∷

@@ -3,6 +3,7 @@ ghost use Rattle.load_gen.specs.Voices as voices;
 
 use crate::names::{DESTINATION, GAIN, connected, delay, feedback, gain, source, text};
 use crate::random::Random;
+use node_table::Kind;
 use script_ast::Op;
 use std::alloc::Global;
 use std::marker::Model;
@@ -50,13 +51,15 @@ impl Voice {
     {
         let place = self.place;
         Ok(vec![in alloc;
-            Op::CreateConstantSource {
+            Op::Create {
                 name: source(alloc, place)?,
-                offset: level_of(self.offset),
+                kind: Kind::Constant {
+                    offset: level_of(self.offset),
+                },
             },
-            Op::CreateGain {
+            Op::Create {
                 name: gain(alloc, place)?,
-                gain: 0,
+                kind: Kind::Gain { gain: 0 },
             },
             Op::SetValueAtTime {
                 node: gain(alloc, place)?,
@@ -96,9 +99,9 @@ impl Voice {
                 max_delay_time: 16_777_216,
                 delay_time: (self.delay * 65_536) as Fix,
             },
-            Op::CreateGain {
+            Op::Create {
                 name: feedback(alloc, place)?,
-                gain: 8_388_608,
+                kind: Kind::Gain { gain: 8_388_608 },
             },
             connected(gain(alloc, place)?, delay(alloc, place)?),
             connected(delay(alloc, place)?, feedback(alloc, place)?),

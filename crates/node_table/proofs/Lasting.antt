@@ -2,7 +2,7 @@
 use Rattle.std.proofs.Common.{◌≡◌, ℕ, ℤ, Bool, true, false, Option, None, List, ◌⊎◌, inl, inr, refl, sym, ◌∙◌, ap, subst}
 use Rattle.causal_core.specs.declared.equation.Equation.{Equation}
 use Rattle.node_table.specs.declared.kinds.Kind.{Kind}
-use Rattle.node_table.specs.declared.kinds.Kind.TheVariants.{Destination, Constant, Buffer, Gain, Delay, Splitter, Merger, Shaper, Causal}
+use Rattle.node_table.specs.declared.kinds.Kind.TheVariants.{Delay, Shaper, Causal}
 use Rattle.node_table.specs.Kinds.{is_delay_kind, lasting, with_curve}
 
 pub record IsShaper (kind : Kind) : Type 0 where
@@ -23,27 +23,13 @@ pub record IsDelay (kind : Kind) : Type 0 where
   pub is : kind ≡ Delay longest time capacity
 
 pub the_delay : (kind : Kind) → is_delay_kind kind ≡ true → IsDelay kind
-the_delay Destination is = absurd cc
-the_delay (Constant offset) is = absurd cc
-the_delay (Buffer rate) is = absurd cc
-the_delay (Gain gain) is = absurd cc
 the_delay (Delay longest time capacity) is = record { longest = longest; time = time; capacity = capacity; is = refl }
-the_delay (Splitter ports) is = absurd cc
-the_delay (Merger ports) is = absurd cc
-the_delay (Shaper curve was_set) is = absurd cc
-the_delay (Causal equation) is = absurd cc
+the_delay other is = absurd cc
 
 -- all of a kind lasts, but for a shaper's curve
 pub lasts : (kind : Kind) → IsOther kind ⊎ IsShaper kind
-lasts Destination = inl (record { same = refl; uncurved = λ curve. refl })
-lasts (Constant offset) = inl (record { same = refl; uncurved = λ curve. refl })
-lasts (Buffer rate) = inl (record { same = refl; uncurved = λ curve. refl })
-lasts (Gain gain) = inl (record { same = refl; uncurved = λ curve. refl })
-lasts (Delay longest time capacity) = inl (record { same = refl; uncurved = λ curve. refl })
-lasts (Splitter ports) = inl (record { same = refl; uncurved = λ curve. refl })
-lasts (Merger ports) = inl (record { same = refl; uncurved = λ curve. refl })
-lasts (Causal equation) = inl (record { same = refl; uncurved = λ curve. refl })
 lasts (Shaper curve was_set) = inr (record { curve = curve; was_set = was_set; is = refl })
+lasts other = inl (record { same = refl; uncurved = λ curve. refl })
 
 -- setting a curve changes nothing that lasts
 pub with_curve_lasts : (curve : Option (List ℤ)) (kind : Kind) → lasting (with_curve curve kind) ≡ lasting kind

@@ -11,7 +11,7 @@ use Rattle.wa_base.specs.declared.exceptions.Exc.TheVariants.{NotSupported, Inde
 use Rattle.wa_base.specs.declared.features.Feature.TheVariants.{NodeLimit, DelayLimit, PlaybackRate, LongDelay}
 use Rattle.causal_core.specs.Curves.{IsCurve, curve_refusal}
 use Rattle.node_table.specs.declared.kinds.Kind.{Kind}
-use Rattle.node_table.specs.declared.kinds.Kind.TheVariants.{Destination, Constant, Buffer, Gain, Delay, Splitter, Merger, Shaper, Causal}
+use Rattle.node_table.specs.declared.kinds.Kind.TheVariants.{Constant, Buffer, Delay, Splitter, Merger, Shaper}
 use Rattle.node_table.specs.declared.nodes.Node.{Node}
 use Rattle.node_table.specs.declared.rows.Channels.{Channels}
 use Rattle.node_table.specs.declared.rows.Channels.TheVariants.{Always, OfInput, OfBuffer}
@@ -88,11 +88,9 @@ pub record IsRow (row : Row) : Type 0 where
   pub rate : IfSome row.plays HasRate
 
 pub is_row : (kind : Kind) → IsInLimits kind → IsRow (row kind)
-is_row Destination fine = record { count_low = omega arith; count_high = omega arith; outputs = omega arith; lanes = refl; range = tt; rate = tt }
 is_row (Constant offset) fine =
     record { count_low = omega arith; count_high = omega arith; outputs = omega arith; lanes = (omega arith, omega arith, omega arith); range = tt; rate = tt }
 is_row (Buffer rate) fine = record { count_low = omega arith; count_high = omega arith; outputs = omega arith; lanes = refl; range = tt; rate = rate_allowed rate fine }
-is_row (Gain gain) fine = record { count_low = omega arith; count_high = omega arith; outputs = omega arith; lanes = refl; range = tt; rate = tt }
 is_row (Delay longest time capacity) fine =
     record { count_low = omega arith; count_high = omega arith; outputs = omega arith; lanes = refl; range = longest_allowed longest fine; rate = tt }
 is_row (Splitter ports) fine =
@@ -101,8 +99,7 @@ is_row (Splitter ports) fine =
 is_row (Merger ports) fine =
     let few = ports_allowed ports fine in
     record { count_low = omega arith; count_high = omega arith; outputs = omega arith; lanes = (few.0, few.1, let high = few.1 in omega (arith, high)); range = tt; rate = tt }
-is_row (Shaper curve was_set) fine = record { count_low = omega arith; count_high = omega arith; outputs = omega arith; lanes = refl; range = tt; rate = tt }
-is_row (Causal equation) fine = record { count_low = omega arith; count_high = omega arith; outputs = omega arith; lanes = refl; range = tt; rate = tt }
+is_row other fine = record { count_low = omega arith; count_high = omega arith; outputs = omega arith; lanes = refl; range = tt; rate = tt }
 
 pub created_node : (kind : Kind) (birth : ℕ) → is_destination kind ≡ false → IsInLimits kind → IsCreated (node_of kind birth)
 created_node kind birth other fine =

@@ -1,5 +1,6 @@
 -- What the kinds of nodes have: a row for each.
-use Rattle.std.specs.Prelude.{ℕ, ℤ, ◌≡◌, ◌&&◌, ◌||◌, nat_le, int_le, int_lt, pos, List, Bool, true, false, if◌then◌else◌, Option, Some, None, is_some, option_map}
+use Rattle.std.specs.Prelude.{ℕ, ℤ, ◌≡◌, ◌≤◌, ◌&&◌, ◌||◌, nat_le, int_le, int_lt, pos, List, All, Bool, true, false, if◌then◌else◌, Option, Some, None, IfSome, is_some, option_map}
+use Rattle.wa_base.specs.Numbers.{IsFix}
 use Rattle.wa_base.specs.declared.exceptions.Exc.{Exc}
 use Rattle.wa_base.specs.declared.exceptions.Exc.TheVariants.{IndexSize, NotSupported, WrongType}
 use Rattle.wa_base.specs.declared.features.Feature.TheVariants.{PlaybackRate, LongDelay}
@@ -10,7 +11,7 @@ use Rattle.wa_base.specs.declared.graph_names.Mode.TheVariants.{Max, ClampedMax,
 use Rattle.wa_base.specs.declared.graph_names.ParamName.{ParamName}
 use Rattle.wa_base.specs.declared.graph_names.ParamName.TheVariants as param
 use Rattle.causal_core.specs.Curves as curves
-use Rattle.causal_core.specs.Equations.{equation_refusal}
+use Rattle.causal_core.specs.Equations.{equation_refusal, HasFixCoefficients}
 use Rattle.node_table.specs.declared.kinds.Kind.{Kind}
 use Rattle.node_table.specs.declared.kinds.Kind.TheVariants.{Destination, Constant, Buffer, Gain, Delay, Splitter, Merger, Shaper, Causal}
 use Rattle.node_table.specs.declared.rows.Row.{Row}
@@ -60,6 +61,22 @@ remembers kind = is_heard (row kind).keeps
 -- the name of the parameter that a kind has
 abbrev pub param_name : Kind → Option ParamName
 param_name kind = option_map (λ p. p.name) (row kind).param
+
+-- each value and each count that a node is created with has 32 bits
+abbrev pub IsOf32Bits : Kind → Type 0
+IsOf32Bits Destination = Unit {0}
+IsOf32Bits (Constant offset) = IsFix offset
+IsOf32Bits (Buffer rate) = rate ≤ 4294967295
+IsOf32Bits (Gain gain) = IsFix gain
+IsOf32Bits (Delay longest time capacity) = IsFix longest × IsFix time
+IsOf32Bits (Splitter ports) = ports ≤ 4294967295
+IsOf32Bits (Merger ports) = ports ≤ 4294967295
+IsOf32Bits (Shaper curve was_set) = IfSome curve (λ points. All IsFix points)
+IsOf32Bits (Causal equation) = HasFixCoefficients equation
+
+-- a script creates it by its numbers alone: it is not the destination, and what it keeps does not hang on the context
+abbrev pub IsCreatable : Kind → Type 0
+IsCreatable kind = (is_destination kind ≡ false) × (is_delay_kind kind ≡ false)
 
 -- what of a kind stays as long as its node is there: all but the curve of a shaper
 abbrev pub lasting : Kind → Kind

@@ -79,6 +79,47 @@ const ALL_FIXED: Fixed = Fixed {
     interp: true,
 };
 
+fn delay_row(longest: Fix, time: Fix, capacity: u64) -> Row
+    ensures { result ≡ spec.row (Kind.Delay longest time capacity) }
+{
+    Row {
+        param: Some(ParamRow {
+            name: ParamName::DelayTime,
+            value: time,
+            range: Range::UpTo(longest),
+        }),
+        keeps: Keeps::Written(capacity),
+        ..Row::EFFECT
+    }
+}
+
+fn splitter_row(outputs: u32) -> Row
+    ensures { result ≡ spec.row (Kind.Splitter outputs) }
+{
+    Row {
+        outputs,
+        channels: Channels::Always(1),
+        count: outputs,
+        mode: Mode::Explicit,
+        interp: Interp::Discrete,
+        fixed: ALL_FIXED,
+        ..Row::EFFECT
+    }
+}
+
+fn merger_row(inputs: u32) -> Row
+    ensures { result ≡ spec.row (Kind.Merger inputs) }
+{
+    Row {
+        inputs,
+        channels: Channels::Always(inputs),
+        count: 1,
+        mode: Mode::Explicit,
+        fixed: FIXED_MIXING,
+        ..Row::EFFECT
+    }
+}
+
 impl Kind {
     /// What the kind has: its row in the table of nodes.
     pub fn row(&self) -> Row
@@ -111,32 +152,9 @@ impl Kind {
                 longest,
                 time,
                 capacity,
-            } => Row {
-                param: Some(ParamRow {
-                    name: ParamName::DelayTime,
-                    value: *time,
-                    range: Range::UpTo(*longest),
-                }),
-                keeps: Keeps::Written(*capacity),
-                ..Row::EFFECT
-            },
-            Kind::Splitter { outputs } => Row {
-                outputs: *outputs,
-                channels: Channels::Always(1),
-                count: *outputs,
-                mode: Mode::Explicit,
-                interp: Interp::Discrete,
-                fixed: ALL_FIXED,
-                ..Row::EFFECT
-            },
-            Kind::Merger { inputs } => Row {
-                inputs: *inputs,
-                channels: Channels::Always(*inputs),
-                count: 1,
-                mode: Mode::Explicit,
-                fixed: FIXED_MIXING,
-                ..Row::EFFECT
-            },
+            } => delay_row(*longest, *time, *capacity),
+            Kind::Splitter { outputs } => splitter_row(*outputs),
+            Kind::Merger { inputs } => merger_row(*inputs),
             Kind::Shaper { .. } => Row::EFFECT,
             Kind::Causal { .. } => Row {
                 keeps: Keeps::Heard,

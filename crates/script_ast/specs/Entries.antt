@@ -1,14 +1,21 @@
 -- The entries: the members of a script and of its context, and the fields of each operation, in the order in which they are read.
 -- Each row is the name of a field, its kind and its default: a field that is `Needed` has none, and one whose default is `Null` may hold null, as may one of the kinds `NameOrNull` and `FixesOrNull`.
-use Rattle.std.specs.Prelude.{List, [], ◌∷◌, pos, false}
+use Rattle.std.specs.Prelude.{ℕ, List, [], ◌∷◌, codes, bytes_eq, Bool, true, false, pos, find, Option}
+use Rattle.std.specs.List.{list_any}
+use Rattle.script_ast.specs.OpNames.{left_out_word, param_op_word}
 use Rattle.script_ast.specs.declared.entries.Fallback.{Fallback}
 use Rattle.script_ast.specs.declared.entries.Fallback.TheVariants.{Needed, Null, Number, Count, Flag, Oversample, NoCalls}
 use Rattle.script_ast.specs.declared.entries.Kind.{Kind}
 use Rattle.script_ast.specs.declared.entries.Kind.TheVariants as kind
+use Rattle.script_ast.specs.declared.entries.OpName.{OpName}
+use Rattle.script_ast.specs.declared.entries.OpName.TheVariants as op
 use Rattle.script_ast.specs.declared.entries.Row.{Row}
 use Rattle.script_ast.specs.declared.fields.Field.{Field}
 use Rattle.script_ast.specs.declared.fields.Field.TheVariants as field
+use Rattle.script_ast.specs.declared.left_out.LeftOutName.TheVariants as left_out
 use Rattle.script_ast.specs.declared.operations.Oversample.TheVariants.{Off}
+use Rattle.script_ast.specs.declared.param_ops.ParamOpName.{ParamOpName}
+use Rattle.script_ast.specs.declared.param_ops.ParamOpName.TheVariants as param
 
 -- a row of an entry
 abbrev pub row : Field → Kind → Fallback → Row
@@ -294,3 +301,182 @@ abbrev pub decode_audio_data : List Row
 decode_audio_data =
     row field.As kind.NewName Needed ∷
     row field.Path kind.Path Needed ∷ []
+
+-- ---- the operations
+
+-- the `op` of an operation
+abbrev pub op_word : OpName → List ℕ
+op_word op.CreateConstantSource = codes "createConstantSource"
+op_word op.CreateGain = codes "createGain"
+op_word op.CreateDelay = codes "createDelay"
+op_word op.CreateChannelSplitter = codes "createChannelSplitter"
+op_word op.CreateChannelMerger = codes "createChannelMerger"
+op_word op.CreateWaveShaper = codes "createWaveShaper"
+op_word op.CreateIIRFilter = codes "createIIRFilter"
+op_word op.CreateBufferSource = codes "createBufferSource"
+op_word op.CreateBuffer = codes "createBuffer"
+op_word op.Connect = codes "connect"
+op_word op.ConnectParam = codes "connectParam"
+op_word op.Disconnect = codes "disconnect"
+op_word op.DisconnectParam = codes "disconnectParam"
+op_word op.SetChannelCount = codes "setChannelCount"
+op_word op.SetChannelCountMode = codes "setChannelCountMode"
+op_word op.SetChannelInterpretation = codes "setChannelInterpretation"
+op_word op.SetCurve = codes "setCurve"
+op_word op.SetOversample = codes "setOversample"
+op_word op.SetBuffer = codes "setBuffer"
+op_word op.SetLoop = codes "setLoop"
+op_word op.SetLoopStart = codes "setLoopStart"
+op_word op.SetLoopEnd = codes "setLoopEnd"
+op_word op.CopyToChannel = codes "copyToChannel"
+op_word op.Start = codes "start"
+op_word op.Stop = codes "stop"
+op_word (op.Param name) = param_op_word name
+op_word op.Suspend = codes "suspend"
+op_word op.StartRendering = codes "startRendering"
+op_word op.Resume = codes "resume"
+op_word op.DecodeAudioData = codes "decodeAudioData"
+op_word op.ReadState = codes "readState"
+op_word op.ReadTime = codes "readTime"
+op_word (op.LeftOut name) = left_out_word name
+
+-- every operation
+abbrev pub operations : List OpName
+operations =
+    op.CreateConstantSource ∷
+    op.CreateGain ∷
+    op.CreateDelay ∷
+    op.CreateChannelSplitter ∷
+    op.CreateChannelMerger ∷
+    op.CreateWaveShaper ∷
+    op.CreateIIRFilter ∷
+    op.CreateBufferSource ∷
+    op.CreateBuffer ∷
+    op.Connect ∷
+    op.ConnectParam ∷
+    op.Disconnect ∷
+    op.DisconnectParam ∷
+    op.SetChannelCount ∷
+    op.SetChannelCountMode ∷
+    op.SetChannelInterpretation ∷
+    op.SetCurve ∷
+    op.SetOversample ∷
+    op.SetBuffer ∷
+    op.SetLoop ∷
+    op.SetLoopStart ∷
+    op.SetLoopEnd ∷
+    op.CopyToChannel ∷
+    op.Start ∷
+    op.Stop ∷
+    op.Param param.SetValue ∷
+    op.Param param.SetValueAtTime ∷
+    op.Param param.LinearRampToValueAtTime ∷
+    op.Param param.SetValueCurveAtTime ∷
+    op.Param param.CancelScheduledValues ∷
+    op.Param param.CancelAndHoldAtTime ∷
+    op.Param param.SetAutomationRate ∷
+    op.Param param.ExponentialRampToValueAtTime ∷
+    op.Param param.SetTargetAtTime ∷
+    op.Param param.ReadValue ∷
+    op.Suspend ∷
+    op.StartRendering ∷
+    op.Resume ∷
+    op.DecodeAudioData ∷
+    op.ReadState ∷
+    op.ReadTime ∷
+    op.LeftOut left_out.CreateOscillator ∷
+    op.LeftOut left_out.CreatePeriodicWave ∷
+    op.LeftOut left_out.CreateBiquadFilter ∷
+    op.LeftOut left_out.CreateStereoPanner ∷
+    op.LeftOut left_out.CreatePanner ∷
+    op.LeftOut left_out.CreateDynamicsCompressor ∷
+    op.LeftOut left_out.CreateAnalyser ∷
+    op.LeftOut left_out.SetListener ∷
+    op.LeftOut left_out.CreateMediaElementSource ∷
+    op.LeftOut left_out.CreateMediaStreamSource ∷
+    op.LeftOut left_out.CreateMediaStreamTrackSource ∷
+    op.LeftOut left_out.CreateMediaStreamDestination ∷
+    op.LeftOut left_out.CreateScriptProcessor ∷
+    op.LeftOut left_out.CreateAudioWorkletNode ∷
+    op.LeftOut left_out.CreateConvolver ∷ []
+
+-- the first of these operations that the text names
+abbrev pub first_named : List ℕ → List OpName → Option OpName
+first_named word names = find (λ name. bytes_eq (op_word name) word) names
+
+-- the operation that a text names
+unfoldable pub op_named : List ℕ → Option OpName
+op_named word = first_named word operations
+
+-- the fields of an operation on a parameter, in the order in which they are read
+abbrev pub param_op_fields : ParamOpName → List Row
+param_op_fields param.SetValue = set_value
+param_op_fields param.SetValueAtTime = set_value_at_time
+param_op_fields param.LinearRampToValueAtTime = linear_ramp_to_value_at_time
+param_op_fields param.SetValueCurveAtTime = set_value_curve_at_time
+param_op_fields param.CancelScheduledValues = cancel_scheduled_values
+param_op_fields param.CancelAndHoldAtTime = cancel_and_hold_at_time
+param_op_fields param.SetAutomationRate = set_automation_rate
+param_op_fields param.ExponentialRampToValueAtTime = exponential_ramp_to_value_at_time
+param_op_fields param.SetTargetAtTime = set_target_at_time
+param_op_fields param.ReadValue = read_value
+
+-- the fields of an operation, in the order in which they are read
+abbrev pub fields_of : OpName → List Row
+fields_of op.CreateConstantSource = create_constant_source
+fields_of op.CreateGain = create_gain
+fields_of op.CreateDelay = create_delay
+fields_of op.CreateChannelSplitter = create_channel_splitter
+fields_of op.CreateChannelMerger = create_channel_merger
+fields_of op.CreateWaveShaper = create_wave_shaper
+fields_of op.CreateIIRFilter = create_iir_filter
+fields_of op.CreateBufferSource = create_buffer_source
+fields_of op.CreateBuffer = create_buffer
+fields_of op.Connect = connect
+fields_of op.ConnectParam = connect_param
+fields_of op.Disconnect = disconnect
+fields_of op.DisconnectParam = disconnect_param
+fields_of op.SetChannelCount = set_channel_count
+fields_of op.SetChannelCountMode = set_channel_count_mode
+fields_of op.SetChannelInterpretation = set_channel_interpretation
+fields_of op.SetCurve = set_curve
+fields_of op.SetOversample = set_oversample
+fields_of op.SetBuffer = set_buffer
+fields_of op.SetLoop = set_loop
+fields_of op.SetLoopStart = set_loop_start
+fields_of op.SetLoopEnd = set_loop_end
+fields_of op.CopyToChannel = copy_to_channel
+fields_of op.Start = start
+fields_of op.Stop = stop
+fields_of (op.Param name) = param_op_fields name
+fields_of op.Suspend = suspend
+fields_of op.StartRendering = start_rendering
+fields_of op.Resume = []
+fields_of op.DecodeAudioData = decode_audio_data
+fields_of op.ReadState = []
+fields_of op.ReadTime = []
+fields_of (op.LeftOut name) = []
+
+-- the kind of a field that holds calls
+abbrev pub is_calls : Kind → Bool
+is_calls kind.Fix = false
+is_calls kind.Time = false
+is_calls kind.Count = false
+is_calls kind.Version = false
+is_calls kind.Name = false
+is_calls kind.NameOrNull = false
+is_calls kind.NewName = false
+is_calls kind.Flag = false
+is_calls kind.Fixes = false
+is_calls kind.FixesOrNull = false
+is_calls kind.Path = false
+is_calls kind.Mode = false
+is_calls kind.Interp = false
+is_calls kind.Rate = false
+is_calls kind.Oversample = false
+is_calls kind.Calls = true
+is_calls kind.Object = false
+
+-- whether a call of the operation may hold further calls
+abbrev pub has_calls : OpName → Bool
+has_calls name = list_any (λ row. is_calls row.kind) (fields_of name)

@@ -1,6 +1,7 @@
 -- The operations: the ranges of their fields, what they are done to, and the names that they give.
 use Rattle.std.specs.Prelude.{ℕ, List, Option, Some, None}
 use Rattle.wa_base.specs.Numbers.{IsFix}
+use Rattle.node_table.specs.Kinds.{IsCreatable, IsOf32Bits}
 use Rattle.script_ast.specs.Ranges.{IsTime, IsTimeIfSome, IsCount, IsCountIfSome, AreFixes, AreFixesIfSome, IsNewName, IsPath, IsDisconnectForm}
 use Rattle.script_ast.specs.declared.operations.Interface.{Interface}
 use Rattle.script_ast.specs.declared.operations.Interface.TheVariants as interface
@@ -9,13 +10,9 @@ use Rattle.script_ast.specs.declared.operations.Op.TheVariants as op
 
 -- each field of an operation is in its range, and a disconnect has one of its forms
 abbrev pub IsInRange : Op → Type 0
-IsInRange (op.CreateConstantSource name offset) = IsNewName name × IsFix offset
-IsInRange (op.CreateGain name gain) = IsNewName name × IsFix gain
+IsInRange (op.Create name kind) = IsNewName name × IsCreatable kind × IsOf32Bits kind
 IsInRange (op.CreateDelay name max_delay_time delay_time) = IsNewName name × IsFix max_delay_time × IsFix delay_time
-IsInRange (op.CreateChannelSplitter name number_of_outputs) = IsNewName name × IsCount number_of_outputs
-IsInRange (op.CreateChannelMerger name number_of_inputs) = IsNewName name × IsCount number_of_inputs
 IsInRange (op.CreateWaveShaper name curve oversample) = IsNewName name × AreFixesIfSome curve
-IsInRange (op.CreateIIRFilter name feedforward feedback) = IsNewName name × AreFixes feedforward × AreFixes feedback
 IsInRange (op.CreateBufferSource name buffer looping loop_start loop_end playback_rate) = IsNewName name × IsTime loop_start × IsTime loop_end × IsFix playback_rate
 IsInRange (op.CreateBuffer name channels frames rate) = IsNewName name × IsCount channels × IsCount frames × IsCount rate
 IsInRange (op.LeftOut feature) = Unit {0}
@@ -54,13 +51,9 @@ IsInRange op.ReadTime = Unit {0}
 
 -- what an operation is done to
 abbrev pub interface_of : Op → Interface
-interface_of (op.CreateConstantSource name offset) = interface.Creation
-interface_of (op.CreateGain name gain) = interface.Creation
+interface_of (op.Create name kind) = interface.Creation
 interface_of (op.CreateDelay name max_delay_time delay_time) = interface.Creation
-interface_of (op.CreateChannelSplitter name number_of_outputs) = interface.Creation
-interface_of (op.CreateChannelMerger name number_of_inputs) = interface.Creation
 interface_of (op.CreateWaveShaper name curve oversample) = interface.Shaper
-interface_of (op.CreateIIRFilter name feedforward feedback) = interface.Shaper
 interface_of (op.CreateBufferSource name buffer looping loop_start loop_end playback_rate) = interface.Buffer
 interface_of (op.CreateBuffer name channels frames rate) = interface.Buffer
 interface_of (op.LeftOut feature) = interface.LeftOut
@@ -99,13 +92,9 @@ interface_of op.ReadTime = interface.Context
 
 -- the name that an operation gives to what it creates
 abbrev pub new_name : Op → Option (List ℕ)
-new_name (op.CreateConstantSource name offset) = Some name
-new_name (op.CreateGain name gain) = Some name
+new_name (op.Create name kind) = Some name
 new_name (op.CreateDelay name max_delay_time delay_time) = Some name
-new_name (op.CreateChannelSplitter name number_of_outputs) = Some name
-new_name (op.CreateChannelMerger name number_of_inputs) = Some name
 new_name (op.CreateWaveShaper name curve oversample) = Some name
-new_name (op.CreateIIRFilter name feedforward feedback) = Some name
 new_name (op.CreateBufferSource name buffer looping loop_start loop_end playback_rate) = Some name
 new_name (op.CreateBuffer name channels frames rate) = Some name
 new_name (op.DecodeAudioData name path) = Some name

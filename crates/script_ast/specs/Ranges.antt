@@ -1,5 +1,5 @@
 -- The ranges of a call's fields, and the names that a script may give.
-use Rattle.std.specs.Prelude.{ℕ, ◌≤◌, ◌==◌, ◌&&◌, ◌||◌, List, [], ◌∷◌, length, codes, bytes_eq, Bool, not, nat_le, IsTrue, ℤ, pos, neg_ℤ, ◌≤ℤ◌, Option, Some, None, IsSome}
+use Rattle.std.specs.Prelude.{ℕ, ◌≤◌, ◌==◌, ◌&&◌, ◌||◌, List, All, length, codes, bytes_eq, Bool, not, nat_le, IsTrue, ℤ, pos, neg_ℤ, ◌≤ℤ◌, Option, Some, None, IsSome}
 use Rattle.std.specs.List.{list_all}
 use Rattle.std.specs.Char.{is_ascii_alphanumeric}
 use Rattle.wa_base.specs.Numbers.{IsFix}
@@ -24,8 +24,7 @@ IsCountIfSome (Some n) = IsCount n
 
 -- values in units of 2^-24
 abbrev pub AreFixes : List ℤ → Type 0
-AreFixes [] = Unit {0}
-AreFixes (z ∷ zs) = IsFix z × AreFixes zs
+AreFixes zs = All IsFix zs
 
 -- such values, where there are any
 abbrev pub AreFixesIfSome : Option (List ℤ) → Type 0

@@ -1,8 +1,11 @@
-ghost use Rattle.std.specs.Prelude.{◌≡◌, option_map};
+ghost use Rattle.std.specs.Prelude.{◌≡◌, Some, IsTrue, ◌↔◌, IsSome, bytes_eq, option_map};
 ghost use Rattle.script_ast.specs.Fallbacks.{row_in, fallback_in};
+ghost use Rattle.script_ast.specs.Entries.{op_word, op_named, first_named, fields_of, has_calls};
 
 use crate::fields::Field;
+use crate::left_out::LeftOutName;
 use crate::operations::Oversample;
+use crate::param_ops::ParamOpName;
 
 /// What the JSON value of a field has to be.
 #[derive(Clone, Copy, PartialEq, Eq)]
@@ -95,6 +98,104 @@ pub const CONTEXT_FIELDS: [Row; 3] = [
 ];
 
 pub const SCRIPT_TAIL: [Row; 1] = [row!(Calls, Calls, Needed)];
+
+/// The name of an operation that a script may have.
+#[derive(Clone, Copy, PartialEq, Eq)]
+pub enum OpName {
+    CreateConstantSource,
+    CreateGain,
+    CreateDelay,
+    CreateChannelSplitter,
+    CreateChannelMerger,
+    CreateWaveShaper,
+    CreateIIRFilter,
+    CreateBufferSource,
+    CreateBuffer,
+    Connect,
+    ConnectParam,
+    Disconnect,
+    DisconnectParam,
+    SetChannelCount,
+    SetChannelCountMode,
+    SetChannelInterpretation,
+    SetCurve,
+    SetOversample,
+    SetBuffer,
+    SetLoop,
+    SetLoopStart,
+    SetLoopEnd,
+    CopyToChannel,
+    Start,
+    Stop,
+    Param(ParamOpName),
+    Suspend,
+    StartRendering,
+    Resume,
+    DecodeAudioData,
+    ReadState,
+    ReadTime,
+    LeftOut(LeftOutName),
+}
+
+/// Every operation.
+pub const OP_NAMES: [OpName; 56] = [
+    OpName::CreateConstantSource,
+    OpName::CreateGain,
+    OpName::CreateDelay,
+    OpName::CreateChannelSplitter,
+    OpName::CreateChannelMerger,
+    OpName::CreateWaveShaper,
+    OpName::CreateIIRFilter,
+    OpName::CreateBufferSource,
+    OpName::CreateBuffer,
+    OpName::Connect,
+    OpName::ConnectParam,
+    OpName::Disconnect,
+    OpName::DisconnectParam,
+    OpName::SetChannelCount,
+    OpName::SetChannelCountMode,
+    OpName::SetChannelInterpretation,
+    OpName::SetCurve,
+    OpName::SetOversample,
+    OpName::SetBuffer,
+    OpName::SetLoop,
+    OpName::SetLoopStart,
+    OpName::SetLoopEnd,
+    OpName::CopyToChannel,
+    OpName::Start,
+    OpName::Stop,
+    OpName::Param(ParamOpName::SetValue),
+    OpName::Param(ParamOpName::SetValueAtTime),
+    OpName::Param(ParamOpName::LinearRampToValueAtTime),
+    OpName::Param(ParamOpName::SetValueCurveAtTime),
+    OpName::Param(ParamOpName::CancelScheduledValues),
+    OpName::Param(ParamOpName::CancelAndHoldAtTime),
+    OpName::Param(ParamOpName::SetAutomationRate),
+    OpName::Param(ParamOpName::ExponentialRampToValueAtTime),
+    OpName::Param(ParamOpName::SetTargetAtTime),
+    OpName::Param(ParamOpName::ReadValue),
+    OpName::Suspend,
+    OpName::StartRendering,
+    OpName::Resume,
+    OpName::DecodeAudioData,
+    OpName::ReadState,
+    OpName::ReadTime,
+    OpName::LeftOut(LeftOutName::CreateOscillator),
+    OpName::LeftOut(LeftOutName::CreatePeriodicWave),
+    OpName::LeftOut(LeftOutName::CreateBiquadFilter),
+    OpName::LeftOut(LeftOutName::CreateStereoPanner),
+    OpName::LeftOut(LeftOutName::CreatePanner),
+    OpName::LeftOut(LeftOutName::CreateDynamicsCompressor),
+    OpName::LeftOut(LeftOutName::CreateAnalyser),
+    OpName::LeftOut(LeftOutName::SetListener),
+    OpName::LeftOut(LeftOutName::CreateMediaElementSource),
+    OpName::LeftOut(LeftOutName::CreateMediaStreamSource),
+    OpName::LeftOut(LeftOutName::CreateMediaStreamTrackSource),
+    OpName::LeftOut(LeftOutName::CreateMediaStreamDestination),
+    OpName::LeftOut(LeftOutName::CreateScriptProcessor),
+    OpName::LeftOut(LeftOutName::CreateAudioWorkletNode),
+    OpName::LeftOut(LeftOutName::CreateConvolver),
+];
 
 // The fields of each operation, in the order in which they are read; `then` comes last.
 
@@ -277,6 +378,126 @@ pub const SUSPEND: [Row; 2] = [row!(Time, Time, Needed), row!(Then, Calls, NoCal
 pub const START_RENDERING: [Row; 1] = [row!(Then, Calls, NoCalls)];
 
 pub const DECODE_AUDIO_DATA: [Row; 2] = [row!(As, NewName, Needed), row!(Path, Path, Needed)];
+
+impl OpName {
+    /// The value of a call's `op` that names the operation, and no other one.
+    #[tactic(auto, unfolding(crate::specs::Entries::op_named))]
+    pub fn word(self) -> &'static str
+        ensures word { result.now ≡ op_word self }
+        ensures named { op_named result.now ≡ Some self }
+    {
+        match self {
+            OpName::CreateConstantSource => "createConstantSource",
+            OpName::CreateGain => "createGain",
+            OpName::CreateDelay => "createDelay",
+            OpName::CreateChannelSplitter => "createChannelSplitter",
+            OpName::CreateChannelMerger => "createChannelMerger",
+            OpName::CreateWaveShaper => "createWaveShaper",
+            OpName::CreateIIRFilter => "createIIRFilter",
+            OpName::CreateBufferSource => "createBufferSource",
+            OpName::CreateBuffer => "createBuffer",
+            OpName::Connect => "connect",
+            OpName::ConnectParam => "connectParam",
+            OpName::Disconnect => "disconnect",
+            OpName::DisconnectParam => "disconnectParam",
+            OpName::SetChannelCount => "setChannelCount",
+            OpName::SetChannelCountMode => "setChannelCountMode",
+            OpName::SetChannelInterpretation => "setChannelInterpretation",
+            OpName::SetCurve => "setCurve",
+            OpName::SetOversample => "setOversample",
+            OpName::SetBuffer => "setBuffer",
+            OpName::SetLoop => "setLoop",
+            OpName::SetLoopStart => "setLoopStart",
+            OpName::SetLoopEnd => "setLoopEnd",
+            OpName::CopyToChannel => "copyToChannel",
+            OpName::Start => "start",
+            OpName::Stop => "stop",
+            OpName::Param(name) => name.word(),
+            OpName::Suspend => "suspend",
+            OpName::StartRendering => "startRendering",
+            OpName::Resume => "resume",
+            OpName::DecodeAudioData => "decodeAudioData",
+            OpName::ReadState => "readState",
+            OpName::ReadTime => "readTime",
+            OpName::LeftOut(name) => name.word(),
+        }
+    }
+
+    fn is_named(self, word: &str) -> bool
+        ensures { result ≡ bytes_eq (op_word self) word.now }
+    {
+        self.word() == word
+    }
+
+    /// The operation that a call's `op` names.
+    #[tactic(auto, unfolding(crate::specs::Entries::op_named))]
+    pub fn from_word(word: &str) -> Option<OpName>
+        ensures { result ≡ op_named word.now }
+    {
+        find_named(&OP_NAMES, word).copied()
+    }
+
+    /// The fields of the operation, in the order in which they are read.
+    pub fn fields(self) -> &'static [Row]
+        ensures { result.now ≡ fields_of self }
+    {
+        match self {
+            OpName::CreateConstantSource => &CREATE_CONSTANT_SOURCE,
+            OpName::CreateGain => &CREATE_GAIN,
+            OpName::CreateDelay => &CREATE_DELAY,
+            OpName::CreateChannelSplitter => &CREATE_CHANNEL_SPLITTER,
+            OpName::CreateChannelMerger => &CREATE_CHANNEL_MERGER,
+            OpName::CreateWaveShaper => &CREATE_WAVE_SHAPER,
+            OpName::CreateIIRFilter => &CREATE_IIR_FILTER,
+            OpName::CreateBufferSource => &CREATE_BUFFER_SOURCE,
+            OpName::CreateBuffer => &CREATE_BUFFER,
+            OpName::Connect => &CONNECT,
+            OpName::ConnectParam => &CONNECT_PARAM,
+            OpName::Disconnect => &DISCONNECT,
+            OpName::DisconnectParam => &DISCONNECT_PARAM,
+            OpName::SetChannelCount => &SET_CHANNEL_COUNT,
+            OpName::SetChannelCountMode => &SET_CHANNEL_COUNT_MODE,
+            OpName::SetChannelInterpretation => &SET_CHANNEL_INTERPRETATION,
+            OpName::SetCurve => &SET_CURVE,
+            OpName::SetOversample => &SET_OVERSAMPLE,
+            OpName::SetBuffer => &SET_BUFFER,
+            OpName::SetLoop => &SET_LOOP,
+            OpName::SetLoopStart => &SET_LOOP_START,
+            OpName::SetLoopEnd => &SET_LOOP_END,
+            OpName::CopyToChannel => &COPY_TO_CHANNEL,
+            OpName::Start => &START,
+            OpName::Stop => &STOP,
+            OpName::Param(name) => name.fields(),
+            OpName::Suspend => &SUSPEND,
+            OpName::StartRendering => &START_RENDERING,
+            OpName::DecodeAudioData => &DECODE_AUDIO_DATA,
+            OpName::Resume | OpName::ReadState | OpName::ReadTime | OpName::LeftOut(_) => &[],
+        }
+    }
+
+    /// Whether a call of the operation may hold further calls.
+    pub fn has_calls(self) -> bool
+        ensures { result ≡ has_calls self }
+    {
+        self.fields()
+            .iter()
+            .any(|row| matches!(row.kind, Kind::Calls))
+    }
+}
+
+// The first of the operations that the text names.
+fn find_named<'a>(names: &'a [OpName], word: &str) -> Option<&'a OpName>
+    ensures { option_map (λ name. name.now) result ≡ first_named word.now names.now }
+{
+    names.iter().find(|name| name.is_named(word))
+}
+
+/// Whether scripts with this `op` are read: whether it names an operation.
+pub fn is_built(op: &str) -> bool
+    ensures { IsTrue result ↔ IsSome (op_named op.now) }
+{
+    OpName::from_word(op).is_some()
+}
 
 /// The default of the field with this name in an entry; a field that the entry has not is needed.
 pub fn fallback_in(rows: &[Row], field: Field) -> Fallback

@@ -3,6 +3,7 @@ ghost use Rattle.script_ast.specs.Operations as spec;
 ghost use Rattle.script_ast.specs.Words.{oversample_word};
 
 use crate::paths::Path;
+use node_table::Kind;
 use wa_base::{Feature, Fix, Interp, Mode, Name, Rate, Samples};
 
 /// How often a shaper samples its curve (OverSampleType).
@@ -31,15 +32,11 @@ impl Oversample {
 /// operation is described in the named section of the Web Audio recommendation of 17 June 2021.
 #[derive(Drop)]
 pub enum Op {
-    /// The ConstantSourceNode Interface.
-    CreateConstantSource {
+    /// The ConstantSourceNode, GainNode, ChannelSplitterNode, ChannelMergerNode and IIRFilterNode
+    /// Interfaces: a node that its kind alone tells.
+    Create {
         name: Name,
-        offset: Fix,
-    },
-    /// The GainNode Interface.
-    CreateGain {
-        name: Name,
-        gain: Fix,
+        kind: Kind,
     },
     /// The DelayNode Interface.
     CreateDelay {
@@ -47,27 +44,11 @@ pub enum Op {
         max_delay_time: Fix,
         delay_time: Fix,
     },
-    /// The ChannelSplitterNode Interface.
-    CreateChannelSplitter {
-        name: Name,
-        number_of_outputs: u32,
-    },
-    /// The ChannelMergerNode Interface.
-    CreateChannelMerger {
-        name: Name,
-        number_of_inputs: u32,
-    },
     /// The WaveShaperNode Interface.
     CreateWaveShaper {
         name: Name,
         curve: Option<Samples>,
         oversample: Oversample,
-    },
-    /// The IIRFilterNode Interface.
-    CreateIIRFilter {
-        name: Name,
-        feedforward: Samples,
-        feedback: Samples,
     },
     /// The AudioBufferSourceNode Interface.
     CreateBufferSource {
@@ -265,7 +246,7 @@ pub enum Op {
 /// What an operation is done to, or reads. Operations with the same one are decided together.
 #[derive(Clone, Copy, PartialEq, Eq)]
 pub enum Interface {
-    /// A node is created that has neither a list nor a buffer (BaseAudioContext).
+    /// A node is created by its numbers (BaseAudioContext).
     Creation,
     /// A node of any kind (AudioNode).
     Node,
@@ -273,7 +254,7 @@ pub enum Interface {
     Source,
     /// A buffer, or what plays one (AudioBuffer, BaseAudioContext).
     Buffer,
-    /// A wave shaper or a filter (WaveShaperNode, IIRFilterNode).
+    /// A wave shaper (WaveShaperNode).
     Shaper,
     /// The timeline of a parameter (AudioParam).
     Timeline,
@@ -293,11 +274,7 @@ impl Op {
         ensures { result ≡ spec.interface_of self.now }
     {
         match self {
-            Op::CreateConstantSource { .. }
-            | Op::CreateGain { .. }
-            | Op::CreateDelay { .. }
-            | Op::CreateChannelSplitter { .. }
-            | Op::CreateChannelMerger { .. } => Interface::Creation,
+            Op::Create { .. } | Op::CreateDelay { .. } => Interface::Creation,
             Op::Connect { .. }
             | Op::Disconnect { .. }
             | Op::SetChannelCount { .. }
@@ -311,10 +288,8 @@ impl Op {
             | Op::Stop { .. } => Interface::Source,
             Op::CreateBufferSource { .. } | Op::CreateBuffer { .. } | Op::CopyToChannel { .. } =>
                 Interface::Buffer,
-            Op::CreateWaveShaper { .. }
-            | Op::CreateIIRFilter { .. }
-            | Op::SetCurve { .. }
-            | Op::SetOversample { .. } => Interface::Shaper,
+            Op::CreateWaveShaper { .. } | Op::SetCurve { .. } | Op::SetOversample { .. } =>
+                Interface::Shaper,
             Op::SetValue { .. }
             | Op::SetValueAtTime { .. }
             | Op::LinearRampToValueAtTime { .. }
@@ -339,13 +314,9 @@ impl Op {
         ensures { option_map (λ name. name.now) result ≡ spec.new_name self.now }
     {
         match self {
-            Op::CreateConstantSource { name, .. }
-            | Op::CreateGain { name, .. }
+            Op::Create { name, .. }
             | Op::CreateDelay { name, .. }
-            | Op::CreateChannelSplitter { name, .. }
-            | Op::CreateChannelMerger { name, .. }
             | Op::CreateWaveShaper { name, .. }
-            | Op::CreateIIRFilter { name, .. }
             | Op::CreateBufferSource { name, .. }
             | Op::CreateBuffer { name, .. }
             | Op::DecodeAudioData { name, .. } => Some(name),

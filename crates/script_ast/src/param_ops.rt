@@ -1,6 +1,7 @@
 ghost use Rattle.std.specs.Prelude.{◌≡◌, Some};
-ghost use Rattle.script_ast.specs.OpNames.{op_named, param_op_word, param_op_fields};
-ghost use Rattle.script_ast.specs.declared.op_names.OpName.TheVariants.{Param};
+ghost use Rattle.script_ast.specs.OpNames.{param_op_word};
+ghost use Rattle.script_ast.specs.Entries.{op_named, param_op_fields};
+ghost use Rattle.script_ast.specs.declared.entries.OpName.TheVariants.{Param};
 
 use crate::entries::{
     CANCEL_AND_HOLD_AT_TIME, CANCEL_SCHEDULED_VALUES, EXPONENTIAL_RAMP_TO_VALUE_AT_TIME,
@@ -25,7 +26,7 @@ pub enum ParamOpName {
 
 impl ParamOpName {
     /// The value of a call's `op` that names the operation, and no other one.
-    #[tactic(auto, unfolding(crate::specs::OpNames::op_named))]
+    #[tactic(auto, unfolding(crate::specs::Entries::op_named))]
     pub fn word(self) -> &'static str
         ensures word { result.now ≡ param_op_word self }
         ensures named { op_named result.now ≡ Some (Param self) }

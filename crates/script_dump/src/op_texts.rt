@@ -3,6 +3,8 @@ use crate::field_texts::{
     text_or_none,
 };
 use crate::param_texts::param_op_text;
+use causal_core::Equation;
+use node_table::Kind;
 use script_ast::Op;
 use std::alloc::{AllocError, Global};
 use wa_base::Name;
@@ -28,32 +30,12 @@ pub fn op_text(alloc: Global, op: &Op) -> Result<String, AllocError> {
 
 fn creation_text(alloc: Global, op: &Op) -> Result<String, AllocError> {
     match op {
-        Op::CreateConstantSource { name, offset } => {
-            format!(in alloc; "createConstantSource {} {offset}", text(name))
-        }
-        Op::CreateGain { name, gain } => format!(in alloc; "createGain {} {gain}", text(name)),
+        Op::Create { name, kind } => kind_text(alloc, text(name), kind),
         Op::CreateDelay {
             name,
             max_delay_time,
             delay_time,
         } => { format!(in alloc; "createDelay {} {max_delay_time} {delay_time}", text(name)) }
-        Op::CreateChannelSplitter {
-            name,
-            number_of_outputs,
-        } => { format!(in alloc; "createChannelSplitter {} {number_of_outputs}", text(name)) }
-        Op::CreateChannelMerger {
-            name,
-            number_of_inputs,
-        } => { format!(in alloc; "createChannelMerger {} {number_of_inputs}", text(name)) }
-        Op::CreateIIRFilter {
-            name,
-            feedforward,
-            feedback,
-        } => {
-            let feedforward = list_text(alloc, feedforward)?;
-            let feedback = list_text(alloc, feedback)?;
-            format!(in alloc; "createIIRFilter {} {feedforward} {feedback}", text(name))
-        }
         Op::CreateBuffer {
             name,
             channels,
@@ -61,6 +43,26 @@ fn creation_text(alloc: Global, op: &Op) -> Result<String, AllocError> {
             rate,
         } => format!(in alloc; "createBuffer {} {channels} {length} {rate}", text(name)),
         _ => connection_text(alloc, op),
+    }
+}
+
+// The creation of a node that its kind alone tells.
+fn kind_text(alloc: Global, name: &str, kind: &Kind) -> Result<String, AllocError> {
+    match kind {
+        Kind::Constant { offset } => format!(in alloc; "createConstantSource {name} {offset}"),
+        Kind::Gain { gain } => format!(in alloc; "createGain {name} {gain}"),
+        Kind::Splitter { outputs } => format!(in alloc; "createChannelSplitter {name} {outputs}"),
+        Kind::Merger { inputs } => format!(in alloc; "createChannelMerger {name} {inputs}"),
+        Kind::Causal {
+            equation: Equation::Filter { forward, back },
+        } => {
+            let forward = list_text(alloc, forward)?;
+            let back = list_text(alloc, back)?;
+            format!(in alloc; "createIIRFilter {name} {forward} {back}")
+        }
+        Kind::Destination | Kind::Buffer { .. } | Kind::Delay { .. } | Kind::Shaper { .. } => {
+            format!(in alloc; "create {name}")
+        }
     }
 }
 

@@ -17,9 +17,9 @@ use Rattle.std.proofs.lemmas.Grind.{flat_map-append}
 use Rattle.std.proofs.lemmas.List.Elements.{filter_map-append}
 use Rattle.serde_json.specs.Find.{as_object, as_array, get_member}
 use Rattle.script_ast.specs.Fields.{field_word}
-use Rattle.script_ast.specs.OpNames.{fields_of, has_calls}
+use Rattle.script_ast.specs.Entries.{fields_of, has_calls}
 use Rattle.script_ast.specs.declared.fields.Field.TheVariants as field
-use Rattle.script_ast.specs.declared.op_names.OpName.{OpName}
+use Rattle.script_ast.specs.declared.entries.OpName.{OpName}
 use Rattle.script_json.specs.Calls.{Placed, placed, held_by, then_calls, list_calls, has_then, call_faults, call_of, name_in, name_faults, joint_faults, op_faults, op_in}
 use Rattle.script_fields.specs.Fields.{fields_faults, list_in}
 use Rattle.script_fields.specs.Outcome.{outcome}

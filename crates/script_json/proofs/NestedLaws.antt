@@ -6,16 +6,17 @@ use Rattle.std.proofs.lemmas.Grind.{flat_map-append}
 use Rattle.std.proofs.lemmas.List.Elements.{filter_map-append}
 use Rattle.serde_json.specs.Data.{Data}
 use Rattle.script_ast.specs.Holders.{holds_calls, AreNested}
-use Rattle.script_ast.specs.OpNames.{has_calls}
+use Rattle.script_ast.specs.Entries.{has_calls}
 use Rattle.script_ast.specs.declared.call_list.Call.{Call}
 use Rattle.script_ast.specs.declared.clocks.Clock.{Clock}
 use Rattle.script_ast.specs.declared.clocks.Clock.TheVariants.{Frames}
 use Rattle.script_ast.specs.declared.call_list.Script.{Script}
-use Rattle.script_ast.specs.declared.op_names.OpName.{OpName}
-use Rattle.script_ast.specs.declared.op_names.OpName.TheVariants.{CreateConstantSource, CreateGain, CreateDelay, CreateChannelSplitter, CreateChannelMerger, CreateWaveShaper, CreateIIRFilter, CreateBufferSource, CreateBuffer, Connect, ConnectParam, Disconnect, DisconnectParam, SetChannelCount, SetChannelCountMode, SetChannelInterpretation, SetCurve, SetOversample, SetBuffer, SetLoop, SetLoopStart, SetLoopEnd, CopyToChannel, Start, Stop, Param, Suspend, StartRendering, Resume, DecodeAudioData, ReadState, ReadTime, LeftOut}
+use Rattle.script_ast.specs.declared.entries.OpName.{OpName}
+use Rattle.script_ast.specs.declared.entries.OpName.TheVariants.{CreateConstantSource, CreateGain, CreateDelay, CreateChannelSplitter, CreateChannelMerger, CreateWaveShaper, CreateIIRFilter, CreateBufferSource, CreateBuffer, Connect, ConnectParam, Disconnect, DisconnectParam, SetChannelCount, SetChannelCountMode, SetChannelInterpretation, SetCurve, SetOversample, SetBuffer, SetLoop, SetLoopStart, SetLoopEnd, CopyToChannel, Start, Stop, Param, Suspend, StartRendering, Resume, DecodeAudioData, ReadState, ReadTime, LeftOut}
 use Rattle.script_ast.specs.declared.param_ops.ParamOpName.{ParamOpName}
 use Rattle.script_ast.specs.declared.param_ops.ParamOpName.TheVariants as param
 use Rattle.script_ast.proofs.Nesting.{IsBlock, none_block, next_block, block_nested}
+use Rattle.script_json.proofs.WellFormedLaws.{holds_calls-op_in}
 use Rattle.script_json.proofs.CallSteps.{both_none, outcome_ok, is_call}
 use Rattle.script_json.proofs.PlacedLaws.{placed_all}
 use Rattle.script_json.specs.Calls.{Placed, placed, has_then, call_faults, call_of, name_in, op_in, param_op_in}
@@ -24,55 +25,6 @@ use Rattle.script_json.specs.Reading.{placed_at}
 use Rattle.script_json.specs.Script.{main_list, calls_of, head_faults, script_faults, script_in}
 
 -- ---- one call
-
--- an operation on a parameter has none
-holds_calls-param_op_in : (clock : Clock) (name : ParamOpName) (d : Data) → holds_calls (param_op_in clock name d) ≡ has_calls (Param name)
-holds_calls-param_op_in clock param.SetValue d = refl
-holds_calls-param_op_in clock param.SetValueAtTime d = refl
-holds_calls-param_op_in clock param.LinearRampToValueAtTime d = refl
-holds_calls-param_op_in clock param.SetValueCurveAtTime d = refl
-holds_calls-param_op_in clock param.CancelScheduledValues d = refl
-holds_calls-param_op_in clock param.CancelAndHoldAtTime d = refl
-holds_calls-param_op_in clock param.SetAutomationRate d = refl
-holds_calls-param_op_in clock param.ExponentialRampToValueAtTime d = refl
-holds_calls-param_op_in clock param.SetTargetAtTime d = refl
-holds_calls-param_op_in clock param.ReadValue d = refl
-
--- a call is read as one that has a `then` list where its operation has that field
-holds_calls-op_in : (clock : Clock) (name : OpName) (d : Data) → holds_calls (op_in clock name d) ≡ has_calls name
-holds_calls-op_in clock CreateConstantSource d = refl
-holds_calls-op_in clock CreateGain d = refl
-holds_calls-op_in clock CreateDelay d = refl
-holds_calls-op_in clock CreateChannelSplitter d = refl
-holds_calls-op_in clock CreateChannelMerger d = refl
-holds_calls-op_in clock CreateWaveShaper d = refl
-holds_calls-op_in clock CreateIIRFilter d = refl
-holds_calls-op_in clock CreateBufferSource d = refl
-holds_calls-op_in clock CreateBuffer d = refl
-holds_calls-op_in clock Connect d = refl
-holds_calls-op_in clock ConnectParam d = refl
-holds_calls-op_in clock Disconnect d = refl
-holds_calls-op_in clock DisconnectParam d = refl
-holds_calls-op_in clock SetChannelCount d = refl
-holds_calls-op_in clock SetChannelCountMode d = refl
-holds_calls-op_in clock SetChannelInterpretation d = refl
-holds_calls-op_in clock SetCurve d = refl
-holds_calls-op_in clock SetOversample d = refl
-holds_calls-op_in clock SetBuffer d = refl
-holds_calls-op_in clock SetLoop d = refl
-holds_calls-op_in clock SetLoopStart d = refl
-holds_calls-op_in clock SetLoopEnd d = refl
-holds_calls-op_in clock CopyToChannel d = refl
-holds_calls-op_in clock Start d = refl
-holds_calls-op_in clock Stop d = refl
-holds_calls-op_in clock (Param name) d = holds_calls-param_op_in clock name d
-holds_calls-op_in clock Suspend d = refl
-holds_calls-op_in clock StartRendering d = refl
-holds_calls-op_in clock Resume d = refl
-holds_calls-op_in clock DecodeAudioData d = refl
-holds_calls-op_in clock ReadState d = refl
-holds_calls-op_in clock ReadTime d = refl
-holds_calls-op_in clock (LeftOut name) d = refl
 
 -- what a placed call is read as
 record IsReadAs (call : Placed) (c : Call) : Type 0 where

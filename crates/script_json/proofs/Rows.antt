@@ -2,7 +2,9 @@
 use Rattle.std.specs.Prelude.{◌≡◌, codes, Ok, Err, Some, None, false, pos, neg_ℤ, refl, [], ◌∷◌}
 use Rattle.serde_json.proofs.OnLiterals.{serde_json_on_literals}
 use Rattle.serde_json.specs.Read.{read}
-use Rattle.script_ast.specs.OpNames.{op_named}
+use Rattle.causal_core.specs.declared.equation.Equation.TheVariants.{Filter}
+use Rattle.node_table.specs.declared.kinds.Kind.TheVariants as node
+use Rattle.script_ast.specs.Entries.{op_named}
 use Rattle.wa_base.specs.declared.graph_names.Mode.TheVariants.{ClampedMax}
 use Rattle.wa_base.specs.declared.graph_names.Interp.TheVariants.{Discrete}
 use Rattle.wa_base.specs.declared.graph_names.Rate.TheVariants.{K}
@@ -40,7 +42,7 @@ started = refl
 
 -- a gain of 1.0 where none is given
 gained : script_or_fault (read (codes "{\"version\":1,\"context\":{\"channels\":1,\"length\":1,\"rate\":1},\"calls\":[{\"op\":\"createGain\",\"as\":\"g\"}]}"))
-    ≡ Ok (record { context = record { channels = 1; length = 1; rate = 1 }; calls = record { ordinal = 1; holder = 0; op = op.CreateGain (codes "g") (pos 16777216) } ∷ [] })
+    ≡ Ok (record { context = record { channels = 1; length = 1; rate = 1 }; calls = record { ordinal = 1; holder = 0; op = op.Create (codes "g") (node.Gain (pos 16777216)) } ∷ [] })
 unfolding serde_json_on_literals context_in main_list calls_of head_faults script_faults script_in placed call_faults call_of op_named is_new_name number_in text_in
 gained = refl
 
@@ -202,7 +204,7 @@ oversample_is_null = refl
 
 -- a filter's coefficients, whatever order a call has them in
 filtered : script_or_fault (read (codes "{\"version\":1,\"context\":{\"channels\":1,\"length\":1,\"rate\":1},\"calls\":[{\"op\":\"createIIRFilter\",\"as\":\"f\",\"feedback\":[-1,8],\"feedforward\":[5]}]}"))
-    ≡ Ok (record { context = record { channels = 1; length = 1; rate = 1 }; calls = record { ordinal = 1; holder = 0; op = op.CreateIIRFilter (codes "f") (pos 5 ∷ []) (neg_ℤ (pos 1) ∷ pos 8 ∷ []) } ∷ [] })
+    ≡ Ok (record { context = record { channels = 1; length = 1; rate = 1 }; calls = record { ordinal = 1; holder = 0; op = op.Create (codes "f") (node.Causal (Filter (pos 5 ∷ []) (neg_ℤ (pos 1) ∷ pos 8 ∷ []))) } ∷ [] })
 unfolding serde_json_on_literals context_in main_list calls_of head_faults script_faults script_in placed call_faults call_of op_named is_new_name number_in text_in fixes_of
 filtered = refl
 

@@ -6,11 +6,13 @@ use Rattle.std.specs.Int.Signed.{le_z_yes}
 use Rattle.std.proofs.lemmas.Grind.{flat_map-append}
 use Rattle.std.proofs.lemmas.Bool.{leb-true}
 use Rattle.std.proofs.lemmas.Int.{ints}
-use Rattle.std.proofs.lemmas.List.Elements.{filter_map-append}
+use Rattle.std.proofs.lemmas.List.Elements.{filter_map-append, All-nil, All-cons}
 use Rattle.serde_json.specs.Data.{Data, Items, no_items, item}
 use Rattle.serde_json.specs.Find.{as_object, as_array, as_str}
 use Rattle.wa_base.specs.declared.contexts.ContextSpec.{ContextSpec}
 use Rattle.wa_base.specs.Numbers.{IsFix}
+use Rattle.script_ast.specs.Entries.{has_calls}
+use Rattle.script_ast.specs.Holders.{holds_calls}
 use Rattle.script_ast.specs.Operations.{IsInRange}
 use Rattle.script_ast.specs.Ranges.{IsTime, IsTimeIfSome, IsCount, IsCountIfSome, AreFixes, AreFixesIfSome, IsNewName, IsPath, is_new_name, is_path}
 use Rattle.script_ast.specs.WellFormed.{IsCallAt, AreCallsAfter, IsWellFormed}
@@ -24,8 +26,8 @@ use Rattle.script_ast.specs.declared.entries.Kind.TheVariants as kind
 use Rattle.script_ast.specs.declared.entries.Row.{Row}
 use Rattle.script_ast.specs.declared.fields.Field.{Field}
 use Rattle.script_ast.specs.declared.fields.Field.TheVariants as field
-use Rattle.script_ast.specs.declared.op_names.OpName.{OpName}
-use Rattle.script_ast.specs.declared.op_names.OpName.TheVariants.{CreateConstantSource, CreateGain, CreateDelay, CreateChannelSplitter, CreateChannelMerger, CreateWaveShaper, CreateIIRFilter, CreateBufferSource, CreateBuffer, Connect, ConnectParam, Disconnect, DisconnectParam, SetChannelCount, SetChannelCountMode, SetChannelInterpretation, SetCurve, SetOversample, SetBuffer, SetLoop, SetLoopStart, SetLoopEnd, CopyToChannel, Start, Stop, Param, Suspend, StartRendering, Resume, DecodeAudioData, ReadState, ReadTime, LeftOut}
+use Rattle.script_ast.specs.declared.entries.OpName.{OpName}
+use Rattle.script_ast.specs.declared.entries.OpName.TheVariants.{CreateConstantSource, CreateGain, CreateDelay, CreateChannelSplitter, CreateChannelMerger, CreateWaveShaper, CreateIIRFilter, CreateBufferSource, CreateBuffer, Connect, ConnectParam, Disconnect, DisconnectParam, SetChannelCount, SetChannelCountMode, SetChannelInterpretation, SetCurve, SetOversample, SetBuffer, SetLoop, SetLoopStart, SetLoopEnd, CopyToChannel, Start, Stop, Param, Suspend, StartRendering, Resume, DecodeAudioData, ReadState, ReadTime, LeftOut}
 use Rattle.script_ast.specs.declared.param_ops.ParamOpName.{ParamOpName}
 use Rattle.script_ast.specs.declared.param_ops.ParamOpName.TheVariants as param
 use Rattle.script_json.proofs.CallSteps.{both_none, length-calls, outcome_ok}
@@ -139,8 +141,8 @@ unfolding text_in
 text_in-path clock n d h = path_member clock n (member_at field.Path d) h
 
 fixes_of-range : (ds : Items) → AreFixes (map fix_of (wholes ds))
-fixes_of-range no_items = tt
-fixes_of-range (item d ds) = (within_or_zero _ _ (whole d) (le_z_yes tt) (le_z_yes tt), fixes_of-range ds)
+fixes_of-range no_items = All-nil IsFix
+fixes_of-range (item d ds) = All-cons IsFix _ _ (within_or_zero _ _ (whole d) (le_z_yes tt) (le_z_yes tt)) (fixes_of-range ds)
 
 pub fixes_in-range : (field : Field) (d : Data) → AreFixes (fixes_in field d)
 unfolding fixes_of
@@ -168,13 +170,13 @@ param_op_in-range clock d param.SetTargetAtTime = tt
 param_op_in-range clock d param.ReadValue = tt
 
 pub op_in-range : (clock : Clock) (n : ℕ) (d : Data) (name : OpName) → op_faults clock n d name ≡ [] → IsInRange (op_in clock name d)
-op_in-range clock n d CreateConstantSource h = (text_in-new_name clock n d (both_none _ _ (both_none _ _ h).0).0, fix_in-range _ _ d)
-op_in-range clock n d CreateGain h = (text_in-new_name clock n d (both_none _ _ (both_none _ _ h).0).0, fix_in-range _ _ d)
+op_in-range clock n d CreateConstantSource h = (text_in-new_name clock n d (both_none _ _ (both_none _ _ h).0).0, (refl, refl), fix_in-range _ _ d)
+op_in-range clock n d CreateGain h = (text_in-new_name clock n d (both_none _ _ (both_none _ _ h).0).0, (refl, refl), fix_in-range _ _ d)
 op_in-range clock n d CreateDelay h = (text_in-new_name clock n d (both_none _ _ (both_none _ _ h).0).0, fix_in-range _ _ d, fix_in-range _ _ d)
-op_in-range clock n d CreateChannelSplitter h = (text_in-new_name clock n d (both_none _ _ (both_none _ _ h).0).0, count_in-range _ _ d)
-op_in-range clock n d CreateChannelMerger h = (text_in-new_name clock n d (both_none _ _ (both_none _ _ h).0).0, count_in-range _ _ d)
+op_in-range clock n d CreateChannelSplitter h = (text_in-new_name clock n d (both_none _ _ (both_none _ _ h).0).0, (refl, refl), count_in-range _ _ d)
+op_in-range clock n d CreateChannelMerger h = (text_in-new_name clock n d (both_none _ _ (both_none _ _ h).0).0, (refl, refl), count_in-range _ _ d)
 op_in-range clock n d CreateWaveShaper h = (text_in-new_name clock n d (both_none _ _ (both_none _ _ h).0).0, fixes_or_null_in-range _ d)
-op_in-range clock n d CreateIIRFilter h = (text_in-new_name clock n d (both_none _ _ (both_none _ _ h).0).0, fixes_in-range field.Feedforward d, fixes_in-range field.Feedback d)
+op_in-range clock n d CreateIIRFilter h = (text_in-new_name clock n d (both_none _ _ (both_none _ _ h).0).0, (refl, refl), (fixes_in-range field.Feedforward d, fixes_in-range field.Feedback d))
 op_in-range clock n d CreateBufferSource h = (text_in-new_name clock n d (both_none _ _ (both_none _ _ h).0).0, time_in-range clock _ _ d, time_in-range clock _ _ d, fix_in-range _ _ d)
 op_in-range clock n d CreateBuffer h = (text_in-new_name clock n d (both_none _ _ (both_none _ _ h).0).0, count_in-range _ _ d, count_in-range _ _ d, count_in-range _ _ d)
 op_in-range clock n d Connect h = (count_in-range _ _ d, count_in-range _ _ d)
@@ -205,6 +207,57 @@ op_in-range clock n d DecodeAudioData h =
 op_in-range clock n d ReadState h = tt
 op_in-range clock n d ReadTime h = tt
 op_in-range clock n d (LeftOut name) h = tt
+
+-- ---- the list that a call holds
+
+-- an operation on a parameter has none
+holds_calls-param_op_in : (clock : Clock) (name : ParamOpName) (d : Data) → holds_calls (param_op_in clock name d) ≡ has_calls (Param name)
+holds_calls-param_op_in clock param.SetValue d = refl
+holds_calls-param_op_in clock param.SetValueAtTime d = refl
+holds_calls-param_op_in clock param.LinearRampToValueAtTime d = refl
+holds_calls-param_op_in clock param.SetValueCurveAtTime d = refl
+holds_calls-param_op_in clock param.CancelScheduledValues d = refl
+holds_calls-param_op_in clock param.CancelAndHoldAtTime d = refl
+holds_calls-param_op_in clock param.SetAutomationRate d = refl
+holds_calls-param_op_in clock param.ExponentialRampToValueAtTime d = refl
+holds_calls-param_op_in clock param.SetTargetAtTime d = refl
+holds_calls-param_op_in clock param.ReadValue d = refl
+
+-- a call is read as one that has a `then` list where its operation has that field
+pub holds_calls-op_in : (clock : Clock) (name : OpName) (d : Data) → holds_calls (op_in clock name d) ≡ has_calls name
+holds_calls-op_in clock CreateConstantSource d = refl
+holds_calls-op_in clock CreateGain d = refl
+holds_calls-op_in clock CreateDelay d = refl
+holds_calls-op_in clock CreateChannelSplitter d = refl
+holds_calls-op_in clock CreateChannelMerger d = refl
+holds_calls-op_in clock CreateWaveShaper d = refl
+holds_calls-op_in clock CreateIIRFilter d = refl
+holds_calls-op_in clock CreateBufferSource d = refl
+holds_calls-op_in clock CreateBuffer d = refl
+holds_calls-op_in clock Connect d = refl
+holds_calls-op_in clock ConnectParam d = refl
+holds_calls-op_in clock Disconnect d = refl
+holds_calls-op_in clock DisconnectParam d = refl
+holds_calls-op_in clock SetChannelCount d = refl
+holds_calls-op_in clock SetChannelCountMode d = refl
+holds_calls-op_in clock SetChannelInterpretation d = refl
+holds_calls-op_in clock SetCurve d = refl
+holds_calls-op_in clock SetOversample d = refl
+holds_calls-op_in clock SetBuffer d = refl
+holds_calls-op_in clock SetLoop d = refl
+holds_calls-op_in clock SetLoopStart d = refl
+holds_calls-op_in clock SetLoopEnd d = refl
+holds_calls-op_in clock CopyToChannel d = refl
+holds_calls-op_in clock Start d = refl
+holds_calls-op_in clock Stop d = refl
+holds_calls-op_in clock (Param name) d = holds_calls-param_op_in clock name d
+holds_calls-op_in clock Suspend d = refl
+holds_calls-op_in clock StartRendering d = refl
+holds_calls-op_in clock Resume d = refl
+holds_calls-op_in clock DecodeAudioData d = refl
+holds_calls-op_in clock ReadState d = refl
+holds_calls-op_in clock ReadTime d = refl
+holds_calls-op_in clock (LeftOut name) d = refl
 
 -- ---- the calls of a script
 

@@ -4,6 +4,8 @@ ghost use Rattle.script_json.specs.Calls.{op_in};
 
 use crate::param_ops::build_param_op;
 use crate::shaper_ops::{create_wave_shaper, set_curve, set_oversample};
+use causal_core::Equation;
+use node_table::Kind;
 use script_ast::{Clock, Field, Op, OpName, entries};
 use script_fields::{
     count, count_or_null, fix, fixes, flag, interp, mode, path, text, text_or_null, time,
@@ -61,18 +63,22 @@ pub fn build(alloc: Global, clock: Clock, name: OpName, call: &Value) -> Result<
 fn create_constant_source(alloc: Global, call: &Value) -> Result<Op, NoMemory>
     ensures { IfOk result (λ op. op ≡ op_in Clock.Frames OpName.CreateConstantSource (view call.now)) }
 {
-    Ok(Op::CreateConstantSource {
+    Ok(Op::Create {
         name: text(alloc, call, Field::As)?,
-        offset: fix(call, &entries::CREATE_CONSTANT_SOURCE, Field::Offset),
+        kind: Kind::Constant {
+            offset: fix(call, &entries::CREATE_CONSTANT_SOURCE, Field::Offset),
+        },
     })
 }
 
 fn create_gain(alloc: Global, call: &Value) -> Result<Op, NoMemory>
     ensures { IfOk result (λ op. op ≡ op_in Clock.Frames OpName.CreateGain (view call.now)) }
 {
-    Ok(Op::CreateGain {
+    Ok(Op::Create {
         name: text(alloc, call, Field::As)?,
-        gain: fix(call, &entries::CREATE_GAIN, Field::Gain),
+        kind: Kind::Gain {
+            gain: fix(call, &entries::CREATE_GAIN, Field::Gain),
+        },
     })
 }
 
@@ -89,32 +95,40 @@ fn create_delay(alloc: Global, call: &Value) -> Result<Op, NoMemory>
 fn create_channel_splitter(alloc: Global, call: &Value) -> Result<Op, NoMemory>
     ensures { IfOk result (λ op. op ≡ op_in Clock.Frames OpName.CreateChannelSplitter (view call.now)) }
 {
-    Ok(Op::CreateChannelSplitter {
+    Ok(Op::Create {
         name: text(alloc, call, Field::As)?,
-        number_of_outputs: count(
-            call,
-            &entries::CREATE_CHANNEL_SPLITTER,
-            Field::NumberOfOutputs,
-        ),
+        kind: Kind::Splitter {
+            outputs: count(
+                call,
+                &entries::CREATE_CHANNEL_SPLITTER,
+                Field::NumberOfOutputs,
+            ),
+        },
     })
 }
 
 fn create_channel_merger(alloc: Global, call: &Value) -> Result<Op, NoMemory>
     ensures { IfOk result (λ op. op ≡ op_in Clock.Frames OpName.CreateChannelMerger (view call.now)) }
 {
-    Ok(Op::CreateChannelMerger {
+    Ok(Op::Create {
         name: text(alloc, call, Field::As)?,
-        number_of_inputs: count(call, &entries::CREATE_CHANNEL_MERGER, Field::NumberOfInputs),
+        kind: Kind::Merger {
+            inputs: count(call, &entries::CREATE_CHANNEL_MERGER, Field::NumberOfInputs),
+        },
     })
 }
 
 fn create_iir_filter(alloc: Global, call: &Value) -> Result<Op, NoMemory>
     ensures { IfOk result (λ op. op ≡ op_in Clock.Frames OpName.CreateIIRFilter (view call.now)) }
 {
-    Ok(Op::CreateIIRFilter {
-        name: text(alloc, call, Field::As)?,
-        feedforward: fixes(alloc, call, Field::Feedforward)?,
-        feedback: fixes(alloc, call, Field::Feedback)?,
+    let name = text(alloc, call, Field::As)?;
+    let equation = Equation::Filter {
+        forward: fixes(alloc, call, Field::Feedforward)?,
+        back: fixes(alloc, call, Field::Feedback)?,
+    };
+    Ok(Op::Create {
+        name,
+        kind: Kind::Causal { equation },
     })
 }
 

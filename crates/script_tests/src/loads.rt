@@ -1,3 +1,4 @@
+use node_table::Kind;
 use script_ast::{Op, Script};
 use std::test::Fail;
 use wa_base::ContextSpec;
@@ -5,7 +6,10 @@ use wa_base::ContextSpec;
 // Whether the call with an ordinal creates a source with this offset.
 fn creates_source(script: &Script, ordinal: u32, level: i32) -> bool {
     match script.find(ordinal) {
-        Some(call) => matches!(call.op, Op::CreateConstantSource { offset, .. } if offset == level),
+        Some(call) => matches!(
+            &call.op,
+            Op::Create { kind: Kind::Constant { offset }, .. } if *offset == level
+        ),
         None => false,
     }
 }

@@ -4,7 +4,3 @@ use Rattle.control_side.proofs.control.Control.decide_on_shaper.Goals as goal
 pub returns-in-SetCurve : goal.returns-in-SetCurve
 unfolding decided
 returns-in-SetCurve c = rw c.in-SetCurve.is c.set_curve.ensures
-
-pub returns-in-CreateIIRFilter : goal.returns-in-CreateIIRFilter
-unfolding decided
-returns-in-CreateIIRFilter c = rw c.in-CreateIIRFilter.is c.create_filter.ensures

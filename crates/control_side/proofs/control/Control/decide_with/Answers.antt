@@ -12,4 +12,4 @@ returns-in_ok-decide-in_default-clause-decided g c =
 
 pub returns-in_ok-decide-in_default-clause-fits : goal.returns-in_ok-decide-in_default-clause-fits
 returns-in_ok-decide-in_default-clause-fits g c =
-    subst (IsFor c.args.self.now c.args.op.now) (sym c.in_ok-decide-in_default.ensures) (decided_for c.args.self.now (subst IsSteady c.self.view_is c.self.invariant) c.args.op.now)
+    subst (IsFor c.args.self.now c.args.op.now) (sym c.in_ok-decide-in_default.ensures) (decided_for c.args.self.now (subst IsSteady c.self.view_is c.self.invariant) c.args.op.now c.requires)
