@@ -20,7 +20,7 @@ from waplay_tools.reference.scanning import Unreadable
 # A crate of scripts: two operations with the same field, one with a field of its own, one without.
 SCRIPTS = {
     "crates/script_ast/src/lib.rt": "//! Scripts.\n",
-    "crates/script_ast/specs/Lib.antt": "pub mod Entries\npub mod Fields\npub mod OpNames\n",
+    "crates/script_ast/specs/Lib.antt": "pub mod Entries\npub mod Fields\n",
     "crates/script_ast/specs/Fields.antt": """-- The names of fields.
 abbrev pub field_word : Field → List ℕ
 field_word As = codes "as"
@@ -34,28 +34,27 @@ create =
 
 abbrev pub name : List Row
 name = row field.As kind.Name Null ∷ []
-""",
-    "crates/script_ast/specs/OpNames.antt": """-- The operations.
+
 abbrev pub param_op_word : ParamOpName → List ℕ
 param_op_word param.Hold = codes "hold"
 
 abbrev pub op_word : OpName → List ℕ
-op_word Create = codes "create"
-op_word Find = codes "find"
-op_word (Param name) = param_op_word name
-op_word Rest = codes "rest"
+op_word op.Create = codes "create"
+op_word op.Find = codes "find"
+op_word (op.Param name) = param_op_word name
+op_word op.Rest = codes "rest"
 
 abbrev pub param_op_fields : ParamOpName → List Row
-param_op_fields param.Hold = entry.name
+param_op_fields param.Hold = name
 
 abbrev pub fields_of : OpName → List Row
-fields_of Create = entry.create
-fields_of Find = entry.name
-fields_of (Param name) = param_op_fields name
-fields_of Rest = []
+fields_of op.Create = create
+fields_of op.Find = name
+fields_of (op.Param name) = param_op_fields name
+fields_of op.Rest = []
 
 abbrev pub operations : List OpName
-operations = Create ∷ Find ∷ Param param.Hold ∷ Rest ∷ []
+operations = op.Create ∷ op.Find ∷ op.Param param.Hold ∷ op.Rest ∷ []
 """,
 }
 FILES = {

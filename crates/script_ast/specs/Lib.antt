@@ -2,7 +2,6 @@ pub mod Entries
 pub mod Fallbacks
 pub mod Fields
 pub mod Holders
-pub mod OpNames
 pub mod Operations
 pub mod Ranges
 pub mod WellFormed

@@ -1,6 +1,5 @@
 ghost use Rattle.std.specs.Prelude.{◌≡◌, Some};
-ghost use Rattle.script_ast.specs.OpNames.{left_out_word, left_out_feature};
-ghost use Rattle.script_ast.specs.Entries.{op_named};
+ghost use Rattle.script_ast.specs.Entries.{left_out_word, left_out_feature, op_named};
 ghost use Rattle.script_ast.specs.declared.entries.OpName.TheVariants.{LeftOut};
 
 use wa_base::Feature;

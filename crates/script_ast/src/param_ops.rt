@@ -1,6 +1,5 @@
 ghost use Rattle.std.specs.Prelude.{◌≡◌, Some};
-ghost use Rattle.script_ast.specs.OpNames.{param_op_word};
-ghost use Rattle.script_ast.specs.Entries.{op_named, param_op_fields};
+ghost use Rattle.script_ast.specs.Entries.{op_named, param_op_word, param_op_fields};
 ghost use Rattle.script_ast.specs.declared.entries.OpName.TheVariants.{Param};
 
 use crate::entries::{

@@ -6,8 +6,7 @@ use Rattle.causal_core.specs.declared.equation.Equation.TheVariants.{Filter}
 use Rattle.node_table.specs.declared.kinds.Kind.TheVariants as node
 use Rattle.script_ast.specs.Entries as entry
 use Rattle.script_ast.specs.Fields.{field_word}
-use Rattle.script_ast.specs.Entries.{op_named, fields_of, has_calls}
-use Rattle.script_ast.specs.OpNames.{left_out_feature}
+use Rattle.script_ast.specs.Entries.{op_named, fields_of, has_calls, left_out_feature}
 use Rattle.script_ast.specs.declared.call_list.Call.{Call}
 use Rattle.script_ast.specs.declared.clocks.Clock.{Clock}
 use Rattle.script_ast.specs.declared.fields.Field.TheVariants as field

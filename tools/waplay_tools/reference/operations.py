@@ -49,7 +49,7 @@ def table_of(house: House, crate: str, file: str, name: str) -> dict[str, str]:
     """A definition by cases as a table. A case may hand on to another definition of the file."""
     table: dict[str, str] = {}
     for case, value in equations(house, crate, file, name):
-        inner = re.fullmatch(r"\((\w+) \w+\)", case)
+        inner = re.fullmatch(r"\((?:\w+\.)?(\w+) \w+\)", case)
         if not inner:
             table[case.split(".")[-1]] = value
         elif value.split()[0] in ("[]",):
@@ -118,14 +118,14 @@ def entry_fields(house: House, entry: str) -> str:
 
 def operations_in_order(house: House) -> list[str]:
     """Every operation, as the definitions name it."""
-    ((_, listed),) = equations(house, CRATE, "OpNames", "operations")
-    return [it.replace("param.", "").replace("left_out.", "") for it in items_of(listed)]
+    ((_, listed),) = equations(house, CRATE, "Entries", "operations")
+    return [re.sub(r"\b\w+\.", "", it) for it in items_of(listed)]
 
 
 def fields_table(house: House) -> list[str]:
     """The operations that are built, with their fields. Those with the same fields share a row."""
-    words = words_of(house, CRATE, "OpNames", "op_word")
-    entries = table_of(house, CRATE, "OpNames", "fields_of")
+    words = words_of(house, CRATE, "Entries", "op_word")
+    entries = table_of(house, CRATE, "Entries", "fields_of")
     rows: dict[str, list[str]] = {}
     for name in operations_in_order(house):
         if not name.startswith("LeftOut "):
@@ -136,8 +136,8 @@ def fields_table(house: House) -> list[str]:
 
 def left_out_table(house: House) -> list[str]:
     """The operations that the profile leaves out, each with the feature for which it is refused."""
-    words = words_of(house, CRATE, "OpNames", "left_out_word")
-    features = table_of(house, CRATE, "OpNames", "left_out_feature")
+    words = words_of(house, CRATE, "Entries", "left_out_word")
+    features = table_of(house, CRATE, "Entries", "left_out_feature")
     spelled = words_of(house, "wa_base", "Features", "feature_word")
     head = ["| operation | feature |", "|---|---|"]
     return head + [
