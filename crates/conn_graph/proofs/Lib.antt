@@ -8,7 +8,7 @@ pub mod RankLaws
 pub mod OrderLaws
 pub mod Rows
 pub mod WalkLaws
-mod Sameness
 mod OutWalks
 mod Leaving
 pub mod FormRows
+pub mod EditLaws

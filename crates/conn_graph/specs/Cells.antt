@@ -30,10 +30,11 @@ place (e ∷ es) from = if nat_lt from e.from.0 then 0 else suc (place es from)
 abbrev pub connections_of : List Ports → List Edge → Connections
 connections_of nodes edges = record { nodes = nodes; edges = edges }
 
-abbrev pub view_of : List Ports → List Edge → ℕ → GraphView
-view_of nodes edges room = record {
+abbrev pub view_of : List Ports → List Edge → ℕ → ℕ → GraphView
+view_of nodes edges room edits = record {
   value = connections_of nodes edges;
   out_walks = walks leaves (length nodes) edges;
   in_walks = walks enters (length nodes) edges;
   room = room;
+  edits = edits;
 }

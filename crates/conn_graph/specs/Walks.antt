@@ -1,5 +1,5 @@
 -- Walks over the connections of one node.
-use Rattle.std.specs.Prelude.{ℕ, ◌≡◌, ◌↔◌, List, [], ◌∷◌, map, filter, ◌==◌, if◌then◌else◌, Option, None, Some, slice_get, slice_index_or}
+use Rattle.std.specs.Prelude.{ℕ, suc, ◌≡◌, ◌≤◌, ◌<◌, ◌-◌, ◌^◌, ◌↔◌, nat_lt, List, [], ◌∷◌, map, filter, ◌==◌, if◌then◌else◌, Option, None, Some, slice_get, slice_index_or}
 use Rattle.law_base.specs.Members.{IsIn, AreDistinct}
 use Rattle.conn_graph.specs.declared.edges.Edge.{Edge}
 use Rattle.conn_graph.specs.Edges.{target_node}
@@ -9,13 +9,14 @@ use Rattle.conn_graph.specs.Graph.{Connections}
 abbrev pub Walk : Type 0
 Walk = List (ℕ × Edge)
 
--- What contracts see of a graph: its value, for each node the walk from it and the walk to it, and for how many further nodes there is room.
+-- What contracts see of a graph: its value, for each node the walk from it and the walk to it, for how many further nodes there is room, and how often it was edited.
 -- The cells are no part of the value: two graphs of one value may have other cells.
 pub record GraphView : Type 0 where
   pub value : Connections
   pub out_walks : List Walk
   pub in_walks : List Walk
   pub room : ℕ
+  pub edits : ℕ
 
 -- the walk from, and to, a node
 abbrev pub out_walk : GraphView → ℕ → Walk
@@ -50,8 +51,19 @@ pub record IsInWalk (g : Connections) (node : ℕ) (walk : Walk) : Type 0 where
   pub once : AreDistinct (map (λ step. step.1) walk)
   pub cells : AreDistinct (map (λ step. step.0) walk)
 
--- the graph is as before, but for its room
+-- the graph is as before, but for its room, of which it loses none
 pub record LeavesGraph (old new : GraphView) : Type 0 where
   pub value : new.value ≡ old.value
   pub out_walks : new.out_walks ≡ old.out_walks
   pub in_walks : new.in_walks ≡ old.in_walks
+  pub room : old.room ≤ new.room
+  pub edits : new.edits ≡ old.edits
+
+-- the number of edits after one more: it rises by one, and stops at the greatest number
+abbrev pub one_more : ℕ → ℕ
+one_more edits = if nat_lt edits (2 ^ 64 - 1) then suc edits else edits
+
+-- A graph became another by edits that are counted: the number of edits does not fall, and where it is the old one, and below the greatest number, nothing was edited.
+pub record CountsEdits (old new : GraphView) : Type 0 where
+  pub low : old.edits ≤ new.edits
+  pub same : new.edits ≡ old.edits → old.edits < 2 ^ 64 - 1 → new.value ≡ old.value

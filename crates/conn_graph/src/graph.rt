@@ -1,9 +1,9 @@
-ghost use Rattle.std.specs.Prelude.{◌≡◌, ◌↔◌, ◌<◌, ◌+◌, ◌-◌, ◌^◌, [], ◌∷◌, ◌++◌, length, not, Some, IsTrue, IsOk, IfOk, OnOk, OnErr, IsErrOf, IfSome, IsNone};
+ghost use Rattle.std.specs.Prelude.{◌≡◌, ◌↔◌, ◌<◌, ◌+◌, ◌-◌, ◌^◌, [], ◌∷◌, ◌++◌, if◌then◌else◌, length, not, Some, IsOk, IfOk, OnOk, OnErr, IsErrOf, IfSome, IsNone};
 ghost use Rattle.wa_base.specs.declared.exceptions.Exc.{Exc};
 ghost use Rattle.wa_base.specs.declared.exceptions.Refusal.TheVariants as Refusal;
 ghost use Rattle.conn_graph.specs.Edges.{target_node, form_node};
 ghost use Rattle.conn_graph.specs.Graph as spec;
-ghost use Rattle.conn_graph.specs.Walks.{out_walk, in_walk, next_step, IsOnWalk, IsOutWalk, IsInWalk, LeavesGraph};
+ghost use Rattle.conn_graph.specs.Walks.{out_walk, in_walk, next_step, IsOnWalk, IsOutWalk, IsInWalk, LeavesGraph, one_more};
 
 use crate::edges::{Edge, Form, Ports, Target};
 use crate::walks::{has_edge, keep_unnamed, names_one, next_entering, next_leaving, put_edge};
@@ -17,11 +17,14 @@ const MAX_EDGES: usize = 8_192;
 /// The nodes of an audio graph, as far as connections see them, and the connections between them.
 ///
 /// Contracts see it as the list of the nodes' ports and the list of connections, in order of the
-/// source's number and, for one source, in order of connection. No connection is there twice.
+/// source's number and, for one source, in order of connection. No connection is there twice. The
+/// edits that change it are counted, so that whoever made something of a graph can tell whether it
+/// is still that graph.
 #[derive(Drop)]
 pub struct Graph {
     nodes: Vec<Ports>,
     edges: Vec<Edge>,
+    edits: u64,
 }
 
 impl Model for Graph {
@@ -32,7 +35,7 @@ impl Model for Graph {
 
     ghost Value = { GraphView };
 
-    ghost view = { λ g. view_of g.nodes.items g.edges.items (vec_capacity g.nodes - vec_len g.nodes) };
+    ghost view = { λ g. view_of g.nodes.items g.edges.items (vec_capacity g.nodes - vec_len g.nodes) g.edits };
 
     ghost invariant = { λ g. IsGraph (connections_of g.nodes.items g.edges.items) };
 }
@@ -40,15 +43,17 @@ impl Model for Graph {
 impl Graph {
     /// A graph without nodes. It takes no memory until it grows.
     pub fn new(alloc: Global) -> Graph
-        ensures { result.value ≡ spec.no_connections }
+        ensures value { result.value ≡ spec.no_connections }
+        ensures edits { result.edits ≡ 0 }
     {
         Graph {
             nodes: Vec::new(alloc),
             edges: Vec::new(alloc),
+            edits: 0,
         }
     }
 
-    /// Makes room for one more node. The graph stays.
+    /// Makes room for one more node. The graph stays, and so does the room that there was.
     pub fn reserve(&mut self) -> Result<(), NoMemory>
         ensures graph { LeavesGraph self.old self.new }
         ensures room { OnOk result (0 < self.new.room) }
@@ -62,6 +67,7 @@ impl Graph {
     pub fn add_node(&mut self, inputs: u32, outputs: u32, is_delay: bool) -> Result<(), NoMemory>
         requires { length self.old.value.nodes < 2 ^ 32 - 1 }
         ensures ok { OnOk result (self.new.value ≡ spec.with_node self.old.value (record { inputs = inputs; outputs = outputs; is_delay = is_delay })) }
+        ensures edits { OnOk result (self.new.edits ≡ one_more self.old.edits) }
         ensures reserved { 0 < self.old.room → IsOk result }
         ensures err { OnErr result (LeavesGraph self.old self.new) }
     {
@@ -70,6 +76,7 @@ impl Graph {
             outputs,
             is_delay,
         })?;
+        self.edits = edits_after(self.edits);
         Ok(())
     }
 
@@ -77,13 +84,15 @@ impl Graph {
     ///
     /// The refusals are, in this order, `IndexSize` for an output or an input that the node does
     /// not have, and `NotSupported` with `ConnectionLimit` for a new connection where there are
-    /// 8,192. A refusal leaves the graph as it was (AudioNode.connect).
+    /// 8,192. A refusal leaves the graph as it was, with the room that was reserved, and so does want
+    /// of memory (AudioNode.connect).
     pub fn connect(&mut self, edge: Edge) -> Result<bool, Refusal>
         requires from { edge.from.0 < length self.old.value.nodes }
         requires to { target_node edge.to < length self.old.value.nodes }
         ensures ok { IfOk result (λ is_new. is_new ≡ not (spec.has_edge self.old.value edge)) }
         ensures value { OnOk result (self.new.value ≡ spec.connected self.old.value edge) }
-        ensures room { OnOk result (self.new.room ≡ self.old.room) }
+        ensures edits { IfOk result (λ is_new. self.new.edits ≡ (if is_new then one_more self.old.edits else self.old.edits)) }
+        ensures room { self.new.room ≡ self.old.room }
         ensures refused { (exc : Exc) → IsErrOf result (Refusal.Exc exc) ↔ (spec.connect_refusal self.old.value edge ≡ Some exc) }
         ensures err { OnErr result (LeavesGraph self.old self.new) }
         ensures whole { spec.IsGraph self.new.value }
@@ -95,6 +104,7 @@ impl Graph {
             return Ok(false);
         }
         put_edge(&mut self.edges, edge)?;
+        self.edits = edits_after(self.edits);
         Ok(true)
     }
 
@@ -137,6 +147,7 @@ impl Graph {
         requires from { from.0 < length self.old.value.nodes }
         requires to { IfSome (form_node form) (λ node. node < length self.old.value.nodes) }
         ensures ok { OnOk result (self.new.value ≡ spec.disconnected self.old.value from.0 form) }
+        ensures edits { OnOk result (self.new.edits ≡ one_more self.old.edits) }
         ensures room { self.new.room ≡ self.old.room }
         ensures refused { (exc : Exc) → IsErrOf result exc ↔ (spec.disconnect_refusal self.old.value from.0 form ≡ Some exc) }
         ensures err { OnErr result (LeavesGraph self.old self.new) }
@@ -146,6 +157,7 @@ impl Graph {
             return Err(exc);
         }
         keep_unnamed(&mut self.edges, from, form);
+        self.edits = edits_after(self.edits);
         Ok(())
     }
 
@@ -237,25 +249,34 @@ impl Graph {
         next_leaving(self.edges.as_slice(), node, place_after(after))
     }
 
-    /// Whether two graphs have equal nodes and the same connections in the same order. Each node and
-    /// each connection is looked at once at most.
-    pub fn is_same(&self, other: &Graph) -> bool
-        ensures { IsTrue result ↔ (self.now.value ≡ other.now.value) }
+    /// How often the graph was edited: the number of nodes that were added, of new connections that
+    /// were made, and of disconnects that were not refused. It stops at 2^64 - 1. Below that, a graph
+    /// whose number is still the same has the same nodes and connections.
+    pub fn edits(&self) -> u64
+        ensures { result ≡ self.now.edits }
     {
-        self.nodes.as_slice() == other.nodes.as_slice()
-            && self.edges.as_slice() == other.edges.as_slice()
+        self.edits
     }
 
-    /// A graph of equal value, with memory of its own.
+    /// A graph of equal value and as many edits, with memory of its own.
     pub fn copy(&self) -> Result<Graph, NoMemory>
-        ensures { IfOk result (λ graph. graph.value ≡ self.now.value) }
+        ensures value { IfOk result (λ graph. graph.value ≡ self.now.value) }
+        ensures edits { IfOk result (λ graph. graph.edits ≡ self.now.edits) }
     {
         let alloc = *self.nodes.allocator();
         Ok(Graph {
             nodes: Vec::from_slice(alloc, self.nodes.as_slice())?,
             edges: Vec::from_slice(alloc, self.edges.as_slice())?,
+            edits: self.edits,
         })
     }
+}
+
+// The number of edits after one more.
+fn edits_after(edits: u64) -> u64
+    ensures { result ≡ one_more edits }
+{
+    if edits < u64::MAX { edits + 1 } else { edits }
 }
 
 // The place behind a cell, or the first one.

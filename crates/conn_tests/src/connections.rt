@@ -411,12 +411,12 @@ fn goes_apart(alloc: Global, first: &Graph, second: &mut Graph) -> Result<bool, 
     let other = to_input(2, 1, 0, 1);
     Ok(
         has(alloc, second, &[edge])?
-            && first.is_same(second)
+            && second.edits() == first.edits()
             && connect(second, other)?
             && disconnect(second, 1, Form::All) == Ok(())
             && has(alloc, first, &[edge])?
             && has(alloc, second, &[other])?
-            && !first.is_same(second),
+            && second.edits().wrapping_sub(first.edits()) == 2,
     )
 }
 
@@ -437,6 +437,39 @@ fn copies_apart(alloc: Global) -> Result<bool, Refusal> {
 #[test]
 fn a_copy_goes_on_by_itself(rt: HostRuntime) -> Result<(), Fail> {
     assert!(rt; copies_apart(rt.alloc())?);
+    Ok(())
+}
+
+// Each change counts once. What was there already, and what is refused, does not count.
+fn counts_in(graph: &mut Graph) -> Result<bool, Refusal> {
+    let edge = to_input(1, 0, 0, 0);
+    let form = Form::Node(NodeId(0));
+    Ok(
+        graph.edits() == 2
+            && connect(graph, edge)?
+            && graph.edits() == 3
+            && !connect(graph, edge)?
+            && graph.edits() == 3
+            && disconnect(graph, 0, Form::All) == Ok(())
+            && graph.edits() == 4
+            && disconnect(graph, 0, form) == Err(Exc::InvalidAccess)
+            && graph.edits() == 4,
+    )
+}
+
+fn counts(alloc: Global) -> Result<bool, Refusal> {
+    let mut graph = Graph::new(alloc);
+    let begins = graph.edits() == 0;
+    let first = add(&mut graph, 1, 1).is_ok() && graph.edits() == 1;
+    let second = add(&mut graph, 1, 1).is_ok();
+    let counts = counts_in(&mut graph);
+    drop(graph);
+    Ok(begins && first && second && counts?)
+}
+
+#[test]
+fn edits_that_change_a_graph_are_counted(rt: HostRuntime) -> Result<(), Fail> {
+    assert!(rt; counts(rt.alloc())?);
     Ok(())
 }
 

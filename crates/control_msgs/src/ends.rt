@@ -24,6 +24,7 @@ pub fn ends_by(sched: &Sched, next: u64) -> bool
 pub fn mark_ended(world: &mut World, next: u64)
     ensures marked { plain world.new ≡ spec.ended_marked next (plain world.old) }
     ensures valid { IsValid world.old → IsValid world.new }
+    ensures graph { world.new.graph ≡ world.old.graph }
 {
     mark_each(&mut world.scheds, next);
 }

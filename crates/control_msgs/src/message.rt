@@ -1,4 +1,5 @@
 ghost use Rattle.std.specs.Prelude.{◌≡◌, OnOk, OnErr};
+ghost use Rattle.conn_graph.specs.Walks.{CountsEdits};
 ghost use Rattle.meaning.specs.Validity.{IsValid};
 ghost use Rattle.meaning.specs.World.{plain};
 ghost use Rattle.control_msgs.specs.Messages.{after_message, IsAcceptedBy};
@@ -27,6 +28,7 @@ impl Message {
         requires accepted { IsAcceptedBy (plain world.old) self.old }
         ensures ok { OnOk result (plain world.new ≡ after_message (plain world.old) self.old) }
         ensures valid { IsValid world.new }
+        ensures graph { CountsEdits world.old.graph world.new.graph }
         ensures err { OnErr result ((plain world.new ≡ plain world.old) × (self.new ≡ self.old)) }
     {
         match self {

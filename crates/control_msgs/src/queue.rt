@@ -1,4 +1,5 @@
 ghost use Rattle.std.specs.Prelude.{◌≡◌, ◌<◌, ◌≤◌, ◌+◌, ◌-◌, ◌∷◌, ◌++◌, [], ℕ, take, drop, OnOk, OnErr};
+ghost use Rattle.conn_graph.specs.Walks.{CountsEdits};
 ghost use Rattle.meaning.specs.Validity.{IsValid};
 ghost use Rattle.meaning.specs.World.{plain};
 ghost use Rattle.control_msgs.specs.Messages.{after_message, after_messages, IsAcceptedBy, AreAcceptedBy};
@@ -57,12 +58,13 @@ impl Queue {
 
     /// Makes the changes of all messages in a world, in their order, and empties the queue. After
     /// `NoMemory` the messages that were heard are gone, the others are kept in order, and it can be
-    /// called again.
+    /// called again. Either way, where the number of the graph's edits stays, so does the graph.
     pub fn drain_into(&mut self, world: &mut World) -> Result<(), NoMemory>
         requires valid { IsValid world.old }
         requires accepted { AreAcceptedBy (plain world.old) self.old.messages }
         ensures ok { OnOk result ((self.new.messages ≡ []) × (plain world.new ≡ after_messages (plain world.old) self.old.messages)) }
         ensures valid { IsValid world.new }
+        ensures graph { CountsEdits world.old.graph world.new.graph }
         ensures err { OnErr result ((heard : ℕ) × (self.new.messages ≡ drop heard self.old.messages) × (plain world.new ≡ after_messages (plain world.old) (take heard self.old.messages))) }
         ensures accepted { AreAcceptedBy (plain world.new) self.new.messages }
         ensures left { after_messages (plain world.new) self.new.messages ≡ after_messages (plain world.old) self.old.messages }
@@ -82,6 +84,7 @@ impl Queue {
         requires room { 0 < self.old.room }
         ensures ok { OnOk result ((self.new ≡ self.old) × (plain world.new ≡ after_message (plain world.old) message)) }
         ensures valid { IsValid world.new }
+        ensures graph { CountsEdits world.old.graph world.new.graph }
         ensures err { OnErr result ((self.new.messages ≡ message ∷ self.old.messages) × (plain world.new ≡ plain world.old)) }
         ensures room { OnErr result (self.new.room + 1 ≡ self.old.room) }
     {

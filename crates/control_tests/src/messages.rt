@@ -289,8 +289,9 @@ fn is_second(world: &World) -> bool
         && has_ended(world, 1) == Some(true)
 }
 
+// Whether both graphs had as many edits.
 fn are_same(sides: &Sides) -> bool {
-    sides.control.graph.is_same(&sides.render.graph)
+    sides.control.graph.edits() == sides.render.graph.edits()
 }
 
 // Whether nothing is heard before it is asked for, and then all of it.

@@ -36,10 +36,10 @@ is_false : (b : Bool) → not b ≡ true → b ≡ false
 is_false true h = sym h
 is_false false h = refl
 
-is_in : (es : List End) (e : End) → has es e ≡ true → IsIn e es
+pub is_in : (es : List End) (e : End) → has es e ≡ true → IsIn e es
 is_in es e h = let k = IsIn-list_any (λ x. same_end x e) es h in subst (λ x. IsIn x es) (same_end_is k.0 e k.2) k.1
 
-from_in : (es : List End) (e : End) → IsIn e es → has es e ≡ true
+pub from_in : (es : List End) (e : End) → IsIn e es → has es e ≡ true
 from_in es e m = list_any-IsIn (λ x. same_end x e) es e m (same_end-refl e)
 
 -- an end may come next behind those that are done
@@ -63,7 +63,7 @@ module _ (g : Connections) (whole : IsGraph g) where
       by_test true m = or_first _ _ (is_listed g e in_e ∙ m)
       by_test false m = or_second _ _ (from_in placed e (h m))
 
-  end_there : (e : End) → is_end g e ≡ true → IsIn e (ends g)
+  pub end_there : (e : End) → is_end g e ≡ true → IsIn e (ends g)
   end_there e h =
       let parts = and_parts (nat_lt e.node.0 (length g.nodes)) (not e.writer || is_delay g e.node.0) h in
       by_kind e.writer refl (ltb-true e.node.0 (length g.nodes) parts.0) parts.1

@@ -12,6 +12,7 @@ pub mod Counts
 pub mod Tallies
 pub mod Placed
 pub mod Sums
+pub mod Looks
 pub mod Ways
 pub mod Finishing
 pub mod Leading

@@ -13,7 +13,7 @@ use Rattle.cycle_order.specs.Choices.{unmuted_ends}
 use Rattle.cycle_order.specs.Counts.{total, AreRising}
 use Rattle.cycle_order.proofs.Counts.{rising_from, rising_filter}
 
--- ---- each connection leaves one node
+-- ---- each connection leaves one node, and leads to one
 
 -- how many of so many numbers are this one
 one_of : ℕ → ℕ → ℕ → ℕ
@@ -38,44 +38,52 @@ once_at_most k a (suc n) = by_test (k == a) refl (once_at_most k (a + 1) n)
     by_test true e h = let same = eqb-true k a e in let none = not_later k (a + 1) n (omega arith) in omega arith
     by_test false e h = omega arith
 
+-- how many connections have one of so many numbers as their key
+unfoldable pub keyed : (Edge → ℕ) → List Edge → ℕ → ℕ → ℕ
+keyed key es a zero = 0
+keyed key es a (suc n) = length (filter (λ e. key e == a) es) + keyed key es (a + 1) n
+
+module _ (key : Edge → ℕ) where
+  keyed_more : (e : Edge) (es : List Edge) (a n : ℕ) → keyed key (e ∷ es) a n ≡ one_of (key e) a n + keyed key es a n
+  unfolding keyed one_of
+  keyed_more e es a zero = refl
+  keyed_more e es a (suc n) = let rest = keyed_more e es (a + 1) n in by_test (key e == a) rest
+    where
+      by_test : (b : Bool) → keyed key (e ∷ es) (a + 1) n ≡ one_of (key e) (a + 1) n + keyed key es (a + 1) n
+          → length (cond b (e ∷ filter (λ x. key x == a) es) (filter (λ x. key x == a) es)) + keyed key (e ∷ es) (a + 1) n
+          ≡ ((if b then 1 else 0) + one_of (key e) (a + 1) n) + (length (filter (λ x. key x == a) es) + keyed key es (a + 1) n)
+      by_test true h = omega arith
+      by_test false h = omega arith
+
+  none_keyed : (a n : ℕ) → keyed key [] a n ≡ 0
+  unfolding keyed
+  none_keyed a zero = refl
+  none_keyed a (suc n) = let rest = none_keyed (a + 1) n in omega arith
+
+  pub keyed_le : (es : List Edge) (a n : ℕ) → keyed key es a n ≤ length es
+  keyed_le [] a n = let none = none_keyed a n in omega arith
+  keyed_le (e ∷ es) a n =
+      let more = keyed_more e es a n in
+      let one = once_at_most (key e) a n in
+      let rest = keyed_le es a n in omega arith
+
+  pub keyed_suc : (es : List Edge) (a n : ℕ) → keyed key es a (suc n) ≡ length (filter (λ e. key e == a) es) + keyed key es (a + 1) n
+  unfolding keyed
+  keyed_suc es a n = refl
+
 -- how many connections leave so many nodes
-unfoldable pub leaving : List Edge → ℕ → ℕ → ℕ
-leaving es a zero = 0
-leaving es a (suc n) = length (filter (λ e. e.from.0 == a) es) + leaving es (a + 1) n
-
-leaving_more : (e : Edge) (es : List Edge) (a n : ℕ) → leaving (e ∷ es) a n ≡ one_of e.from.0 a n + leaving es a n
-unfolding leaving one_of
-leaving_more e es a zero = refl
-leaving_more e es a (suc n) = let rest = leaving_more e es (a + 1) n in by_test (e.from.0 == a) rest
-  where
-    by_test : (b : Bool) → leaving (e ∷ es) (a + 1) n ≡ one_of e.from.0 (a + 1) n + leaving es (a + 1) n
-        → length (cond b (e ∷ filter (λ x. x.from.0 == a) es) (filter (λ x. x.from.0 == a) es)) + leaving (e ∷ es) (a + 1) n
-        ≡ ((if b then 1 else 0) + one_of e.from.0 (a + 1) n) + (length (filter (λ x. x.from.0 == a) es) + leaving es (a + 1) n)
-    by_test true h = omega arith
-    by_test false h = omega arith
-
-none_leaving : (a n : ℕ) → leaving [] a n ≡ 0
-unfolding leaving
-none_leaving a zero = refl
-none_leaving a (suc n) = let rest = none_leaving (a + 1) n in omega arith
+abbrev pub leaving : List Edge → ℕ → ℕ → ℕ
+leaving es a n = keyed (λ e. e.from.0) es a n
 
 pub leaving_le : (es : List Edge) (a n : ℕ) → leaving es a n ≤ length es
-leaving_le [] a n = let none = none_leaving a n in omega arith
-leaving_le (e ∷ es) a n =
-    let more = leaving_more e es a n in
-    let one = once_at_most e.from.0 a n in
-    let rest = leaving_le es a n in omega arith
-
-leaving_more_nodes : (es : List Edge) (a n : ℕ) → leaving es a (suc n) ≡ length (filter (λ e. e.from.0 == a) es) + leaving es (a + 1) n
-unfolding leaving
-leaving_more_nodes es a n = refl
+leaving_le es a n = keyed_le (λ e. e.from.0) es a n
 
 pub leaving_next : (es : List Edge) (a n : ℕ) → a < n → leaving es a (n - a) ≡ length (filter (λ e. e.from.0 == a) es) + leaving es (a + 1) (n - (a + 1))
-leaving_next es a n l = ap (leaving es a) (let e : n - a ≡ suc (n - (a + 1)) = omega arith in e) ∙ leaving_more_nodes es a (n - (a + 1))
+leaving_next es a n l = ap (leaving es a) (let e : n - a ≡ suc (n - (a + 1)) = omega arith in e) ∙ keyed_suc (λ e. e.from.0) es a (n - (a + 1))
 
 module _ (g : Connections) where
   pairs_total : (a n : ℕ) → total (flat_map (targets_of_node g) (range_with_len a n)) ≤ leaving g.edges a n + n
-  unfolding leaving
+  unfolding keyed
   pairs_total a zero = omega arith
   pairs_total a (suc n) =
       let rest = pairs_total (a + 1) n in

@@ -1,5 +1,5 @@
 -- Whether a list of ends is a legal order, as a test that goes along the list.
-use Rattle.std.specs.Prelude.{ℕ, List, [], ◌∷◌, ◌++◌, length, filter, Bool, not, ◌&&◌, ◌||◌, ◌==◌, nat_lt}
+use Rattle.std.specs.Prelude.{ℕ, ◌+◌, List, [], ◌∷◌, ◌++◌, length, filter, Bool, not, ◌&&◌, ◌||◌, ◌==◌, nat_lt, if◌then◌else◌}
 use Rattle.std.specs.List.{list_any, list_all}
 use Rattle.wa_base.specs.declared.graph_names.End.{End}
 use Rattle.conn_graph.specs.declared.edges.Edge.{Edge}
@@ -33,6 +33,10 @@ abbrev pub can_follow : Connections → List End → List End → End → Bool
 can_follow g muted placed e =
     is_end g e && not (is_settled muted placed e) && writer_settled g muted placed e
     && list_all (source_settled g muted placed e) (edges_into g e.node.0)
+
+-- the looks that the test takes at connections: at those to the end's node and at their end, where there is such an end and it is not settled
+abbrev pub looks_for : Connections → List End → List End → End → ℕ
+looks_for g muted placed e = if is_end g e && not (is_settled muted placed e) then length (edges_into g e.node.0) + 1 else 0
 
 abbrev pub is_legal_from : Connections → List End → List End → List End → Bool
 is_legal_from g muted placed [] = list_all (is_settled muted placed) (ends g)

@@ -1,4 +1,4 @@
-ghost use Rattle.std.specs.Prelude.{◌≡◌, ◌↔◌, ◌<◌, length, IsTrue};
+ghost use Rattle.std.specs.Prelude.{◌≡◌, ◌↔◌, ◌<◌, ◌≤◌, ◌+◌, ◌*◌, length, IsTrue};
 ghost use Rattle.std.specs.List.{list_all};
 ghost use Rattle.conn_graph.specs.Edges.{target_node};
 ghost use Rattle.conn_graph.specs.Ends.{ends};
@@ -15,7 +15,8 @@ use std::sync::ledger::Ledger;
 use wa_base::{End, NodeId, Steps};
 
 /// Whether a list of ends is a legal order: each unmuted end of the graph once, and no other end,
-/// each behind the unmuted ends that it hears.
+/// each behind the unmuted ends that it hears. Each connection and each node is looked at twice at
+/// most.
 pub fn is_legal<L: Ledger>(
     graph: &Graph,
     marks: &Surveyed,
@@ -23,7 +24,8 @@ pub fn is_legal<L: Ledger>(
     steps: &mut Steps<L>,
 ) -> bool
     requires { IsSurvey graph.now.value marks.now }
-    ensures { IsTrue result ↔ IsLegalOrder graph.now.value ends.now }
+    ensures legal { IsTrue result ↔ IsLegalOrder graph.now.value ends.now }
+    ensures cost { steps.new ≤ steps.old + 2 * (length graph.now.value.edges + length graph.now.value.nodes) }
 {
     for i in 0..ends.len() {
         if !can_follow(graph, marks, &ends[..i], ends[i], steps) {
@@ -66,6 +68,7 @@ fn can_follow<L: Ledger>(
 ) -> bool
     requires { IsSurvey graph.now.value marks.now }
     ensures follows { result ≡ spec.can_follow graph.now.value marks.now.muted placed.now end }
+    ensures cost { steps.new ≤ steps.old + spec.looks_for graph.now.value marks.now.muted placed.now end }
     ensures whole { IsGraph graph.now.value }
 {
     let muted = marks.muted.as_slice();
@@ -114,7 +117,8 @@ fn are_sources_settled<L: Ledger>(
     steps: &mut Steps<L>,
 ) -> bool
     requires { end.node.0 < length graph.now.value.nodes }
-    ensures { result ≡ list_all (spec.source_settled graph.now.value muted.now placed.now end) (spec.edges_into graph.now.value end.node.0) }
+    ensures settled { result ≡ list_all (spec.source_settled graph.now.value muted.now placed.now end) (spec.edges_into graph.now.value end.node.0) }
+    ensures cost { steps.new ≤ steps.old + length (spec.edges_into graph.now.value end.node.0) + 1 }
 {
     let mut after = None;
     while let Some((cell, edge)) = graph.next_in(end.node, after, steps) {

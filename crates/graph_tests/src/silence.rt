@@ -1,6 +1,8 @@
-ghost use Rattle.std.specs.Prelude.{◌≡◌, ◌<◌, ◌≤◌, ◌+◌, ◌*◌, ◌^◌, OnOk};
+ghost use Rattle.std.specs.Prelude.{◌≡◌, ◌<◌, ◌≤◌, ◌+◌, ◌*◌, ◌^◌, None, OnOk};
 ghost use Rattle.wa_base.specs.Contexts.{IsSupported, quantum_of};
 ghost use Rattle.meaning.specs.Validity.{IsValid};
+ghost use Rattle.quantum_render.specs.Plans.{IsPlanned, IsUnedited};
+ghost use Rattle.quantum_render.specs.Stands.{plan_of};
 
 use meaning::World;
 use quantum_render::Renderer;
@@ -26,6 +28,8 @@ pub(crate) fn render<L: Ledger>(
     requires spec { world.now.spec ≡ renderer.old.spec }
     requires first { first ≡ quantum_of renderer.old.spec * renderer.old.quanta }
     requires time { first ≤ 2 ^ 62 }
+    requires unedited { IsUnedited renderer.old.planned world.now.graph → IsPlanned world.now.graph.value (plan_of renderer.old) }
+    ensures plan { OnOk result (IsPlanned world.now.graph.value (plan_of renderer.new)) }
     ensures spec { renderer.new.spec ≡ renderer.old.spec }
     ensures quanta { OnOk result (renderer.new.quanta ≡ renderer.old.quanta + 1) }
 {
@@ -46,6 +50,7 @@ fn loudest_of<L: Ledger>(
     requires spec { world.now.spec ≡ renderer.old.spec }
     requires channels { 1 < renderer.old.spec.channels }
     requires first { renderer.old.quanta ≡ 0 }
+    requires planned { renderer.old.planned ≡ None }
 {
     render(renderer, world, 0, steps)?;
     render(renderer, world, 128, steps)?;

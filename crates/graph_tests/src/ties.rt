@@ -1,4 +1,4 @@
-ghost use Rattle.std.specs.Prelude.{◌≡◌, ◌<◌, IfOk};
+ghost use Rattle.std.specs.Prelude.{◌≡◌, ◌<◌, None, IfOk};
 ghost use Rattle.wa_base.specs.Contexts.{IsSupported};
 ghost use Rattle.meaning.specs.Validity.{IsValid};
 
@@ -70,6 +70,7 @@ fn play<L: Ledger>(
     requires spec { world.now.spec ≡ renderer.old.spec }
     requires channels { 1 < renderer.old.spec.channels }
     requires first { renderer.old.quanta ≡ 0 }
+    requires planned { renderer.old.planned ≡ None }
 {
     let mut samples = [[0; 256]; 2];
     render(renderer, world, 0, steps)?;

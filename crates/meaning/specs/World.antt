@@ -33,11 +33,11 @@ use Rattle.meaning.specs.Lists.{listed}
 
 -- ---- a world as the meaning sees it
 
--- a graph without the cells in which its connections are kept
+-- a graph without the cells in which its connections are kept, and without the number of its edits
 abbrev pub bare : Connections → GraphView
-bare graph = record { value = graph; out_walks = []; in_walks = []; room = 0 }
+bare graph = record { value = graph; out_walks = []; in_walks = []; room = 0; edits = 0 }
 
--- No meaning rests on where connections are kept, or on room for more.
+-- No meaning rests on where connections are kept, on room for more, or on how often there was an edit.
 abbrev pub plain : World → World
 plain w = record {
   spec = w.spec;

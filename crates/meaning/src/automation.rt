@@ -63,6 +63,7 @@ impl World {
     pub fn set_slots(&mut self, first: u64)
         ensures set { plain self.new ≡ spec.with_params (plain self.old) (map (spec.slot_set first) self.old.params.items) }
         ensures valid { IsValid self.old → IsValid self.new }
+        ensures graph { self.new.graph ≡ self.old.graph }
     {
         self.params.set_slots(first);
     }
@@ -89,6 +90,7 @@ impl World {
         requires accepted { spec.automation_refusal (plain self.old) now id edit.now ≡ None }
         ensures ok { OnOk result (plain self.new ≡ spec.automated (plain self.old) now id edit.now) }
         ensures err { OnErr result (plain self.new ≡ plain self.old) }
+        ensures graph { self.new.graph ≡ self.old.graph }
     {
         let Some(place) = self.params.find(id) else {
             return Ok(());

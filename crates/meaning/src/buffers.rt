@@ -57,6 +57,7 @@ impl World {
         requires accepted { spec.buffers_refusal self.old.store edit.now ≡ None }
         ensures ok { OnOk result (plain self.new ≡ spec.with_store (plain self.old) (spec.buffers_edited self.old.store edit.now)) }
         ensures err { OnErr result (plain self.new ≡ plain self.old) }
+        ensures graph { self.new.graph ≡ self.old.graph }
     {
         match edit {
             BufferEdit::Create {
@@ -85,6 +86,7 @@ impl World {
         requires accepted { adoption_refusal self.old.store wav.old ≡ None }
         ensures ok { OnOk result (plain self.new ≡ spec.with_store (plain self.old) (self.old.store ++ recorded wav.old ∷ [])) }
         ensures err { OnErr result ((plain self.new ≡ plain self.old) × (wav.new ≡ wav.old)) }
+        ensures graph { self.new.graph ≡ self.old.graph }
     {
         made(self.store.adopt(wav))
     }

@@ -2,6 +2,7 @@ ghost use Rattle.std.specs.Prelude.{◌≡◌, ◌<◌, ◌≤◌, ◌^◌, leng
 ghost use Rattle.std.specs.Result.{result_err};
 ghost use Rattle.node_table.specs.Nodes.{changed_at, refusal_at, curve_refusal, node_with_curve};
 ghost use Rattle.conn_graph.specs.Edges.{form_node};
+ghost use Rattle.conn_graph.specs.Walks.{CountsEdits};
 ghost use Rattle.conn_graph.specs.Graph.{connect_refusal, connected, disconnect_refusal, disconnected};
 ghost use Rattle.meaning.specs.Changes as changes;
 ghost use Rattle.meaning.specs.Validity.{IsValid};
@@ -108,12 +109,14 @@ impl World {
     }
 
     /// Makes a change that the world accepts. What the change holds is copied. After `NoMemory` the
-    /// world is as before.
+    /// world is as before. The graph counts its edits, so that whoever keeps its number can tell whether
+    /// it is still the same.
     pub fn apply(&mut self, change: &Change) -> Result<(), NoMemory>
         requires valid { IsValid self.old }
         requires accepted { changes.Accepts (plain self.old) change.now }
         ensures ok { OnOk result (plain self.new ≡ changes.changed (plain self.old) change.now) }
         ensures err { OnErr result (plain self.new ≡ plain self.old) }
+        ensures graph { CountsEdits self.old.graph self.new.graph }
         ensures grows { changes.Grows change.now.time (plain self.old) (plain self.new) }
     {
         self.edit(change.time, &change.edit)
@@ -127,6 +130,7 @@ impl World {
         requires accepted { changes.Accepts (plain self.old) change.old }
         ensures ok { OnOk result (plain self.new ≡ changes.changed (plain self.old) change.old) }
         ensures err { OnErr result ((plain self.new ≡ plain self.old) × (change.new ≡ change.old)) }
+        ensures graph { CountsEdits self.old.graph self.new.graph }
         ensures grows { changes.Grows change.old.time (plain self.old) (plain self.new) }
     {
         if let Edit::Buffers {
@@ -146,6 +150,7 @@ impl World {
         requires accepted { changes.refusal (plain self.old) now edit.now ≡ None }
         ensures ok { OnOk result (plain self.new ≡ changes.edited (plain self.old) now edit.now) }
         ensures err { OnErr result (plain self.new ≡ plain self.old) }
+        ensures graph { CountsEdits self.old.graph self.new.graph }
     {
         match edit {
             Edit::Create { kind } => self.create(kind.copy()?, now),
@@ -218,6 +223,7 @@ impl World {
         requires accepted { connect_refusal self.old.graph.value edge ≡ None }
         ensures ok { OnOk result (plain self.new ≡ changes.with_graph (plain self.old) (connected self.old.graph.value edge)) }
         ensures err { OnErr result (plain self.new ≡ plain self.old) }
+        ensures graph { CountsEdits self.old.graph self.new.graph }
     {
         // A connection that is accepted is refused only for want of memory.
         match self.graph.connect(edge) {
@@ -231,7 +237,8 @@ impl World {
         requires from { from.0 < length self.old.nodes }
         requires to { IfSome (form_node form) (λ node. node < length self.old.nodes) }
         requires accepted { disconnect_refusal self.old.graph.value from.0 form ≡ None }
-        ensures { plain self.new ≡ changes.with_graph (plain self.old) (disconnected self.old.graph.value from.0 form) }
+        ensures disconnected { plain self.new ≡ changes.with_graph (plain self.old) (disconnected self.old.graph.value from.0 form) }
+        ensures graph { CountsEdits self.old.graph self.new.graph }
     {
         let _accepted = self.graph.disconnect(from, form);
     }
@@ -240,6 +247,7 @@ impl World {
         requires { node.0 < length self.old.nodes }
         ensures refusal { result_err result ≡ refusal_at self.old.nodes node.0 (changes.attribute_refusal edit) }
         ensures ok { OnOk result (plain self.new ≡ changes.with_nodes (plain self.old) (changed_at node.0 (changes.attribute_set edit) self.old.nodes)) }
+        ensures graph { self.new.graph ≡ self.old.graph }
     {
         match edit {
             AttributeEdit::Count(count) => self.nodes.set_count(node, count),
@@ -253,6 +261,7 @@ impl World {
         requires accepted { refusal_at self.old.nodes node.0 (curve_refusal curve.now) ≡ None }
         ensures ok { OnOk result (plain self.new ≡ changes.with_nodes (plain self.old) (changed_at node.0 (node_with_curve curve.now) self.old.nodes)) }
         ensures err { OnErr result (plain self.new ≡ plain self.old) }
+        ensures graph { self.new.graph ≡ self.old.graph }
     {
         let copy = match curve {
             Some(points) => Some(points.copy()?),

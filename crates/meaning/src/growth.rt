@@ -1,4 +1,5 @@
 ghost use Rattle.std.specs.Prelude.{◌≡◌, ◌<◌, ◌++◌, length, false, None, Some, IsOk, OnOk, OnErr};
+ghost use Rattle.conn_graph.specs.Walks.{CountsEdits};
 ghost use Rattle.node_table.specs.Kinds.{is_destination, IsInLimits};
 ghost use Rattle.node_table.specs.Nodes.{creation_refusal};
 ghost use Rattle.node_table.specs.declared.kinds.Kind.TheVariants as kinds;
@@ -30,6 +31,7 @@ impl World {
         requires accepted { creation_refusal self.old.nodes kind ≡ None }
         ensures ok { OnOk result (plain self.new ≡ changes.created (plain self.old) kind (changes.new_play (length self.old.nodes) kind) now) }
         ensures err { OnErr result (plain self.new ≡ plain self.old) }
+        ensures graph { CountsEdits self.old.graph self.new.graph }
     {
         let node = NodeId(self.nodes.len());
         let play = first_sched(&kind).map(|sched| Play::not_started(node, sched));
@@ -48,6 +50,7 @@ impl World {
         requires accepted { creation_refusal self.old.nodes (kinds.Buffer rate) ≡ None }
         ensures ok { OnOk result (plain self.new ≡ changes.created (plain self.old) (kinds.Buffer rate) (Some (new_source (length self.old.nodes) rate buffer points)) now) }
         ensures err { OnErr result (plain self.new ≡ plain self.old) }
+        ensures graph { CountsEdits self.old.graph self.new.graph }
     {
         let play = Play {
             id: NodeId(self.nodes.len()),
@@ -65,6 +68,7 @@ impl World {
         requires accepted { creation_refusal self.old.nodes kind ≡ None }
         ensures ok { OnOk result (plain self.new ≡ changes.created (plain self.old) kind play now) }
         ensures err { OnErr result (plain self.new ≡ plain self.old) }
+        ensures graph { CountsEdits self.old.graph self.new.graph }
     {
         self.graph.reserve()?;
         self.params.reserve()?;

@@ -125,7 +125,8 @@ impl World {
         requires time { now ≤ 2 ^ 62 }
         requires valid { IsValid self.old }
         requires accepted { spec.source_refusal (plain self.old) edit (find_play self.old.scheds.items node.0) ≡ None }
-        ensures { plain self.new ≡ spec.source_edited (plain self.old) now node.0 edit }
+        ensures edited { plain self.new ≡ spec.source_edited (plain self.old) now node.0 edit }
+        ensures graph { self.new.graph ≡ self.old.graph }
     {
         let Some(place) = self.scheds.find(node) else {
             return;

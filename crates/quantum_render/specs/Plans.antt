@@ -1,5 +1,5 @@
 -- What a world is rendered by: an order of its ends, the connections to each node, and the channels of each end.
-use Rattle.std.specs.Prelude.{ℕ, ℤ, ◌-◌, ◌/◌, ◌≤◌, Option, Some, Bool, false, ◌&&◌, ◌≡◌, ◌<◌, List, [], ◌∷◌, ◌++◌, length, slice_index_or, true}
+use Rattle.std.specs.Prelude.{ℕ, ℤ, ◌-◌, ◌/◌, ◌^◌, ◌≤◌, Option, Some, Bool, false, ◌&&◌, ◌≡◌, ◌<◌, List, [], ◌∷◌, ◌++◌, length, slice_index_or, true}
 use Rattle.wa_base.specs.declared.graph_names.End.{End}
 use Rattle.wa_base.specs.declared.graph_names.Tie.{Tie}
 use Rattle.law_base.specs.Members.{IsIn}
@@ -9,6 +9,8 @@ use Rattle.node_table.specs.declared.kinds.Kind.TheVariants.{Delay}
 use Rattle.conn_graph.specs.Ends.{writer_of, ends, is_delay, in_cycle, muted as is_muted}
 use Rattle.conn_graph.specs.Graph.{Connections}
 use Rattle.conn_graph.specs.Orders.{IsLegalOrder}
+use Rattle.conn_graph.specs.Walks.{GraphView}
+use Rattle.cycle_order.specs.Choices.{chosen_order}
 use Rattle.meaning.specs.declared.world.World.{World}
 use Rattle.meaning.specs.Lists.{since}
 use Rattle.meaning.specs.World.{node_at, kind_of}
@@ -31,13 +33,24 @@ pub record AreCycles (g : Connections) (marks : List Bool) : Type 0 where
   pub count : length marks ≡ length g.nodes
   pub marked : (n : ℕ) → n < length g.nodes → slice_index_or marks n false ≡ (is_delay g n && in_cycle g n)
 
--- what contracts see of a plan
+-- what contracts see of a plan: of the graph with how many edits it was made, if of any, and what it says of that graph
 pub record PlanView : Type 0 where
+  pub planned : Option ℕ
   pub tie : Tie
   pub order : List End
   pub muted : List End
   pub into : List (List Edge)
   pub cycles : List Bool
+
+-- the plan of a graph, by the plan's tie
+pub record IsPlanned (g : Connections) (kept : PlanView) : Type 0 where
+  pub plan : IsPlanOf g kept.order kept.muted kept.into
+  pub cycles : AreCycles g kept.cycles
+  pub order : kept.order ≡ chosen_order g kept.tie
+
+-- A graph is unedited since a plan was made where it has as many edits as the plan's graph had, and can count more.
+abbrev pub IsUnedited : Option ℕ → GraphView → Type 0
+IsUnedited planned g = (planned ≡ Some g.edits) × (g.edits < 2 ^ 64 - 1)
 
 -- the plan of a world is that of its graph
 abbrev pub IsPlan : World → List End → List End → List (List Edge) → Type 0

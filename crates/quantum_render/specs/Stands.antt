@@ -1,5 +1,5 @@
 -- What a renderer stands for.
-use Rattle.std.specs.Prelude.{ℕ, ℤ, ◌≡◌, ◌<◌, ◌≤◌, ◌^◌, ◌+◌, ◌-◌, ◌*◌, ◌++◌, ◌∷◌, [], List, Bool, length, max}
+use Rattle.std.specs.Prelude.{ℕ, ℤ, Option, ◌≡◌, ◌<◌, ◌≤◌, ◌^◌, ◌+◌, ◌-◌, ◌*◌, ◌++◌, ◌∷◌, [], List, Bool, length, max}
 use Rattle.wa_base.specs.Contexts.{quantum_of}
 use Rattle.wa_base.specs.declared.contexts.ContextSpec.{ContextSpec}
 use Rattle.wa_base.specs.declared.graph_names.End.{End}
@@ -17,7 +17,7 @@ use Rattle.quantum_render.specs.declared.memory.Memory.{Memory}
 use Rattle.automation.specs.Ready.{AutomationView, IsReady}
 use Rattle.quantum_blocks.specs.Blocks.{BlockView}
 use Rattle.quantum_blocks.specs.Fits.{AreInRange, AreFit}
-use Rattle.quantum_render.specs.Plans.{IsPlan, AreCycles, AreCounted}
+use Rattle.quantum_render.specs.Plans.{IsPlan, PlanView, AreCycles, AreCounted}
 
 -- What contracts see of a renderer. Callers read the context and the number of quanta.
 pub record RendererView : Type 0 where
@@ -26,7 +26,8 @@ pub record RendererView : Type 0 where
   pub quanta : ℕ
   -- which of two ends is rendered first where either may be
   pub tie : Tie
-  -- the plan of the world that was prepared last
+  -- the plan of the world that was prepared last, with the number of its graph's edits
+  pub planned : Option ℕ
   pub order : List End
   pub muted : List End
   pub into : List (List Edge)
@@ -41,6 +42,10 @@ pub record RendererView : Type 0 where
   pub blocks : List BlockView
   -- what the destination carried in the last quantum
   pub out : List ℤ
+
+-- its plan
+abbrev pub plan_of : RendererView → PlanView
+plan_of r = record { planned = r.planned; tie = r.tie; order = r.order; muted = r.muted; into = r.into; cycles = r.cycles }
 
 -- what the writer of a delay did in a past
 abbrev pub past_writer : Past → ℕ → Writer

@@ -1,14 +1,13 @@
 ghost use Rattle.std.specs.List.{list_any};
 ghost use Rattle.wa_base.specs.declared.graph_names.NodeId.{NodeId as a_node};
-ghost use Rattle.std.specs.Prelude.{◌≡◌, ◌<◌, ◌≤◌, ◌^◌, ◌++◌, ◌==◌, ℕ, All, false, [], length, filter, slice_index_or, IfOk, OnOk};
+ghost use Rattle.std.specs.Prelude.{◌≡◌, ◌<◌, ◌≤◌, ◌+◌, ◌*◌, ◌++◌, ◌==◌, ◌↔◌, ℕ, All, false, [], length, filter, slice_index_or, Some, None, IsTrue, IfOk, OnOk, OnErr};
 ghost use Rattle.law_base.specs.Members.{IsIn};
 ghost use Rattle.conn_graph.specs.declared.edges.Edge.{Edge as an_edge};
 ghost use Rattle.conn_graph.specs.Edges.{target_node};
 ghost use Rattle.conn_graph.specs.Cells.{leaves, enters};
-ghost use Rattle.cycle_order.specs.Choices.{chosen_order};
 ghost use Rattle.conn_graph.specs.Ends.{ends};
 ghost use Rattle.quantum_blocks.specs.Sites.{site_in};
-ghost use Rattle.quantum_render.specs.Plans.{IsPlan, IsPlanOf, AreCycles};
+ghost use Rattle.quantum_render.specs.Plans.{IsPlan, IsPlanned, IsUnedited, AreCycles};
 
 use conn_graph::{Edge, Graph};
 use cycle_order::{Ends, order, survey};
@@ -19,10 +18,11 @@ use std::marker::Model;
 use std::sync::ledger::Ledger;
 use wa_base::{End, Items, NoMemory, NodeId, Steps, Tie};
 
-// What a graph is rendered by, kept with the graph for which it was made.
+// What a graph is rendered by, with the number of edits that the graph had.
 #[derive(Drop)]
 pub(crate) struct Plan {
-    graph: Graph,
+    // none of a plan that was made of no graph
+    planned: Option<u64>,
     tie: Tie,
     // The unmuted ends in a legal order.
     order: Ends,
@@ -35,30 +35,28 @@ pub(crate) struct Plan {
 }
 
 impl Model for Plan {
-    ghost use Rattle.std.specs.Prelude.{◌≡◌};
-    ghost use Rattle.cycle_order.specs.Choices.{chosen_order};
-    ghost use Rattle.quantum_render.specs.Plans.{PlanView, IsPlanOf, AreCycles};
+    ghost use Rattle.quantum_render.specs.Plans.{PlanView};
 
     ghost Value = { PlanView };
 
     ghost view = { λ p. record {
+      planned = p.planned;
       tie = p.tie;
       order = p.order;
       muted = p.muted;
       into = p.into.items;
       cycles = p.cycles.items;
     } };
-
-    ghost invariant = { λ p. IsPlanOf p.graph.value p.order p.muted p.into.items × (p.order ≡ chosen_order p.graph.value p.tie) × AreCycles p.graph.value p.cycles.items };
 }
 
 impl Plan {
-    // The plan of a graph without nodes.
+    // The plan of no graph.
     pub(crate) fn new(alloc: Global, tie: Tie) -> Plan
-        ensures { result.tie ≡ tie }
+        ensures planned { result.planned ≡ None }
+        ensures tie { result.tie ≡ tie }
     {
         Plan {
-            graph: Graph::new(alloc),
+            planned: None,
             tie,
             order: Ends::new(alloc),
             muted: Ends::new(alloc),
@@ -68,17 +66,17 @@ impl Plan {
         }
     }
 
-    // Surveys and orders the graph of a world.
+    // Surveys and orders the graph of a world. Each connection is looked at nine times at most.
     fn of<L: Ledger>(
         alloc: Global,
         world: &World,
         tie: Tie,
         steps: &mut Steps<L>,
     ) -> Result<Plan, NoMemory>
-        ensures plan { IfOk result (λ plan. IsPlan world.now plan.order plan.muted plan.into) }
-        ensures cycles { IfOk result (λ plan. AreCycles world.now.graph.value plan.cycles) }
-        ensures order { IfOk result (λ plan. plan.order ≡ chosen_order world.now.graph.value tie) }
+        ensures plan { IfOk result (λ plan. IsPlanned world.now.graph.value plan) }
+        ensures planned { IfOk result (λ plan. plan.planned ≡ Some world.now.graph.edits) }
         ensures tie { IfOk result (λ plan. plan.tie ≡ tie) }
+        ensures cost { steps.new ≤ steps.old + 10 * (length world.now.graph.value.edges + length world.now.graph.value.nodes) }
     {
         let graph = &world.graph;
         let near = places_of(alloc, world)?;
@@ -87,9 +85,8 @@ impl Plan {
         let all = connections(alloc, graph, steps)?;
         let into = by_target(alloc, graph.len(), all.as_slice())?;
         let cycles = marked(alloc, graph.len(), marks.in_cycle.as_slice())?;
-        let kept = graph.copy()?;
         Ok(Plan {
-            graph: kept,
+            planned: Some(graph.edits()),
             tie,
             order: ordered.ends,
             muted: marks.muted,
@@ -99,23 +96,39 @@ impl Plan {
         })
     }
 
-    // Makes this the plan of a world. As long as the graph stays, so does its plan.
+    // Makes this the plan of a world. Where nothing was edited in the graph, the plan is kept, and no
+    // connection is looked at. After `NoMemory` the plan is as before.
     pub(crate) fn follow<L: Ledger>(
         &mut self,
         alloc: Global,
         world: &World,
         steps: &mut Steps<L>,
     ) -> Result<(), NoMemory>
-        ensures plan { OnOk result (IsPlan world.now self.new.order self.new.muted self.new.into) }
-        ensures cycles { OnOk result (AreCycles world.now.graph.value self.new.cycles) }
-        ensures order { OnOk result (self.new.order ≡ chosen_order world.now.graph.value self.old.tie) }
+        requires unedited { IsUnedited self.old.planned world.now.graph → IsPlanned world.now.graph.value self.old }
+        ensures plan { OnOk result (IsPlanned world.now.graph.value self.new) }
+        ensures planned { OnOk result (self.new.planned ≡ Some world.now.graph.edits) }
+        ensures kept { IsUnedited self.old.planned world.now.graph → self.new ≡ self.old }
+        ensures err { OnErr result (self.new ≡ self.old) }
         ensures tie { self.new.tie ≡ self.old.tie }
+        ensures cost { steps.new ≤ steps.old + 10 * (length world.now.graph.value.edges + length world.now.graph.value.nodes) }
+        ensures unedited_cost { IsUnedited self.old.planned world.now.graph → steps.new ≡ steps.old }
     {
-        if self.graph.is_same(&world.graph) {
+        if self.is_unedited(&world.graph) {
             return Ok(());
         }
         *self = Plan::of(alloc, world, self.tie, steps)?;
         Ok(())
+    }
+
+    // Whether nothing was edited in a graph since it was planned.
+    fn is_unedited(&self, graph: &Graph) -> bool
+        ensures { IsTrue result ↔ IsUnedited self.now.planned graph.now }
+    {
+        let edits = graph.edits();
+        match self.planned {
+            Some(planned) => planned == edits && edits < u64::MAX,
+            None => false,
+        }
     }
 
     pub(crate) fn order(&self) -> &[End]
@@ -175,7 +188,8 @@ fn connections<L: Ledger>(
     graph: &Graph,
     steps: &mut Steps<L>,
 ) -> Result<Vec<Edge>, NoMemory>
-    ensures { IfOk result (λ all. all.items ≡ graph.now.value.edges) }
+    ensures all { IfOk result (λ all. all.items ≡ graph.now.value.edges) }
+    ensures cost { steps.new ≤ steps.old + length graph.now.value.edges + length graph.now.value.nodes }
 {
     let mut all = Vec::new(alloc);
     for node in 0..graph.len() {
@@ -192,7 +206,8 @@ fn append_from<L: Ledger>(
     steps: &mut Steps<L>,
 ) -> Result<(), NoMemory>
     requires { node.0 < length graph.now.value.nodes }
-    ensures { OnOk result (all.new.items ≡ all.old.items ++ filter (leaves node.0) graph.now.value.edges) }
+    ensures all { OnOk result (all.new.items ≡ all.old.items ++ filter (leaves node.0) graph.now.value.edges) }
+    ensures cost { steps.new ≤ steps.old + length (filter (leaves node.0) graph.now.value.edges) + 1 }
 {
     let mut after = None;
     while let Some((cell, edge)) = graph.next_out(node, after, steps) {

@@ -1,13 +1,15 @@
-ghost use Rattle.std.specs.Prelude.{◌≡◌, ◌<◌, ◌≤◌, ◌+◌, ◌-◌, ◌*◌, ◌^◌, ◌++◌, ◌∷◌, ◌↔◌, [], ℕ, List, pos, length, slice_index_or, IfOk, OnOk};
+ghost use Rattle.std.specs.Prelude.{◌≡◌, ◌<◌, ◌≤◌, ◌+◌, ◌-◌, ◌*◌, ◌^◌, ◌++◌, ◌∷◌, ◌↔◌, [], ℕ, List, Some, None, pos, length, slice_index_or, IfOk, OnOk, OnErr};
 ghost use Rattle.wa_base.specs.Contexts.{IsSupported, quantum_of};
+ghost use Rattle.law_base.specs.Members.{IsIn};
+ghost use Rattle.meaning.specs.declared.params.Param.{Param as a_param};
 ghost use Rattle.meaning.specs.declared.world.World.{World as a_world};
 ghost use Rattle.meaning.specs.Rendered.{sample};
 ghost use Rattle.meaning.specs.Validity.{IsValid};
 ghost use Rattle.meaning.specs.Worlds.{IsRegular};
-ghost use Rattle.cycle_order.specs.Choices.{chosen_order};
 ghost use Rattle.std.specs.List.{sum_by};
 ghost use Rattle.automation.specs.Ready.{looks_at};
-ghost use Rattle.quantum_render.specs.Stands.{StandsFor, Shows, IsPrepared, IsCounted, IsGrown};
+ghost use Rattle.quantum_render.specs.Plans.{IsPlanned, IsUnedited};
+ghost use Rattle.quantum_render.specs.Stands.{StandsFor, Shows, IsPrepared, IsCounted, IsGrown, plan_of};
 
 use crate::counting::{Census, count_channels};
 use crate::memory::Memory;
@@ -50,6 +52,7 @@ impl Model for Renderer {
     ghost view = { λ r. record {
       spec = r.spec;
       quanta = r.quanta;
+      planned = r.plan.planned;
       tie = r.plan.tie;
       order = r.plan.order;
       muted = r.plan.muted;
@@ -72,6 +75,7 @@ impl Renderer {
         ensures stands { IfOk result (λ r. StandsFor r []) }
         ensures spec { IfOk result (λ r. r.spec ≡ spec) }
         ensures tie { IfOk result (λ r. r.tie ≡ tie) }
+        ensures planned { IfOk result (λ r. r.planned ≡ None) }
     {
         let out = vec![in alloc; 0; CHANNELS * QUANTUM]?;
         let filters = Filters::new(alloc)?;
@@ -95,8 +99,13 @@ impl Renderer {
 
     /// Surveys and orders a world, moves to the next quantum in each timeline, and takes the memory
     /// for counts and levels. It may be called at any time, and begins a quantum anew. After
-    /// `NoMemory` the renderer stands for the same tapes. Where nodes and connections are those of
-    /// the last call, its survey and order are kept.
+    /// `NoMemory` the renderer stands for the same tapes, and its plan is as before.
+    ///
+    /// A graph is unedited where it has as many edits as that of the last `prepare` that succeeded,
+    /// and can count more: then it has to be that graph. Of an unedited graph survey and order are
+    /// kept, and no connection is looked at. Of another one each connection and each node is looked
+    /// at ten times at most. In each timeline it looks at no more events than their number has binary
+    /// digits.
     pub fn prepare<L: Ledger>(
         &mut self,
         world: &World,
@@ -104,15 +113,22 @@ impl Renderer {
     ) -> Result<(), NoMemory>
         requires valid { IsValid world.now }
         requires spec { world.now.spec ≡ self.old.spec }
+        requires unedited { IsUnedited self.old.planned world.now.graph → IsPlanned world.now.graph.value (plan_of self.old) }
         ensures ok { OnOk result (IsPrepared self.new world.now) }
-        ensures order { OnOk result (self.new.order ≡ chosen_order world.now.graph.value self.old.tie) }
+        ensures plan { OnOk result (IsPlanned world.now.graph.value (plan_of self.new)) }
+        ensures planned { OnOk result (self.new.planned ≡ Some world.now.graph.edits) }
+        ensures kept { IsUnedited self.old.planned world.now.graph → plan_of self.new ≡ plan_of self.old }
+        ensures err { OnErr result (plan_of self.new ≡ plan_of self.old) }
         ensures stands { (tape : List a_world) → StandsFor self.old tape ↔ StandsFor self.new tape }
         ensures spec { self.new.spec ≡ self.old.spec }
         ensures tie { self.new.tie ≡ self.old.tie }
         ensures quanta { self.new.quanta ≡ self.old.quanta }
         ensures out { self.new.out ≡ self.old.out }
+        ensures cost { (digits : a_param → ℕ) → ((p : a_param) → IsIn p world.now.params.items → length p.line.events < 2 ^ digits p)
+            → steps.new ≤ steps.old + 10 * (length world.now.graph.value.edges + length world.now.graph.value.nodes) + sum_by digits world.now.params.items }
+        ensures unedited_cost { IsUnedited self.old.planned world.now.graph → (digits : a_param → ℕ) → ((p : a_param) → IsIn p world.now.params.items → length p.line.events < 2 ^ digits p)
+            → steps.new ≤ steps.old + sum_by digits world.now.params.items }
     {
-        self.plan.follow(self.alloc, world, steps)?;
         self.memory.filters.follow(world)?;
         self.memory.delays.follow(world)?;
         let nodes = world.nodes.len() as usize;
@@ -120,10 +136,12 @@ impl Renderer {
         let first = self.quanta * QUANTUM as u64;
         self.automation
             .prepare(world.params.as_slice(), nodes, first, steps)?;
+        self.plan.follow(self.alloc, world, steps)?;
         Ok(())
     }
 
-    /// Counts the channels of each end in the next quantum.
+    /// Counts the channels of each end in the next quantum. It looks at no connection of the graph and
+    /// at no event: what it needs of them is in the plan.
     pub fn counts<L: Ledger>(&mut self, world: &World, first: u64, steps: &mut Steps<L>)
         requires valid { IsValid world.now }
         requires spec { world.now.spec ≡ self.old.spec }
@@ -133,10 +151,10 @@ impl Renderer {
         ensures counted { IsCounted self.new world.now }
         ensures stands { (tape : List a_world) → StandsFor self.old tape ↔ StandsFor self.new tape }
         ensures spec { self.new.spec ≡ self.old.spec }
-        ensures plan { (self.new.order ≡ self.old.order) × (self.new.muted ≡ self.old.muted) × (self.new.into ≡ self.old.into) × (self.new.cycles ≡ self.old.cycles) }
-        ensures tie { self.new.tie ≡ self.old.tie }
+        ensures plan { plan_of self.new ≡ plan_of self.old }
         ensures quanta { self.new.quanta ≡ self.old.quanta }
         ensures out { self.new.out ≡ self.old.out }
+        ensures cost { steps.new ≡ steps.old }
     {
         let census = Census {
             world,
@@ -157,8 +175,7 @@ impl Renderer {
         ensures ok { OnOk result (IsGrown self.new world.now) }
         ensures stands { (tape : List a_world) → StandsFor self.old tape ↔ StandsFor self.new tape }
         ensures spec { self.new.spec ≡ self.old.spec }
-        ensures plan { (self.new.order ≡ self.old.order) × (self.new.muted ≡ self.old.muted) × (self.new.into ≡ self.old.into) × (self.new.cycles ≡ self.old.cycles) }
-        ensures tie { self.new.tie ≡ self.old.tie }
+        ensures plan { plan_of self.new ≡ plan_of self.old }
         ensures quanta { self.new.quanta ≡ self.old.quanta }
         ensures out { self.new.out ≡ self.old.out }
     {
@@ -179,8 +196,7 @@ impl Renderer {
         ensures stands { (tape : List a_world) → StandsFor self.old tape → IsRegular (quantum_of self.old.spec) (tape ++ world.now ∷ []) → StandsFor self.new (tape ++ world.now ∷ []) }
         ensures shows { (tape : List a_world) → StandsFor self.old tape → IsRegular (quantum_of self.old.spec) (tape ++ world.now ∷ []) → Shows self.new (tape ++ world.now ∷ []) }
         ensures spec { self.new.spec ≡ self.old.spec }
-        ensures plan { (self.new.order ≡ self.old.order) × (self.new.muted ≡ self.old.muted) × (self.new.into ≡ self.old.into) × (self.new.cycles ≡ self.old.cycles) }
-        ensures tie { self.new.tie ≡ self.old.tie }
+        ensures plan { plan_of self.new ≡ plan_of self.old }
         ensures quanta { self.new.quanta ≡ self.old.quanta + 1 }
         ensures cost { steps.new ≤ steps.old + sum_by (looks_at first) world.now.params.items }
     {

@@ -6,6 +6,7 @@ mod Going
 pub mod Interleaving
 pub mod Lasting
 mod Lists
+mod Planning
 mod Quanta
 mod Replaying
 mod Samples

@@ -10,7 +10,9 @@ use Rattle.ctx_state.specs.Context.{is_closed}
 use Rattle.control_msgs.specs.declared.message.Message.{Message}
 use Rattle.control_msgs.specs.Messages.{after_message, after_messages, AreAcceptedBy}
 use Rattle.meaning.specs.Worlds.{IsRegular}
-use Rattle.quantum_render.specs.Stands.{RendererView, StandsFor}
+use Rattle.conn_graph.specs.Walks.{GraphView}
+use Rattle.quantum_render.specs.Plans.{PlanView, IsPlanned, IsUnedited}
+use Rattle.quantum_render.specs.Stands.{RendererView, StandsFor, plan_of}
 use Rattle.script_ast.specs.declared.call_list.Call.{Call}
 use Rattle.io_edge.specs.Paths.{Paths}
 use Rattle.session.specs.Folders.{Folder, IsFolderOf, AgreeBetween}
@@ -39,10 +41,16 @@ pub record SideView : Type 0 where
 abbrev pub sent : SideView → World
 sent side = after_messages side.world side.messages
 
--- what holds of every such side: its world can hear all messages
-pub record IsSide (side : SideView) : Type 0 where
+-- A plan was made of this graph at some time of its edits, or of no graph: the graph has no fewer edits than it had then, and where nothing was edited since, the plan is its own.
+pub record PlansFor (plan : PlanView) (graph : GraphView) : Type 0 where
+  pub earlier : IfSome plan.planned (λ edits. edits ≤ graph.edits)
+  pub unedited : IsUnedited plan.planned graph → IsPlanned graph.value plan
+
+-- what holds of every such side, whose world has a graph that is edited on and on: its world can hear all messages, and its renderer planned for the graph
+pub record IsSide (side : SideView) (graph : GraphView) : Type 0 where
   pub valid : IsValid side.world
   pub accepted : AreAcceptedBy side.world side.messages
+  pub plans : PlansFor (plan_of side.renderer) graph
 
 -- ---- what holds of every session
 

@@ -5,9 +5,9 @@ ghost use Rattle.meaning.specs.declared.world.World.{World as a_world};
 ghost use Rattle.meaning.specs.World.{plain};
 ghost use Rattle.meaning.specs.Validity.{IsValid};
 ghost use Rattle.meaning.specs.Worlds.{IsRegular, first_world};
-ghost use Rattle.quantum_render.specs.Stands.{StandsFor, Shows};
+ghost use Rattle.quantum_render.specs.Stands.{StandsFor, Shows, plan_of};
 ghost use Rattle.session.specs.Frames.{WritesBelow};
-ghost use Rattle.session.specs.View.{IsAt, Renders, MakesRoom, Gets, GoesOn, Waits, sent};
+ghost use Rattle.session.specs.View.{IsAt, PlansFor, Renders, MakesRoom, Gets, GoesOn, Waits, sent};
 
 use control_msgs::{Message, Queue};
 use meaning::World;
@@ -34,7 +34,7 @@ impl Model for RenderSide {
 
     ghost view = { λ s. record { world = plain s.world; messages = s.queue.messages; room = s.queue.room; renderer = s.renderer } };
 
-    ghost invariant = { λ s. IsSide (record { world = plain s.world; messages = s.queue.messages; room = s.queue.room; renderer = s.renderer }) };
+    ghost invariant = { λ s. IsSide (record { world = plain s.world; messages = s.queue.messages; room = s.queue.room; renderer = s.renderer }) s.world.graph };
 }
 
 impl RenderSide {
@@ -96,10 +96,12 @@ fn render_quantum(renderer: &mut Renderer, world: &World, first: u64) -> Result<
     requires spec { world.now.spec ≡ renderer.old.spec }
     requires first { first ≡ quantum_of renderer.old.spec * renderer.old.quanta }
     requires time { first ≤ 33554560 }
+    requires planned { PlansFor (plan_of renderer.old) world.now.graph }
     ensures stands { (tape : List a_world) → StandsFor renderer.old tape → IsRegular (quantum_of world.now.spec) (tape ++ world.now ∷ []) → OnOk result (StandsFor renderer.new (tape ++ world.now ∷ [])) }
     ensures shows { (tape : List a_world) → StandsFor renderer.old tape → IsRegular (quantum_of world.now.spec) (tape ++ world.now ∷ []) → OnOk result (Shows renderer.new (tape ++ world.now ∷ [])) }
     ensures quanta { OnOk result (renderer.new.quanta ≡ renderer.old.quanta + 1) }
     ensures spec { renderer.new.spec ≡ renderer.old.spec }
+    ensures planned { PlansFor (plan_of renderer.new) world.now.graph }
     ensures err { OnErr result (renderer.new.quanta ≡ renderer.old.quanta) }
     ensures err_stands { (tape : List a_world) → StandsFor renderer.old tape → OnErr result (StandsFor renderer.new tape) }
 {
@@ -119,10 +121,12 @@ fn render_counted<L: Ledger>(
     requires spec { world.now.spec ≡ renderer.old.spec }
     requires first { first ≡ quantum_of renderer.old.spec * renderer.old.quanta }
     requires time { first ≤ 33554560 }
+    requires planned { PlansFor (plan_of renderer.old) world.now.graph }
     ensures stands { (tape : List a_world) → StandsFor renderer.old tape → IsRegular (quantum_of world.now.spec) (tape ++ world.now ∷ []) → OnOk result (StandsFor renderer.new (tape ++ world.now ∷ [])) }
     ensures shows { (tape : List a_world) → StandsFor renderer.old tape → IsRegular (quantum_of world.now.spec) (tape ++ world.now ∷ []) → OnOk result (Shows renderer.new (tape ++ world.now ∷ [])) }
     ensures quanta { OnOk result (renderer.new.quanta ≡ renderer.old.quanta + 1) }
     ensures spec { renderer.new.spec ≡ renderer.old.spec }
+    ensures planned { PlansFor (plan_of renderer.new) world.now.graph }
     ensures err { OnErr result (renderer.new.quanta ≡ renderer.old.quanta) }
     ensures err_stands { (tape : List a_world) → StandsFor renderer.old tape → OnErr result (StandsFor renderer.new tape) }
 {

@@ -1,7 +1,8 @@
-use Rattle.std.proofs.Common.{◌≡◌, ◌<◌, ◌&&◌, length, true, false, ◌∙◌, ap, sym, subst, arith}
+use Rattle.std.proofs.Common.{◌≡◌, ◌<◌, ◌+◌, ◌&&◌, length, true, false, ◌∙◌, ap, sym, subst, arith}
 use Rattle.std.specs.Prelude.{◌==◌}
 use Rattle.std.specs.List.{list_all}
 use Rattle.std.proofs.lemmas.Bool.{eqb-true}
+use Rattle.std.proofs.lemmas.List.{length-map}
 use Rattle.law_base.proofs.Members.{IsIn-filter}
 use Rattle.conn_graph.specs.declared.edges.Edge.{Edge}
 use Rattle.conn_graph.specs.Edges.{target_node}
@@ -9,6 +10,7 @@ use Rattle.conn_graph.specs.Graph.{Connections}
 use Rattle.conn_graph.specs.Walks.{in_walk}
 use Rattle.cycle_order.specs.Legality.{edges_into, source_settled}
 use Rattle.cycle_order.proofs.LegalityLaws.{same_members}
+use Rattle.cycle_order.proofs.Looks.{few_distinct}
 use Rattle.cycle_order.proofs.WalkLaws.{rest_of, steps_edges, next_is, first_is, none_first, cell_in, edge_in, rest_steps}
 use Rattle.cycle_order.proofs.legality.are_sources_settled.Goals as goal
 
@@ -46,10 +48,16 @@ loop-cell-preserved g c =
           ∙ ap (λ b. b && list_all test (steps_edges first.0)) (sym passes)
           ∙ ap (λ xs. list_all test (steps_edges xs)) (sym first.1)
           ∙ c.loop-cell.invariant.settled;
+      cost =
+          let before = c.loop-cell.invariant.cost in
+          let one = c.next_in.ensures.cost in
+          let number : length (rest_of walk after) ≡ length first.0 + 1 = ap length first.1 ∙ omega arith in
+          let left = ap length rest in
+          omega arith;
     }
 
-pub returns-then-not-is_source_settled : goal.returns-then-not-is_source_settled
-returns-then-not-is_source_settled g c =
+pub returns-then-not-is_source_settled-clause-settled : goal.returns-then-not-is_source_settled-clause-settled
+returns-then-not-is_source_settled-clause-settled g c =
     let walk = in_walk c.args.graph.now c.args.end.node.0 in
     let after = c.loop-cell.after in
     let edge : Edge = c.in-Some.edge in
@@ -62,11 +70,30 @@ returns-then-not-is_source_settled g c =
     ∙ c.loop-cell.invariant.settled
     ∙ same_members test (steps_edges walk) (edges_into graph c.args.end.node.0) (λ e. (c.next_in.ensures.walk.edges e).0) (λ e. (c.next_in.ensures.walk.edges e).1)
 
-pub returns : goal.returns
-returns g c =
+pub returns-clause-settled : goal.returns-clause-settled
+returns-clause-settled g c =
     let walk = in_walk c.args.graph.now c.args.end.node.0 in
     let graph : Connections = c.args.graph.now.value in
     let test = source_settled graph c.args.muted.now c.args.placed.now c.args.end in
     let empty = none_first (rest_of walk c.loop-cell.after) (sym (next_is walk c.loop-cell.after) ∙ sym c.next_in.ensures.next ∙ c.in_default.is) in
     sym (ap (λ xs. list_all test (steps_edges xs)) empty) ∙ c.loop-cell.invariant.settled
     ∙ same_members test (steps_edges walk) (edges_into graph c.args.end.node.0) (λ e. (c.next_in.ensures.walk.edges e).0) (λ e. (c.next_in.ensures.walk.edges e).1)
+
+-- the walk has no more connections than lead to the node
+pub returns-then-not-is_source_settled-clause-cost : goal.returns-then-not-is_source_settled-clause-cost
+returns-then-not-is_source_settled-clause-cost g c =
+    let walk = in_walk c.args.graph.now c.args.end.node.0 in
+    let before = c.loop-cell.invariant.cost in
+    let one = c.next_in.ensures.cost in
+    let few = few_distinct (steps_edges walk) (edges_into c.args.graph.now.value c.args.end.node.0) c.next_in.ensures.walk.once (λ e. (c.next_in.ensures.walk.edges e).0) in
+    let number = length-map walk (λ step. step.1) in
+    omega arith
+
+pub returns-clause-cost : goal.returns-clause-cost
+returns-clause-cost g c =
+    let walk = in_walk c.args.graph.now c.args.end.node.0 in
+    let before = c.loop-cell.invariant.cost in
+    let one = c.next_in.ensures.cost in
+    let few = few_distinct (steps_edges walk) (edges_into c.args.graph.now.value c.args.end.node.0) c.next_in.ensures.walk.once (λ e. (c.next_in.ensures.walk.edges e).0) in
+    let number = length-map walk (λ step. step.1) in
+    omega arith

@@ -1,5 +1,5 @@
-use Rattle.std.proofs.Common.{◌<◌, ◌++◌, ◌∷◌, [], length, Some, ◌∙◌, ap, sym, subst, arith}
-use Rattle.std.proofs.lemmas.List.{append-nil, append_assoc}
+use Rattle.std.proofs.Common.{◌≡◌, ◌<◌, ◌+◌, ◌++◌, ◌∷◌, [], length, Some, ◌∙◌, ap, sym, subst, arith}
+use Rattle.std.proofs.lemmas.List.{length-map, append-nil, append_assoc}
 use Rattle.conn_graph.specs.Walks.{out_walk}
 use Rattle.cycle_order.proofs.WalkLaws.{rest_of, steps_edges, next_is, first_is, none_first, cell_in, rest_steps}
 use Rattle.quantum_render.proofs.plan.append_from.Goals as goal
@@ -27,12 +27,26 @@ loop-cell-preserved g c =
           ∙ append_assoc edges (c.in-Some.edge ∷ []) (steps_edges first.0)
           ∙ ap (λ xs. edges ++ steps_edges xs) (sym first.1)
           ∙ c.loop-cell.invariant.edges;
+      cost =
+          let before = c.loop-cell.invariant.cost in
+          let one = c.next_out.ensures.cost in
+          let number : length (rest_of walk after) ≡ length first.0 + 1 = ap length first.1 ∙ omega arith in
+          let left = ap length rest in
+          omega arith;
     }
 
-pub returns : goal.returns
-returns g c =
+pub returns-clause-all : goal.returns-clause-all
+returns-clause-all g c =
     let walk = out_walk c.args.graph.now c.args.node.0 in
     let after = c.loop-cell.after in
     let empty = none_first (rest_of walk after) (sym (next_is walk after) ∙ sym c.next_out.ensures.next ∙ c.in_default.is) in
     sym (append-nil c.loop-cell.all.items) ∙ ap (λ xs. c.loop-cell.all.items ++ steps_edges xs) (sym empty) ∙ c.loop-cell.invariant.edges
     ∙ ap (λ xs. c.args.all.now.items ++ xs) c.next_out.ensures.walk.edges
+
+pub returns-clause-cost : goal.returns-clause-cost
+returns-clause-cost g c =
+    let walk = out_walk c.args.graph.now c.args.node.0 in
+    let before = c.loop-cell.invariant.cost in
+    let one = c.next_out.ensures.cost in
+    let number = sym (length-map walk (λ step. step.1)) ∙ ap length c.next_out.ensures.walk.edges in
+    omega arith

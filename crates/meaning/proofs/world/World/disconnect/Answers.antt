@@ -7,8 +7,8 @@ use Rattle.meaning.specs.Changes.{with_graph}
 use Rattle.meaning.proofs.Changing.{not_refused}
 use Rattle.meaning.proofs.world.World.disconnect.Goals as goal
 
-pub returns : goal.returns
-returns c =
+pub returns-clause-disconnected : goal.returns-clause-disconnected
+returns-clause-disconnected c =
     let none : result_err c.disconnect-accepted.result ≡ None = by_result c.disconnect-accepted.result refl in
     ap (λ (g : Connections). with_graph (plain c.args.self.now) g) (not_refused c.disconnect-accepted.result none c.disconnect-accepted.ensures.ok)
   where

@@ -18,8 +18,8 @@ freeze-requires c =
     (sym c.acquires-acquired.ensures ∙ c.in-Some-acquired.is)
 
 -- the schedule is changed in its place, and the store is the one that is left
-pub returns-in-Some-acquired : goal.returns-in-Some-acquired
-returns-in-Some-acquired c =
+pub returns-in-Some-acquired-clause-edited : goal.returns-in-Some-acquired-clause-edited
+returns-in-Some-acquired-clause-edited c =
     let play : Play = c.at.result.now in
     let found : find_play c.args.self.now.scheds.items c.args.node.0 ≡ Some play = sym c.find.ensures.item ∙ ap (option_and_then (slice_get c.args.self.now.scheds.items)) c.in-Some.is ∙ c.at.ensures in
     let edited : c.edit.new.self ≡ play_edited (frames_in c.args.self.now.store play.buffer) c.args.now c.args.edit play =
@@ -31,8 +31,8 @@ returns-in-Some-acquired c =
     ap (λ (ps : List Play). with_plays (with_store (plain c.args.self.now) c.freeze.new.self) ps) plays
     ∙ ap (λ (bs : List AudioBuffer). with_plays (with_store (plain c.args.self.now) bs) (map (changed_play c.args.node.0 (λ p. play_edited (frames_in c.args.self.now.store p.buffer) c.args.now c.args.edit p)) c.args.self.now.scheds.items)) store
 
-pub returns-in_default-acquired : goal.returns-in_default-acquired
-returns-in_default-acquired c =
+pub returns-in_default-acquired-clause-edited : goal.returns-in_default-acquired-clause-edited
+returns-in_default-acquired-clause-edited c =
     let play : Play = c.at.result.now in
     let found : find_play c.args.self.now.scheds.items c.args.node.0 ≡ Some play = sym c.find.ensures.item ∙ ap (option_and_then (slice_get c.args.self.now.scheds.items)) c.in-Some.is ∙ c.at.ensures in
     let edited : c.edit.new.self ≡ play_edited (frames_in c.args.self.now.store play.buffer) c.args.now c.args.edit play =

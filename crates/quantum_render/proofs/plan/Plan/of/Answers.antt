@@ -32,26 +32,15 @@ cycles_are g listed marks is long each = record {
   marked = λ n l. each n l ∙ ap (list_any (has_number_of n)) is ∙ cycle_listed g n l;
 }
 
-pub returns : goal.returns
-returns g c =
+pub returns-clause-plan : goal.returns-clause-plan
+returns-clause-plan g c =
     let nodes = c.in_ok-into.ensures.length ∙ c.len.ensures.number in
     record {
       plan = plan_is c.args.world.now.graph.value _ _ _ c.in_ok-ordered.ensures.legal c.in_ok-marks.ensures.survey.muted nodes
-          (λ n l. c.in_ok-into.ensures.each n (subst (λ k. n < k) (sym c.len.ensures.number) l) ∙ ap (λ es. filter (enters n) es) (c.as_slice.ensures.value ∙ c.in_ok-all.ensures));
+          (λ n l. c.in_ok-into.ensures.each n (subst (λ k. n < k) (sym c.len.ensures.number) l) ∙ ap (λ es. filter (enters n) es) (c.as_slice.ensures.value ∙ c.in_ok-all.ensures.all));
       cycles = cycles_are c.args.world.now.graph.value _ _ (c.as_slice-2.ensures ∙ c.in_ok-marks.ensures.survey.in_cycle) (c.in_ok-cycles.ensures.length ∙ c.len-2.ensures.number) (λ n l. c.in_ok-cycles.ensures.each n (subst (λ k. n < k) (sym c.len-2.ensures.number) l));
       order = c.in_ok-ordered.ensures.tie;
-      tie = refl;
     }
-
-pub invariant_of-result : goal.invariant_of-result
-invariant_of-result g c =
-    let nodes = c.in_ok-into.ensures.length ∙ c.len.ensures.number in
-    rw c.in_ok-kept.ensures (
-      plan_is c.args.world.now.graph.value _ _ _ c.in_ok-ordered.ensures.legal c.in_ok-marks.ensures.survey.muted nodes
-          (λ n l. c.in_ok-into.ensures.each n (subst (λ k. n < k) (sym c.len.ensures.number) l) ∙ ap (λ es. filter (enters n) es) (c.as_slice.ensures.value ∙ c.in_ok-all.ensures)),
-      c.in_ok-ordered.ensures.tie,
-      cycles_are c.args.world.now.graph.value _ _ (c.as_slice-2.ensures ∙ c.in_ok-marks.ensures.survey.in_cycle) (c.in_ok-cycles.ensures.length ∙ c.len-2.ensures.number) (λ n l. c.in_ok-cycles.ensures.each n (subst (λ k. n < k) (sym c.len-2.ensures.number) l)),
-    )
 
 pub marked-requires : goal.marked-requires
 marked-requires g c =

@@ -10,6 +10,7 @@ invariant_of-self c =
     let accepted = rw (← c.self.view_is) at c.requires.accepted in
     record {
       valid = c.self.invariant.valid;
+      plans = c.self.invariant.plans;
       accepted = subst (AreAcceptedBy (plain c.self.inside.world)) (sym c.post.ensures.messages) (accepted_more (plain c.self.inside.world) c.self.inside.queue.messages c.args.message c.self.invariant.accepted accepted);
     }
 

@@ -5,12 +5,17 @@ use Rattle.meaning.specs.Worlds.{IsRegular}
 use Rattle.control_msgs.specs.Messages.{after_messages}
 use Rattle.session.specs.Rows.{samples_of}
 use Rattle.session.specs.View.{Renders}
+use Rattle.quantum_render.specs.Stands.{plan_of}
+use Rattle.session.proofs.Planning.{plans_on}
 use Rattle.session.proofs.Standing.{length_worlds, raw_regular, renders_more, samples_more}
 use Rattle.session.proofs.render_side.RenderSide.render.Goals as goal
 
 -- the world that was sent is the one that is rendered
 heard : (c : goal.After-samples-1) → plain c.drain_into.new.world ≡ after_messages (plain c.self.inside.world) c.self.inside.queue.messages
 heard c = c.in_ok-drain_into.ensures.ok.1
+
+pub render_quantum-requires-clause-planned : goal.render_quantum-requires-clause-planned
+render_quantum-requires-clause-planned c = plans_on (plan_of c.self.inside.renderer) c.self.inside.world.graph c.drain_into.new.world.graph c.drain_into.ensures.graph c.self.invariant.plans
 
 pub returns-clause-ok : goal.returns-clause-ok
 returns-clause-ok c =
