@@ -26,15 +26,6 @@ in_list (x ∷ xs) (suc i) d l = inr (in_list xs i d (omega arith))
 before_or_here : (i j : ℕ) → j < i + 1 → (j < i) ⊎ (j ≡ i)
 before_or_here i j l = grind arith
 
--- what holds of the items before a place, and of what is written there, holds up to it
-pub one_more : {X : Type 0} (P : ℕ → X → Type 0) (xs : List X) (i : ℕ) (y d : X) → i < length xs → ((j : ℕ) → j < i → P j (slice_index_or xs j d)) → P i y
-    → (j : ℕ) → j < i + 1 → P j (slice_index_or (slice_set xs i y) j d)
-one_more P xs i y d l old here j low = by_place (before_or_here i j low)
-  where
-    by_place : (j < i) ⊎ (j ≡ i) → P j (slice_index_or (slice_set xs i y) j d)
-    by_place (inl before) = subst (P j) (sym (get_or-set_other xs i j y d (λ e. let k : j ≡ i = e in omega arith))) (old j before)
-    by_place (inr same) = subst (λ k. P k (slice_index_or (slice_set xs i y) k d)) (sym same) (subst (P i) (sym (get_or-set_same xs i y d l)) here)
-
 -- ---- one level is written
 
 module _ (levels : List LevelView) (node : ℕ) (y : LevelView) (within : node < length levels) where

@@ -1,9 +1,9 @@
 -- What is at hand before the values of a quantum are taken.
-use Rattle.std.specs.Prelude.{ℕ, ◌+◌, ◌<◌, ◌≡◌, List, length, map, slice_index_or}
+use Rattle.std.specs.Prelude.{ℕ, ◌+◌, ◌<◌, ◌≡◌, List, length, map}
 use Rattle.std.specs.List.Sorted.{IsStrictlyIncreasing}
 use Rattle.law_base.specs.Members.{IsIn}
 use Rattle.meaning.specs.declared.params.Param.{Param}
-use Rattle.param_cursor.specs.Cursors.{StandsAt, within}
+use Rattle.param_cursor.specs.Cursors.{place_at, within}
 use Rattle.automation.specs.Levels.{LevelView, HasRoom, level_of}
 
 -- What contracts see of an automation: a place in each timeline, and the level of each node.
@@ -16,12 +16,15 @@ pub record AreOfNodes (nodes : ℕ) (params : List Param) : Type 0 where
   pub order : IsStrictlyIncreasing (map (λ (p : Param). p.id.node.0) params)
   pub there : (p : Param) → IsIn p params → p.id.node.0 < nodes
 
+-- the place in the timeline of a parameter of a cursor that stands at a frame
+abbrev pub place_in : ℕ → Param → ℕ
+place_in first p = place_at first p.line.events
+
 -- Each cursor stands at a frame in the timeline of its parameter, and for each parameter there is room.
 pub record IsReady (params : List Param) (first : ℕ) (a : AutomationView) : Type 0 where
-  pub cursors : length a.cursors ≡ length params
-  pub stands : (i : ℕ) (p : Param) → i < length params → StandsAt (slice_index_or a.cursors i 0) (slice_index_or params i p).line.events first
+  pub stands : a.cursors ≡ map (place_in first) params
   pub room : (p : Param) → IsIn p params → (p.id.node.0 < length a.levels) × HasRoom (level_of a.levels p.id.node.0)
 
--- the looks that a quantum takes at the events of a timeline: four, and those with a time in the quantum
+-- the looks that a quantum takes at the events of a timeline: two, and those with a time in the quantum
 abbrev pub looks_at : ℕ → Param → ℕ
-looks_at first p = 4 + length (within first (first + 128) p.line.events)
+looks_at first p = 2 + length (within first (first + 128) p.line.events)

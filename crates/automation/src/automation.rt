@@ -1,10 +1,9 @@
-ghost use Rattle.std.specs.Prelude.{max, ◌≡◌, ◌<◌, ◌≤◌, ◌+◌, ◌^◌, ℕ, length, slice_index_or, OnOk};
+ghost use Rattle.std.specs.Prelude.{max, ◌≡◌, ◌<◌, ◌≤◌, ◌+◌, ◌^◌, ℕ, length, map, OnOk};
 ghost use Rattle.std.specs.List.{sum_by};
 ghost use Rattle.law_base.specs.Members.{IsIn};
 ghost use Rattle.meaning.specs.declared.params.Param.{Param as a_param};
-ghost use Rattle.param_cursor.specs.Cursors.{StandsAt};
 ghost use Rattle.automation.specs.Levels.{AreLevels, HasRoom, level_of};
-ghost use Rattle.automation.specs.Ready.{AreOfNodes, IsReady, looks_at};
+ghost use Rattle.automation.specs.Ready.{AreOfNodes, IsReady, looks_at, place_in};
 
 use crate::level::Level;
 use meaning::Param;
@@ -44,9 +43,9 @@ impl Automation {
         }
     }
 
-    /// Takes the memory for parameters of so many nodes, a level for each that has none yet, and moves to
-    /// a frame in each timeline. It
-    /// looks at no more events of a timeline than their number has binary digits.
+    /// Takes the memory for parameters of so many nodes, a level for each that has none yet, and moves
+    /// to a frame in each timeline. It looks at no more events of a timeline than their number has
+    /// binary digits.
     pub fn prepare<L: Ledger>(
         &mut self,
         params: &[Param],
@@ -67,7 +66,7 @@ impl Automation {
     }
 
     /// Takes the values of all parameters in the quantum that begins at `first`. It takes no memory,
-    /// and looks at four events of each timeline and those with a time in the quantum at most.
+    /// and looks at two events of each timeline and those with a time in the quantum at most.
     pub fn take<L: Ledger>(&mut self, params: &[Param], first: u64, steps: &mut Steps<L>)
         requires nodes { (nodes : ℕ) × AreOfNodes nodes params.now }
         requires first { first ≤ 2 ^ 62 }
@@ -117,8 +116,7 @@ fn make_room(levels: &mut [Level], params: &[Param]) -> Result<(), NoMemory>
 // Moves each cursor to a frame in the timeline of its parameter.
 fn seek<L: Ledger>(cursors: &mut [Cursor], params: &[Param], first: u64, steps: &mut Steps<L>)
     requires { length cursors.old ≡ length params.now }
-    ensures length { length cursors.new ≡ length cursors.old }
-    ensures stands { (i : ℕ) (p : a_param) → i < length params.now → StandsAt (slice_index_or cursors.new i 0) (slice_index_or params.now i p).line.events first }
+    ensures stands { cursors.new ≡ map (place_in first) params.now }
     ensures cost { (digits : a_param → ℕ) → ((p : a_param) → IsIn p params.now → length p.line.events < 2 ^ digits p) → steps.new ≤ steps.old + sum_by digits params.now }
 {
     for (i, cursor) in cursors.iter_mut().enumerate() {

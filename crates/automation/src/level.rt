@@ -1,5 +1,5 @@
 ghost use Rattle.std.specs.Prelude.{◌≡◌, ◌<◌, ◌≤◌, ◌+◌, ◌^◌, ℕ, pos, length, slice_index_or, OnOk};
-ghost use Rattle.param_cursor.specs.Cursors.{StandsAt, within};
+ghost use Rattle.param_cursor.specs.Cursors.{place_at, within};
 ghost use Rattle.automation.specs.Levels.{HasRoom, IsLevelOf};
 ghost use Rattle.automation.specs.Held.{AreValues};
 
@@ -66,21 +66,21 @@ impl Level {
     )
         requires room { HasRoom self.old }
         requires first { first ≤ 2 ^ 62 }
-        requires stands { StandsAt cursor.old param.now.line.events first }
+        requires stands { cursor.old ≡ place_at first param.now.line.events }
         ensures level { IsLevelOf param.now first self.new }
-        ensures cost { steps.new ≤ steps.old + 4 + length (within first (first + 128) param.now.line.events) }
+        ensures cost { steps.new ≤ steps.old + 2 + length (within first (first + 128) param.now.line.events) }
     {
         self.rate = param.rate;
         let count = match param.rate {
             Rate::A => QUANTUM,
             Rate::K => 1,
         };
-        let level = cursor.steady(first, &param.line, steps);
-        self.steady = count == 1 || first + count as u64 <= level.until;
-        if first + count as u64 <= level.until {
-            self.values[0] = level.value;
-        } else {
-            cursor.fill(&mut self.values[0..count], first, &param.line, steps);
+        match cursor.draw(&mut self.values[0..count], first, &param.line, steps) {
+            Some(value) => {
+                self.steady = true;
+                self.values[0] = value;
+            }
+            None => self.steady = count == 1,
         }
     }
 

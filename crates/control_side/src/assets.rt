@@ -1,8 +1,8 @@
-ghost use Rattle.std.specs.Prelude.{◌≡◌, ◌≤◌, ◌<◌, IsTrue, IfOk, IsErrOf};
+ghost use Rattle.std.specs.Prelude.{◌≡◌, ◌≤◌, ◌<◌, IsTrue, IfOk, IsErrOf, Ok};
 ghost use Rattle.io_edge.specs.Faults.{Rose};
 ghost use Rattle.io_edge.specs.Fetch.{IsWithin};
 ghost use Rattle.io_edge.specs.Paths.{Paths, SamePaths};
-ghost use Rattle.wav_io.specs.WavGrammar.{IsRecording};
+ghost use Rattle.wav_io.specs.WavGrammar.{IsRecording, rate_of, wav_of};
 ghost use Rattle.control_side.specs.Assets as spec;
 ghost use Rattle.control_side.specs.Assets.{IsHeld, IsFit};
 
@@ -15,7 +15,7 @@ use script_ast::Path;
 use std::alloc::Global;
 use transcript::Answer;
 use wa_base::{Exc, Feature, NoMemory};
-use wav_io::{Wav, WavErr, decode};
+use wav_io::{Wav, WavErr, decode, rate_of};
 
 /// The most bytes that an asset may have.
 const MAX_ASSET: u64 = 67_108_864;
@@ -57,22 +57,33 @@ impl Control {
                 return Ok(rejected(Exc::NotSupported(Some(Feature::AssetSize))));
             }
         };
-        match decode(alloc, bytes.as_slice()) {
+        match rate_of(bytes.as_slice()) {
+            Ok(rate) if rate == self.spec().rate => self.decode_samples(alloc, bytes.as_slice()),
+            Ok(_) => Ok(rejected(Exc::NotSupported(Some(Feature::Resampling)))),
+            Err(_) => Ok(rejected(Exc::Encoding)),
+        }
+    }
+
+    // What comes of a file at the rate of the context.
+    fn decode_samples(&self, alloc: Global, bytes: &[u8]) -> Result<Decided, NoMemory>
+        requires { rate_of bytes.now ≡ Ok self.now.world.spec.rate }
+        ensures decided { IfOk result (λ decided. decided ≡ spec.by_reading self.now (wav_of bytes.now)) }
+        ensures fits { IfOk result (IsFit self.now) }
+    {
+        match decode(alloc, bytes) {
             Ok(wav) => Ok(self.adopt(wav)),
             Err(WavErr::NoMemory) => Err(NoMemory),
             Err(_) => Ok(rejected(Exc::Encoding)),
         }
     }
 
-    // A recording becomes a buffer.
+    // A recording at the rate of the context becomes a buffer.
     fn adopt(&self, wav: Wav) -> Decided
-        requires { IsRecording wav }
+        requires recording { IsRecording wav }
+        requires rate { wav.rate ≡ self.now.world.spec.rate }
         ensures decided { result ≡ spec.adopts self.now wav }
         ensures fits { IsFit self.now result }
     {
-        if wav.rate != self.spec().rate {
-            return rejected(Exc::NotSupported(Some(Feature::Resampling)));
-        }
         let edit = Edit::Buffers {
             edit: BufferEdit::Adopt { wav },
         };

@@ -1,6 +1,7 @@
 -- What the reader of a delay asks for.
-use Rattle.std.proofs.Common.{ℕ, zero, suc, ℤ, pos, negsuc, ◌≡◌, ◌<◌, ◌≤◌, ◌≤ℤ◌, ◌+◌, ◌-◌, ◌*◌, ◌/◌, ◌==◌, ◌⊎◌, inl, inr, length, List, Bool, true, false, refl, sym, ◌∙◌, ap, arith, subst}
+use Rattle.std.proofs.Common.{ℕ, zero, suc, ℤ, pos, negsuc, ◌≡◌, ◌<◌, ◌≤◌, ◌≤ℤ◌, ◌+◌, ◌-◌, ◌*◌, ◌/◌, ◌==◌, ◌⊎◌, inl, inr, length, List, Bool, true, false, cond, refl, sym, ◌∙◌, ap, arith, subst}
 use Rattle.std.specs.Prelude.{if◌then◌else◌, nat_lt, max, min, unsigned_abs, ◌&&◌}
+use Rattle.std.specs.Int.{int_max}
 use Rattle.std.proofs.lemmas.Bool.Decides.{nat_tests}
 use Rattle.std.proofs.lemmas.Int.{ints}
 use Rattle.wa_base.specs.Numbers.{rnd}
@@ -30,8 +31,16 @@ use Rattle.meaning.proofs.TapeLaws.{quantum_below}
 
 -- ---- how far back it asks
 
-size_order : (x y : ℤ) → pos 0 ≤ℤ x → x ≤ℤ y → unsigned_abs x ≤ unsigned_abs y
-size_order (pos m) (pos n) low l = omega (arith, ints)
+frames_from_0 : (x : ℤ) → pos 0 ≤ℤ x → unsigned_abs (int_max x (pos 0)) ≡ unsigned_abs x
+frames_from_0 (pos n) low = by_test (nat_lt 0 n) refl
+  where
+    by_test : (b : Bool) → nat_lt 0 n ≡ b → unsigned_abs (cond b (pos n) (pos 0)) ≡ n
+    by_test true is = refl
+    by_test false is = grind (arith, nat_tests)
+frames_from_0 (negsuc n) low = absurd (omega (arith, ints))
+
+size_order : (x y : ℤ) → pos 0 ≤ℤ x → x ≤ℤ y → unsigned_abs (int_max x (pos 0)) ≤ unsigned_abs (int_max y (pos 0))
+size_order (pos m) (pos n) low l = let a = frames_from_0 (pos m) low in let b = frames_from_0 (pos n) (omega (arith, ints)) in omega (arith, ints, a, b)
 size_order (pos m) (negsuc n) low l = absurd (omega (arith, ints))
 size_order (negsuc m) y low l = absurd (omega (arith, ints))
 
@@ -47,7 +56,7 @@ frames_within : (longest x : ℤ) (rate : ℕ) → frames_of (up_to longest x) r
 frames_within (pos most) (pos x) rate = frames_order (min x most) most rate (omega arith)
 frames_within (pos most) (negsuc x) rate = frames_order 0 most rate (omega arith)
 frames_within (negsuc most) x rate =
-    let none : frames_of (pos 0) rate ≡ 0 = ap (λ k. unsigned_abs (rnd (pos k) (pos 16777216))) (let zero_times : 0 * rate ≡ 0 = omega arith in zero_times) in
+    let none : frames_of (pos 0) rate ≡ 0 = ap (λ k. unsigned_abs (int_max (rnd (pos k) (pos 16777216)) (pos 0))) (let zero_times : 0 * rate ≡ 0 = omega arith in zero_times) in
     omega (arith, none)
 
 nominal_within : (kind : Kind) (longest time x : ℤ) (capacity rate : ℕ) → kind ≡ Delay longest time capacity → frames_of (nominal kind x) rate ≤ frames_of longest rate

@@ -46,7 +46,7 @@ with_params_valid w params same lines valid = record {
     lines = lines;
     targets = λ e id is to. rw same (valid.params.targets e id is to);
   };
-  scheds = record { each = valid.scheds.each; once = valid.scheds.once; kinds = valid.scheds.kinds };
+  scheds = record { each = valid.scheds.each; order = valid.scheds.order; kinds = valid.scheds.kinds };
   store = valid.store;
 }
 

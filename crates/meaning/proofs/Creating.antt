@@ -7,7 +7,7 @@ use Rattle.std.proofs.lemmas.List.{append-nil, get_or_append_left, length-map, m
 use Rattle.std.proofs.Math.Seq.{get_or-append_seam}
 use Rattle.wa_base.specs.declared.graph_names.ParamId.{ParamId}
 use Rattle.wa_base.specs.declared.graph_names.ParamName.{ParamName}
-use Rattle.law_base.specs.Members.{IsIn, AreDistinct}
+use Rattle.law_base.specs.Members.{IsIn}
 use Rattle.law_base.proofs.Members.{IsIn-append, IsIn-append_first, IsIn-append_second}
 use Rattle.param_events.specs.Timeline.{IsTimeline}
 use Rattle.node_table.specs.Kinds.{row, is_destination, param_name}
@@ -41,13 +41,6 @@ place_of : (nodes : List Node) (n : Node) (i : ℕ) → i < length (nodes ++ n �
 place_of nodes n i below =
     let long = length-append nodes (n ∷ []) in
     elim (cases_lt i (length nodes)) [ inl l ↦ there l | inr l ↦ newest (omega arith) ]
-
-distinct_more : {X : Type 0} (xs : List X) (y : X) → AreDistinct xs → (IsIn y xs → ⊥) → AreDistinct (xs ++ y ∷ [])
-distinct_more [] y once new = ((λ h. h), tt)
-distinct_more (x ∷ xs) y once new = (
-  (λ h. elim (IsIn-append xs (y ∷ []) x h) [ inl k ↦ once.0 k | inr (inl same) ↦ new (inl (sym same)) | inr (inr none) ↦ none ]),
-  distinct_more xs y once.1 (λ k. new (inr k)),
-)
 
 -- the identities of the parameters of a new node
 abbrev new_ids : ℕ → Option ParamRow → List ParamId
@@ -93,9 +86,9 @@ number_there : (node : ℕ) (play : Option Play) → IsOwn node play → is_some
 number_there node (Some p) own is = inl (sym (own p refl))
 number_there node None own is = absurd cc
 
-numbers_once : (node : ℕ) (numbers : List ℕ) (play : Option Play) → IsOwn node play → AreDistinct numbers → ((i : ℕ) → IsIn i numbers → i < node) → AreDistinct (numbers ++ new_numbers play)
-numbers_once node numbers None own once low = rw (append-nil numbers) once
-numbers_once node numbers (Some p) own once low = distinct_more numbers p.id.0 once (λ h. let l = low p.id.0 h in let is = own p refl in absurd (omega arith))
+numbers_rise : (node : ℕ) (numbers : List ℕ) (play : Option Play) → IsOwn node play → IsStrictlyIncreasing numbers → ((i : ℕ) → IsIn i numbers → i < node) → IsStrictlyIncreasing (numbers ++ new_numbers play)
+numbers_rise node numbers None own up low = rw (append-nil numbers) up
+numbers_rise node numbers (Some p) own up low = rising_more numbers p.id.0 up (λ i h. let l = low i h in let is = own p refl in omega (arith, l, is))
 
 the_play : (play : Option Play) (p : Play) → IsIn p (plays_of play) → play ≡ Some p
 the_play (Some q) p (inl same) = ap Some (sym same)
@@ -204,7 +197,7 @@ module _ (w : World) (kind : Kind) (play : Option Play) (new : IsNewPlay w kind 
   created_scheds : HasScheds (created w kind play now)
   created_scheds = record {
     each = λ i. rw numbers ((λ h. from_numbers i h), (λ h. to_numbers i (place_of w.nodes (node_of kind now) i h.0) h.1));
-    once = rw numbers (numbers_once count (play_nodes w) play new.own valid.scheds.once (λ i h. ((valid.scheds.each i).0 h).0));
+    order = rw numbers (numbers_rise count (play_nodes w) play new.own valid.scheds.order (λ i h. ((valid.scheds.each i).0 h).0));
     kinds = created_kinds;
   }
 

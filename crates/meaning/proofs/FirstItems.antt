@@ -14,7 +14,7 @@ use Rattle.meaning.specs.declared.params.Param.{Param}
 use Rattle.meaning.specs.declared.scheds.Play.{Play}
 use Rattle.meaning.specs.declared.world.World.{World}
 use Rattle.meaning.specs.World.{param_id}
-use Rattle.meaning.specs.Validity.{IsValid, param_ids}
+use Rattle.meaning.specs.Validity.{IsValid, param_ids, play_nodes}
 
 module _ {X K : Type 0} (key : X → K) (test : X → Bool) (k : K) (means : (x : X) → test x ≡ true → key x ≡ k) where
   key_in : (xs : List X) (i : ℕ) (d : X) → i < length xs → IsIn (key (slice_index_or xs i d)) (map key xs)
@@ -55,24 +55,41 @@ node p = p.id.node.0
 abbrev pub AreInOrder : List Param → Type 0
 AreInOrder params = IsStrictlyIncreasing (map node params)
 
-later_nodes : (params : List Param) (n : ℕ) → ((j d : ℕ) → j < length (map node params) → n < slice_index_or (map node params) j d) → (id : ParamId) → IsIn id (map (λ (p : Param). p.id) params) → n < id.node.0
-later_nodes [] n above id is = absurd is
-later_nodes (p ∷ ps) n above id (inl same) = let l = above 0 0 (omega arith) in subst (λ (i : ParamId). n < i.node.0) (sym same) l
-later_nodes (p ∷ ps) n above id (inr is) = later_nodes ps n (λ j d l. above (suc j) d (omega arith)) id is
+above_all : (xs : List ℕ) (n : ℕ) → ((j d : ℕ) → j < length xs → n < slice_index_or xs j d) → (x : ℕ) → IsIn x xs → n < x
+above_all [] n above x is = absurd is
+above_all (y ∷ ys) n above x (inl same) = let l = above 0 0 (omega arith) in omega (arith, l, same)
+above_all (y ∷ ys) n above x (inr is) = above_all ys n (λ j d l. above (suc j) d (omega arith)) x is
 
-apart : (params : List Param) → AllPairs (λ a b. a < b) (map node params) → AreDistinct (map (λ (p : Param). p.id) params)
+apart : (xs : List ℕ) → AllPairs (λ a b. a < b) xs → AreDistinct xs
 apart [] up = tt
-apart (p ∷ ps) up = (
-  (λ h. let l : node p < node p = later_nodes ps (node p) (λ j d m. up 0 (suc j) d (omega arith) (omega arith)) p.id h in absurd (omega arith)),
-  apart ps (λ i j d l m. up (suc i) (suc j) d (omega arith) (omega arith)),
+apart (x ∷ xs) up = (
+  (λ h. let l : x < x = above_all xs x (λ j d m. up 0 (suc j) d (omega arith) (omega arith)) x h in absurd (omega arith)),
+  apart xs (λ i j d l m. up (suc i) (suc j) d (omega arith) (omega arith)),
 )
 
+-- numbers that rise are distinct
+distinct_numbers : (xs : List ℕ) → IsStrictlyIncreasing xs → AreDistinct xs
+distinct_numbers xs order = apart xs (AllPairs-from_increasing xs order)
+
+node_in : (params : List Param) (id : ParamId) → IsIn id (map (λ (p : Param). p.id) params) → IsIn id.node.0 (map node params)
+node_in [] id is = absurd is
+node_in (p ∷ ps) id (inl same) = inl (ap (λ (x : ParamId). x.node.0) same)
+node_in (p ∷ ps) id (inr is) = inr (node_in ps id is)
+
+distinct_ids : (params : List Param) → AreDistinct (map node params) → AreDistinct (map (λ (p : Param). p.id) params)
+distinct_ids [] once = tt
+distinct_ids (p ∷ ps) once = ((λ h. once.0 (node_in ps p.id h)), distinct_ids ps once.1)
+
 pub distinct_from_order : (params : List Param) → AreInOrder params → AreDistinct (map (λ (p : Param). p.id) params)
-distinct_from_order params order = apart params (AllPairs-from_increasing (map node params) order)
+distinct_from_order params order = distinct_ids params (distinct_numbers (map node params) order)
 
 -- no parameter of a world stands twice
 pub params_once : (w : World) → IsValid w → AreDistinct (param_ids w)
 params_once w valid = distinct_from_order w.params.items valid.params.order
+
+-- and no schedule
+pub plays_once : (w : World) → IsValid w → AreDistinct (play_nodes w)
+plays_once w valid = distinct_numbers (play_nodes w) valid.scheds.order
 
 -- a parameter that is there is found
 pub found_there : (params : List Param) (id : ParamId) (i : ℕ) (d : Param) → AreInOrder params → i < length params → same_param (slice_index_or params i d).id id ≡ true
@@ -85,7 +102,7 @@ param_position w valid id i d l t = found_there w.params.items id i d valid.para
 
 pub play_position : (w : World) → IsValid w → (node i : ℕ) (d : Play) → i < length w.scheds.items → ((slice_index_or w.scheds.items i d).id.0 == node) ≡ true
     → position (λ (p : Play). p.id.0 == node) w.scheds.items ≡ Some i
-play_position w valid node i d l t = position_is (λ (p : Play). p.id.0) (λ p. p.id.0 == node) node (λ p h. let same : p.id.0 ≡ node = grind (arith, nat_tests) in same) w.scheds.items i d valid.scheds.once l t
+play_position w valid node i d l t = position_is (λ (p : Play). p.id.0) (λ p. p.id.0 == node) node (λ p h. let same : p.id.0 ≡ node = grind (arith, nat_tests) in same) w.scheds.items i d (plays_once w valid) l t
 
 -- an item of the list is at a place
 pub at_place : {X : Type 0} (xs : List X) (x : X) → IsIn x xs → (i : ℕ) × (i < length xs) × (slice_get xs i ≡ Some x)

@@ -80,7 +80,7 @@ set_valid w node refusal change keeps fine valid = record {
   };
   scheds = record {
     each = λ i. subst (λ b. IsIn i (play_nodes w) ↔ (i < length (changed_at node change w.nodes)) × (b ≡ true)) (sym (same_by_lasting is_source (λ curve was_set. refl) _ _ (kinds i))) (rw same (valid.scheds.each i));
-    once = valid.scheds.once;
+    order = valid.scheds.order;
     kinds = λ p is. holds_by_lasting (λ k. IsPlayOf w.store k p) (λ curve curve' was_set was_set' none. absurd none) _ _ (sym (kinds p.id.0)) (valid.scheds.kinds p is);
   };
   store = valid.store;

@@ -43,7 +43,7 @@ valid_of w w' spec nodes graph params plays kinds store valid = record {
     lines = λ p is. valid.params.lines p (rw params at is);
     targets = λ e id is to. rw params (valid.params.targets e id (rw graph at is) to);
   };
-  scheds = record { each = λ i. rw (plays, nodes) (valid.scheds.each i); once = rw plays valid.scheds.once; kinds = kinds };
+  scheds = record { each = λ i. rw (plays, nodes) (valid.scheds.each i); order = rw plays valid.scheds.order; kinds = kinds };
   store = store;
 }
 
@@ -98,7 +98,7 @@ with_graph_valid w g valid graph nodes targets = record {
   graph = graph;
   ports = nodes ∙ valid.ports;
   params = record { each = valid.params.each; there = valid.params.there; order = valid.params.order; lines = valid.params.lines; targets = targets };
-  scheds = record { each = valid.scheds.each; once = valid.scheds.once; kinds = valid.scheds.kinds };
+  scheds = record { each = valid.scheds.each; order = valid.scheds.order; kinds = valid.scheds.kinds };
   store = valid.store;
 }
 

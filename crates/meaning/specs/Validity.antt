@@ -6,7 +6,7 @@ use Rattle.wa_base.specs.declared.contexts.ContextSpec.{ContextSpec}
 use Rattle.wa_base.specs.declared.graph_names.ParamId.{ParamId}
 use Rattle.wa_base.specs.declared.graph_names.ParamName.{ParamName}
 use Rattle.wa_base.specs.declared.graph_names.Mode.TheVariants.{Explicit}
-use Rattle.law_base.specs.Members.{IsIn, AreDistinct}
+use Rattle.law_base.specs.Members.{IsIn}
 use Rattle.param_events.specs.Timeline.{IsTimeline}
 use Rattle.sched_source.specs.declared.content.Content.{Content}
 use Rattle.buffer_store.specs.declared.buffers.Buffer.{Buffer as AudioBuffer}
@@ -84,10 +84,10 @@ IsPlay store (Some (plays.Content rate)) play = IsBufferPlay store rate play
 abbrev pub IsPlayOf : List AudioBuffer → Kind → Play → Type 0
 IsPlayOf store kind play = IsPlay store (row kind).plays play
 
--- each source has a schedule of its kind, once, and no other node has one
+-- Each source has a schedule of its kind, and no other node has one. They stand in order of their nodes.
 pub record HasScheds (w : World) : Type 0 where
   pub each : (i : ℕ) → IsIn i (play_nodes w) ↔ (i < length w.nodes) × (is_source (kind_of w i) ≡ true)
-  pub once : AreDistinct (play_nodes w)
+  pub order : IsStrictlyIncreasing (play_nodes w)
   pub kinds : (p : Play) → IsIn p w.scheds.items → IsPlayOf w.store (kind_of w p.id.0) p
 
 pub record IsValid (w : World) : Type 0 where

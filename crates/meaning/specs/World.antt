@@ -112,7 +112,7 @@ abbrev pub in_range : Range → ℤ → ℤ
 in_range Any x = sat x
 in_range (UpTo most) x = up_to most x
 
--- a value clamped to the nominal range of the parameter that a kind has
+-- a value clamped to the nominal range of the parameter that a kind has; 0 where it has none
 abbrev pub nominal : Kind → ℤ → ℤ
 nominal kind x = option_map_or (λ p. in_range p.range x) (row kind).param (pos 0)
 

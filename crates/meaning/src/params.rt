@@ -34,7 +34,7 @@ impl Param {
     fn set_slot(&mut self, first: u64)
         ensures { self.new ≡ slot_set first self.old }
     {
-        self.line.mark(self.line.value_at(first));
+        self.line.mark_at(first);
     }
 
     // An equal parameter with memory of its own.

@@ -7,13 +7,13 @@ const FRACTION_BITS: u32 = 24;
 
 const HALF: i64 = 8_388_608;
 
-/// A time from 0 on, in seconds and units of 2^-24, as whole frames at a rate: the nearest number, and
-/// the higher one for a half.
+/// A time in seconds and units of 2^-24 as whole frames at a rate: the nearest number, and the higher
+/// one for a half. A time before 0 has none.
 pub fn frames_of(seconds: Fix, rate: u32) -> u64
     ensures { result ≡ spec.frames_of seconds rate }
 {
     let product = i64::from(seconds) * i64::from(rate);
-    ((product + HALF) >> FRACTION_BITS).unsigned_abs()
+    ((product + HALF) >> FRACTION_BITS).max(0).unsigned_abs()
 }
 
 /// How many frames a delay (DelayNode) keeps of what comes in, by its longest delay (maxDelayTime, in

@@ -1,4 +1,4 @@
-mod Counting
+pub mod Counting
 mod Draws
 mod Neighbours
 mod Parts

@@ -1,11 +1,11 @@
-ghost use Rattle.std.specs.Prelude.{◌≡◌, ℕ, pos, length, ◌+◌, ◌<◌, ◌≤◌, ◌^◌, option_copied, slice_index_or, slice_get, take};
+ghost use Rattle.std.specs.Prelude.{◌≡◌, ℕ, pos, length, ◌+◌, ◌<◌, ◌≤◌, ◌^◌, option_copied, slice_index_or, slice_get, take, IfSome, None};
 ghost use Rattle.param_events.specs.Events.{last};
 ghost use Rattle.param_events.specs.Timeline.{IsTimeline};
 ghost use Rattle.param_events.specs.Values.{value_at};
 ghost use Rattle.param_cursor.specs.Cursors as cursors;
-ghost use Rattle.param_cursor.specs.Cursors.{StandsAt};
 
-use crate::levels::{Level, left_value, moves, next_time};
+use crate::drawing::draw_level;
+use crate::levels::level;
 use crate::spans::{Around, block_end, draw_around};
 use param_events::{Event, Timeline};
 use std::marker::Model;
@@ -42,7 +42,7 @@ impl Cursor {
     /// Moves the cursor to a frame, by a binary search: it looks at no more events than the number of
     /// events has binary digits.
     pub fn reseek<L: Ledger>(&mut self, first: u64, line: &Timeline, steps: &mut Steps<L>)
-        ensures stands { StandsAt self.new line.now.events first }
+        ensures stands { self.new ≡ cursors.place_at first line.now.events }
         ensures cost { (d : ℕ) → length line.now.events < 2 ^ d → steps.new ≤ steps.old + d }
     {
         let mut low = 0;
@@ -93,51 +93,25 @@ impl Cursor {
         }
     }
 
-    /// The value at the frame where the cursor stands, and the frame before which it stays: that of the
-    /// next event, or the last of all frames where none comes. It looks at no more than two events.
-    ///
-    /// Where a ramp or a curve is under way, and where an event has this very frame, that frame is
-    /// `first` itself and the value says nothing.
-    pub fn steady<L: Ledger>(&self, first: u64, line: &Timeline, steps: &mut Steps<L>) -> Level
-        requires stands { StandsAt self.now line.now.events first }
-        ensures values { (frame : ℕ) → first ≤ frame → frame < result.until → value_at line.now.base line.now.events frame ≡ result.value }
-        ensures until { result.until ≡ cursors.stays_until self.now line.now.events first }
-        ensures stands { (frame : ℕ) → first ≤ frame → frame ≤ result.until → StandsAt self.now line.now.events frame }
-        ensures cost { steps.new ≤ steps.old + 2 }
-    {
-        let here = Self::event_before(self.place, line, steps);
-        let next = Self::event_at(self.place, line, steps);
-        let base = line.base();
-        if moves(here, next, first) {
-            return Level {
-                value: base,
-                until: first,
-            };
-        }
-        Level {
-            value: left_value(base, here),
-            until: next_time(next),
-        }
-    }
-
-    /// Writes the intrinsic values of a block of at most 1,024 frames that begins where the cursor
-    /// stands, and moves the cursor behind it. It looks at no more than two events, and those with a
-    /// time in the block.
+    /// Takes the intrinsic values of a block of at most 1,024 frames that begins where the cursor stands,
+    /// and moves the cursor behind it. It answers the value that all frames have, and writes nothing, or
+    /// it writes one for each. It looks at no more than two events, and those with a time in the block.
     ///
     /// A ramp, and a curve between two of its points, is divided out only where it begins or the block
     /// does. From there on each frame takes an addition and a comparison.
-    pub fn fill<L: Ledger>(
+    pub fn draw<L: Ledger>(
         &mut self,
         out: &mut [Fix],
         first: u64,
         line: &Timeline,
         steps: &mut Steps<L>,
-    )
+    ) -> Option<Fix>
         requires first { first ≤ 2 ^ 62 }
         requires frames { length out.old ≤ 1024 }
-        requires stands { StandsAt self.old line.now.events first }
-        ensures values { (m : ℕ) → m < length out.new → slice_index_or out.new m (pos 0) ≡ value_at line.now.base line.now.events (first + m) }
-        ensures stands { StandsAt self.new line.now.events (first + length out.new) }
+        requires stands { self.old ≡ cursors.place_at first line.now.events }
+        ensures level { IfSome result (λ value. (m : ℕ) → m < length out.new → value_at line.now.base line.now.events (first + m) ≡ value) }
+        ensures values { result ≡ None → (m : ℕ) → m < length out.new → slice_index_or out.new m (pos 0) ≡ value_at line.now.base line.now.events (first + m) }
+        ensures stands { self.new ≡ cursors.place_at (first + length out.new) line.now.events }
         ensures moved { steps.new + self.old ≤ steps.old + 2 + self.new }
         ensures cost { steps.new ≤ steps.old + 2 + length (cursors.within first (first + length out.new) line.now.events) }
     {
@@ -146,6 +120,12 @@ impl Cursor {
         let mut here = Self::event_before(place, line, steps);
         let mut next = Self::event_at(place, line, steps);
         let mut end = block_end(next, first, count);
+        if end == count {
+            let level = level(line.base(), here, next, first);
+            if level.is_some() {
+                return level;
+            }
+        }
         draw_around(out, 0, end, Around { place, here, next }, line, first);
         while end < count {
             here = next;
@@ -156,5 +136,30 @@ impl Cursor {
             draw_around(out, at, end, Around { place, here, next }, line, first);
         }
         self.place = place;
+        None
+    }
+
+    /// Writes the intrinsic values of a block of at most 1,024 frames that begins where the cursor
+    /// stands, and moves the cursor behind it. It looks at no more than two events, and those with a
+    /// time in the block.
+    pub fn fill<L: Ledger>(
+        &mut self,
+        out: &mut [Fix],
+        first: u64,
+        line: &Timeline,
+        steps: &mut Steps<L>,
+    )
+        requires first { first ≤ 2 ^ 62 }
+        requires frames { length out.old ≤ 1024 }
+        requires stands { self.old ≡ cursors.place_at first line.now.events }
+        ensures values { (m : ℕ) → m < length out.new → slice_index_or out.new m (pos 0) ≡ value_at line.now.base line.now.events (first + m) }
+        ensures stands { self.new ≡ cursors.place_at (first + length out.new) line.now.events }
+        ensures moved { steps.new + self.old ≤ steps.old + 2 + self.new }
+        ensures cost { steps.new ≤ steps.old + 2 + length (cursors.within first (first + length out.new) line.now.events) }
+    {
+        if let Some(value) = self.draw(out, first, line, steps) {
+            let end = out.len();
+            draw_level(out, 0, end, value);
+        }
     }
 }

@@ -8,4 +8,3 @@ mod slope;
 mod spans;
 
 pub use cursor::Cursor;
-pub use levels::Level;

@@ -7,6 +7,7 @@ use Rattle.param_events.specs.declared.events.Event.{Event}
 use Rattle.param_events.specs.declared.events.Event.TheVariants.{Set, Ramp, Curve}
 use Rattle.param_events.specs.declared.refusals.ParamErr.{ParamErr}
 use Rattle.param_events.specs.declared.refusals.ParamErr.TheVariants.{BadDuration, ShortCurve}
+use Rattle.param_events.proofs.Moments.{moment_late}
 use Rattle.param_events.specs.Edits.{moment, refused_where, is_positive, time_refusal, in_curve, event_refusal, span_refusal, curve_refusal, begun, value_set, value_now, ramped, curved, cancelled, held_from}
 use Rattle.param_events.specs.Events.{until, put}
 use Rattle.param_events.specs.Timeline.{Timeline, IsTimeline}
@@ -39,7 +40,7 @@ ramp_kept line now value time fine kept = by_before (until (moment now time) lin
   where
     by_before : (before : List Event) → until (moment now time) line.events ≡ before → IsTimeline (put (begun before line.slot now line.events) (Ramp (moment now time) value))
     by_before [] none =
-        let later : now ≤ moment now time = omega arith in
+        let later : now ≤ moment now time = moment_late now time in
         subst IsTimeline
         (sym (ap (λ u. put (begun u line.slot now line.events) (Ramp (moment now time) value)) (sym none) ∙ first_ramp_is line.events line.slot value now (moment now time) kept.ordered later none))
         (first_ramp_kept line.events line.slot value now (moment now time) kept.ordered later none)

@@ -1,8 +1,8 @@
 -- What the calls that schedule automation make of a timeline, and why they are refused. They are cases on the whole list of events.
-use Rattle.std.specs.Prelude.{ℕ, ◌+◌, max, nat_le, nat_lt, ℤ, pos, negsuc, unsigned_abs, Bool, true, false, not, ◌&&◌, List, [], ◌∷◌, ◌++◌, length, Option, Some, None, option_map, if◌then◌else◌, ◌≡◌}
+use Rattle.std.specs.Prelude.{ℕ, ◌+◌, nat_le, nat_lt, ℤ, pos, negsuc, unsigned_abs, Bool, true, false, not, ◌&&◌, List, [], ◌∷◌, ◌++◌, length, Option, Some, None, option_map, if◌then◌else◌, ◌≡◌}
 use Rattle.std.specs.List.{filter, position}
 use Rattle.std.specs.Option.{option_or}
-use Rattle.std.specs.Int.{is_negative}
+use Rattle.std.specs.Int.{is_negative, int_max}
 use Rattle.param_events.specs.declared.events.Event.{Event}
 use Rattle.param_events.specs.declared.events.Event.TheVariants.{Set, Ramp, Curve}
 use Rattle.param_events.specs.declared.refusals.ParamErr.{ParamErr}
@@ -13,7 +13,7 @@ use Rattle.param_events.specs.Values.{value_at}
 
 -- no call reaches back: a time before now stands for now
 abbrev pub moment : ℕ → ℤ → ℕ
-moment now time = max (unsigned_abs time) now
+moment now time = unsigned_abs (int_max time (pos now))
 
 -- ---- why a call is refused
 

@@ -58,7 +58,7 @@ impl<T: Drop> From<AllocFailed<T>> for ParamErr {
 }
 
 // The time of a call: one before now stands for now.
-#[tactic(auto, unfolding(crate::specs::Edits::time_refusal))]
+#[tactic(auto, using(crate::proofs::Moments::moment_is), unfolding(crate::specs::Edits::time_refusal))]
 pub(crate) fn moment(now: u64, time: i64) -> Result<u64, ParamErr>
     ensures value { IfOk result (λ at. at ≡ edits.moment now time) }
     ensures ok { OnOk result (edits.time_refusal time ≡ None) }

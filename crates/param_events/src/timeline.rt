@@ -73,7 +73,7 @@ impl Timeline {
         self.events.len()
     }
 
-    /// Shows an event, which counts as one step. No other call shows one.
+    /// Shows an event, which counts as one step. No other call that leaves the timeline shows one.
     pub fn look<L: Ledger>(&self, i: usize, steps: &mut Steps<L>) -> &Event
         requires { i < length self.now.events }
         ensures event { slice_get self.now.events i ≡ Some result.now }
@@ -195,14 +195,15 @@ impl Timeline {
         Ok(())
     }
 
-    /// Why `set_value` and `ramp` are refused at a time, if they are. Nothing is changed.
+    /// Why `set_value` and `ramp` are refused at a time, if they are. Nothing is changed. It is for the
+    /// side that makes calls: it counts no step, and a refusal tells the place of an event.
     pub fn event_refusal(&self, now: u64, time: i64) -> Option<ParamErr>
         ensures { result ≡ edits.event_refusal now time self.now.events }
     {
         refusal_of(free_moment(self.events.as_slice(), now, time))
     }
 
-    /// Why `curve` is refused, if it is. Nothing is changed.
+    /// Why `curve` is refused, if it is. Nothing is changed, and no step is counted, as in `event_refusal`.
     pub fn curve_refusal(
         &self,
         now: u64,
@@ -216,7 +217,7 @@ impl Timeline {
         refusal_of(free_span(self.events.as_slice(), now, points.len(), time, duration))
     }
 
-    /// Why `set_now` is refused, if it is. Nothing is changed.
+    /// Why `set_now` is refused, if it is. Nothing is changed, and no step is counted, as in `event_refusal`.
     pub fn now_refusal(&self, now: u64) -> Option<ParamErr>
         ensures { result ≡ edits.in_curve now self.now.events }
     {
@@ -230,19 +231,20 @@ impl Timeline {
         refusal_of(moment(0, time))
     }
 
-    /// The intrinsic value at a frame (paramIntrinsicValue). Without events it is the base, and no search
-    /// is made.
-    pub fn value_at(&self, frame: u64) -> Fix
-        ensures { result ≡ values.value_at self.now.base self.now.events frame }
-    {
-        value_at(self.base, self.events.as_slice(), frame)
-    }
-
-    /// Sets the current value slot, as each render quantum does. Base and events stay.
+    /// Sets the current value slot to a value. Base and events stay.
     pub fn mark(&mut self, value: Fix)
         ensures { self.new ≡ record self.old { slot = value } }
     {
         self.slot = value;
+    }
+
+    /// Sets the current value slot to the intrinsic value at a frame, as each render quantum does. Without
+    /// events that is the base, and no search is made. The value is not handed out: rendering takes it
+    /// from events that it looks at, each for a step.
+    pub fn mark_at(&mut self, frame: u64)
+        ensures { self.new ≡ record self.old { slot = values.value_at self.old.base self.old.events frame } }
+    {
+        self.slot = value_at(self.base, self.events.as_slice(), frame);
     }
 
     /// An equal timeline with memory of its own.

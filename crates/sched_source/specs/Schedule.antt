@@ -1,7 +1,7 @@
 -- When a source sounds, and how the calls on its schedule are answered.
 use Rattle.std.specs.Prelude.{ℕ, ◌+◌, ◌-◌, ◌<◌, ◌^◌, max, min, nat_le, nat_lt, ℤ, pos, unsigned_abs, Bool, false, ◌&&◌, ◌||◌, if◌then◌else◌, List, slice_index_or, Option, Some, None, IfSome, is_some, is_none, option_map}
 use Rattle.std.specs.List.{list_any, range_with_len}
-use Rattle.std.specs.Int.{is_negative}
+use Rattle.std.specs.Int.{is_negative, int_max}
 use Rattle.std.specs.Option.{option_map_or}
 use Rattle.wa_base.specs.declared.exceptions.Exc.{Exc}
 use Rattle.wa_base.specs.declared.exceptions.Exc.TheVariants.{NotSupported, InvalidState, Range}
@@ -80,7 +80,7 @@ buffer rate points = record { start = None; stop = None; ended = false; content 
 
 -- no call reaches back: a time before now stands for now
 abbrev pub moment : ℕ → ℤ → ℕ
-moment now when = max (unsigned_abs when) now
+moment now when = unsigned_abs (int_max when (pos now))
 
 -- whether an offset or a duration is negative, where there is one
 abbrev pub is_any_negative : ℤ → Option ℤ → Bool

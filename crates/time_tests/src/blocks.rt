@@ -1,5 +1,5 @@
-ghost use Rattle.std.specs.Prelude.{◌≡◌, ◌+◌, ◌<◌, ◌≤◌, ◌^◌};
-ghost use Rattle.param_cursor.specs.Cursors.{StandsAt};
+ghost use Rattle.std.specs.Prelude.{◌≡◌, length, ◌+◌, ◌<◌, ◌≤◌, ◌^◌};
+ghost use Rattle.param_cursor.specs.Cursors.{place_at};
 
 use crate::random::{Random, timeline};
 use crate::search::value_by_search;
@@ -21,29 +21,27 @@ fn is_as_found<L: Ledger>(out: &[Fix], first: u64, line: &Timeline, steps: &mut 
     is_same
 }
 
-// Whether a value that stays is the one that a search finds, at the ends of its frames and between.
-fn is_steady_as_found<L: Ledger>(
-    cursor: &Cursor,
+// Whether a block, of one value or drawn, has the values that a search finds.
+fn is_drawn_as_found<L: Ledger>(
+    cursor: &mut Cursor,
+    out: &mut [Fix],
     first: u64,
     line: &Timeline,
     steps: &mut Steps<L>,
 ) -> bool
-    requires { StandsAt cursor.now line.now.events first }
+    requires first { first ≤ 2 ^ 62 }
+    requires frames { length out.old ≤ 1024 }
+    requires stands { cursor.old ≡ place_at first line.now.events }
+    ensures length { length out.new ≡ length out.old }
+    ensures stands { cursor.new ≡ place_at (first + length out.new) line.now.events }
 {
-    let level = cursor.steady(first, line, steps);
-    if level.until <= first {
-        return true;
+    if let Some(value) = cursor.draw(out, first, line, steps) {
+        out.fill(value);
     }
-    let last = level.until - 1;
-    let middle = first + (last - first) / 2;
-    let value = level.value as i128;
-    value == value_by_search(line, first, steps)
-        && value == value_by_search(line, middle, steps)
-        && value == value_by_search(line, last, steps)
+    is_as_found(out, first, line, steps)
 }
 
-// Whether two blocks, one after the other, have the values that a search finds, and whatever stays
-// before, between and after them.
+// Whether three blocks, one after the other, have the values that a search finds.
 fn blocks_are_as_found<L: Ledger>(
     line: &Timeline,
     first: u64,
@@ -55,16 +53,14 @@ fn blocks_are_as_found<L: Ledger>(
 {
     let mut out = [0; 1_024];
     let block = &mut out[..count];
-    let (second, third) = (first + count as u64, first + 2 * count as u64);
+    let second = first + count as u64;
+    let third = second + count as u64;
     let mut cursor = Cursor::new();
     cursor.reseek(first, line, steps);
-    let is_steady = is_steady_as_found(&cursor, first, line, steps);
-    cursor.fill(block, first, line, steps);
-    let one = is_as_found(block, first, line, steps);
-    let stays = is_steady_as_found(&cursor, second, line, steps);
+    let one = is_drawn_as_found(&mut cursor, block, first, line, steps);
     cursor.fill(block, second, line, steps);
     let two = is_as_found(block, second, line, steps);
-    is_steady && one && stays && two && is_steady_as_found(&cursor, third, line, steps)
+    one && two && is_drawn_as_found(&mut cursor, block, third, line, steps)
 }
 
 // Whether the blocks of so many random timelines have the values that a search finds.

@@ -195,6 +195,10 @@ judged_by bytes place chunks = judged bytes (first_format chunks) (first_data ch
 unfoldable pub wav_of : List ℕ → Result Wav WavErr
 wav_of bytes = if is_riff bytes then judged_by bytes 12 (chunks_from bytes 12) else Err (NotRiff 0)
 
+-- the frames a second of a file that is read
+abbrev pub rate_of : List ℕ → Result ℕ WavErr
+rate_of bytes = wav_of bytes >>= λ wav. Ok wav.rate
+
 -- what every recording that is read has: 1 to 32 channels, at least one frame, and a sample for each channel and frame
 pub record IsRecording (wav : Wav) : Type 0 where
   pub channels_low : 1 ≤ wav.channels

@@ -13,7 +13,7 @@ mod values;
 mod wav;
 
 pub use chunks::header;
-pub use reading::decode;
+pub use reading::{decode, rate_of};
 pub use samples::frames_into;
 pub use wav::{Wav, WavErr};
 

@@ -1,4 +1,4 @@
-ghost use Rattle.std.specs.Prelude.{◌≡◌, ◌≢◌, ◌≤◌, ◌+◌, true, false, length, Ok, Err, IfOk, IfErr, IsTrue};
+ghost use Rattle.std.specs.Prelude.{◌≡◌, ◌≢◌, ◌≤◌, ◌+◌, ◌*◌, ◌/◌, true, false, length, Ok, Err, IfOk, IfErr, IsTrue};
 ghost use Rattle.std.specs.Str.{bytes_eq};
 ghost use Rattle.wav_io.specs.WavGrammar as grammar;
 ghost use Rattle.wav_io.specs.WavRest.{IsRest};
@@ -24,13 +24,38 @@ pub fn decode(alloc: Global, bytes: &[u8]) -> Result<Wav, WavErr>
     ensures fault { IfErr result (λ e. e ≢ WavErr.NoMemory → grammar.wav_of bytes.now ≡ Err e) }
     ensures recording { IfOk result (λ wav. grammar.IsRecording wav) }
 {
+    let (format, data_chunk) = parts_of(bytes)?;
+    wav_in(alloc, bytes, &format, &data_chunk)
+}
+
+/// The frames a second of a file that `decode` reads, or the file's first fault. It looks at no sample,
+/// and takes no memory.
+pub fn rate_of(bytes: &[u8]) -> Result<u32, WavErr>
+    ensures { result ≡ grammar.rate_of bytes.now }
+{
+    let (format, data_chunk) = parts_of(bytes)?;
+    if frames_in(bytes, &format, &data_chunk) == 0 {
+        return Err(WavErr::NoData(data_chunk.place as u64));
+    }
+    Ok(format.rate)
+}
+
+// The format of a file and the chunk of its data, or the fault that stands before them.
+fn parts_of(bytes: &[u8]) -> Result<(Format, Chunk), WavErr>
+    ensures value { IfOk result (λ parts. grammar.wav_of bytes.now ≡ grammar.wav_in bytes.now parts.0 parts.1) }
+    ensures width { IfOk result (λ parts. IsTrue (grammar.is_width parts.0.bits)) }
+    ensures channels_low { IfOk result (λ parts. 1 ≤ parts.0.channels) }
+    ensures channels_high { IfOk result (λ parts. parts.0.channels ≤ 32) }
+    ensures there { IfOk result (λ parts. parts.1.place + 8 ≤ length bytes.now) }
+    ensures fault { IfErr result (λ e. grammar.wav_of bytes.now ≡ Err e) }
+{
     if !is_riff(bytes) {
         return Err(WavErr::NotRiff(0));
     }
     let format_chunk = find_format(bytes)?;
     let format = format_in(bytes, &format_chunk)?;
     let data_chunk = find_data(bytes, format_chunk.next_place())?;
-    wav_in(alloc, bytes, &format, &data_chunk)
+    Ok((format, data_chunk))
 }
 
 #[tactic(auto, unfolding(crate::specs::WavGrammar::is_riff))]
@@ -92,6 +117,20 @@ fn find_data(bytes: &[u8], start: usize) -> Result<Chunk, WavErr>
     Err(WavErr::NoData(place as u64))
 }
 
+// How many whole blocks of a data chunk the file has.
+fn frames_in(bytes: &[u8], format: &Format, chunk: &Chunk) -> usize
+    requires width { IsTrue (grammar.is_width format.now.bits) }
+    requires channels_low { 1 ≤ format.now.channels }
+    requires channels_high { format.now.channels ≤ 32 }
+    requires there { chunk.now.place + 8 ≤ length bytes.now }
+    ensures value { result ≡ grammar.frames_in bytes.now format.now chunk.now }
+    ensures there { chunk.now.place + 8 + result * (format.now.channels * (format.now.bits / 8)) ≤ length bytes.now }
+{
+    let start = chunk.place + HEAD_LEN;
+    let block = (format.channels * (format.bits / 8)) as usize;
+    (bytes.len().min(chunk.body_end()) - start) / block
+}
+
 // What is in a data chunk, of which the file may have a part.
 fn wav_in(alloc: Global, bytes: &[u8], format: &Format, chunk: &Chunk) -> Result<Wav, WavErr>
     requires width { IsTrue (grammar.is_width format.now.bits) }
@@ -103,8 +142,7 @@ fn wav_in(alloc: Global, bytes: &[u8], format: &Format, chunk: &Chunk) -> Result
     ensures recording { IfOk result (λ wav. grammar.IsRecording wav) }
 {
     let start = chunk.place + HEAD_LEN;
-    let block = (format.channels * (format.bits / 8)) as usize;
-    let frames = (bytes.len().min(chunk.body_end()) - start) / block;
+    let frames = frames_in(bytes, format, chunk);
     if frames == 0 {
         return Err(WavErr::NoData(chunk.place as u64));
     }

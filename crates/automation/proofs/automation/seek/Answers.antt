@@ -1,9 +1,9 @@
-use Rattle.std.proofs.Common.{◌<◌, length, slice_index_or, ◌∙◌, arith, subst}
-use Rattle.std.proofs.lemmas.List.{length-set, get_or_default}
+use Rattle.std.proofs.Common.{◌<◌, ◌++◌, ◌∷◌, [], length, map, take, slice_index_or, ap, sym, ◌∙◌, arith}
+use Rattle.std.proofs.lemmas.List.{length-set, take_more_set, map_more}
 use Rattle.std.proofs.lemmas.List.Sums.{sum_by_more}
 use Rattle.meaning.specs.declared.params.Param.{Param}
-use Rattle.param_cursor.specs.Cursors.{StandsAt}
-use Rattle.automation.proofs.Places.{one_more, in_list}
+use Rattle.automation.specs.Ready.{place_in}
+use Rattle.automation.proofs.Places.{in_list}
 use Rattle.automation.proofs.automation.seek.Goals as goal
 
 pub loop-i-preserved : goal.loop-i-preserved
@@ -15,10 +15,8 @@ loop-i-preserved g c =
     let item : Param = slice_index_or params i c.index-params-i.result in
     record {
       long = length-set c.loop-i.cursors i c.reseek.new.self ∙ inv.long;
-      stands = λ j p before.
-          one_more (λ k x. StandsAt x (slice_index_or params k p).line.events c.args.first) c.loop-i.cursors i c.reseek.new.self 0 (omega (arith, c.loop-i-test.true, inv.long)) (λ k l. inv.stands k p l)
-          (subst (λ (q : Param). StandsAt c.reseek.new.self q.line.events c.args.first) (get_or_default params i c.index-params-i.result p low) c.reseek.ensures.stands)
-          j before;
+      stands = take_more_set c.loop-i.cursors i c.reseek.new.self (omega (arith, c.loop-i-test.true, inv.long)) ∙ ap (λ xs. xs ++ c.reseek.new.self ∷ []) inv.stands
+          ∙ ap (λ x. map (place_in c.args.first) (take i params) ++ x ∷ []) c.reseek.ensures.stands ∙ sym (map_more (place_in c.args.first) params i c.index-params-i.result low);
       cost = λ digits each.
           let here = c.reseek.ensures.cost (digits item) (each item (in_list params i c.index-params-i.result low)) in
           let more = sum_by_more digits params i c.index-params-i.result low in

@@ -4,7 +4,6 @@ use Rattle.std.proofs.lemmas.List.{length-set, get_or_default, get_or-set_other}
 use Rattle.std.proofs.lemmas.List.Sums.{sum_by_more}
 use Rattle.law_base.specs.Members.{IsIn}
 use Rattle.meaning.specs.declared.params.Param.{Param}
-use Rattle.param_cursor.specs.Cursors.{StandsAt}
 use Rattle.automation.specs.Levels.{HasRoom, IsLevelOf, no_level, level_of}
 use Rattle.automation.specs.Ready.{looks_at}
 use Rattle.automation.proofs.Places.{place_of, in_list, room_stays, taken_more}
@@ -37,7 +36,7 @@ loop-i-preserved g c =
           let old = inv.room q is in
           (omega (arith, old.0, length-set c.loop-i.levels p.id.node.0 c.take.new.self), room_stays c.loop-i.levels p.id.node.0 c.take.new.self room.0 c.take.ensures.level.room q.id.node.0 old.1);
       stands = λ j q later low.
-          subst (λ x. StandsAt x (slice_index_or params j q).line.events c.args.first) (sym (get_or-set_other c.loop-i.cursors i j c.take.new.cursor 0 (λ e. let k : j ≡ i = e in omega arith))) (inv.stands j q (omega arith) low);
+          get_or-set_other c.loop-i.cursors i j c.take.new.cursor 0 (λ e. let k : j ≡ i = e in omega arith) ∙ inv.stands j q (omega arith) low;
       cost =
           let more = sum_by_more (looks_at c.args.first) params i p c.loop-i-test.true ∙ ap (λ q. sum_by (looks_at c.args.first) (take i params) + looks_at c.args.first q) (sym c.index-params-i.is) in
           let cost = c.take.ensures.cost in

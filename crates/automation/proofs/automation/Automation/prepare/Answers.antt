@@ -1,16 +1,14 @@
-use Rattle.std.proofs.Common.{ℕ, List, ◌<◌, length, slice_index_or, sym, ◌∙◌, ap, arith, subst}
-use Rattle.param_cursor.specs.Cursors.{StandsAt}
+use Rattle.std.proofs.Common.{List, ◌<◌, length, sym, ◌∙◌, ap, arith, subst}
 use Rattle.automation.specs.Levels.{LevelView, HasRoom, level_of}
 use Rattle.automation.proofs.Places.{rewritten}
 use Rattle.automation.proofs.automation.Automation.prepare.Goals as goal
 
 pub returns-clause-ready : goal.returns-clause-ready
 returns-clause-ready g c =
-    let cursors = rewritten _ c.seek.new.cursors _ (c.seek.ensures.length ∙ c.as_mut_slice-2.ensures.len) in
+    let cursors = rewritten _ c.seek.new.cursors _ (c.seek.auto.cursors ∙ c.as_mut_slice-2.ensures.len) in
     let levels = rewritten _ c.make_room.new.levels _ (c.in_ok-make_room.ensures.length ∙ c.as_mut_slice.ensures.len) in
     record {
-      cursors = ap length cursors ∙ c.seek.ensures.length ∙ c.as_mut_slice-2.ensures.len ∙ c.in_ok-resize.ensures.len;
-      stands = λ i p low. subst (λ (xs : List ℕ). StandsAt (slice_index_or xs i 0) (slice_index_or c.args.params.now i p).line.events c.args.first) (sym cursors) (c.seek.ensures.stands i p low);
+      stands = cursors ∙ c.seek.ensures.stands;
       room = λ p is. subst (λ (xs : List LevelView). (p.id.node.0 < length xs) × HasRoom (level_of xs p.id.node.0)) (sym levels) (omega (arith, c.requires.there p is, c.in_ok-extend.ensures, c.in_ok-make_room.ensures.length, ap length c.as_mut_slice.ensures.value), c.in_ok-make_room.ensures.room p is);
     }
 

@@ -6,6 +6,7 @@ use Rattle.meaning.specs.World.{plain, find_play, frames_in}
 use Rattle.meaning.specs.Plays.{play_edited, acquired, frozen_in}
 use Rattle.meaning.specs.Sources.{with_plays, with_store, changed_play}
 use Rattle.meaning.proofs.Sourcing.{found_buffer, acquires_there}
+use Rattle.meaning.proofs.FirstItems.{plays_once}
 use Rattle.meaning.proofs.Changing.{rescheduled_is}
 use Rattle.meaning.proofs.world.World.edit_source.Goals as goal
 
@@ -25,7 +26,7 @@ returns-in-Some-acquired-clause-edited c =
     let edited : c.edit.new.self ≡ play_edited (frames_in c.args.self.now.store play.buffer) c.args.now c.args.edit play =
     c.edit.ensures ∙ ap (λ frames. play_edited frames c.args.now c.args.edit play) c.frames_of-frames.ensures.value in
     let plays = rescheduled_is c.args.self.now c.args.node.0 c.in-Some.place play c.edit.new.self (λ p. play_edited (frames_in c.args.self.now.store p.buffer) c.args.now c.args.edit p)
-    c.requires.valid.scheds.once (sym c.find.ensures.place ∙ c.in-Some.is) c.at.ensures edited in
+    (plays_once c.args.self.now c.requires.valid) (sym c.find.ensures.place ∙ c.in-Some.is) c.at.ensures edited in
     let store : c.freeze.new.self ≡ acquired c.args.self.now.store c.args.edit (find_play c.args.self.now.scheds.items c.args.node.0) =
     c.freeze.ensures ∙ ap (frozen_in c.args.self.now.store) (sym c.in-Some-acquired.is ∙ c.acquires-acquired.ensures) ∙ ap (acquired c.args.self.now.store c.args.edit) (sym found) in
     ap (λ (ps : List Play). with_plays (with_store (plain c.args.self.now) c.freeze.new.self) ps) plays
@@ -38,7 +39,7 @@ returns-in_default-acquired-clause-edited c =
     let edited : c.edit.new.self ≡ play_edited (frames_in c.args.self.now.store play.buffer) c.args.now c.args.edit play =
     c.edit.ensures ∙ ap (λ frames. play_edited frames c.args.now c.args.edit play) c.frames_of-frames.ensures.value in
     let plays = rescheduled_is c.args.self.now c.args.node.0 c.in-Some.place play c.edit.new.self (λ p. play_edited (frames_in c.args.self.now.store p.buffer) c.args.now c.args.edit p)
-    c.requires.valid.scheds.once (sym c.find.ensures.place ∙ c.in-Some.is) c.at.ensures edited in
+    (plays_once c.args.self.now c.requires.valid) (sym c.find.ensures.place ∙ c.in-Some.is) c.at.ensures edited in
     let store : c.args.self.now.store ≡ acquired c.args.self.now.store c.args.edit (find_play c.args.self.now.scheds.items c.args.node.0) =
     ap (frozen_in c.args.self.now.store) (sym c.in_default-acquired.is ∙ c.acquires-acquired.ensures) ∙ ap (acquired c.args.self.now.store c.args.edit) (sym found) in
     ap (λ (ps : List Play). with_plays (with_store (plain c.args.self.now) c.args.self.now.store) ps) plays

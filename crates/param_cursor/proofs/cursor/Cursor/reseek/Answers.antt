@@ -1,7 +1,8 @@
-use Rattle.std.proofs.Common.{ℕ, zero, suc, ◌≡◌, ◌≤◌, ◌<◌, ◌+◌, ◌-◌, ◌/◌, ◌^◌, ap, sym, ◌∙◌, arith, get_or}
+use Rattle.std.proofs.Common.{ℕ, zero, suc, ◌≡◌, ◌≤◌, ◌<◌, ◌+◌, ◌-◌, ◌/◌, ◌^◌, ap, sym, subst, ◌∙◌, arith, get_or}
 use Rattle.std.proofs.Math.Nat.{pow-suc}
 use Rattle.std.proofs.lemmas.Option.{get_or_from_slice_get}
 use Rattle.param_events.specs.Events.{time_of}
+use Rattle.param_cursor.proofs.Counting.{place_is}
 use Rattle.param_cursor.proofs.cursor.Cursor.reseek.Goals as goal
 
 halve : (size half steps began d j : ℕ) → 0 < size → half ≤ size / 2 → size < 2 ^ j → steps + j ≤ began + d → (i : ℕ) × (half < 2 ^ i) × (steps + 1 + i ≤ began + d)
@@ -40,3 +41,13 @@ loop-low-preserved g c =
           let new = halve (c.loop-low.high - c.loop-low.low) (c.loop-low.low + (c.loop-low.high - c.loop-low.low) / 2 - c.loop-low.low) c.loop-low.steps c.args.steps.now d old.0 (omega arith) (omega arith) old.1 old.2 in
           (new.0, new.1, omega (arith, steps, new.2));
     }
+
+pub returns-clause-stands : goal.returns-clause-stands
+returns-clause-stands g c =
+    let same : c.loop-low.low ≡ c.loop-low.high = omega (arith, c.loop-low.invariant.order, c.loop-low-test.false) in
+    place_is c.args.first c.loop-low.low c.args.line.now.events c.len-high.ensures.timeline.ordered
+    (record {
+      within = omega (arith, c.loop-low.invariant.within, same);
+      before = c.loop-low.invariant.before;
+      behind = λ d l. let behind = c.loop-low.invariant.behind d (omega (arith, same, l)) in subst (λ k. c.args.first ≤ time_of (get_or c.args.line.now.events k d)) (sym same) behind;
+    })

@@ -1,15 +1,73 @@
-use Rattle.std.proofs.Common.{rules, pos, ◌≡◌, ◌≤◌, ◌+◌, ◌-◌, ap, sym, subst, ◌∙◌, arith, length, get_or, inl, inr}
-use Rattle.std.specs.Prelude.{IfSome}
+use Rattle.std.proofs.Common.{rules, ℕ, ℤ, pos, List, take, FitsSigned, ◌≡◌, ◌≤◌, ◌<◌, ◌+◌, ◌-◌, ap, sym, subst, ◌∙◌, arith, length, get_or, inl, inr, Option, None, Some}
+use Rattle.std.specs.Prelude.{IfSome, slice_get}
+use Rattle.std.specs.Int.{w32}
+use Rattle.std.proofs.lemmas.Int.{to_z-of_z}
+use Rattle.param_events.specs.declared.events.Event.{Event}
 use Rattle.std.specs.Option.{IsSomeAnd}
 use Rattle.param_events.specs.declared.events.Event.TheVariants.{Set}
-use Rattle.param_events.specs.Events.{time_of}
+use Rattle.param_events.specs.Events.{time_of, last}
+use Rattle.param_events.specs.Values.{between, value_at}
 use Rattle.param_events.proofs.Order.{order}
 use Rattle.param_cursor.proofs.Draws.{drawn_joined}
 use Rattle.param_events.proofs.Order.{rising_times}
 use Rattle.param_cursor.proofs.Neighbours.{if_there, at_place, at_some, last_next}
-use Rattle.param_cursor.specs.Cursors.{StandsAt}
-use Rattle.param_cursor.proofs.Counting.{moved_by}
-use Rattle.param_cursor.proofs.cursor.Cursor.fill.Goals as goal
+use Rattle.param_cursor.proofs.Counting.{StandsAt, place_is, place_within, stands_at, moved_by}
+use Rattle.param_cursor.proofs.Stays.{between_at, stands_on, last_sound}
+use Rattle.param_events.specs.Timeline.{IsSound, IsTimeline}
+use Rattle.param_cursor.proofs.cursor.Cursor.draw.Goals as goal
+
+-- the value that stays is that of each frame before the next event
+level_all : (o : Option ℤ) (base : ℤ) (es : List Event) (place first count : ℕ) → IsTimeline es → StandsAt place es first → ((d : Event) → place < length es → first + count ≤ time_of (get_or es place d))
+    → IfSome o (λ v. (later : ℕ) → first ≤ later → between base (last (take place es)) (slice_get es place) later ≡ v) → IfSome o (λ v. (m : ℕ) → m < count → value_at base es (first + m) ≡ v)
+level_all None base es place first count line stands later h = tt
+level_all (Some v) base es place first count line stands later h = λ m low. between_at base es place first (first + m) line stands (omega arith) (λ d l. let t = later d l in omega (arith, t, low)) ∙ h (first + m) (omega arith)
+
+pub event_before-here-requires : goal.event_before-here-requires
+event_before-here-requires g c = subst (λ p. p ≤ length c.args.line.now.events) (sym (c.self.view_is ∙ c.requires.stands)) (place_within c.args.first c.args.line.now.events)
+
+pub block_end-end-requires : goal.block_end-end-requires
+block_end-end-requires g c =
+    let events = c.args.line.now.events in
+    let stands = stands_at c.args.first c.self.inside.place events c.event_at-next.ensures.timeline.ordered (c.self.view_is ∙ c.requires.stands) in
+    subst (λ o. IfSome o (λ e. c.args.first ≤ time_of e)) (sym c.event_at-next.ensures.value) (if_there c.self.inside.place events (λ e. c.args.first ≤ time_of e) stands.behind)
+
+pub level-level-requires : goal.level-level-requires
+level-level-requires g c =
+    let events = c.args.line.now.events in
+    let stands = stands_at c.args.first c.self.inside.place events c.event_at-next.ensures.timeline.ordered (c.self.view_is ∙ c.requires.stands) in
+    record { sound = subst (λ o. IfSome o IsSound) (sym c.event_before-here.ensures.value) (last_sound c.self.inside.place events c.event_at-next.ensures.timeline.ordered stands.within) }
+
+pub returns-then-is_some-clause-level : goal.returns-then-is_some-clause-level
+returns-then-is_some-clause-level g c =
+    let events = c.args.line.now.events in
+    let place = c.self.inside.place in
+    let stands = stands_at c.args.first place events c.event_at-next.ensures.timeline.ordered (c.self.view_is ∙ c.requires.stands) in
+    let later = at_place place events (λ e. c.args.first + c.block_end-end.result ≤ time_of e) (subst (λ o. IfSome o (λ e. c.args.first + c.block_end-end.result ≤ time_of e)) c.event_at-next.ensures.value c.block_end-end.ensures.later) in
+    let result : FitsSigned w32 c.base.result = search rules in
+    let base : FitsSigned w32 c.args.line.now.base = subst (FitsSigned w32) c.base.ensures result in
+    let whole : c.block_end-end.result ≡ length c.args.out.now = c.if-end-count.true in
+    let held = simp (c.base.ensures, to_z-of_z _ _ base, c.event_before-here.ensures.value, c.event_at-next.ensures.value) at c.level-level.ensures in
+    level_all c.level-level.result c.args.line.now.base events place c.args.first (length c.args.out.now) c.event_at-next.ensures.timeline stands (λ d l. let t = later d l in omega (arith, t, whole)) held
+
+pub returns-then-is_some-clause-stands : goal.returns-then-is_some-clause-stands
+returns-then-is_some-clause-stands g c =
+    let events = c.args.line.now.events in
+    let place = c.self.inside.place in
+    let stands = stands_at c.args.first place events c.event_at-next.ensures.timeline.ordered (c.self.view_is ∙ c.requires.stands) in
+    let later = at_place place events (λ e. c.args.first + c.block_end-end.result ≤ time_of e) (subst (λ o. IfSome o (λ e. c.args.first + c.block_end-end.result ≤ time_of e)) c.event_at-next.ensures.value c.block_end-end.ensures.later) in
+    sym c.self.view_is
+    ∙ place_is (c.args.first + length c.args.out.now) place events c.event_at-next.ensures.timeline.ordered
+    (stands_on events place c.args.first (c.args.first + length c.args.out.now) stands (omega arith) (λ d l. let t = later d l in let whole : c.block_end-end.result ≡ length c.args.out.now = c.if-end-count.true in omega (arith, t, whole)))
+
+pub draw_around-requires-clause-place : goal.draw_around-requires-clause-place
+draw_around-requires-clause-place g c = subst (λ p. p ≤ length c.args.line.now.events) (sym (c.self.view_is ∙ c.requires.stands)) (place_within c.args.first c.args.line.now.events)
+
+pub draw_around-requires-clause-begun : goal.draw_around-requires-clause-begun
+draw_around-requires-clause-begun g c = λ d some.
+    let events = c.args.line.now.events in
+    let stands = stands_at c.args.first c.self.inside.place events c.event_at-next.ensures.timeline.ordered (c.self.view_is ∙ c.requires.stands) in
+    let before = stands.before d some in
+    omega (arith, before)
 
 pub draw_around-requires-clause-later : goal.draw_around-requires-clause-later
 draw_around-requires-clause-later g c =
@@ -22,7 +80,7 @@ loop-end-init g c =
     let place = c.self.inside.place in
     let first = c.args.first in
     let end = c.block_end-end.result in
-    let stands = c.requires.stands in
+    let stands : StandsAt place events first = stands_at first place events c.event_at-next.ensures.timeline.ordered (c.self.view_is ∙ c.requires.stands) in
     record {
       drawn = c.draw_around.ensures;
       order = c.block_end-end.ensures.within;
@@ -99,9 +157,16 @@ loop-end-preserved g c =
       cost = let k = c.event_at-next-in-loop-end.ensures.cost in omega (arith, old.cost, k);
     }
 
+pub returns-clause-stands : goal.returns-clause-stands
+returns-clause-stands g c =
+    let events = c.args.line.now.events in
+    let last : StandsAt c.loop-end.place events (c.args.first + length c.loop-end.out) = search rules in
+    place_is (c.args.first + length c.loop-end.out) c.loop-end.place events c.event_at-next.ensures.timeline.ordered last
+
 pub returns-clause-cost : goal.returns-clause-cost
 returns-clause-cost g c =
     let events = c.args.line.now.events in
     let last : StandsAt c.loop-end.place events (c.args.first + length c.loop-end.out) = search rules in
-    let moved = moved_by c.args.first (c.args.first + length c.loop-end.out) c.args.self.now c.loop-end.place events c.event_at-next.ensures.timeline.ordered (omega arith) c.requires.stands last in
-    omega (arith, moved, c.loop-end.invariant.cost)
+    let stands = place_is (c.args.first + length c.loop-end.out) c.loop-end.place events c.event_at-next.ensures.timeline.ordered last in
+    let moved = moved_by c.args.first (c.args.first + length c.loop-end.out) events (omega arith) in
+    omega (arith, moved, stands, c.requires.stands, c.loop-end.invariant.cost)

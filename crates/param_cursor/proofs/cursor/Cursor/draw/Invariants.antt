@@ -4,7 +4,7 @@ use Rattle.param_events.specs.declared.events.Event.{Event}
 use Rattle.param_events.specs.Events.{time_of}
 use Rattle.param_events.specs.Values.{value_at}
 use Rattle.param_cursor.specs.Cursors.{IsDrawn}
-use Rattle.param_cursor.proofs.cursor.Cursor.fill.Given as goal
+use Rattle.param_cursor.proofs.cursor.Cursor.draw.Given as goal
 
 -- The block is drawn to `end`, where an event stands or the block ends; so many events stand before it.
 pub record Filling (old out : List ℤ) (place end count first steps began start : ℕ) (ahead : Option Event) (base : ℤ) (events : List Event) : Type 0 where
