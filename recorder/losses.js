@@ -22,7 +22,7 @@ export const LOSS_KINDS = {
   'sample-range': {grade: 'refused', says: 'samples of 128 or more, or below -128; the nearest ones stand in the script'},
   'not-finite': {grade: 'refused', says: 'a number that is not finite; 0 stands in the script'},
   'time-next-frame': {grade: 'exact', says: 'times between two frames; the next frame means the same'},
-  'time-near-frame': {grade: 'exact', says: 'times within a millionth of a frame; that frame is taken'},
+  'time-near-frame': {grade: 'exact', says: 'times as near to a frame as a rounding; that frame is taken'},
   'time-rounded': {grade: 'rounded', says: 'times between two frames; the nearest frame is taken'},
   'delay-fraction': {grade: 'heard',
     says: 'A DELAY OF A FRACTION OF A FRAME OR ONE THAT MOVES: chorus, flanger and tuned strings change'},
