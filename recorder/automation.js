@@ -9,17 +9,22 @@ export class Timeline {
   constructor(startValue) {
     this.startValue = startValue; // before the first event
     this.events = [];             // {kind: set, ramp, exponential, target or curve, place, value, ...}, in order of places
+    this.found = -1;              // where the last place was, as places are often asked for in order
   }
 
   // The number of the last event at or before a place, or -1.
   indexAt(place) {
-    let index = this.events.length - 1;
+    let index = Math.min(this.found, this.events.length - 1);
+    while (index + 1 < this.events.length && this.events[index + 1].place <= place) index++;
     while (index >= 0 && this.events[index].place > place) index--;
+    this.found = index;
     return index;
   }
 
   put(event) {
-    this.events.splice(this.indexAt(event.place) + 1, 0, event);
+    const place = this.indexAt(event.place) + 1;
+    this.events.splice(place, 0, event);
+    for (const other of this.events.slice(place)) other.begunWith = undefined;
   }
 
   // Where an event lets the next ramp begin.
@@ -32,15 +37,22 @@ export class Timeline {
     if (index < 0) return this.startValue;
     const event = this.events[index];
     if (event.kind === 'curve') return curveValue(event, place);
-    if (event.kind === 'target') return targetValue(event, this.valueAfter(index - 1, event.place), place);
+    if (event.kind === 'target') return targetValue(event, this.startOfTarget(index), place);
     return event.value;
   }
 
-  // The value at a place, on a ramp too. A ramp that nothing comes before begins at `now`.
+  // The value from which a target begins. It may be that of another target, and so on, so it is kept.
+  startOfTarget(index) {
+    const event = this.events[index];
+    if (event.begunWith === undefined) event.begunWith = this.valueAfter(index - 1, event.place);
+    return event.begunWith;
+  }
+
+  // The value at a place, on a ramp too. A ramp that nothing comes before begins when it was asked for, or `now`.
   valueAt(place, now) {
     const index = this.indexAt(place), next = this.events[index + 1];
     if (!next || (next.kind !== 'ramp' && next.kind !== 'exponential')) return this.valueAfter(index, place);
-    const begin = index < 0 ? Math.min(now, place) : Timeline.endOf(this.events[index]);
+    const begin = index >= 0 ? Timeline.endOf(this.events[index]) : next.madeAt ?? Math.min(now, place);
     return place <= begin ? this.valueAfter(index, place) : rampValue(next, begin, this.valueAfter(index, begin), place);
   }
 
@@ -60,6 +72,7 @@ export class Timeline {
 
   cancel(place) {
     this.events = this.events.filter(event => !this.isCancelled(event, place));
+    for (const event of this.events) event.begunWith = undefined;
   }
 
   // Whether the value is on its way at a place: on a ramp, to a target, or in a curve.

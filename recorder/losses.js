@@ -68,7 +68,7 @@ export const LOSS_KINDS = {
     says: 'A LOOP THROUGH A DELAY is a quantum longer in Chromium than in the recommendation; the option --loops-as-browser makes it so'},
   'loop-as-browser': {grade: 'lowered', says: 'loops that Chromium has a quantum longer; a delay of a quantum stands where it does'},
   'media-decoded': {grade: 'lowered', says: 'media elements; their files are decoded, and played on the clock of the audio'},
-  'lowered-panner': {grade: 'lowered', says: 'panners whose position stands still; gains by the standard\'s formulas'},
+  'lowered-panner': {grade: 'lowered', says: 'panners; gains by the standard\'s formulas'},
   'lowered-analyser': {grade: 'lowered', says: 'analysers; gains of 1, as they pass their input on'},
 
   // What a script cannot say.
