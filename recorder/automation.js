@@ -3,23 +3,28 @@
 // A place is a time in frames and may lie between two frames. Values are those of the standard's formulas.
 // The rewriting of calls asks here what a parameter does, and puts it into words that a script has.
 
-import {framePlace} from './values.js';
+import {framePlace, isBehindFrame} from './values.js';
 
 export class Timeline {
   constructor(startValue) {
     this.startValue = startValue; // before the first event
     this.events = [];             // {kind: set, ramp, exponential, target or curve, place, value, ...}, in order of places
+    this.found = -1;              // where the last place was, as places are often asked for in order
   }
 
   // The number of the last event at or before a place, or -1.
   indexAt(place) {
-    let index = this.events.length - 1;
+    let index = Math.min(this.found, this.events.length - 1);
+    while (index + 1 < this.events.length && this.events[index + 1].place <= place) index++;
     while (index >= 0 && this.events[index].place > place) index--;
+    this.found = index;
     return index;
   }
 
   put(event) {
-    this.events.splice(this.indexAt(event.place) + 1, 0, event);
+    const place = this.indexAt(event.place) + 1;
+    this.events.splice(place, 0, event);
+    for (const other of this.events.slice(place)) other.begunWith = undefined;
   }
 
   // Where an event lets the next ramp begin.
@@ -32,15 +37,22 @@ export class Timeline {
     if (index < 0) return this.startValue;
     const event = this.events[index];
     if (event.kind === 'curve') return curveValue(event, place);
-    if (event.kind === 'target') return targetValue(event, this.valueAfter(index - 1, event.place), place);
+    if (event.kind === 'target') return targetValue(event, this.startOfTarget(index), place);
     return event.value;
   }
 
-  // The value at a place, on a ramp too. A ramp that nothing comes before begins at `now`.
+  // The value from which a target begins. It may be that of another target, and so on, so it is kept.
+  startOfTarget(index) {
+    const event = this.events[index];
+    if (event.begunWith === undefined) event.begunWith = this.valueAfter(index - 1, event.place);
+    return event.begunWith;
+  }
+
+  // The value at a place, on a ramp too. A ramp that nothing comes before begins when it was asked for, or `now`.
   valueAt(place, now) {
     const index = this.indexAt(place), next = this.events[index + 1];
     if (!next || (next.kind !== 'ramp' && next.kind !== 'exponential')) return this.valueAfter(index, place);
-    const begin = index < 0 ? Math.min(now, place) : Timeline.endOf(this.events[index]);
+    const begin = index >= 0 ? Timeline.endOf(this.events[index]) : next.madeAt ?? Math.min(now, place);
     return place <= begin ? this.valueAfter(index, place) : rampValue(next, begin, this.valueAfter(index, begin), place);
   }
 
@@ -60,6 +72,7 @@ export class Timeline {
 
   cancel(place) {
     this.events = this.events.filter(event => !this.isCancelled(event, place));
+    for (const event of this.events) event.begunWith = undefined;
   }
 
   // Whether the value is on its way at a place: on a ramp, to a target, or in a curve.
@@ -97,23 +110,44 @@ export function rampValue(event, begin, startValue, place) {
   return startValue * event.value > 0 ? startValue * (event.value / startValue) ** part : startValue;
 }
 
-// The event of a page's call. Places before now stand for now.
-export function eventOf(parameter, method, args) {
-  const recording = parameter.recording;
-  const placeOf = seconds => Math.max(framePlace(recording, +seconds), recording.now);
+// Whether the value jumps at an event that comes where it is `before`.
+function isJump({kind, value, values, timeConstant}, before) {
+  if (kind === 'exponential') return !(before * value > 0);
+  if (kind === 'target') return !(timeConstant > 0) && value !== before;
+  return (kind === 'set' && value !== before) || (kind === 'curve' && values[0] !== before);
+}
+
+// The place of an event. A time that is by a rounding behind a frame, as 0.07 is at 48,000, counts for the browser from
+// the next one on, but for a first event at the beginning of a quantum. It stays behind the frame where that is heard,
+// which is where the value jumps, and where another event stays. Places before now stand for now.
+function placeOf({recording, timeline}, seconds, event) {
+  const place = framePlace(recording, seconds), exact = seconds * recording.rate;
+  if (place < recording.now || exact <= place) return Math.max(place, recording.now);
+  const isFirst = place % recording.quantum === 0 && seconds === place / recording.rate && timeline.indexAt(place) < 0;
+  const stays = ({place: other}) => Math.floor(other) === place && isBehindFrame(other);
+  const isHeard = timeline.events.some(stays) || isJump(event, timeline.valueAt(place, recording.now));
+  return isHeard && !isFirst ? exact : place;
+}
+
+// What a page's call puts into a timeline, and its time.
+function withoutPlace(recording, method, args) {
   const value = Math.fround(+args[0]);
   switch (method) {
-    case 'value': return {kind: 'set', place: recording.now, value};
-    case 'setValueAtTime': return {kind: 'set', place: placeOf(args[1]), value};
-    case 'linearRampToValueAtTime': return {kind: 'ramp', place: placeOf(args[1]), value};
-    case 'exponentialRampToValueAtTime': return {kind: 'exponential', place: placeOf(args[1]), value};
-    case 'setTargetAtTime': return {kind: 'target', place: placeOf(args[1]), value, timeConstant: +args[2] * recording.rate};
-    case 'setValueCurveAtTime': {
-      const values = Float32Array.from(args[0]);
-      return {kind: 'curve', place: placeOf(args[1]), values, duration: framePlace(recording, +args[2])};
-    }
-    case 'cancelScheduledValues': return {kind: 'cancel', place: placeOf(args[0])};
-    case 'cancelAndHoldAtTime': return {kind: 'hold', place: placeOf(args[0])};
+    case 'setValueAtTime': return [{kind: 'set', value}, args[1]];
+    case 'linearRampToValueAtTime': return [{kind: 'ramp', value}, args[1]];
+    case 'exponentialRampToValueAtTime': return [{kind: 'exponential', value}, args[1]];
+    case 'setTargetAtTime': return [{kind: 'target', value, timeConstant: +args[2] * recording.rate}, args[1]];
+    case 'setValueCurveAtTime':
+      return [{kind: 'curve', values: Float32Array.from(args[0]), duration: framePlace(recording, +args[2])}, args[1]];
+    case 'cancelScheduledValues': return [{kind: 'cancel'}, args[0]];
   }
-  return null;
+  return [{kind: 'hold'}, args[0]];
+}
+
+// The event of a page's call.
+export function eventOf(parameter, method, args) {
+  const {recording} = parameter;
+  if (method === 'value') return {kind: 'set', place: recording.now, value: Math.fround(+args[0])};
+  const [event, seconds] = withoutPlace(recording, method, args);
+  return {...event, place: placeOf(parameter, +seconds, event)};
 }

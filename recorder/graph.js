@@ -4,7 +4,7 @@
 
 import {native} from './native.js';
 import {entryOfParameter} from './recording.js';
-import {framePlace} from './values.js';
+import {schedulePlace} from './values.js';
 
 // Nodes that sound by themselves, as far as the calls show.
 const SOUNDS_AT_ONCE = new Set(['AudioWorkletNode', 'ScriptProcessorNode', 'MediaElementAudioSourceNode',
@@ -55,7 +55,7 @@ export class Graph {
 
   // The frame at which a node may sound first by itself. Infinity where it does not.
   ownSounding(entry) {
-    if (entry.startCall) return Math.ceil(framePlace(this.recording, entry.startTime));
+    if (entry.startCall) return Math.ceil(schedulePlace(this.recording, entry.startTime));
     if (SOUNDS_AT_ONCE.has(entry.kind) || isBiased(entry)) return 0;
     return Infinity;
   }

@@ -22,7 +22,7 @@ export const LOSS_KINDS = {
   'sample-range': {grade: 'refused', says: 'samples of 128 or more, or below -128; the nearest ones stand in the script'},
   'not-finite': {grade: 'refused', says: 'a number that is not finite; 0 stands in the script'},
   'time-next-frame': {grade: 'exact', says: 'times between two frames; the next frame means the same'},
-  'time-near-frame': {grade: 'exact', says: 'times within a millionth of a frame; that frame is taken'},
+  'time-near-frame': {grade: 'exact', says: 'times as near to a frame as a rounding; that frame is taken'},
   'time-rounded': {grade: 'rounded', says: 'times between two frames; the nearest frame is taken'},
   'delay-fraction': {grade: 'heard',
     says: 'A DELAY OF A FRACTION OF A FRAME OR ONE THAT MOVES: chorus, flanger and tuned strings change'},
@@ -68,7 +68,7 @@ export const LOSS_KINDS = {
     says: 'A LOOP THROUGH A DELAY is a quantum longer in Chromium than in the recommendation; the option --loops-as-browser makes it so'},
   'loop-as-browser': {grade: 'lowered', says: 'loops that Chromium has a quantum longer; a delay of a quantum stands where it does'},
   'media-decoded': {grade: 'lowered', says: 'media elements; their files are decoded, and played on the clock of the audio'},
-  'lowered-panner': {grade: 'lowered', says: 'panners whose position stands still; gains by the standard\'s formulas'},
+  'lowered-panner': {grade: 'lowered', says: 'panners; gains by the standard\'s formulas'},
   'lowered-analyser': {grade: 'lowered', says: 'analysers; gains of 1, as they pass their input on'},
 
   // What a script cannot say.

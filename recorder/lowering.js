@@ -8,7 +8,7 @@
 
 import {Timeline, curveValue, rampValue, targetValue} from './automation.js';
 import {fixedParameterValue} from './parameters.js';
-import {LAST_FRAME, fixedList, nearestFixed} from './values.js';
+import {LAST_FRAME, fixedList, isBehindFrame, nearestFixed} from './values.js';
 
 export const CALL_ALONE = null;
 const SMALLEST_STEP = 2 ** -26; // a target that is this near counts as reached
@@ -228,8 +228,8 @@ function lowerCurve(parameter, event) {
   const cut = cutTarget(parameter, event.place), calls = cut || [];
   const failed = !cut || bendsCurve(parameter, event.place);
   if (Number.isInteger(event.place) && Number.isInteger(event.duration)) return {calls, keepsCall: true, failed};
-  const first = Math.ceil(event.place);
-  const last = Math.min(Math.ceil(event.place + event.duration), Math.max(parameter.recording.length + 1024, first + 1));
+  const first = Math.ceil(event.place), end = event.place + event.duration;
+  const last = Math.min(isBehindFrame(end) ? Math.floor(end) : Math.ceil(end), Math.max(parameter.recording.length + 1024, first + 1));
   event.startValue = parameter.timeline.valueAfter(parameter.timeline.indexAt(event.place), event.place);
   event.calls = last > first ? curveBetweenFrames(parameter, event, first, last)
                              : [setCall(parameter, first, event.values[event.values.length - 1])];

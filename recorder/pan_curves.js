@@ -1,19 +1,24 @@
-// Pan curves: a stereo panner that moves becomes gains that move, by curves.
+// Pan curves: a panner that moves becomes gains that move, by curves.
 //
-// The gains follow from the pan at each frame. That is known where the page only put events in: what is cancelled, held or
-// connected is not rewritten, nor is a ramp that was asked for after it began.
+// The gains follow from the pan, or from the positions of panner and listener, at each frame. Those are known where the
+// page only put events in: what is cancelled, held or connected is not rewritten, nor is a ramp that was asked for after
+// it began.
 
 import {Timeline} from './automation.js';
 import {curveCalls, distanceOfValues} from './lowering.js';
-import {stereoGains} from './panning.js';
+import {native} from './native.js';
+import {coneAngle, coneGain, azimuthGains, azimuthOf, distanceGain, minus, sizeOf, stereoGains} from './panning.js';
 import {entryOfParameter} from './recording.js';
-import {fixedValue} from './values.js';
+import {fixedValue, nearestFixed} from './values.js';
 
-const AROUND = 256; // frames behind where a gain breaks off
+const AXES = ['X', 'Y', 'Z'];
+const NEAR_ENOUGH = 2 ** -23; // from the lines of a curve to the gain that they stand for
 
+const wholeOf = value => nearestFixed(Math.fround(value)).whole;
 const isRamp = ({kind}) => kind === 'ramp' || kind === 'exponential';
 
-// The stretches in which a pan moves: [{first, last, isBent}, ..], and null where that is not known.
+// The stretches in which a parameter moves: [{first, last, isBent}, ..], where one that has no frames is a jump. Null where
+// they are not known.
 function stretchesOf({timeline, recording}) {
   const found = [];
   for (const [number, event] of timeline.events.entries()) {
@@ -21,77 +26,152 @@ function stretchesOf({timeline, recording}) {
     const begin = before ? Timeline.endOf(before) : event.madeAt;
     if (isRamp(event)) {
       if (begin < event.madeAt || (before && before.kind === 'target')) return null;
-      found.push({first: Math.ceil(begin), last: Math.floor(event.place), end: Math.ceil(event.place)});
+      found.push({first: Math.ceil(begin), last: Math.floor(event.place)});
     } else if (event.kind === 'curve') {
       const end = Math.min(Timeline.endOf(event), recording.length);
-      found.push({first: Math.ceil(event.place), last: Math.floor(end), end: Math.ceil(end), isBent: true});
+      found.push({first: Math.ceil(event.place), last: Math.floor(end), isBent: true});
     } else if (event.kind === 'target') {
-      const end = Math.min(recording.length, next ? Math.ceil(next.place) : Infinity);
-      found.push({first: Math.ceil(event.place), last: end, end});
-    } else found.push({first: Math.ceil(event.place), last: 0, end: Math.ceil(event.place)});
+      found.push({first: Math.ceil(event.place), last: Math.min(recording.length, next ? Math.ceil(next.place) : Infinity)});
+    } else found.push({first: Math.ceil(event.place), last: Math.ceil(event.place) - 1});
   }
   return found;
 }
 
-// The pan parameter of a panner whose pan is known at each frame, or null.
-export function knownPan(entry) {
-  const parameter = entryOfParameter.get(entry.node.pan);
-  const isKnown = entry.kind === 'StereoPannerNode' && entry.isSteady && !parameter.isCancelled && stretchesOf(parameter);
-  return isKnown && entry.node.pan.automationRate === 'a-rate' ? parameter : null;
+// What a parameter of a node is over time: {valueAt, stretches}, or null where that is not known.
+function courseOf(entry, name) {
+  const parameter = entryOfParameter.get(entry.node[name]);
+  if (!entry.isSteady || (parameter && parameter.isCancelled)) return null;
+  if (!parameter || !parameter.timeline.events.length) {
+    const value = parameter ? parameter.timeline.startValue : native.value.call(entry.node[name]);
+    return {valueAt: () => value, stretches: []};
+  }
+  const stretches = entry.node[name].automationRate === 'a-rate' ? stretchesOf(parameter) : null;
+  return stretches && {valueAt: frame => parameter.timeline.valueAt(frame, entry.bornAt || 0), stretches};
 }
 
-// The four gains at a pan: from the left and the right channel to the left one, and the same to the right one. Of one
-// channel there are two.
-function gainsAt(pan, isStereo) {
-  const {left, right, isLeft} = stereoGains(pan, isStereo);
-  if (!isStereo) return [left, right];
-  return isLeft ? [1, left, 0, right] : [left, 0, right, 1];
+// The courses of parameters, or null where one of them is not known.
+function coursesOf(entry, names) {
+  const courses = names.map(name => courseOf(entry, name));
+  return courses.includes(null) ? null : courses;
 }
 
-// In which of its regions a pan is. Where it goes from one to the next, gains break off.
-function regionOf(pan, isStereo) {
-  if (pan < -1) return 0;
-  if (pan > 1) return 3;
-  return isStereo && pan > 0 ? 2 : 1;
+// The gains from each channel to each side: from the left and the right channel to the left one, and the same to the right
+// one. Of one channel there are two.
+function gainsOf({left, right, isLeft}, isStereo, whole = 1) {
+  const gains = !isStereo ? [left, right] : isLeft ? [1, left, 0, right] : [left, 0, right, 1];
+  return gains.map(gain => gain * whole);
 }
 
-// The parts of a stretch, cut where gains break off: there a part has a point for each frame.
-function partsOf({first, last, isBent}, regionAt) {
-  const parts = [];
-  for (let frame = first; frame < last;) {
-    const region = regionAt(frame);
-    let end = frame + 1;
-    while (end < last && regionAt(end) === region) end++;
-    if (end === last && regionAt(last) === region) {
-      parts.push({first: frame, last, isBent});
-      break;
-    }
-    if (end - 1 > frame) parts.push({first: frame, last: end - 1, isBent});
-    parts.push({first: Math.max(frame, end - 1), last: Math.min(last, end + AROUND), isBent: true});
-    frame = Math.min(last, end + AROUND);
+// In which of its regions a number is. Where it goes from one to the next, gains break off.
+const regionOf = (number, ...ends) => ends.filter(end => number > end).length;
+
+// How a stereo panner moves: {stretches, at}, or null. `at` gives {gains, region} at a frame.
+function motionOfPan(entry, isStereo) {
+  const course = courseOf(entry, 'pan');
+  return course && {stretches: course.stretches, at(frame) {
+    const pan = course.valueAt(frame);
+    return {gains: gainsOf(stereoGains(pan, isStereo), isStereo), region: `${regionOf(pan, -1, 0, 1)}`};
+  }};
+}
+
+// Whether a target leads a parameter. Those of the listener go another way in Chromium.
+const hasTarget = (entry, name) => (entryOfParameter.get(entry.node[name])?.timeline.events || []).some(({kind}) => kind === 'target');
+
+const placesOf = names => names.flatMap(name => AXES.map(axis => name + axis));
+const LISTENER = ['position', 'forward', 'up'];
+
+// The same of a panner of equal power, by its own course and that of the listener.
+function motionOfPosition(entry, isStereo, sounding) {
+  const {node, recording, attributesAt = 0} = entry;
+  if (node.panningModel !== 'equalpower' || attributesAt > sounding) return null;
+  const own = coursesOf(entry, placesOf(['position', 'orientation']));
+  const heard = coursesOf(recording.listener, placesOf(LISTENER));
+  if (!own || !heard || placesOf(LISTENER).some(name => hasTarget(recording.listener, name))) return null;
+  return {stretches: [...own, ...heard].flatMap(course => course.stretches), at(frame) {
+    const vector = (courses, place) => courses.slice(3 * place, 3 * place + 3).map(course => course.valueAt(frame));
+    const [source, orientation] = [vector(own, 0), vector(own, 1)];
+    const listener = Object.fromEntries(LISTENER.map((name, place) => [name, vector(heard, place)]));
+    const distance = sizeOf(minus(source, listener.position)), azimuth = azimuthOf(source, listener);
+    const angle = coneAngle(source, orientation, listener.position);
+    const whole = distanceGain(node, distance) * coneGain(node, source, orientation, listener.position);
+    return {gains: gainsOf(azimuthGains(azimuth, isStereo), isStereo, whole),
+            region: [regionOf(azimuth, -90, 0, 90), regionOf(distance, 0, node.refDistance, node.maxDistance),
+                     regionOf(angle, Math.abs(node.coneInnerAngle) / 2, Math.abs(node.coneOuterAngle) / 2)].join()};
+  }};
+}
+
+// How a panner moves, or null where that is not known.
+export function motionOf(entry, isStereo, sounding) {
+  return entry.kind === 'StereoPannerNode' ? motionOfPan(entry, isStereo) : motionOfPosition(entry, isStereo, sounding);
+}
+
+// The frames from a birth on at which something may begin or break off, and the length behind them.
+function cutsOf(stretches, bornAt, length) {
+  const frames = stretches.flatMap(({first, last}) => [first, last + 1]).map(frame => Math.max(frame, bornAt));
+  return [...new Set(frames)].filter(frame => frame < length).sort((one, other) => one - other).concat(length);
+}
+
+// What moves between two cuts: its gains at each frame, in parts that do not break off: [{first, values, isBent}, ..].
+function partsOf({stretches, at}, first, end) {
+  const moving = stretches.filter(stretch => stretch.first <= first && first <= stretch.last);
+  const isBent = moving.some(stretch => stretch.isBent), parts = [];
+  let region = null;
+  for (let frame = first; frame < (moving.length ? end : first + 1); frame++) {
+    const found = at(frame);
+    if (found.region !== region) parts.push({first: frame, isBent, values: found.gains.map(() => [])});
+    region = found.region;
+    found.gains.forEach((gain, place) => parts[parts.length - 1].values[place].push(gain));
   }
   return parts;
 }
 
-// The calls that let a gain follow: its creation with the value at first, and what moves it.
-function gainCalls(parameter, name, valueAt, regionAt) {
-  const {recording, node} = parameter, follower = {recording, node: {name}, name: 'gain'};
-  const creation = {op: 'createGain', as: name};
-  creation.gain = fixedValue(recording, valueAt(node.bornAt), creation);
-  recording.lose('lowered-panner', creation);
-  const calls = [creation];
-  for (const stretch of stretchesOf(parameter)) {
-    const {first, last, end} = stretch;
-    for (const part of partsOf(stretch, regionAt)) {
-      const distance = part.isBent ? () => 1 : distanceOfValues(valueAt, part.first, part.last);
-      calls.push(...curveCalls(follower, part.first, part.last, valueAt, distance));
+// A value of a list, or what lies between two of them.
+function valueOf(values, place) {
+  const before = Math.floor(place), next = Math.min(before + 1, values.length - 1);
+  return values[before] + (values[next] - values[before]) * (place - before);
+}
+
+// How far the lines of curves are from the values that they stand for.
+function errorOf(calls, first, values) {
+  let most = 0;
+  for (const {time, duration, values: points} of calls)
+    for (let frame = time; frame <= time + duration; frame++) {
+      const line = valueOf(points, (frame - time) / duration * (points.length - 1));
+      most = Math.max(most, Math.abs(line / 2 ** 24 - values[frame - first]));
     }
-    if (last > first && end <= last) continue;
-    const call = {op: 'setValueAtTime', node: name, param: 'gain', time: end};
-    call.value = fixedValue(recording, valueAt(end), call);
-    calls.push(call);
+  return most;
+}
+
+// The calls that let a gain follow its values from a frame on. Lines that miss them give way to a point for each frame.
+function followingCalls(follower, {first, isBent}, values) {
+  const {recording} = follower, last = first + values.length - 1, valueAt = frame => valueOf(values, frame - first);
+  if (last === first) {
+    const call = {op: 'setValueAtTime', node: follower.node.name, param: 'gain'};
+    call.value = fixedValue(recording, values[0], call);
+    return [Object.assign(call, {time: first})];
   }
-  return calls;
+  const lines = isBent || values.length < 3 ? null
+    : curveCalls(follower, first, last, valueAt, distanceOfValues(valueAt, first, last));
+  if (lines && errorOf(lines, first, values) <= NEAR_ENOUGH) return lines;
+  return curveCalls(follower, first, last, valueAt, () => 1);
+}
+
+// The gains that follow a motion: their creations with the values at first, and what moves them.
+function gainCalls(recording, names, motion, bornAt) {
+  const creations = names.map((name, place) => {
+    const creation = {op: 'createGain', as: name};
+    creation.gain = fixedValue(recording, motion.at(bornAt).gains[place], creation);
+    recording.lose('lowered-panner', creation);
+    return creation;
+  });
+  const reached = creations.map(creation => creation.gain), cuts = cutsOf(motion.stretches, bornAt, recording.length), calls = [];
+  for (const part of cuts.slice(0, -1).flatMap((cut, number) => partsOf(motion, cut, cuts[number + 1])))
+    part.values.forEach((values, place) => {
+      if (values.every(value => wholeOf(value) === reached[place])) return;
+      calls.push(...followingCalls({recording, node: {name: names[place]}, name: 'gain'}, part, values));
+      reached[place] = wholeOf(values[values.length - 1]);
+    });
+  return [...creations, ...calls];
 }
 
 // The connections, as [from, output, to, input].
@@ -101,12 +181,10 @@ function wiresOf(names, {head, split, merger}) {
 }
 
 // The calls that come in the place of a panner that moves: {calls, head}.
-export function movingCalls(recording, {name}, {parameter, isStereo}, connectCall) {
-  const {timeline, node} = parameter, panAt = frame => timeline.valueAt(frame, node.bornAt);
+export function movingCalls(recording, {name, bornAt}, {motion, isStereo}, connectCall) {
   const head = `${name}_1`, split = `${name}_2`, names = Array.from({length: isStereo ? 4 : 2}, (_, place) => `${name}_${place + 3}`);
   const calls = [{op: 'createGain', as: head}, {op: 'setChannelCountMode', node: head, value: 'clamped-max'},
-    ...names.flatMap((each, place) => gainCalls(parameter, each, frame => gainsAt(panAt(frame), isStereo)[place],
-      frame => regionOf(panAt(frame), isStereo)))];
+    ...gainCalls(recording, names, motion, bornAt)];
   if (isStereo) calls.push({op: 'createChannelSplitter', as: split, numberOfOutputs: 2});
   calls.push({op: 'createChannelMerger', as: name, numberOfInputs: 2}, ...wiresOf(names, {head, split, merger: name}).map(connectCall));
   return {calls, head};

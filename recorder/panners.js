@@ -1,10 +1,9 @@
-// Panners: those whose position stands still become gains. Stereo panners that move become gains that move, see
-// pan_curves.js.
+// Panners: those whose position stands still become gains. Those that move become gains that move, see pan_curves.js.
 //
 // A panner has one rule for one channel and another for two, so the number of channels that it hears must be known.
 
 import {steadyValues} from './graph.js';
-import {knownPan, movingCalls} from './pan_curves.js';
+import {motionOf, movingCalls} from './pan_curves.js';
 import {azimuthGains, azimuthOf, coneGain, distanceGain, minus, sizeOf, stereoGains} from './panning.js';
 import {fixedValue} from './values.js';
 
@@ -48,11 +47,13 @@ export function channelsOf(entry, widths) {
 
 // The plan of a panner, or null where it cannot be gains.
 export function planOfPanner(entry, graph, widths) {
-  const channels = channelsOf(entry, widths), sounding = graph.soundingOf(entry.name);
-  const gains = channels && gainsOf(entry, sounding === Infinity ? 0 : sounding, channels === 2);
-  if (gains) return {...gains, isStereo: channels === 2};
-  const parameter = channels && knownPan(entry);
-  return parameter ? {parameter, isStereo: channels === 2} : null;
+  const channels = channelsOf(entry, widths), isStereo = channels === 2;
+  if (!channels) return null;
+  const first = graph.soundingOf(entry.name), sounding = first === Infinity ? 0 : first;
+  const gains = gainsOf(entry, sounding, isStereo);
+  if (gains) return {...gains, isStereo};
+  const motion = motionOf(entry, isStereo, sounding);
+  return motion && {motion, isStereo};
 }
 
 function gainCall(recording, name, gain) {
@@ -88,7 +89,7 @@ function callsOf(recording, {name}, plan) {
 // Lets gains come in the place of the panners that have a plan.
 export function lowerPanners(recording, plans, replacements) {
   for (const [entry, plan] of plans) {
-    const {calls, head} = plan.parameter ? movingCalls(recording, entry, plan, connectCall) : callsOf(recording, entry, plan);
+    const {calls, head} = plan.motion ? movingCalls(recording, entry, plan, connectCall) : callsOf(recording, entry, plan);
     replacements.put(entry, calls, head);
   }
 }

@@ -32,11 +32,14 @@ export function distanceGain({distanceModel, refDistance, maxDistance, rolloffFa
                                      : (far / refDistance) ** -rolloffFactor;
 }
 
+// The angle between where a source is turned to and where the listener is, in degrees, and 0 where it is turned nowhere.
+export const coneAngle = (source, orientation, listener) => sizeOf(orientation) === 0 ? 0
+  : degrees(dot(unit(minus(listener, source)), unit(orientation)));
+
 // How much of a sound its cone leaves ("Sound Cones").
 export function coneGain({coneInnerAngle, coneOuterAngle, coneOuterGain}, source, orientation, listener) {
   if (sizeOf(orientation) === 0 || (coneInnerAngle === 360 && coneOuterAngle === 360)) return 1;
-  const angle = degrees(dot(unit(minus(listener, source)), unit(orientation)));
-  const inner = Math.abs(coneInnerAngle) / 2, outer = Math.abs(coneOuterAngle) / 2;
+  const angle = coneAngle(source, orientation, listener), inner = Math.abs(coneInnerAngle) / 2, outer = Math.abs(coneOuterAngle) / 2;
   if (angle <= inner) return 1;
   if (angle >= outer) return coneOuterGain;
   const part = (angle - inner) / (outer - inner);

@@ -6,7 +6,7 @@ import {journal} from './journal.js';
 import {putPlaybackRate} from './nodes.js';
 import {settings} from './settings.js';
 import {entryOfParameter} from './recording.js';
-import {fixedList, fixedSeconds, fixedValue, frameOf} from './values.js';
+import {fixedList, fixedSeconds, fixedValue, frameOf, framePlace, isBehindFrame} from './values.js';
 import {takenArgument, wrapAttribute, wrapMethod} from './wrapping.js';
 
 const SCRIPT_PARAMETERS = {ConstantSourceNode: ['offset'], GainNode: ['gain'], DelayNode: ['delayTime']};
@@ -35,39 +35,45 @@ const loseOfMoving = (parameter, call) => {
   if (parameter.name === 'delayTime') parameter.recording.lose('delay-fraction', call, 0.5);
 };
 
+// The frame of an event, which may have stayed behind a frame that its time is near to.
+function frameOfEvent(recording, event, seconds, call, rule) {
+  const stays = event && isBehindFrame(event.place);
+  return frameOf(recording, seconds, call, rule, stays ? event.place : framePlace(recording, seconds));
+}
+
 // What each method puts into its call besides the node and the parameter.
 const AUTOMATION = {
-  setValueAtTime(recording, parameter, call, [value, seconds]) {
+  setValueAtTime(recording, parameter, call, event, [value, seconds]) {
     call.value = fixedParameterValue(parameter, +value, call);
-    call.time = frameOf(recording, +seconds, call, 'next');
+    call.time = frameOfEvent(recording, event, +seconds, call, 'next');
   },
-  linearRampToValueAtTime(recording, parameter, call, [value, seconds]) {
+  linearRampToValueAtTime(recording, parameter, call, event, [value, seconds]) {
     call.value = fixedParameterValue(parameter, +value, call);
-    call.time = frameOf(recording, +seconds, call, 'nearest');
+    call.time = frameOfEvent(recording, event, +seconds, call, 'nearest');
     loseOfMoving(parameter, call);
     const previous = parameter.timeline.events[parameter.timeline.indexAt(seconds * recording.rate)];
     const begin = previous ? Timeline.endOf(previous) : 0; // where this lies between frames, so does the whole ramp
     if (!Number.isInteger(begin)) recording.lose('time-rounded', call, Math.ceil(begin) - begin);
   },
-  setValueCurveAtTime(recording, parameter, call, [values, seconds, duration]) {
+  setValueCurveAtTime(recording, parameter, call, event, [values, seconds, duration]) {
     call.values = isInScript(parameter) ? fixedList(recording, Float32Array.from(values), call) : Array.from(values, () => 0);
-    call.time = frameOf(recording, +seconds, call, 'nearest');
+    call.time = frameOfEvent(recording, event, +seconds, call, 'nearest');
     call.duration = +duration > 0 ? Math.max(1, frameOf(recording, +duration, call, 'nearest')) : Math.min(0, Math.floor(+duration));
     loseOfMoving(parameter, call);
   },
-  exponentialRampToValueAtTime(recording, parameter, call, [value, seconds]) {
+  exponentialRampToValueAtTime(recording, parameter, call, event, [value, seconds]) {
     Object.assign(call, {valueOfPage: +value, secondsOfPage: +seconds});
     if (isInScript(parameter)) recording.lose('exponential-ramp', call);
   },
-  setTargetAtTime(recording, parameter, call, [value, seconds, timeConstant]) {
+  setTargetAtTime(recording, parameter, call, event, [value, seconds, timeConstant]) {
     Object.assign(call, {valueOfPage: +value, secondsOfPage: +seconds, timeConstantOfPage: +timeConstant});
     if (isInScript(parameter)) recording.lose('set-target', call);
   },
-  cancelScheduledValues(recording, parameter, call, [seconds]) {
-    call.time = frameOf(recording, +seconds, call, 'next');
+  cancelScheduledValues(recording, parameter, call, event, [seconds]) {
+    call.time = frameOfEvent(recording, event, +seconds, call, 'next');
   },
-  cancelAndHoldAtTime(recording, parameter, call, [seconds]) {
-    call.time = frameOf(recording, +seconds, call, parameter.timeline.isMovingAt(seconds * recording.rate) ? 'nearest' : 'next');
+  cancelAndHoldAtTime(recording, parameter, call, event, [seconds]) {
+    call.time = frameOfEvent(recording, event, +seconds, call, parameter.timeline.isMovingAt(seconds * recording.rate) ? 'nearest' : 'next');
   },
 };
 
@@ -142,7 +148,7 @@ function automated(method, object, args, result, exception) {
   if (node.kind === 'listener') return emitOfListener(parameter, event, exception);
   parameter.events++;
   const call = {op: method, node: node.name, param: parameter.name};
-  const calls = automationCalls(parameter, call, event, made => AUTOMATION[method](recording, parameter, made, args));
+  const calls = automationCalls(parameter, call, event, made => AUTOMATION[method](recording, parameter, made, event, args));
   loseOfParameter(recording, parameter, call);
   recording.emit(calls, exception);
 }

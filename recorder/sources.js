@@ -4,13 +4,14 @@ import {acquireBuffer, bufferName, bufferOfCopy, bufferOfVersion} from './buffer
 import {scheduleEnding} from './endings.js';
 import {journal} from './journal.js';
 import {entryOfNode} from './recording.js';
-import {frameOf, isGiven} from './values.js';
+import {frameOf, framePlace, isGiven, schedulePlace} from './values.js';
 import {takenArgument, wrapAttribute, wrapMethod} from './wrapping.js';
 
 // A time of start or stop. One that has passed means now, so its fraction has no meaning.
 function scheduledFrame(recording, seconds, call, rule) {
   const place = seconds * recording.rate;
-  return place >= 0 && place < recording.now ? Math.floor(place) : frameOf(recording, seconds, call, rule);
+  if (place >= 0 && place < recording.now) return Math.floor(place);
+  return frameOf(recording, seconds, call, rule, (rule === 'next' ? schedulePlace : framePlace)(recording, seconds));
 }
 
 // The later of a time in seconds and now: when a source really starts or stops.

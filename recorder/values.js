@@ -76,16 +76,24 @@ export function fixedSeconds(recording, seconds, call) {
   return whole;
 }
 
+const isNear = (place, frame) => Math.abs(place - frame) <= ROOM_OF_A_FRAME + Math.abs(place) * 4e-16;
+
 // The place of a time among the frames, as a real number. One that is meant as a whole frame is whole.
 export function framePlace(recording, seconds) {
   const place = seconds * recording.rate, frame = Math.round(place);
-  return Math.abs(place - frame) <= ROOM_OF_A_FRAME + Math.abs(place) * 4e-16 ? frame : place;
+  return isNear(place, frame) ? frame : place;
 }
+
+// The same for the start and the stop of a source, which the browser takes to the nearest 1/1024 of a frame.
+export const schedulePlace = (recording, seconds) => Math.round(seconds * recording.rate * 1024) / 1024;
+
+// Whether a place is by a rounding behind a frame, and was not taken to it.
+export const isBehindFrame = place => !Number.isInteger(place) && isNear(place, Math.floor(place));
 
 // A time as a frame. `rule` is
 //   'next'      where the standard acts at the first frame at or after the time: nothing is lost
 //   'nearest'   where the fraction has a meaning: the fraction is lost
-export function frameOf(recording, seconds, call, rule) {
+export function frameOf(recording, seconds, call, rule, place = framePlace(recording, seconds)) {
   if (!Number.isFinite(seconds)) {
     recording.lose('not-finite', call);
     return 0;
@@ -93,12 +101,11 @@ export function frameOf(recording, seconds, call, rule) {
   const exact = seconds * recording.rate;
   if (Math.abs(exact) > LAST_FRAME) return exact > 0 ? LAST_FRAME : -LAST_FRAME;
   if (exact < 0) return Math.min(-1, Math.round(exact)); // refused as negative, also where it is nearly 0
-  const place = framePlace(recording, seconds);
   if (Number.isInteger(place)) {
     if (place !== exact) recording.lose('time-near-frame', call, Math.abs(place - exact));
     return place;
   }
-  const frame = rule === 'next' ? Math.ceil(place) : Math.round(place);
+  const frame = rule === 'next' || isBehindFrame(place) ? Math.ceil(place) : Math.round(place);
   recording.lose(rule === 'next' ? 'time-next-frame' : 'time-rounded', call, Math.abs(frame - place));
   return frame;
 }

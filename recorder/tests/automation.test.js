@@ -2,7 +2,7 @@
 
 import assert from 'node:assert/strict';
 import {test} from 'node:test';
-import {Timeline} from '../automation.js';
+import {Timeline, eventOf} from '../automation.js';
 
 const near = (found, wanted) => assert.ok(Math.abs(found - wanted) < 1e-9, `${found} in place of ${wanted}`);
 
@@ -54,4 +54,23 @@ test('a value is steady from where nothing changes it any more', () => {
   assert.equal(timelineOf({kind: 'set', place: 10, value: 0.5}).steadyValue(0), 0.5);
   assert.equal(timelineOf({kind: 'target', place: 10, value: 0, timeConstant: 5}).steadyValue(100), undefined);
   assert.equal(timelineOf({kind: 'curve', place: 10, duration: 20, values: [0, 1, 0.25]}).steadyValue(30), 0.25);
+});
+
+const parameterOf = (timeline, now = 0) => ({timeline, recording: {rate: 48000, quantum: 128, now}});
+const set = (value, seconds, timeline = timelineOf()) => eventOf(parameterOf(timeline), 'setValueAtTime', [value, seconds]).place;
+
+test('a jump at a time that is by a rounding behind a frame stays behind it', () => {
+  assert.equal(0.07 * 48000 > 3360, true);
+  assert.equal(set(1, 0.07), 0.07 * 48000);
+  assert.equal(set(0.5, 0.07), 3360);                       // no jump
+  assert.equal(set(1, 0.09 - 0.02), 3360);                  // before the frame
+  assert.equal(set(1, 896 / 48000), 896);                   // a first event at the beginning of a quantum
+  assert.equal(set(1, 896 / 48000, timelineOf({kind: 'set', place: 0, value: 0.5})), 896 / 48000 * 48000);
+});
+
+test('other events stay where a jump stays', () => {
+  const timeline = timelineOf({kind: 'set', place: 0.07 * 48000, value: 1});
+  assert.equal(eventOf(parameterOf(timeline), 'setTargetAtTime', [0, 0.07, 1]).place, 0.07 * 48000);
+  assert.equal(eventOf(parameterOf(timeline), 'cancelScheduledValues', [0.07]).place, 0.07 * 48000);
+  assert.equal(eventOf(parameterOf(timelineOf()), 'cancelScheduledValues', [0.07]).place, 3360);
 });

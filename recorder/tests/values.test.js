@@ -2,7 +2,7 @@
 
 import assert from 'node:assert/strict';
 import {test} from 'node:test';
-import {fixedValue, frameOf, framePlace, nearestFixed, nearestFixedList} from '../values.js';
+import {fixedValue, frameOf, framePlace, isBehindFrame, nearestFixed, nearestFixedList, schedulePlace} from '../values.js';
 
 function recordingOf(rate) {
   const losses = [];
@@ -33,6 +33,19 @@ test('a time within a millionth of a frame is that frame', () => {
   assert.equal(framePlace(recording, 0.07), 3360);
   assert.equal(frameOf(recording, 0.09 - 0.02, null, 'next'), 3360);
   assert.equal(recording.losses[0][0], 'time-near-frame');
+});
+
+test('a place that stayed behind a frame is the next one', () => {
+  const recording = recordingOf(48000), place = 0.07 * 48000;
+  assert.deepEqual([isBehindFrame(place), isBehindFrame(3360), isBehindFrame(3360.5)], [true, false, false]);
+  assert.equal(frameOf(recording, 0.07, null, 'next', place), 3361);
+  assert.equal(frameOf(recording, 0.07, null, 'nearest', place), 3361);
+});
+
+test('a start is taken to the nearest 1/1024 of a frame', () => {
+  const recording = recordingOf(1000);
+  assert.equal(schedulePlace(recording, 0.1004), 100 + 410 / 1024);
+  assert.equal(schedulePlace(recording, 0.1000004), 100);
 });
 
 test('a time between two frames is the next one, or the nearest', () => {

@@ -44,11 +44,12 @@ class Packages(unittest.TestCase):
             told = next(name for name in names if name.endswith("entry_points.txt"))
             scripts = file.read(told).decode()
         self.assertEqual(program.external_attr >> 16 & 0o111, 0o111)
-        for name in ("waplay", *(f"waplay-{it}" for it in package.commands())):
+        for name in ("waplay", *(f"waplay-{it}" for it in package.COMMANDS)):
             self.assertIn(f"{name} = waplay_tools.launching:", scripts)
         for name in ("packaged/recorder.js", "reporting/page.css", "reporting/page.js",
                      "recorder/leaving.js", "archive/__main__.py"):
             self.assertIn(f"waplay_tools/{name}", names)
+        self.assertTrue([name for name in names if name.endswith("share/doc/waplay/RECORDING.md")])
         self.assertFalse([name for name in names if "random_scripts" in name or "tests" in name])
         self.assertEqual(path.read_bytes(), self.made("wheel", "again").read_bytes())
 
@@ -72,6 +73,10 @@ class Packages(unittest.TestCase):
         run = subprocess.run(words, capture_output=True, text=True, env=told, check=False)
         self.assertEqual((run.returncode, run.stderr), (0, ""))
         self.assertEqual(run.stdout.count("the same"), 3)
+        words = [sys.executable, root / "usr/bin/waplay-piece", "--expect", self.folder]
+        run = subprocess.run(words, capture_output=True, text=True, env=told, check=False)
+        self.assertEqual(run.returncode, 2)
+        self.assertTrue(run.stderr.startswith("waplay-piece: "), run.stderr)
 
     def test_a_folder_that_cannot_be_made(self):
         path = fixtures.write(self.folder, "file", b"")

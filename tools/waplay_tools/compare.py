@@ -14,6 +14,7 @@ import os
 import sys
 from pathlib import Path
 
+from waplay_tools.places import as_called_here
 from waplay_tools.reporting import checks, runs, runs_html
 from waplay_tools.reporting.content import Room
 from waplay_tools.reporting.text import BadInput
@@ -23,7 +24,7 @@ from waplay_tools.reporting.tolerances import tolerance
 def parser() -> argparse.ArgumentParser:
     """The words of the command line."""
     made = argparse.ArgumentParser(
-        prog="tools/compare",
+        prog=as_called_here("tools/compare"),
         description=__doc__,
         formatter_class=argparse.RawDescriptionHelpFormatter,
     )

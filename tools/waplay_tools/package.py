@@ -1,10 +1,10 @@
 """Makes a package of the program, the recorder and the tools: a wheel for Linux on x86-64, or a
 Debian package.
 
-Both have the commands waplay, waplay-record, waplay-report, waplay-compare and waplay-archive, and
-waplay-piece where this checkout has it. A wheel wants setuptools and wheel, a Debian package
-dpkg-deb, and both esbuild; nothing is fetched. The same sources give the same bytes. The status is
-0, or 2 with a sentence on standard error.
+Both have the commands waplay, waplay-piece, waplay-record, waplay-report, waplay-compare and
+waplay-archive, and the documents in share/doc/waplay. A wheel wants setuptools and wheel, a Debian
+package dpkg-deb, and both esbuild; nothing is fetched. The same sources give the same bytes. The
+status is 0, or 2 with a sentence on standard error.
 """
 
 import argparse
@@ -24,8 +24,8 @@ from waplay_tools.reporting.text import BadInput
 PACKAGE = TOP / "tools" / "waplay_tools"
 # What the commands need of the tools; the rest is for those who work on the program.
 PARTS = ("__init__.py", "archive", "chromium.py", "compare.py", "expecting", "launching.py",
-         "places.py", "recorder", "report.py", "reporting", "wav.py")
-COMMANDS = ("record", "report", "compare", "archive")
+         "piece", "places.py", "recorder", "report.py", "reporting", "wav.py")
+COMMANDS = ("piece", "record", "report", "compare", "archive")  # beside the program
 SUMMARY = "Replays sessions of the Web Audio API, offline and in whole numbers"
 
 PYPROJECT = """[build-system]
@@ -49,6 +49,9 @@ packages = {packages}
 
 [tool.setuptools.package-data]
 "*" = ["*.css", "*.js", "packaged/*"]
+
+[tool.setuptools.data-files]
+"share/doc/waplay" = ["documents/*"]
 """
 
 SETUP = """[bdist_wheel]
@@ -96,20 +99,18 @@ def environment() -> dict[str, str]:
     return {**os.environ, "SOURCE_DATE_EPOCH": str(int(noon.timestamp()))}
 
 
-def commands() -> tuple[str, ...]:
-    """The commands but the program."""
-    has_piece = (PACKAGE / "piece").is_dir() or (PACKAGE / "piece.py").is_file()
-    return (*COMMANDS, *(("piece",) if has_piece else ()))
+def put_documents(folder: Path) -> None:
+    """Makes a folder with the documents."""
+    shutil.copytree(TOP / "docs", folder, ignore=shutil.ignore_patterns("pictures"))
+    shutil.copyfile(TOP / "README.md", folder / "README.md")
 
 
 def stage(folder: Path) -> None:
     """Puts the parts of the package into a folder: the tools, the program and the recorder."""
     ignored = shutil.ignore_patterns("__pycache__", "*.pyc")
-    parts = [PACKAGE / name for name in PARTS]
-    parts += [path for path in (PACKAGE / "piece", PACKAGE / "piece.py") if path.exists()]
     made = folder / "waplay_tools"
     made.mkdir(parents=True)
-    for part in parts:
+    for part in [PACKAGE / name for name in PARTS]:
         if part.is_dir():
             shutil.copytree(part, made / part.name, ignore=ignored)
         else:
@@ -132,12 +133,13 @@ def wheel(out: Path) -> Path:
     with tempfile.TemporaryDirectory(prefix="waplay-package-") as room:
         folder = Path(room)
         stage(folder)
+        put_documents(folder / "documents")
         packages = sorted(
             path.parent.relative_to(folder).as_posix().replace("/", ".")
             for path in folder.rglob("__init__.py")
         )
         scripts = ['waplay = "waplay_tools.launching:program"']
-        scripts += [f'waplay-{name} = "waplay_tools.launching:{name}"' for name in commands()]
+        scripts += [f'waplay-{name} = "waplay_tools.launching:{name}"' for name in COMMANDS]
         text = PYPROJECT.format(version=version(), summary=SUMMARY, scripts="\n".join(scripts),
                                 packages=packages)
         (folder / "pyproject.toml").write_text(text, encoding="utf-8")
@@ -163,13 +165,11 @@ def debian(out: Path) -> Path:
         binaries.mkdir()
         program = "../lib/python3/dist-packages/waplay_tools/packaged/waplay"
         (binaries / "waplay").symlink_to(program)
-        for name in commands():
+        for name in COMMANDS:
             path = binaries / f"waplay-{name}"
             path.write_text(COMMAND.format(name=name), encoding="utf-8")
             path.chmod(0o755)
-        shutil.copytree(TOP / "docs", folder / "usr/share/doc/waplay",
-                        ignore=shutil.ignore_patterns("pictures"))
-        shutil.copyfile(TOP / "README.md", folder / "usr/share/doc/waplay/README.md")
+        put_documents(folder / "usr/share/doc/waplay")
         size = sum(it.stat().st_size for it in folder.rglob("*") if it.is_file()) // 1024
         control = folder / "DEBIAN"
         control.mkdir()

@@ -1,5 +1,6 @@
-"""Where things stand in the repository."""
+"""Where things stand in the repository, and what its commands are called."""
 
+import re
 from pathlib import Path
 
 TOP = Path(__file__).resolve().parents[2]
@@ -9,3 +10,11 @@ SHIPPED = TOP / "bin" / "waplay-x86_64-linux"
 BUILT = TOP / "crates" / "waplay" / "out" / "waplay"
 # In an installed package there is no repository: the program and the recorder lie here.
 PACKAGED = Path(__file__).resolve().parent / "packaged"
+
+
+def as_called_here(text: str) -> str:
+    """A text with the commands as they are called here: an installed package has waplay-piece for
+    tools/piece."""
+    if not PACKAGED.is_dir():
+        return text
+    return re.sub(r"\btools/(?=(piece|record|report|compare|archive)\b)", "waplay-", text)

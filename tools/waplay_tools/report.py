@@ -15,6 +15,7 @@ import os
 import sys
 from pathlib import Path
 
+from waplay_tools.places import as_called_here
 from waplay_tools.reporting import page, script_reading, takes, transcript_reading, wav_samples
 from waplay_tools.reporting.content import MOST_WHOLE, Content, File, Room
 from waplay_tools.reporting.following import Session
@@ -97,10 +98,10 @@ def write(text: str, path: str | None) -> None:
 def parser() -> argparse.ArgumentParser:
     """The words of the command line."""
     made = argparse.ArgumentParser(
-        prog="tools/report",
-        description=__doc__,
+        prog=as_called_here("tools/report"),
+        description=as_called_here(__doc__),
         formatter_class=argparse.RawDescriptionHelpFormatter,
-        usage="tools/report TAKE | SCRIPT TRANSCRIPT [WAV] [options]",
+        usage="%(prog)s TAKE | SCRIPT TRANSCRIPT [WAV] [options]",
     )
     made.add_argument("script", metavar="TAKE|SCRIPT", help="the folder of a take, or a script")
     made.add_argument(

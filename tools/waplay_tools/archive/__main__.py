@@ -22,6 +22,7 @@ from typing import Any
 from waplay_tools.archive import adding, cluster, processes, summary, verifying
 from waplay_tools.archive.adding import LIST, Program
 from waplay_tools.archive.verifying import Result
+from waplay_tools.places import as_called_here
 from waplay_tools.recorder.replaying import find_program
 from waplay_tools.reporting import checks
 from waplay_tools.reporting.text import BadInput, counted, visible
@@ -30,10 +31,10 @@ from waplay_tools.reporting.text import BadInput, counted, visible
 def parser() -> argparse.ArgumentParser:
     """The words of the command line."""
     made = argparse.ArgumentParser(
-        prog="tools/archive",
+        prog=as_called_here("tools/archive"),
         description=__doc__,
         formatter_class=argparse.RawDescriptionHelpFormatter,
-        usage="tools/archive add FOLDER TAKE.. | verify FOLDER | list FOLDER [options]",
+        usage="%(prog)s add FOLDER TAKE.. | verify FOLDER | list FOLDER [options]",
     )
     made.add_argument("act", choices=("add", "verify", "list"), help="what is to be done")
     made.add_argument("folder", metavar="FOLDER", type=Path, help="the archive")

@@ -24,6 +24,7 @@ from waplay_tools.chromium import BrowserFault
 from waplay_tools import compare
 from waplay_tools.piece import comparing, table, taking
 from waplay_tools.piece.taking import NOTHING
+from waplay_tools.places import as_called_here
 from waplay_tools.recorder import take
 from waplay_tools.recorder.bundle import NoBundle
 from waplay_tools.recorder.command import (Refused, count, piece_length, positive, stop_at,
@@ -59,7 +60,8 @@ def add_recording(add: argparse._ArgumentGroup) -> None:
 
 def parser() -> argparse.ArgumentParser:
     """The options, and a word on each."""
-    made = argparse.ArgumentParser(prog="tools/piece", description=__doc__,
+    made = argparse.ArgumentParser(prog=as_called_here("tools/piece"),
+                                   description=as_called_here(__doc__),
                                    formatter_class=argparse.RawDescriptionHelpFormatter)
     add = made.add_argument
     add("page", nargs="?", help="the HTML file, or the URL of a page that is served")
@@ -161,7 +163,7 @@ def main() -> int:
     except KeyboardInterrupt:
         status, reason = NOTHING, "Stopped."
     if status:
-        print(f"tools/piece: {reason}", file=sys.stderr)
+        print(as_called_here(f"tools/piece: {reason}"), file=sys.stderr)
     return status
 
 

@@ -13,6 +13,7 @@ from pathlib import Path
 from types import FrameType
 
 from waplay_tools.chromium import BrowserFault, find_chromium
+from waplay_tools.places import as_called_here
 from waplay_tools.recorder import take
 from waplay_tools.recorder.bundle import NoBundle
 from waplay_tools.recorder.driving import Take, Wishes, record
@@ -62,7 +63,7 @@ def count(text: str) -> int:
 
 def parser() -> argparse.ArgumentParser:
     """The options, and a word on each."""
-    made = argparse.ArgumentParser(prog="tools/record", description=DESCRIPTION, epilog=EPILOG)
+    made = argparse.ArgumentParser(prog=as_called_here("tools/record"), description=DESCRIPTION, epilog=EPILOG)
     add = made.add_argument
     add("page", help="the HTML file, or the URL of a page that is served")
     add("out", metavar="OUT", type=Path,
@@ -243,5 +244,5 @@ def main(arguments: list[str]) -> int:
     except KeyboardInterrupt:
         ending = Ending(NOTHING, "Stopped.")
     if ending.status:
-        print(f"tools/record: {ending.reason}", file=sys.stderr)
+        print(as_called_here(f"tools/record: {ending.reason}"), file=sys.stderr)
     return ending.status

@@ -107,8 +107,6 @@ BY_OPERATION["cancelAndHoldAtTime"] = BY_OPERATION["cancelScheduledValues"]
 BY_LOSS = {
     "lowered-biquad": "Chromium ends biquads at an estimated tail",
     "lowered-target": "a target is late in Chromium where another event lies in the same quantum",
-    "time-near-frame": "a time that is by a rounding behind a frame counts from the next one in "
-                       "Chromium",
     "browser-rounded": "Chromium rounds what filters feed back: to single floats in biquads, to "
                        "double ones in IIR filters",
     "buffer-written": "Chromium plays what is written into a buffer after a source acquired it",

@@ -6,6 +6,7 @@ import re
 from pathlib import Path
 from typing import Any
 
+from waplay_tools.places import as_called_here
 from waplay_tools.reporting import script_reading, transcript_reading, wav_samples
 from waplay_tools.reporting.content import Content, File, Loss
 from waplay_tools.reporting.following import Session
@@ -108,7 +109,8 @@ def replay_of(folder: Path, number: int) -> Content:
     names = [str(folder / f"{number}{end}") for end in (".json", ".txt")]
     script = script_reading.script_of(script_reading.bytes_of(names[0]))
     if not Path(names[1]).is_file():
-        raise BadInput(f"{visible(names[1])} is not there: tools/record makes it with --replay")
+        maker = as_called_here("tools/record")
+        raise BadInput(f"{visible(names[1])} is not there: {maker} makes it with --replay")
     lines = transcript_reading.lines_of(script_reading.bytes_of(names[1]), visible(names[1]))
     shown = (f"{number}.json", f"{number}.txt")
     session = Session(script, lines, shown, lengths_of(folder, script))
