@@ -13,7 +13,7 @@ use Rattle.script_ast.specs.declared.operations.Op.TheVariants as op
 use Rattle.transcript.specs.declared.lines.Answer.TheVariants as answer
 use Rattle.control_side.specs.Assets.{decodes, adopts, by_reading, rejected, unless_rejected}
 use Rattle.control_side.specs.Step.{Stepped, step}
-use Rattle.definition_rows.proofs.Machines.{ℕ, ℤ, pos, neg_ℤ, ◌≡◌, List, [], ◌∷◌, ◌++◌, map, replicate, codes, Option, None, Some, false, refl, NotSupported, NotFound, Encoding, Op, Machine, first_machine, call, context}
+use Rattle.definition_rows.proofs.Machines.{ℕ, ℤ, pos, neg_ℤ, ◌≡◌, List, [], ◌∷◌, ◌++◌, map, codes, Option, None, Some, false, refl, NotSupported, NotFound, Encoding, Op, Machine, first_machine, call, one, context}
 
 -- ---- how files are written
 
@@ -35,7 +35,7 @@ abbrev fmt : ℕ → ℕ → ℕ → List ℕ
 fmt channels block bits = chunk (codes "fmt ") 16 (format (short 1) channels block bits)
 
 abbrev data_of : ℕ → List ℕ → List ℕ
-data_of size body = chunk (codes "data") size body
+data_of = chunk (codes "data")
 
 abbrev riff : List ℕ → List ℕ
 riff chunks = codes "RIFF" ++ (255 ∷ 255 ∷ 255 ∷ 255 ∷ []) ++ codes "WAVE" ++ chunks
@@ -47,44 +47,17 @@ read bytes = wav_of bytes
 abbrev recording : ℕ → ℕ → List ℤ → Result Wav WavErr
 recording channels frames samples = Ok (record { rate = 48000; channels = channels; frames = frames; samples = samples })
 
--- ---- the file and its chunks
+-- ---- a file without a reading, by what it lacks first
 
-no_riff : map read ([] ∷ take 11 (riff []) ∷ (codes "RIFX" ++ long 0 ++ codes "WAVE") ∷ (codes "RIFF" ++ long 0 ++ codes "WAVX") ∷ [])
-    ≡ Err (NotRiff 0) ∷ Err (NotRiff 0) ∷ Err (NotRiff 0) ∷ Err (NotRiff 0) ∷ []
-unfolding read
-no_riff = refl
-
--- the list ends where fewer than 8 bytes are left, and at a chunk that is skipped and does not lie in the file
-no_format : (map read (riff [] ∷ riff (codes "fmt " ++ (1 ∷ 2 ∷ 3 ∷ [])) ∷ riff (chunk (codes "LIST") 4 (long 0)) ∷ riff (chunk (codes "LIST") 5 (long 0)) ∷ [])
+-- bytes that are no RIFF file, one without a format, one with data before it, and one without data or a whole block of it: the list of chunks ends where fewer than 8 bytes are left, and at a chunk that is skipped and does not lie in the file
+chunks : (map read ([] ∷ take 11 (riff []) ∷ (codes "RIFX" ++ long 0 ++ codes "WAVE") ∷ (codes "RIFF" ++ long 0 ++ codes "WAVX") ∷ []) ≡ Err (NotRiff 0) ∷ Err (NotRiff 0) ∷ Err (NotRiff 0) ∷ Err (NotRiff 0) ∷ [])
+    × (map read (riff [] ∷ riff (codes "fmt " ++ (1 ∷ 2 ∷ 3 ∷ [])) ∷ riff (chunk (codes "LIST") 4 (long 0)) ∷ riff (chunk (codes "LIST") 5 (long 0)) ∷ [])
     ≡ Err (NoFormat 12) ∷ Err (NoFormat 12) ∷ Err (NoFormat 24) ∷ Err (NoFormat 12) ∷ [])
-    × (map read (riff (data_of 2 (short 0)) ∷ riff (data_of 2 (short 0) ++ fmt 1 2 16) ∷ riff (data_of 9 [] ++ fmt 1 2 16) ∷ [])
-    ≡ Err (DataFirst 12) ∷ Err (DataFirst 12) ∷ Err (DataFirst 12) ∷ [])
+    × (map read (riff (data_of 2 (short 0)) ∷ riff (data_of 2 (short 0) ++ fmt 1 2 16) ∷ riff (data_of 9 [] ++ fmt 1 2 16) ∷ []) ≡ Err (DataFirst 12) ∷ Err (DataFirst 12) ∷ Err (DataFirst 12) ∷ [])
+    × (map read (riff (fmt 1 2 16 ++ (1 ∷ 2 ∷ 3 ∷ [])) ∷ riff (fmt 1 2 16 ++ chunk (codes "LIST") 3 (1 ∷ [])) ∷ riff (fmt 1 2 16 ++ data_of 0 []) ∷ riff (fmt 1 2 16 ++ data_of 1 (9 ∷ 0 ∷ [])) ∷ riff (fmt 1 2 16 ++ data_of 2 (9 ∷ [])) ∷ [])
+    ≡ Err (NoData 36) ∷ Err (NoData 36) ∷ Err (NoData 36) ∷ Err (NoData 36) ∷ Err (NoData 36) ∷ [])
 unfolding read
-no_format = (refl, refl)
-
--- ---- the format, whose faults come in this order: its length, the tag, the bits, the channels with the block
-
-formats : map read (
-    riff (chunk (codes "fmt ") 15 (format (short 1) 1 2 16))
-    ∷ riff (take 23 (fmt 1 2 16))
-    ∷ riff (chunk (codes "fmt ") 16 (format (short 3) 33 1 12))
-    ∷ riff (chunk (codes "fmt ") 16 (format (254 ∷ 255 ∷ []) 1 2 16))
-    ∷ riff (fmt 33 1 12) ∷ riff (fmt 0 0 16) ∷ riff (fmt 33 33 8) ∷ riff (fmt 1 1 16) ∷ riff (fmt 2 2 16)
-    ∷ [])
-    ≡ Err (NoFormat 12)
-    ∷ Err (NoFormat 12)
-    ∷ Err (UnknownTag 20)
-    ∷ Err (UnknownTag 20)
-    ∷ Err (BadBits 34) ∷ Err (BadShape 22) ∷ Err (BadShape 22) ∷ Err (BadShape 22) ∷ Err (BadShape 22)
-    ∷ []
-unfolding read
-formats = refl
-
--- one channel and 32, and each width; what follows decides then
-widths : map read (riff (fmt 1 1 8) ∷ riff (fmt 32 32 8) ∷ riff (fmt 1 2 16) ∷ riff (fmt 1 3 24) ∷ riff (fmt 1 4 32) ∷ riff (fmt 1 2 9) ∷ [])
-    ≡ Err (NoData 36) ∷ Err (NoData 36) ∷ Err (NoData 36) ∷ Err (NoData 36) ∷ Err (NoData 36) ∷ Err (BadBits 34) ∷ []
-unfolding read
-widths = refl
+chunks = (refl, refl, refl, refl)
 
 -- the extension of 40 bytes with the subformat of PCM samples, whatever its valid bits and its mask
 abbrev subformat : ℕ → List ℕ
@@ -93,56 +66,14 @@ subformat first = first ∷ 0 ∷ 0 ∷ 0 ∷ 0 ∷ 0 ∷ 16 ∷ 0 ∷ 128 ∷ 0
 abbrev extended : ℕ → ℕ → List ℕ
 extended size first = chunk (codes "fmt ") size (format (254 ∷ 255 ∷ []) 1 2 16 ++ short 22 ++ short 9 ++ long 5 ++ subformat first)
 
-extensions : map read (riff (extended 40 1) ∷ riff (extended 40 3) ∷ riff (extended 39 1) ∷ [])
-    ≡ Err (NoData 60) ∷ Err (UnknownTag 20) ∷ Err (UnknownTag 20) ∷ []
+-- A format's faults come in this order: its length, the tag, the bits, the channels with the block. Each width is read, and 1 and 32 channels; what follows decides then.
+formats : (map read (riff (chunk (codes "fmt ") 15 (format (short 1) 1 2 16)) ∷ riff (take 23 (fmt 1 2 16)) ∷ []) ≡ Err (NoFormat 12) ∷ Err (NoFormat 12) ∷ [])
+    × (map read (riff (chunk (codes "fmt ") 16 (format (short 3) 33 1 12)) ∷ riff (chunk (codes "fmt ") 16 (format (254 ∷ 255 ∷ []) 1 2 16)) ∷ []) ≡ Err (UnknownTag 20) ∷ Err (UnknownTag 20) ∷ [])
+    × (map read (riff (extended 40 1) ∷ riff (extended 40 3) ∷ riff (extended 39 1) ∷ []) ≡ Err (NoData 60) ∷ Err (UnknownTag 20) ∷ Err (UnknownTag 20) ∷ [])
+    × (map read (riff (fmt 33 1 12) ∷ riff (fmt 0 0 16) ∷ riff (fmt 33 33 8) ∷ riff (fmt 1 1 16) ∷ riff (fmt 2 2 16) ∷ []) ≡ Err (BadBits 34) ∷ Err (BadShape 22) ∷ Err (BadShape 22) ∷ Err (BadShape 22) ∷ Err (BadShape 22) ∷ [])
+    × (map read (riff (fmt 1 1 8) ∷ riff (fmt 32 32 8) ∷ riff (fmt 1 2 16) ∷ riff (fmt 1 3 24) ∷ riff (fmt 1 4 32) ∷ []) ≡ Err (NoData 36) ∷ Err (NoData 36) ∷ Err (NoData 36) ∷ Err (NoData 36) ∷ Err (NoData 36) ∷ [])
 unfolding read
-extensions = refl
-
--- ---- the data
-
--- no chunk of data, none with a whole block, and one that is longer than the file, cut to whole blocks
-data_chunks : map read (
-    riff (fmt 1 2 16 ++ (1 ∷ 2 ∷ 3 ∷ []))
-    ∷ riff (fmt 1 2 16 ++ chunk (codes "LIST") 3 (1 ∷ []))
-    ∷ riff (fmt 1 2 16 ++ data_of 0 []) ∷ riff (fmt 1 2 16 ++ data_of 1 (9 ∷ 0 ∷ [])) ∷ riff (fmt 1 2 16 ++ data_of 2 (9 ∷ []))
-    ∷ riff (fmt 1 2 16 ++ data_of 2 (1 ∷ 0 ∷ 7 ∷ 7 ∷ []))
-    ∷ riff (fmt 1 2 16 ++ data_of 99 (1 ∷ 0 ∷ 2 ∷ 0 ∷ 7 ∷ []))
-    ∷ [])
-    ≡ Err (NoData 36)
-    ∷ Err (NoData 36)
-    ∷ Err (NoData 36) ∷ Err (NoData 36) ∷ Err (NoData 36)
-    ∷ recording 1 1 (pos 512 ∷ [])
-    ∷ recording 1 2 (pos 512 ∷ pos 1024 ∷ [])
-    ∷ []
-unfolding read
-data_chunks = refl
-
--- chunks of odd size have a byte behind them; a later format and a later data chunk are skipped
-skipped : map read (
-    riff (chunk (codes "LIST") 1 (5 ∷ 0 ∷ []) ++ fmt 1 2 16 ++ chunk (codes "fmt ") 2 (short 9) ++ chunk (codes "data") 2 (short 3) ++ data_of 2 (short 4)) ∷ [])
-    ≡ recording 1 1 (pos 1536 ∷ []) ∷ []
-unfolding read
-skipped = refl
-
--- blocks have one sample of each channel, and a recording one channel after another
-interleaved : read (riff (fmt 2 2 8 ++ data_of 4 (129 ∷ 130 ∷ 131 ∷ 132 ∷ []))) ≡ recording 2 2 (pos 131072 ∷ pos 393216 ∷ pos 262144 ∷ pos 524288 ∷ [])
-unfolding read
-interleaved = refl
-
--- the least, the middle and the greatest sample of each width; of 32 bits, 128 steps make one, and a half goes up
-values : map read (
-    riff (fmt 1 1 8 ++ data_of 3 (0 ∷ 128 ∷ 255 ∷ []))
-    ∷ riff (fmt 1 2 16 ++ data_of 6 (0 ∷ 128 ∷ 255 ∷ 255 ∷ 255 ∷ 127 ∷ []))
-    ∷ riff (fmt 1 3 24 ++ data_of 9 (0 ∷ 0 ∷ 128 ∷ 255 ∷ 255 ∷ 255 ∷ 255 ∷ 255 ∷ 127 ∷ []))
-    ∷ riff (fmt 1 4 32 ++ data_of 20 (0 ∷ 0 ∷ 0 ∷ 128 ∷ 191 ∷ 255 ∷ 255 ∷ 255 ∷ 192 ∷ 255 ∷ 255 ∷ 255 ∷ 63 ∷ 0 ∷ 0 ∷ 0 ∷ 64 ∷ 0 ∷ 0 ∷ 0 ∷ []))
-    ∷ [])
-    ≡ recording 1 3 (neg_ℤ (pos 16777216) ∷ pos 0 ∷ pos 16646144 ∷ [])
-    ∷ recording 1 3 (neg_ℤ (pos 16777216) ∷ neg_ℤ (pos 512) ∷ pos 16776704 ∷ [])
-    ∷ recording 1 3 (neg_ℤ (pos 16777216) ∷ neg_ℤ (pos 2) ∷ pos 16777214 ∷ [])
-    ∷ recording 1 5 (neg_ℤ (pos 16777216) ∷ neg_ℤ (pos 1) ∷ pos 0 ∷ pos 0 ∷ pos 1 ∷ [])
-    ∷ []
-unfolding read
-values = refl
+formats = (refl, refl, refl, refl, refl)
 
 -- A file of 85 bytes: a chunk of odd size, an extension, and data longer than the file, of which two frames are there. Cut to so many bytes it ends here or there.
 abbrev whole : List ℕ
@@ -151,11 +82,27 @@ whole =
     ++ short 2 ++ short 16 ++ short 22 ++ short 16 ++ long 4 ++ subformat 1 ++ codes "data" ++ (255 ∷ 255 ∷ 255 ∷ 255 ∷ 0 ∷ 64 ∷ 0 ∷ 192 ∷ 1 ∷ []))
 
 cut : map (λ n. read (take n whole)) (0 ∷ 11 ∷ 12 ∷ 22 ∷ 23 ∷ 71 ∷ 72 ∷ 81 ∷ 82 ∷ 83 ∷ 84 ∷ 85 ∷ [])
-    ≡ Err (NotRiff 0) ∷ Err (NotRiff 0) ∷ Err (NoFormat 12) ∷ Err (NoFormat 12) ∷ Err (NoFormat 24) ∷ Err (NoFormat 24) ∷ Err (NoData 72) ∷ Err (NoData 72)
-    ∷ recording 1 1 (pos 8388608 ∷ []) ∷ recording 1 1 (pos 8388608 ∷ [])
+    ≡ Err (NotRiff 0) ∷ Err (NotRiff 0) ∷ Err (NoFormat 12) ∷ Err (NoFormat 12) ∷ Err (NoFormat 24) ∷ Err (NoFormat 24) ∷ Err (NoData 72) ∷ Err (NoData 72) ∷ recording 1 1 (pos 8388608 ∷ []) ∷ recording 1 1 (pos 8388608 ∷ [])
     ∷ recording 1 2 (pos 8388608 ∷ neg_ℤ (pos 8388608) ∷ []) ∷ recording 1 2 (pos 8388608 ∷ neg_ℤ (pos 8388608) ∷ []) ∷ []
 unfolding read
 cut = refl
+
+-- ---- a file with one
+
+-- data that ends before the file, and past it; chunks of odd size, a later format and later data are skipped; and blocks have one sample of each channel, where a recording has one channel after another
+recordings : (map read (riff (fmt 1 2 16 ++ data_of 2 (1 ∷ 0 ∷ 7 ∷ 7 ∷ [])) ∷ riff (fmt 1 2 16 ++ data_of 99 (1 ∷ 0 ∷ 2 ∷ 0 ∷ 7 ∷ [])) ∷ []) ≡ recording 1 1 (pos 512 ∷ []) ∷ recording 1 2 (pos 512 ∷ pos 1024 ∷ []) ∷ [])
+    × (read (riff (chunk (codes "LIST") 1 (5 ∷ 0 ∷ []) ++ fmt 1 2 16 ++ chunk (codes "fmt ") 2 (short 9) ++ data_of 2 (short 3) ++ data_of 2 (short 4))) ≡ recording 1 1 (pos 1536 ∷ []))
+    × (read (riff (fmt 2 2 8 ++ data_of 4 (129 ∷ 130 ∷ 131 ∷ 132 ∷ []))) ≡ recording 2 2 (pos 131072 ∷ pos 393216 ∷ pos 262144 ∷ pos 524288 ∷ []))
+unfolding read
+recordings = (refl, refl, refl)
+
+-- the least, a middle and the greatest sample of each width; of 32 bits, 128 steps make one, and a half goes up
+values : (read (riff (fmt 1 1 8 ++ data_of 3 (0 ∷ 128 ∷ 255 ∷ []))) ≡ recording 1 3 (neg_ℤ one ∷ pos 0 ∷ pos 16646144 ∷ []))
+    × (read (riff (fmt 1 2 16 ++ data_of 6 (0 ∷ 128 ∷ 255 ∷ 255 ∷ 255 ∷ 127 ∷ []))) ≡ recording 1 3 (neg_ℤ one ∷ neg_ℤ (pos 512) ∷ pos 16776704 ∷ []))
+    × (read (riff (fmt 1 3 24 ++ data_of 9 (0 ∷ 0 ∷ 128 ∷ 255 ∷ 255 ∷ 255 ∷ 255 ∷ 255 ∷ 127 ∷ []))) ≡ recording 1 3 (neg_ℤ one ∷ neg_ℤ (pos 2) ∷ pos 16777214 ∷ []))
+    × (read (riff (fmt 1 4 32 ++ data_of 20 (0 ∷ 0 ∷ 0 ∷ 128 ∷ 191 ∷ 255 ∷ 255 ∷ 255 ∷ 192 ∷ 255 ∷ 255 ∷ 255 ∷ 63 ∷ 0 ∷ 0 ∷ 0 ∷ 64 ∷ 0 ∷ 0 ∷ 0 ∷ []))) ≡ recording 1 5 (neg_ℤ one ∷ neg_ℤ (pos 1) ∷ pos 0 ∷ pos 0 ∷ pos 1 ∷ []))
+unfolding read
+values = (refl, refl, refl, refl)
 
 -- ---- decodeAudioData: a file, then not too long, then a WAV file, then the context's rate, then room
 

@@ -30,15 +30,12 @@ numbers : (causes kind.Fix (codes "-2147483649" ∷ codes "-2147483648" ∷ code
 unfolding serde_json_on_literals
 numbers = (refl, refl, refl)
 
--- a new name has 1 to 64 letters, digits, `_` and `-`; `destination` is none
-names : map is_new_name ([] ∷ codes "a" ∷ replicate 64 97 ∷ replicate 65 97 ∷ codes "Az_0-9" ∷ codes "a b" ∷ codes "a." ∷ (195 ∷ 164 ∷ []) ∷ codes "destination" ∷ codes "destinations" ∷ codes "Destination" ∷ [])
-    ≡ false ∷ true ∷ true ∷ false ∷ true ∷ false ∷ false ∷ false ∷ false ∷ true ∷ true ∷ []
+-- a new name has 1 to 64 letters, digits, `_` and `-`, and is not `destination`; a path has 1 to 255 bytes
+names : (map is_new_name ([] ∷ codes "a" ∷ replicate 64 97 ∷ replicate 65 97 ∷ codes "Az_0-9" ∷ codes "a b" ∷ codes "a." ∷ (195 ∷ 164 ∷ []) ∷ codes "destination" ∷ codes "destinations" ∷ codes "Destination" ∷ [])
+    ≡ false ∷ true ∷ true ∷ false ∷ true ∷ false ∷ false ∷ false ∷ false ∷ true ∷ true ∷ [])
+    × (map is_path ([] ∷ replicate 1 97 ∷ replicate 255 97 ∷ replicate 256 97 ∷ []) ≡ false ∷ true ∷ true ∷ false ∷ [])
 unfolding is_new_name
-names = refl
-
--- a path has 1 to 255 bytes
-paths : map is_path ([] ∷ replicate 1 97 ∷ replicate 255 97 ∷ replicate 256 97 ∷ []) ≡ false ∷ true ∷ true ∷ false ∷ []
-paths = refl
+names = (refl, refl)
 
 -- the operations that are left out, each with the word of its feature
 abbrev left_out : OpName → Option Feature

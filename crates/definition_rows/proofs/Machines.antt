@@ -6,7 +6,6 @@ use Rattle.wa_base.specs.declared.contexts.State.TheVariants.{Running}
 use Rattle.wa_base.specs.declared.exceptions.Exc.{Exc}
 pub use Rattle.wa_base.specs.declared.exceptions.Exc.TheVariants.{NotSupported, InvalidState, InvalidAccess, IndexSize, Range, WrongType, NotFound, Encoding}
 use Rattle.wa_base.specs.declared.features.Feature.{Feature}
-use Rattle.io_edge.specs.Paths.{Paths}
 use Rattle.param_events.specs.Edits.{time_refusal, in_curve, curve_over, event_refusal, span_refusal}
 use Rattle.param_events.specs.Values.{value_at}
 use Rattle.buffer_store.specs.Buffers.{with_written}
@@ -23,28 +22,21 @@ pub use Rattle.control_side.specs.Machine.{Machine, first_machine}
 use Rattle.control_side.specs.Params.{param_named}
 use Rattle.control_side.specs.Step.{Stepped, decided, step}
 
--- ---- calls
-
 -- the seventh call of a script's main list
 abbrev pub call : Op → Call
 call operation = record { ordinal = 7; holder = 0; op = operation }
 
--- a folder without a file
-abbrev pub no_file : Paths
-no_file path = None
-
--- what a call leaves, and its answer
+-- what a call leaves, and its answer, where the folder has no file
 unfoldable pub stepped : Machine → Op → Stepped
 unfolding decided param_named destination time_refusal in_curve curve_over event_refusal span_refusal value_at with_written
-stepped machine operation = step machine no_file (call operation)
+stepped machine operation = step machine (λ path. None) (call operation)
 
 -- the machine after calls, in their order
 unfoldable pub after : Machine → List Op → Machine
 after machine [] = machine
 after machine (operation ∷ operations) = after (stepped machine operation).machine operations
 
--- ---- rows: an operation, and what it is answered
-
+-- a row: an operation, and what it is answered
 infix 75 ◌gives◌
 abbrev pub ◌gives◌ : Op → Answer → Op × Answer
 operation gives said = (operation, said)
@@ -60,44 +52,57 @@ throw exception = answer.Throw exception
 abbrev pub profile : Feature → Answer
 profile feature = answer.Throw (NotSupported (Some feature))
 
--- ---- names: those of the machine below, of parameters, and one that nothing has
-
+-- names: those of the machine below, of parameters, and one that nothing has
 abbrev pub dest : List ℕ
 dest = codes "destination"
+
 abbrev pub c : List ℕ
 c = codes "c"
+
 abbrev pub g : List ℕ
 g = codes "g"
+
 abbrev pub s : List ℕ
 s = codes "s"
+
 abbrev pub d : List ℕ
 d = codes "d"
+
 abbrev pub w : List ℕ
 w = codes "w"
+
 abbrev pub p : List ℕ
 p = codes "p"
+
 abbrev pub m : List ℕ
 m = codes "m"
+
 abbrev pub b : List ℕ
 b = codes "b"
+
 abbrev pub o : List ℕ
 o = codes "o"
+
 abbrev pub x : List ℕ
 x = codes "x"
+
 abbrev pub nobody : List ℕ
 nobody = codes "nobody"
+
 abbrev pub offset : List ℕ
 offset = codes "offset"
+
 abbrev pub gain : List ℕ
 gain = codes "gain"
+
 abbrev pub delay_time : List ℕ
 delay_time = codes "delayTime"
+
 abbrev pub playback_rate : List ℕ
 playback_rate = codes "playbackRate"
+
 abbrev pub detune : List ℕ
 detune = codes "detune"
-
--- ---- machines
 
 abbrev pub one : ℤ
 one = pos 16777216
@@ -110,10 +115,8 @@ context rate = record { channels = 1; length = 1024; rate = rate }
 -- three outputs and a merger m with three inputs; and two mono buffers of four frames, b at the context's rate and o at another.
 unfoldable pub studio : Machine
 studio = after (first_machine (context 48000)) (
-    op.Create c (kind.Constant one) ∷ op.Create g (kind.Gain one)
-    ∷ op.CreateBufferSource s None false (pos 0) (pos 0) one ∷ op.CreateDelay d one (pos 0) ∷ op.CreateWaveShaper w None Off
-    ∷ op.Create p (kind.Splitter 3) ∷ op.Create m (kind.Merger 3)
-    ∷ op.CreateBuffer b 1 4 48000 ∷ op.CreateBuffer o 1 4 44100 ∷ [])
+    op.Create c (kind.Constant one) ∷ op.Create g (kind.Gain one) ∷ op.CreateBufferSource s None false (pos 0) (pos 0) one ∷ op.CreateDelay d one (pos 0) ∷ op.CreateWaveShaper w None Off
+    ∷ op.Create p (kind.Splitter 3) ∷ op.Create m (kind.Merger 3) ∷ op.CreateBuffer b 1 4 48000 ∷ op.CreateBuffer o 1 4 44100 ∷ [])
 
 -- the machine with gains without names beside its nodes, so that there are so many
 abbrev pub crowded : Machine → ℕ → Machine

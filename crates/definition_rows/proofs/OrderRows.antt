@@ -7,7 +7,6 @@ use Rattle.conn_graph.specs.declared.edges.Edge.{Edge}
 use Rattle.conn_graph.specs.declared.edges.Ports.{Ports}
 use Rattle.conn_graph.specs.declared.edges.Target.TheVariants.{Input}
 use Rattle.conn_graph.specs.Ends.{writer_of, reader_of, ends, in_cycle, arrow, height, muted}
-use Rattle.conn_graph.specs.Graph.{Connections}
 use Rattle.cycle_order.specs.Choices.{places_from, unmuted_ends, chosen_order}
 
 abbrev plain : Ports
@@ -16,36 +15,24 @@ plain = record { inputs = 1; outputs = 1; is_delay = false }
 abbrev to_input : ℕ → ℕ → Edge
 to_input a b = record { from = record { 0 = a }; output = 0; to = Input (record { 0 = b }) 0 }
 
--- two nodes into the destination
-pair : Connections
-pair = record { nodes = plain ∷ plain ∷ plain ∷ []; edges = to_input 1 0 ∷ to_input 2 0 ∷ [] }
+abbrev delay : Ports
+delay = record plain { is_delay = true }
 
-pair_orders : map (chosen_order pair) (Up ∷ Down ∷ []) ≡ (reader_of 1 ∷ reader_of 2 ∷ reader_of 0 ∷ []) ∷ (reader_of 2 ∷ reader_of 1 ∷ reader_of 0 ∷ []) ∷ []
-unfolding pair reaches ends in_cycle arrow height muted places_from unmuted_ends chosen_order
-pair_orders = refl
+-- behind the destination these nodes, with these connections: the order of each tie
+unfoldable orders : List Ports → List Edge → List (List End)
+unfolding reaches ends in_cycle arrow height muted places_from unmuted_ends chosen_order
+orders nodes edges = map (chosen_order (record { nodes = plain ∷ nodes; edges = edges })) (Up ∷ Down ∷ [])
 
--- a node beside a cycle of two, all into the destination: the cycle has no place
-ring : Connections
-ring = record { nodes = plain ∷ plain ∷ plain ∷ plain ∷ []; edges = to_input 1 0 ∷ to_input 1 2 ∷ to_input 2 0 ∷ to_input 2 3 ∷ to_input 3 2 ∷ [] }
+-- two nodes into the destination; a node beside a cycle of two, all into the destination: the cycle has no place
+ties : (orders (plain ∷ plain ∷ []) (to_input 1 0 ∷ to_input 2 0 ∷ []) ≡ (reader_of 1 ∷ reader_of 2 ∷ reader_of 0 ∷ []) ∷ (reader_of 2 ∷ reader_of 1 ∷ reader_of 0 ∷ []) ∷ [])
+    × (orders (plain ∷ plain ∷ plain ∷ []) (to_input 1 0 ∷ to_input 1 2 ∷ to_input 2 0 ∷ to_input 2 3 ∷ to_input 3 2 ∷ []) ≡ (reader_of 1 ∷ reader_of 0 ∷ []) ∷ (reader_of 1 ∷ reader_of 0 ∷ []) ∷ [])
+unfolding orders
+ties = (refl, refl)
 
-ring_orders : map (chosen_order ring) (Up ∷ Down ∷ []) ≡ (reader_of 1 ∷ reader_of 0 ∷ []) ∷ (reader_of 1 ∷ reader_of 0 ∷ []) ∷ []
-unfolding ring reaches ends in_cycle arrow height muted places_from unmuted_ends chosen_order
-ring_orders = refl
-
--- node 1 into a delay, that back to node 1, and both into the destination: the delay's reader goes first, and then its writer is ready beside the destination
-loop : Connections
-loop = record { nodes = plain ∷ plain ∷ record plain { is_delay = true } ∷ []; edges = to_input 1 0 ∷ to_input 1 2 ∷ to_input 2 0 ∷ to_input 2 1 ∷ [] }
-
-loop_orders : map (chosen_order loop) (Up ∷ Down ∷ [])
-    ≡ (reader_of 2 ∷ reader_of 1 ∷ reader_of 0 ∷ writer_of 2 ∷ []) ∷ (reader_of 2 ∷ reader_of 1 ∷ writer_of 2 ∷ reader_of 0 ∷ []) ∷ []
-unfolding loop reaches ends in_cycle arrow height muted places_from unmuted_ends chosen_order
-loop_orders = refl
-
--- two delays that feed each other, beside a destination that hears nothing: both ends of one of them are ready at once
-twins : Connections
-twins = record { nodes = plain ∷ record plain { is_delay = true } ∷ record plain { is_delay = true } ∷ []; edges = to_input 1 2 ∷ to_input 2 1 ∷ [] }
-
-twins_orders : map (chosen_order twins) (Up ∷ Down ∷ [])
-    ≡ (reader_of 0 ∷ reader_of 1 ∷ writer_of 2 ∷ reader_of 2 ∷ writer_of 1 ∷ []) ∷ (reader_of 2 ∷ reader_of 1 ∷ writer_of 2 ∷ writer_of 1 ∷ reader_of 0 ∷ []) ∷ []
-unfolding twins reaches ends in_cycle arrow height muted places_from unmuted_ends chosen_order
-twins_orders = refl
+-- a node and a delay in a cycle, both into the destination: the reader goes first, and the writer is ready beside the destination; two delays that feed each other, where both ends of one are ready at once
+ties_of_delays : (orders (plain ∷ delay ∷ []) (to_input 1 0 ∷ to_input 1 2 ∷ to_input 2 0 ∷ to_input 2 1 ∷ [])
+    ≡ (reader_of 2 ∷ reader_of 1 ∷ reader_of 0 ∷ writer_of 2 ∷ []) ∷ (reader_of 2 ∷ reader_of 1 ∷ writer_of 2 ∷ reader_of 0 ∷ []) ∷ [])
+    × (orders (delay ∷ delay ∷ []) (to_input 1 2 ∷ to_input 2 1 ∷ [])
+    ≡ (reader_of 0 ∷ reader_of 1 ∷ writer_of 2 ∷ reader_of 2 ∷ writer_of 1 ∷ []) ∷ (reader_of 2 ∷ reader_of 1 ∷ writer_of 2 ∷ writer_of 1 ∷ reader_of 0 ∷ []) ∷ [])
+unfolding orders
+ties_of_delays = (refl, refl)

@@ -1,5 +1,4 @@
 -- Automation of parameters (AudioParam): what is refused, in which order, and what a time before now stands for.
-use Rattle.wa_base.specs.declared.features.Feature.{Feature}
 use Rattle.wa_base.specs.declared.features.Feature.TheVariants as feature
 use Rattle.wa_base.specs.declared.graph_names.Rate.TheVariants.{A, K}
 use Rattle.param_events.specs.Timeline.{Timeline}
@@ -8,7 +7,7 @@ use Rattle.param_events.specs.declared.events.Event.TheVariants.{Set, Ramp, Curv
 use Rattle.script_ast.specs.declared.operations.Op.TheVariants as op
 use Rattle.transcript.specs.declared.lines.Answer.TheVariants.{Ok, Value}
 use Rattle.meaning.specs.declared.params.Param.{Param}
-use Rattle.definition_rows.proofs.Machines.{ℕ, ℤ, pos, neg_ℤ, ◌≡◌, List, [], ◌∷◌, ◌++◌, map, codes, Option, None, Some, refl, NotSupported, InvalidState, Range, WrongType, Op, Answer, Machine, stepped, after, ◌gives◌, Answers, throw, profile, one, studio, at_frame, dest, c, g, s, d, p, b, nobody, offset, gain, delay_time, playback_rate, detune}
+use Rattle.definition_rows.proofs.Machines.{ℕ, ℤ, pos, neg_ℤ, ◌≡◌, List, [], ◌∷◌, ◌++◌, map, codes, None, refl, NotSupported, InvalidState, Range, WrongType, Op, Answer, Machine, stepped, after, ◌gives◌, Answers, throw, profile, one, studio, at_frame, dest, c, g, s, d, b, nobody, offset, gain, delay_time, playback_rate, detune}
 
 abbrev less : ℤ
 less = neg_ℤ (pos 1)
@@ -49,15 +48,13 @@ curved : Machine
 curved = after studio (curve (pos 0 ∷ one ∷ pos 0 ∷ []) (pos 10) (pos 20) ∷ set (pos 40) ∷ [])
 
 own_refusals : Answers curved (
-    set less gives throw Range ∷ set (pos 9) gives Ok ∷ set (pos 10) gives throw (NotSupported None) ∷ set (pos 29) gives throw (NotSupported None) ∷ set (pos 30) gives Ok
-    ∷ ramp less gives throw Range ∷ ramp (pos 9) gives Ok ∷ ramp (pos 10) gives throw (NotSupported None) ∷ ramp (pos 29) gives throw (NotSupported None) ∷ ramp (pos 30) gives Ok
-    ∷ curve (one ∷ []) less (pos 0) gives throw InvalidState ∷ curve (one ∷ []) (pos 10) (pos 5) gives throw InvalidState ∷ curve two less (pos 5) gives throw Range
-    ∷ curve two (pos 10) (pos 0) gives throw Range ∷ curve two (pos 50) less gives throw Range ∷ curve two (pos 10) (pos 5) gives throw (NotSupported None)
-    ∷ curve two (pos 5) (pos 6) gives throw (NotSupported None) ∷ curve two (pos 5) (pos 5) gives Ok ∷ curve two (pos 30) (pos 10) gives Ok
-    ∷ curve two (pos 30) (pos 11) gives throw (NotSupported None) ∷ curve two (pos 40) (pos 1) gives Ok ∷ op.CancelScheduledValues g gain less gives throw Range
-    ∷ op.CancelScheduledValues g gain (pos 10) gives Ok ∷ op.CancelAndHoldAtTime g gain less gives throw Range ∷ op.CancelAndHoldAtTime g gain (pos 10) gives Ok
-    ∷ op.SetAutomationRate g gain A gives Ok ∷ op.SetAutomationRate c offset K gives Ok ∷ op.ExponentialRampToValueAtTime g gain gives profile feature.ExponentialRamp
-    ∷ op.SetTargetAtTime g gain gives profile feature.SetTarget ∷ op.ReadValue g gain gives Value one ∷ op.ReadValue d delay_time gives Value (pos 0) ∷ [])
+    set less gives throw Range ∷ set (pos 9) gives Ok ∷ set (pos 10) gives throw (NotSupported None) ∷ set (pos 29) gives throw (NotSupported None) ∷ set (pos 30) gives Ok ∷ ramp less gives throw Range ∷ ramp (pos 9) gives Ok
+    ∷ ramp (pos 10) gives throw (NotSupported None) ∷ ramp (pos 29) gives throw (NotSupported None) ∷ ramp (pos 30) gives Ok ∷ curve (one ∷ []) less (pos 0) gives throw InvalidState
+    ∷ curve (one ∷ []) (pos 10) (pos 5) gives throw InvalidState ∷ curve two less (pos 5) gives throw Range ∷ curve two (pos 10) (pos 0) gives throw Range ∷ curve two (pos 50) less gives throw Range
+    ∷ curve two (pos 10) (pos 5) gives throw (NotSupported None) ∷ curve two (pos 5) (pos 6) gives throw (NotSupported None) ∷ curve two (pos 5) (pos 5) gives Ok ∷ curve two (pos 30) (pos 10) gives Ok
+    ∷ curve two (pos 30) (pos 11) gives throw (NotSupported None) ∷ curve two (pos 40) (pos 1) gives Ok ∷ op.CancelScheduledValues g gain less gives throw Range ∷ op.CancelScheduledValues g gain (pos 10) gives Ok
+    ∷ op.CancelAndHoldAtTime g gain less gives throw Range ∷ op.CancelAndHoldAtTime g gain (pos 10) gives Ok ∷ op.SetAutomationRate g gain A gives Ok ∷ op.SetAutomationRate c offset K gives Ok
+    ∷ op.ExponentialRampToValueAtTime g gain gives profile feature.ExponentialRamp ∷ op.SetTargetAtTime g gain gives profile feature.SetTarget ∷ op.ReadValue g gain gives Value one ∷ op.ReadValue d delay_time gives Value (pos 0) ∷ [])
 unfolding stepped after studio curved
 own_refusals = refl
 

@@ -11,35 +11,26 @@ use Rattle.transcript.specs.declared.lines.Line.TheVariants.{Call, Ended, Resolv
 use Rattle.transcript.specs.Summary.{count, is_call, is_end, is_refusal}
 use Rattle.meaning.specs.declared.params.Param.{Param}
 use Rattle.meaning.specs.declared.scheds.Play.{Play}
-use Rattle.meaning.specs.declared.world.World.{World}
 use Rattle.control_side.specs.Turns.{ended_lines}
-use Rattle.definition_rows.proofs.Machines.{ℕ, ℤ, pos, ◌≡◌, List, [], ◌∷◌, map, codes, Option, None, Some, true, false, refl, NotSupported, InvalidState, Op, Machine, stepped, after, one, studio, c, g, s, b, gain}
+use Rattle.definition_rows.proofs.Machines.{ℕ, pos, ◌≡◌, List, [], ◌∷◌, map, codes, None, Some, refl, NotSupported, InvalidState, Machine, stepped, after, one, context, studio, c, g, s, b, gain}
 
 -- ---- what a quantum leads to
 
 -- a running context of so many frames at a frame, whose startRendering had the ordinal 6
 abbrev running : ℕ → ℕ → List (ℕ × ℕ) → ContextView
-running length time suspensions = record {
-  spec = record { channels = 1; length = length; rate = 48000 };
-  state = Running;
-  time = time;
-  started = Some 6;
-  suspensions = suspensions;
-}
+running length time suspensions = record { spec = record (context 48000) { length = length }; state = Running; time = time; started = Some 6; suspensions = suspensions }
 
 -- at the length, or past it where that is within the quantum, it is done, whatever is scheduled there; before, it is suspended where that is due
 turns : map turn_of (running 128 0 [] ∷ running 129 0 [] ∷ running 130 128 [] ∷ running 384 0 ((128, 3) ∷ (256, 4) ∷ []) ∷ running 384 128 ((256, 4) ∷ []) ∷ running 384 0 ((256, 4) ∷ []) ∷ running 200 128 ((256, 4) ∷ []) ∷ [])
     ≡ Done 6 ∷ Went ∷ Done 6 ∷ Due 3 ∷ Due 4 ∷ Went ∷ Done 6 ∷ []
 turns = refl
-went_on : after_turn (running 384 0 ((256, 4) ∷ [])) ≡ running 384 128 ((256, 4) ∷ [])
-unfolding after_turn
-went_on = refl
 
 -- a suspension that is due is scheduled no more
-was_due : (after_turn (running 384 0 ((128, 3) ∷ (256, 4) ∷ [])) ≡ record (running 384 128 ((256, 4) ∷ [])) { state = Suspended })
+afterwards : (after_turn (running 384 0 ((256, 4) ∷ [])) ≡ running 384 128 ((256, 4) ∷ []))
+    × (after_turn (running 384 0 ((128, 3) ∷ (256, 4) ∷ [])) ≡ record (running 384 128 ((256, 4) ∷ [])) { state = Suspended })
     × (after_turn (running 130 128 []) ≡ record (running 130 256 []) { state = Closed })
 unfolding after_turn
-was_due = (refl, refl)
+afterwards = (refl, refl, refl)
 
 -- ---- which sources end: those whose end is reached at the next quantum's first frame, in order of node number
 
@@ -49,10 +40,8 @@ k = codes "k"
 -- c sounds from frame 0 to a frame, and so does k, which is created behind; s plays its buffer's four frames, from frame 125 on
 abbrev playing : ℕ → Machine
 playing end = after studio (
-    op.Create k (kind.Constant one) ∷ op.Start k (pos 0) (pos 0) None ∷ op.Stop k (pos 128)
-    ∷ op.Start c (pos 0) (pos 0) None ∷ op.Stop c (pos end)
-    ∷ op.SetBuffer s (Some b) ∷ op.Start s (pos 125) (pos 0) None
-    ∷ op.Create c (kind.Gain one) ∷ [])
+    op.Create k (kind.Constant one) ∷ op.Start k (pos 0) (pos 0) None ∷ op.Stop k (pos 128) ∷ op.Start c (pos 0) (pos 0) None ∷ op.Stop c (pos end)
+    ∷ op.SetBuffer s (Some b) ∷ op.Start s (pos 125) (pos 0) None ∷ op.Create c (kind.Gain one) ∷ [])
 
 abbrev ended : ℕ → List ℕ → Line
 ended node name = Ended (record { 0 = node }) name
@@ -60,45 +49,33 @@ ended node name = Ended (record { 0 = node }) name
 abbrev ends_at : ℕ → Machine → List Line
 ends_at frame machine = ended_lines machine.first_names frame machine.world.scheds.items
 
--- the name is that of the creation, whatever it stands for by then
-first_quantum : (ends_at 128 (playing 128) ≡ ended 1 c ∷ ended 8 k ∷ [])
-    × (ends_at 128 (playing 129) ≡ ended 8 k ∷ [])
-unfolding stepped after studio
-first_quantum = (refl, refl)
-
 -- a machine after the quantum before a frame
 abbrev after_quantum_to : ℕ → ℕ → Machine → Machine
 after_quantum_to first next machine = record machine { world = after_quantum first next machine.world }
 
--- a source ends once
-second_quantum : (ends_at 256 (after_quantum_to 0 128 (playing 129)) ≡ ended 1 c ∷ ended 3 s ∷ [])
+-- The name is that of the creation, whatever it stands for by then. A source ends once, and not where it was not started or has no end.
+ends : (ends_at 128 (playing 128) ≡ ended 1 c ∷ ended 8 k ∷ [])
+    × (ends_at 128 (playing 129) ≡ ended 8 k ∷ [])
+    × (ends_at 256 (after_quantum_to 0 128 (playing 129)) ≡ ended 1 c ∷ ended 3 s ∷ [])
     × (ends_at 384 (after_quantum_to 128 256 (after_quantum_to 0 128 (playing 129))) ≡ [])
+    × (ends_at 1024 (after studio (op.Start c (pos 0) (pos 0) None ∷ [])) ≡ [])
 unfolding stepped after studio
-second_quantum = (refl, refl)
+ends = (refl, refl, refl, refl, refl)
 
--- and a stop changes nothing then
-stopped_after_end : map (λ (play : Play). play.sched.stop) (after (after_quantum_to 0 128 (playing 128)) (op.Stop k (pos 900) ∷ op.Stop s (pos 900) ∷ [])).world.scheds.items
-    ≡ Some 128 ∷ Some 900 ∷ Some 128 ∷ []
+-- a stop changes nothing once the source has ended
+stopped_after_end : map (λ (play : Play). play.sched.stop) (after (after_quantum_to 0 128 (playing 128)) (op.Stop k (pos 900) ∷ op.Stop s (pos 900) ∷ [])).world.scheds.items ≡ Some 128 ∷ Some 900 ∷ Some 128 ∷ []
 unfolding stepped after studio
 stopped_after_end = refl
-
--- what was not started does not end, nor what has no end
-no_end : ends_at 1024 (after studio (op.Start c (pos 0) (pos 0) None ∷ [])) ≡ []
-unfolding stepped after studio
-no_end = refl
 
 -- ---- the current value of each parameter is that of the quantum's first frame
 
 ramp : Machine
 ramp = after studio (op.SetValueAtTime g gain (pos 0) (pos 0) ∷ op.LinearRampToValueAtTime g gain (pos 1280) (pos 1280) ∷ [])
 
-abbrev slots : Machine → List ℤ
-slots machine = map (λ (p : Param). p.line.slot) machine.world.params.items
-
-first_slots : (slots (after_quantum_to 0 128 ramp) ≡ one ∷ pos 0 ∷ pos 0 ∷ [])
-    × (slots (after_quantum_to 128 256 ramp) ≡ one ∷ pos 128 ∷ pos 0 ∷ [])
+slots_set : (map (λ (p : Param). p.line.slot) (after_quantum_to 0 128 ramp).world.params.items ≡ one ∷ pos 0 ∷ pos 0 ∷ [])
+    × (map (λ (p : Param). p.line.slot) (after_quantum_to 128 256 ramp).world.params.items ≡ one ∷ pos 128 ∷ pos 0 ∷ [])
 unfolding stepped after studio ramp
-first_slots = (refl, refl)
+slots_set = (refl, refl)
 
 -- ---- a summary counts each call as run, and both what threw and what was rejected as refused; a promise that resolves later is no call
 
