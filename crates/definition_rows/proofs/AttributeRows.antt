@@ -41,7 +41,7 @@ all_set = refl
 abbrev curve : ℕ → Option (List ℤ)
 curve points = Some (replicate points one)
 
-first_curve : Answers studio (
+curves : Answers studio (
     op.SetCurve nobody (curve 1) gives throw WrongType ∷ op.SetCurve g (curve 1) gives throw WrongType ∷ op.SetCurve g None gives throw WrongType ∷ op.SetCurve w (curve 0) gives throw InvalidState
     ∷ op.SetCurve w (curve 1) gives throw InvalidState ∷ op.SetCurve w (curve 2) gives Ok ∷ op.SetCurve w None gives Ok ∷ [])
     × Answers (after studio (op.SetCurve w (curve 2) ∷ [])) (op.SetCurve w (curve 1) gives throw InvalidState ∷ op.SetCurve w (curve 2) gives throw InvalidState ∷ op.SetCurve w None gives Ok ∷ [])
@@ -49,7 +49,7 @@ first_curve : Answers studio (
     × Answers (after studio (op.SetCurve w None ∷ [])) (op.SetCurve w (curve 2) gives Ok ∷ [])
     × Answers (after studio (op.CreateWaveShaper (codes "v") (curve 2) Off ∷ [])) (op.SetCurve (codes "v") (curve 2) gives throw InvalidState ∷ op.SetCurve (codes "v") None gives Ok ∷ [])
 unfolding stepped after studio
-first_curve = (refl, refl, refl, refl, refl)
+curves = (refl, refl, refl, refl, refl)
 
 -- ---- setOversample: a shaper, then none
 

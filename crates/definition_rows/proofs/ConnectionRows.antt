@@ -43,12 +43,12 @@ abbrev with_connections : ℕ → Machine
 with_connections count =
     record studio { world = record studio.world { graph = bare (record studio.world.graph.value { edges = replicate count (edge 1 7) }) } }
 
-last_connection : Answers (with_connections 8191) (connect c 0 g 0 gives Ok ∷ feed c 0 g gain gives Ok ∷ [])
+limit : Answers (with_connections 8191) (connect c 0 g 0 gives Ok ∷ feed c 0 g gain gives Ok ∷ [])
     × Answers (with_connections 8192) (
     connect dest 0 g 0 gives profile feature.DestinationOutput ∷ connect c 1 g 0 gives throw IndexSize ∷ connect c 0 g 1 gives throw IndexSize ∷ connect c 0 g 0 gives profile feature.ConnectionLimit ∷ connect c 0 m 0 gives Ok
     ∷ feed c 1 g gain gives throw IndexSize ∷ feed c 0 s detune gives profile feature.Detune ∷ feed c 0 g gain gives profile feature.ConnectionLimit ∷ [])
 unfolding stepped after studio
-last_connection = (refl, refl)
+limit = (refl, refl)
 
 -- ---- disconnect: both nodes, then no output of the destination, then the output, then the input, then a connection that the form means where it has a node
 

@@ -14,10 +14,10 @@ use Rattle.definition_rows.proofs.Machines.{ℕ, ℤ, pos, neg_ℤ, ◌≡◌, L
 
 -- ---- createConstantSource, createGain: there is room for 1,024 nodes, the destination among them
 
-last_node : Answers (crowded studio 1023) (op.Create x (kind.Constant one) gives Ok ∷ op.Create x (kind.Gain one) gives Ok ∷ [])
+nodes : Answers (crowded studio 1023) (op.Create x (kind.Constant one) gives Ok ∷ op.Create x (kind.Gain one) gives Ok ∷ [])
     × Answers (crowded studio 1024) (op.Create x (kind.Constant one) gives profile feature.NodeLimit ∷ op.Create x (kind.Gain one) gives profile feature.NodeLimit ∷ [])
 unfolding stepped after studio
-last_node = (refl, refl)
+nodes = (refl, refl)
 
 -- ---- createChannelSplitter, createChannelMerger: 1 to 32 ports
 

@@ -19,7 +19,7 @@ take_away = op.SetBuffer s None
 
 -- ---- setBuffer: a buffer source and a buffer, then no second buffer, then none after the start, then the context's rate
 
-empty : Answers studio (
+set_buffers : Answers studio (
     op.SetBuffer nobody (Some b) gives throw WrongType ∷ op.SetBuffer c (Some b) gives throw WrongType ∷ op.SetBuffer g None gives throw WrongType ∷ op.SetBuffer b (Some b) gives throw WrongType ∷ give nobody gives throw WrongType
     ∷ give g gives throw WrongType ∷ give o gives profile feature.Resampling ∷ give b gives Ok ∷ take_away gives Ok ∷ [])
     × Answers (after studio (give b ∷ [])) (give nobody gives throw WrongType ∷ give b gives throw InvalidState ∷ give o gives throw InvalidState ∷ take_away gives Ok ∷ [])
@@ -28,7 +28,7 @@ empty : Answers studio (
     × Answers (after studio (give b ∷ begin ∷ [])) (give b gives throw InvalidState ∷ give o gives throw InvalidState ∷ take_away gives profile feature.LateBuffer ∷ [])
     × Answers (after studio (op.CreateBufferSource (codes "t") (Some b) false (pos 0) (pos 0) one ∷ [])) (op.SetBuffer (codes "t") (Some b) gives throw InvalidState ∷ op.SetBuffer (codes "t") None gives Ok ∷ [])
 unfolding stepped after studio
-empty = (refl, refl, refl, refl, refl, refl)
+set_buffers = (refl, refl, refl, refl, refl, refl)
 
 -- ---- setLoop, setLoopStart, setLoopEnd: a buffer source, then none after the start
 
