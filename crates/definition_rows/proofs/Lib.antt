@@ -1,0 +1,12 @@
+pub mod Machines
+mod CreationRows
+mod ConnectionRows
+mod AttributeRows
+mod SourceRows
+mod ParameterRows
+mod ContextRows
+mod DecodeRows
+mod TurnRows
+mod SoundRows
+mod OrderRows
+mod FieldRows
