@@ -9,7 +9,6 @@ use Rattle.transcript.specs.declared.lines.Answer.TheVariants.{Ok}
 use Rattle.definition_rows.proofs.Machines.{ℕ, ℤ, ◌≡◌, List, [], ◌∷◌, replicate, codes, Option, None, Some, refl, NotSupported, InvalidState, WrongType, stepped, after, ◌gives◌, Answers, throw, profile, one, studio, dest, g, w, p, m, b, nobody}
 
 -- ---- setChannelCount: 1 to 32, then no other count where it is fixed
-
 counts : Answers studio (
     op.SetChannelCount nobody 0 gives throw WrongType ∷ op.SetChannelCount b 1 gives throw WrongType ∷ op.SetChannelCount g 0 gives throw (NotSupported None) ∷ op.SetChannelCount g 1 gives Ok ∷ op.SetChannelCount g 32 gives Ok
     ∷ op.SetChannelCount g 33 gives throw (NotSupported None) ∷ op.SetChannelCount p 0 gives throw (NotSupported None) ∷ op.SetChannelCount p 33 gives throw (NotSupported None) ∷ op.SetChannelCount p 2 gives throw InvalidState
@@ -19,7 +18,6 @@ unfolding stepped after studio
 counts = refl
 
 -- ---- setChannelCountMode, setChannelInterpretation: no other where it is fixed
-
 modes : Answers studio (
     op.SetChannelCountMode nobody Max gives throw WrongType ∷ op.SetChannelCountMode g Max gives Ok ∷ op.SetChannelCountMode g ClampedMax gives Ok ∷ op.SetChannelCountMode g Explicit gives Ok
     ∷ op.SetChannelCountMode p Explicit gives Ok ∷ op.SetChannelCountMode p Max gives throw InvalidState ∷ op.SetChannelCountMode m Explicit gives Ok ∷ op.SetChannelCountMode m ClampedMax gives throw InvalidState
@@ -37,7 +35,6 @@ unfolding stepped after studio
 all_set = refl
 
 -- ---- setCurve: a shaper, then at least 2 points, then no second curve; none is always taken
-
 abbrev curve : ℕ → Option (List ℤ)
 curve points = Some (replicate points one)
 
@@ -52,7 +49,6 @@ unfolding stepped after studio
 curves = (refl, refl, refl, refl, refl)
 
 -- ---- setOversample: a shaper, then none
-
 oversamples : Answers studio (
     op.SetOversample nobody Two gives throw WrongType ∷ op.SetOversample g Off gives throw WrongType ∷ op.SetOversample g Four gives throw WrongType ∷ op.SetOversample w Off gives Ok
     ∷ op.SetOversample w Two gives profile feature.Oversample ∷ op.SetOversample w Four gives profile feature.Oversample ∷ [])

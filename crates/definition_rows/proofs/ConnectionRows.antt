@@ -9,7 +9,6 @@ use Rattle.meaning.specs.World.{bare, param_id}
 use Rattle.definition_rows.proofs.Machines.{ℕ, ◌≡◌, List, [], ◌∷◌, replicate, codes, Option, None, Some, refl, InvalidAccess, IndexSize, WrongType, Op, Machine, stepped, after, ◌gives◌, Answers, throw, profile, studio, dest, c, g, s, d, p, m, b, nobody, offset, gain, delay_time, playback_rate, detune}
 
 -- ---- connect: both nodes, then no output of the destination, then the output, then the input
-
 abbrev connect : List ℕ → ℕ → List ℕ → ℕ → Op
 connect from output to input = op.Connect from output to input
 
@@ -21,7 +20,6 @@ unfolding stepped after studio
 connects = refl
 
 -- ---- connectParam: both nodes and the parameter, then no output of the destination, then a parameter of the profile, then the output
-
 abbrev feed : List ℕ → ℕ → List ℕ → List ℕ → Op
 feed from output to param = op.ConnectParam from output to param
 
@@ -34,7 +32,6 @@ unfolding stepped after studio
 feeds = refl
 
 -- ---- the limit: 8,192 connections. One that is there already is accepted again.
-
 abbrev edge : ℕ → ℕ → Edge
 edge from to = record { from = record { 0 = from }; output = 0; to = Input (record { 0 = to }) 0 }
 
@@ -79,7 +76,6 @@ unfolding stepped after studio wired
 edges = (refl, refl, refl)
 
 -- ---- disconnectParam: as connectParam, and then a connection
-
 abbrev starve : List ℕ → List ℕ → List ℕ → Option ℕ → Op
 starve from to param output = op.DisconnectParam from to param output
 

@@ -7,7 +7,6 @@ use Rattle.transcript.specs.declared.lines.Answer.TheVariants.{Pending, Resolved
 use Rattle.definition_rows.proofs.Machines.{ℕ, pos, neg_ℤ, ◌≡◌, [], ◌∷◌, map, true, false, refl, InvalidState, Answer, Machine, first_machine, stepped, after, ◌gives◌, Answers, context, at_frame}
 
 -- ---- 1 to 32 channels, 1 to 33,554,432 frames, 8,000 to 96,000 frames a second, and at most 67,108,864 samples
-
 abbrev spec : ℕ → ℕ → ℕ → ContextSpec
 spec channels length rate = record { channels = channels; length = length; rate = rate }
 
@@ -20,7 +19,6 @@ unfolding is_supported
 contexts = (refl, refl, refl, refl)
 
 -- ---- before the start, while it renders, at a suspension and at the end; the length is 1,024
-
 abbrev rejected : Answer
 rejected = Rejected InvalidState
 

@@ -13,14 +13,12 @@ use Rattle.control_side.specs.Step.{decided}
 use Rattle.definition_rows.proofs.Machines.{ℕ, ℤ, pos, neg_ℤ, ◌≡◌, List, [], ◌∷◌, map, replicate, Option, None, Some, false, refl, NotSupported, InvalidState, IndexSize, WrongType, Op, Machine, first_machine, stepped, after, ◌gives◌, Answers, throw, profile, one, context, studio, crowded, c, d, b, o, x, nobody}
 
 -- ---- createConstantSource, createGain: there is room for 1,024 nodes, the destination among them
-
 nodes : Answers (crowded studio 1023) (op.Create x (kind.Constant one) gives Ok ∷ op.Create x (kind.Gain one) gives Ok ∷ [])
     × Answers (crowded studio 1024) (op.Create x (kind.Constant one) gives profile feature.NodeLimit ∷ op.Create x (kind.Gain one) gives profile feature.NodeLimit ∷ [])
 unfolding stepped after studio
 nodes = (refl, refl)
 
 -- ---- createChannelSplitter, createChannelMerger: 1 to 32 ports
-
 ports : Answers studio (
     op.Create x (kind.Splitter 0) gives throw IndexSize ∷ op.Create x (kind.Splitter 1) gives Ok ∷ op.Create x (kind.Splitter 32) gives Ok ∷ op.Create x (kind.Splitter 33) gives throw IndexSize
     ∷ op.Create x (kind.Merger 0) gives throw IndexSize ∷ op.Create x (kind.Merger 1) gives Ok ∷ op.Create x (kind.Merger 32) gives Ok ∷ op.Create x (kind.Merger 33) gives throw IndexSize ∷ [])
@@ -31,7 +29,6 @@ unfolding stepped after studio
 ports = (refl, refl)
 
 -- ---- createIIRFilter: 1 to 20 coefficients of each sort, then feedforward that is not all 0, then feedback[0] that is not 0, then room
-
 abbrev filter : List ℤ → List ℤ → Op
 filter forward back = op.Create x (kind.Causal (Filter forward back))
 
@@ -49,7 +46,6 @@ unfolding stepped after studio
 filters = (refl, refl)
 
 -- ---- createDelay: maxDelayTime above 0, then at most 16 seconds, then room for a node, then for its frames
-
 delays : Answers studio (
     op.CreateDelay x (neg_ℤ (pos 1)) (pos 0) gives throw (NotSupported None) ∷ op.CreateDelay x (pos 0) (pos 0) gives throw (NotSupported None) ∷ op.CreateDelay x (pos 1) (pos 0) gives Ok
     ∷ op.CreateDelay x (pos 268435456) (neg_ℤ one) gives Ok ∷ op.CreateDelay x (pos 268435457) (pos 0) gives profile feature.LongDelay ∷ [])
@@ -76,7 +72,6 @@ unfolding stepped after studio
 kept = refl
 
 -- ---- createWaveShaper: no oversampling, then a curve of at least 2 points where there is one, then room
-
 abbrev shaper : Option (List ℤ) → Op
 shaper curve = op.CreateWaveShaper x curve Off
 
@@ -88,7 +83,6 @@ unfolding stepped after studio
 shapers = (refl, refl)
 
 -- ---- createBufferSource: a buffer, then a playbackRate of whole frames, then the context's rate, then room
-
 abbrev source : Option (List ℕ) → ℤ → Op
 source buffer rate = op.CreateBufferSource x buffer false (pos 0) (pos 0) rate
 
@@ -102,7 +96,6 @@ unfolding stepped after studio
 sources = (refl, refl)
 
 -- ---- createBuffer: 1 to 32 channels, some frames, and 8,000 to 96,000 of them a second
-
 buffers : Answers studio (
     op.CreateBuffer x 0 1 48000 gives throw (NotSupported None) ∷ op.CreateBuffer x 1 1 48000 gives Ok ∷ op.CreateBuffer x 32 1 48000 gives Ok ∷ op.CreateBuffer x 33 1 48000 gives throw (NotSupported None)
     ∷ op.CreateBuffer x 1 0 48000 gives throw (NotSupported None) ∷ op.CreateBuffer x 1 1 7999 gives throw (NotSupported None) ∷ op.CreateBuffer x 1 1 8000 gives Ok ∷ op.CreateBuffer x 1 1 96000 gives Ok
@@ -120,14 +113,12 @@ unfolding decided stepped after studio
 samples = (refl, refl, refl, refl, refl)
 
 -- ---- names: one that is bound already is bound anew, and stays where the creation is refused
-
 bound_anew : Answers (after studio (op.Create b (kind.Gain one) ∷ [])) (op.CopyToChannel b 0 [] 0 gives throw WrongType ∷ [])
     × Answers (after studio (op.CreateDelay b (pos 0) (pos 0) ∷ [])) (op.CopyToChannel b 0 [] 0 gives Ok ∷ [])
 unfolding stepped after studio
 bound_anew = (refl, refl)
 
 -- ---- what the profile leaves out is refused for its feature, with its fields unread
-
 left_out : Answers studio (op.LeftOut feature.Oscillator gives profile feature.Oscillator ∷ op.LeftOut feature.Listener gives profile feature.Listener ∷ op.LeftOut feature.Convolver gives profile feature.Convolver ∷ [])
 unfolding stepped after studio
 left_out = refl

@@ -105,7 +105,6 @@ unfolding read
 values = (refl, refl, refl, refl)
 
 -- ---- decodeAudioData: a file, then not too long, then a WAV file, then the context's rate, then room
-
 abbrev decode : Op
 decode = op.DecodeAudioData (codes "x") (codes "a.wav")
 

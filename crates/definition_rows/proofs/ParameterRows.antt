@@ -31,7 +31,6 @@ unfolding stepped after studio
 all_alike = (refl, refl, refl)
 
 -- ---- each operation's own refusals, where a curve of three points lies from frame 10 to before frame 30, and a value is set at frame 40
-
 abbrev set : ℤ → Op
 set time = op.SetValueAtTime g gain (pos 5) time
 
@@ -64,7 +63,6 @@ unfolding stepped after studio
 rates = refl
 
 -- ---- now: no event is put into a curve that is under way, whatever time before now is given, and a refusal leaves the current value
-
 now_in_curve : Answers (at_frame 20 curved) (
     op.SetValue g gain (pos 0) gives throw (NotSupported None) ∷ set (pos 9) gives throw (NotSupported None) ∷ set less gives throw Range ∷ ramp (pos 0) gives throw (NotSupported None)
     ∷ curve two (pos 0) (pos 5) gives throw (NotSupported None) ∷ op.CancelScheduledValues g gain (pos 0) gives Ok ∷ op.CancelAndHoldAtTime g gain (pos 0) gives Ok ∷ [])

@@ -18,7 +18,6 @@ abbrev take_away : Op
 take_away = op.SetBuffer s None
 
 -- ---- setBuffer: a buffer source and a buffer, then no second buffer, then none after the start, then the context's rate
-
 set_buffers : Answers studio (
     op.SetBuffer nobody (Some b) gives throw WrongType ∷ op.SetBuffer c (Some b) gives throw WrongType ∷ op.SetBuffer g None gives throw WrongType ∷ op.SetBuffer b (Some b) gives throw WrongType ∷ give nobody gives throw WrongType
     ∷ give g gives throw WrongType ∷ give o gives profile feature.Resampling ∷ give b gives Ok ∷ take_away gives Ok ∷ [])
@@ -31,7 +30,6 @@ unfolding stepped after studio
 set_buffers = (refl, refl, refl, refl, refl, refl)
 
 -- ---- setLoop, setLoopStart, setLoopEnd: a buffer source, then none after the start
-
 loops : Answers studio (
     op.SetLoop c true gives throw WrongType ∷ op.SetLoopStart c (pos 1) gives throw WrongType ∷ op.SetLoopEnd nobody (pos 1) gives throw WrongType ∷ op.SetLoop s true gives Ok ∷ op.SetLoopStart s less gives Ok
     ∷ op.SetLoopEnd s less gives Ok ∷ [])
@@ -41,7 +39,6 @@ unfolding stepped after studio
 loops = (refl, refl)
 
 -- ---- start: a source, then one that was not started, then no negative when, offset or duration; of a constant source when alone
-
 starts : Answers studio (
     op.Start nobody (pos 0) (pos 0) None gives throw WrongType ∷ op.Start g less (pos 0) None gives throw WrongType ∷ op.Start b (pos 0) (pos 0) None gives throw WrongType ∷ op.Start s less (pos 0) None gives throw Range
     ∷ op.Start s (pos 0) less None gives throw Range ∷ op.Start s (pos 0) (pos 0) (Some less) gives throw Range ∷ op.Start s (pos 0) (pos 0) (Some (pos 0)) gives Ok ∷ op.Start c less (pos 0) None gives throw Range
@@ -51,7 +48,6 @@ unfolding stepped after studio
 starts = (refl, refl)
 
 -- ---- stop: a source, then one that was started, then no negative when
-
 stops : Answers (after studio (begin ∷ [])) (
     op.Stop nobody (pos 0) gives throw WrongType ∷ op.Stop g less gives throw WrongType ∷ op.Stop c (pos 0) gives throw InvalidState ∷ op.Stop c less gives throw InvalidState ∷ op.Stop s less gives throw Range
     ∷ op.Stop s (pos 0) gives Ok ∷ [])
@@ -59,7 +55,6 @@ unfolding stepped after studio
 stops = refl
 
 -- ---- a time before now is now, and of two stops the last counts
-
 abbrev spans : Machine → List (Option ℕ × Option ℕ)
 spans machine = map (λ (play : Play). (play.sched.start, play.sched.stop)) machine.world.scheds.items
 
@@ -69,7 +64,6 @@ unfolding stepped after studio
 late = refl
 
 -- ---- copyToChannel: a buffer, then a channel of it, then none after a source with it was started; what lies past the end is dropped
-
 writes : Answers (after studio (give b ∷ [])) (
     op.CopyToChannel nobody 0 [] 0 gives throw WrongType ∷ op.CopyToChannel g 0 [] 0 gives throw WrongType ∷ op.CopyToChannel b 0 (one ∷ []) 0 gives Ok ∷ op.CopyToChannel b 1 (one ∷ []) 0 gives throw IndexSize
     ∷ op.CopyToChannel b 0 (one ∷ []) 4294967295 gives Ok ∷ [])

@@ -33,7 +33,6 @@ unfolding after_turn
 afterwards = (refl, refl, refl)
 
 -- ---- which sources end: those whose end is reached at the next quantum's first frame, in order of node number
-
 abbrev k : List ℕ
 k = codes "k"
 
@@ -68,7 +67,6 @@ unfolding stepped after studio
 stopped_after_end = refl
 
 -- ---- the current value of each parameter is that of the quantum's first frame
-
 ramp : Machine
 ramp = after studio (op.SetValueAtTime g gain (pos 0) (pos 0) ∷ op.LinearRampToValueAtTime g gain (pos 1280) (pos 1280) ∷ [])
 
@@ -78,7 +76,6 @@ unfolding stepped after studio ramp
 slots_set = (refl, refl)
 
 -- ---- a summary counts each call as run, and both what threw and what was rejected as refused; a promise that resolves later is no call
-
 lines : List Line
 lines =
     Call 1 answer.Ok ∷ Call 2 (answer.Throw (NotSupported None)) ∷ Call 3 answer.Pending ∷ Call 4 (answer.Rejected InvalidState) ∷ Call 5 (answer.Rejected (NotSupported None)) ∷ Call 6 (answer.Value (pos 5))
