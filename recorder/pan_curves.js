@@ -7,7 +7,7 @@
 import {Timeline} from './automation.js';
 import {curveCalls, distanceOfValues} from './lowering.js';
 import {native} from './native.js';
-import {coneAngle, coneGain, azimuthGains, azimuthOf, distanceGain, minus, sizeOf, stereoGains} from './panning.js';
+import {azimuthGains, azimuthOf, coneAngle, coneGain, distanceGain, facingOf, minus, sizeOf, stereoGains} from './panning.js';
 import {entryOfParameter} from './recording.js';
 import {fixedValue, nearestFixed} from './values.js';
 
@@ -78,22 +78,37 @@ function motionOfPan(entry, isStereo) {
 const hasTarget = (entry, name) => (entryOfParameter.get(entry.node[name])?.timeline.events || []).some(({kind}) => kind === 'target');
 
 const placesOf = names => names.flatMap(name => AXES.map(axis => name + axis));
-const LISTENER = ['position', 'forward', 'up'];
+const OWN = ['position', 'orientation'], LISTENER = ['position', 'forward', 'up'];
+
+// Where something is at a frame, by three courses. It is the same list where it stands still.
+function vectorOf(courses) {
+  const at = frame => courses.map(course => course.valueAt(frame)), still = at(0);
+  return courses.some(course => course.stretches.length) ? at : () => still;
+}
+
+// What `make` makes of things that stand still for long.
+function kept(make) {
+  let made, of = [];
+  return (...things) => {
+    if (things.some((thing, place) => thing !== of[place])) [made, of] = [make(...things), things];
+    return made;
+  };
+}
 
 // The same of a panner of equal power, by its own course and that of the listener.
 function motionOfPosition(entry, isStereo, sounding) {
   const {node, recording, attributesAt = 0} = entry;
   if (node.panningModel !== 'equalpower' || attributesAt > sounding) return null;
-  const own = coursesOf(entry, placesOf(['position', 'orientation']));
+  const own = coursesOf(entry, placesOf(OWN));
   const heard = coursesOf(recording.listener, placesOf(LISTENER));
   if (!own || !heard || placesOf(LISTENER).some(name => hasTarget(recording.listener, name))) return null;
-  return {stretches: [...own, ...heard].flatMap(course => course.stretches), at(frame) {
-    const vector = (courses, place) => courses.slice(3 * place, 3 * place + 3).map(course => course.valueAt(frame));
-    const [source, orientation] = [vector(own, 0), vector(own, 1)];
-    const listener = Object.fromEntries(LISTENER.map((name, place) => [name, vector(heard, place)]));
-    const distance = sizeOf(minus(source, listener.position)), azimuth = azimuthOf(source, listener);
-    const angle = coneAngle(source, orientation, listener.position);
-    const whole = distanceGain(node, distance) * coneGain(node, source, orientation, listener.position);
+  const courses = [...own, ...heard], vectors = [0, 3, 6, 9, 12].map(place => vectorOf(courses.slice(place, place + 3)));
+  const facing = kept((forward, up) => facingOf({forward, up}));
+  return {stretches: courses.flatMap(course => course.stretches), at(frame) {
+    const [source, orientation, position, forward, up] = vectors.map(vector => vector(frame));
+    const distance = sizeOf(minus(source, position)), azimuth = azimuthOf(source, {position}, facing(forward, up));
+    const angle = coneAngle(source, orientation, position);
+    const whole = distanceGain(node, distance) * coneGain(node, source, orientation, position);
     return {gains: gainsOf(azimuthGains(azimuth, isStereo), isStereo, whole),
             region: [regionOf(azimuth, -90, 0, 90), regionOf(distance, 0, node.refDistance, node.maxDistance),
                      regionOf(angle, Math.abs(node.coneInnerAngle) / 2, Math.abs(node.coneOuterAngle) / 2)].join()};

@@ -9,11 +9,17 @@ const unit = vector => sizeOf(vector) > 0 ? times(vector, 1 / sizeOf(vector)) : 
 const degrees = cosine => 180 * Math.acos(Math.min(1, Math.max(-1, cosine))) / Math.PI;
 const clamp = (number, low, high) => Math.min(high, Math.max(low, number));
 
+// What is ahead of, beside and above a listener, or null where forward and up are one direction.
+export function facingOf({forward, up}) {
+  const right = cross(forward, up), ahead = unit(forward), aside = unit(right);
+  return sizeOf(right) === 0 ? null : {ahead, aside, above: cross(aside, ahead)};
+}
+
 // The azimuth of a source to a listener, in degrees from -180 to 180 ("Azimuth and Elevation").
-export function azimuthOf(source, {position, forward, up}) {
-  const direction = unit(minus(source, position)), right = cross(forward, up);
-  if (sizeOf(direction) === 0 || sizeOf(right) === 0) return 0;
-  const ahead = unit(forward), aside = unit(right), above = cross(aside, ahead);
+export function azimuthOf(source, listener, facing = facingOf(listener)) {
+  const direction = unit(minus(source, listener.position));
+  if (sizeOf(direction) === 0 || !facing) return 0;
+  const {ahead, aside, above} = facing;
   const flat = unit(minus(direction, times(above, dot(direction, above))));
   let azimuth = degrees(dot(flat, aside));
   if (dot(flat, ahead) < 0) azimuth = 360 - azimuth;

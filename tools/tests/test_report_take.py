@@ -334,7 +334,7 @@ class Graphs(unittest.TestCase):
     def test_frozen_sources_are_told(self):
         content = self.looped()
         content.losses.append(Loss("lowered", "baked-source", "", [1]))
-        self.assertEqual(self.flags(content)["c"], ("frozen",))
+        self.assertEqual(self.flags(content)["c"], ("baked",))
 
     def test_frozen_nodes_are_told_by_their_names(self):
         content = self.looped()

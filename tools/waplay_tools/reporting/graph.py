@@ -111,15 +111,9 @@ def links_at(book: Book, frame: int) -> list[Link]:
     ]
 
 
-def frozen_in(content: Content) -> set[int]:
-    """The ordinals of the calls that made sources of samples which the recorder took from the
-    browser: baked sources, and frozen nodes."""
-    return {
-        call
-        for loss in content.losses
-        if "baked" in loss.kind or "frozen" in loss.kind
-        for call in loss.calls
-    }
+def told_of(content: Content, word: str) -> set[int]:
+    """The ordinals of the calls of which the recorder tells a loss with this word in its kind."""
+    return {call for loss in content.losses if word in loss.kind for call in loss.calls}
 
 
 @dataclasses.dataclass
@@ -164,7 +158,7 @@ class Picture:
 
 
 def flags_of(content: Content) -> dict[int, tuple[str, ...]]:
-    """What is told of nodes besides: muted, in a cycle, frozen."""
+    """What is told of nodes besides: muted, in a cycle, baked or frozen."""
     book = content.session.book
     times = [0, *changes_of(book)][:MOST_TIMES]
     muted: set[int] = set()
@@ -173,13 +167,14 @@ def flags_of(content: Content) -> dict[int, tuple[str, ...]]:
         links = links_at(book, time)
         muted |= muted_in(links)
         looped |= in_cycles(arrows_of(links))
-    frozen_calls = frozen_in(content)
+    baked, frozen = told_of(content, "baked"), told_of(content, "frozen")
     told = {}
     for it in book.nodes:
         source = it.buffer.call if it.buffer else None
         calls = {call.ordinal for call in (it.call, source) if call}
         flags = [("muted", _number(it) in muted), ("in a cycle", _number(it) in looped - muted),
-                 ("frozen", bool(calls & frozen_calls) or it.name in content.frozen)]
+                 ("baked", bool(calls & baked)),
+                 ("frozen", bool(calls & frozen) or it.name in content.frozen)]
         told[_number(it)] = tuple(name for name, holds in flags if holds)
     return told
 

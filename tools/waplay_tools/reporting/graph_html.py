@@ -12,6 +12,7 @@ from waplay_tools.reporting.tables import folded, plain
 from waplay_tools.reporting.text import counted, grouped
 
 MOST_BOXES = 160  # of a picture that people can read
+EDGE = 2  # pixels around it, for the lines of the outermost boxes
 
 _BOX = """<g class="box {kinds}"><rect x="{x:.1f}" y="{y:.1f}" width="{width:.1f}"\
  height="{height:.1f}" rx="5"/>{lines}</g>"""
@@ -24,7 +25,7 @@ _LABEL = '<text class="arrow-label" x="{x:.1f}" y="{y:.1f}">{text}</text>'
 
 _PICTURE = """<div class="scroll graph" tabindex="0" role="region" aria-label="{label}">\
 <svg role="img" aria-label="{label}" width="{width:.0f}" height="{height:.0f}"\
- viewBox="0 0 {width:.0f} {height:.0f}">{arrows}{boxes}</svg></div>"""
+ viewBox="{edge} {edge} {width:.0f} {height:.0f}">{arrows}{boxes}</svg></div>"""
 
 
 def _box(placed: Placed) -> Html:
@@ -66,8 +67,9 @@ def _picture(made: Layout, label: str) -> Html:
     return filled(
         _PICTURE,
         label=label,
-        width=made.width,
-        height=made.height,
+        edge=-EDGE,
+        width=made.width + 2 * EDGE,
+        height=made.height + 2 * EDGE,
         arrows=joined(map(_arrow, made.arrows)),
         boxes=joined(map(_box, made.boxes)),
     )
@@ -96,8 +98,9 @@ _GRAPH = """<h3>Graph</h3>
 
 _LEGEND = Html(
     '<p class="aside">Dashed arrows are taken away at a suspension. Boxes with a count are nodes of'
-    " one kind with the same connections. Muted: in a cycle without a delay. Frozen: its samples"
-    " are those that the browser rendered.</p>"
+    " one kind with the same connections. Muted: in a cycle without a delay. Baked: a source that"
+    " plays what the browser made of it alone. Frozen: what the browser made of a node and all that"
+    " feeds it.</p>"
 )
 
 

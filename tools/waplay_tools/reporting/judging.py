@@ -114,8 +114,9 @@ def _of_file(file: File) -> Iterator[Finding]:
 def _of_recording(content: Content) -> Iterator[Finding]:
     """What the recorder told of the page."""
     grades = {"refused": "bad", "silent": "bad", "heard": "doubtful"}
+    is_told = content.other is not None and content.other.sound.is_silent()
     for loss in content.losses:
-        if loss.grade in grades:
+        if loss.grade in grades and not (loss.grade == "silent" and is_told):
             yield Finding(grades[loss.grade], f"The recorder: {loss.grade} {loss.kind},"
                                               f" {loss.told}.")
     for line in content.lines:
