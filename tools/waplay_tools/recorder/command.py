@@ -63,7 +63,8 @@ def count(text: str) -> int:
 
 def parser() -> argparse.ArgumentParser:
     """The options, and a word on each."""
-    made = argparse.ArgumentParser(prog=as_called_here("tools/record"), description=DESCRIPTION, epilog=EPILOG)
+    made = argparse.ArgumentParser(prog=as_called_here("tools/record"),
+                                   description=DESCRIPTION, epilog=EPILOG)
     add = made.add_argument
     add("page", help="the HTML file, or the URL of a page that is served")
     add("out", metavar="OUT", type=Path,

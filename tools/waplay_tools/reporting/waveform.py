@@ -78,11 +78,10 @@ def decibel_path(magnitudes: list[float]) -> Html:
 
 def fine_columns(samples: Sequence[float], full: float) -> Html:
     """Columns for zooming, as a page has them: the lowest and the highest sample of each, of which
-    full is 32767. No sample is above full."""
+    full is 32767. What is beyond full stands at the edge."""
     part = 32767 / full
-    numbers = array.array(
-        "h", [round(it * part) for pair in spans(samples, FINE_COLUMNS) for it in pair]
-    )
+    found = (round(it * part) for pair in spans(samples, FINE_COLUMNS) for it in pair)
+    numbers = array.array("h", (min(32767, max(-32767, it)) for it in found))
     return Html(base64.b64encode(numbers.tobytes()).decode())
 
 
