@@ -4,8 +4,7 @@ use Rattle.serde_json.proofs.OnLiterals.{serde_json_on_literals}
 use Rattle.serde_json.specs.Read.{read}
 use Rattle.wa_base.specs.Features.{feature_word}
 use Rattle.wa_base.specs.declared.features.Feature.{Feature}
-use Rattle.script_ast.specs.Entries.{op_named}
-use Rattle.script_ast.specs.OpNames.{left_out_feature}
+use Rattle.script_ast.specs.Entries.{op_named, left_out_feature}
 use Rattle.script_ast.specs.Ranges.{is_new_name, is_path}
 use Rattle.script_ast.specs.declared.clocks.Clock.TheVariants.{Frames}
 use Rattle.script_ast.specs.declared.entries.Kind.{Kind}
