@@ -5,9 +5,10 @@ use Rattle.std.specs.List.Sorted.{IsPartitionPoint, IsPartitionedBy}
 use Rattle.std.proofs.Math.Seq.{drop-cons}
 use Rattle.std.proofs.Math.ListN.{drop_of_length-le}
 use Rattle.std.proofs.lemmas.Bool.Decides.{nat_tests}
+use Rattle.std.proofs.lemmas.List.{get_or_default}
 use Rattle.conn_graph.specs.declared.edges.Edge.{Edge}
 use Rattle.conn_graph.specs.Graph.{AreFrom}
-use Rattle.conn_graph.specs.Cells.{numbered, leaves}
+use Rattle.conn_graph.specs.Cells.{numbered, leaves, BeginsAt}
 
 from_low : (low : ℕ) (es : List Edge) → AreFrom low es → (j : ℕ) (d : Edge) → j < length es → low ≤ (slice_index_or es j d).from.0
 from_low low [] h j d k = absurd (omega arith)
@@ -51,19 +52,19 @@ pub parted : (node : ℕ) (es : List Edge) → AreFrom 0 es → IsPartitionedBy 
 parted node es ordered i j d l k up = let r = rises 0 es ordered i j d l k in grind (arith, nat_tests)
 
 -- from the place on before which all sources are of earlier nodes
-module _ (node first point at : ℕ) (es : List Edge) (d : Edge) (ordered : AreFrom 0 es)
-    (parts : IsPartitionPoint (λ (e : Edge). nat_lt e.from.0 node ≡ true) (λ (e : Edge). nat_lt e.from.0 node ≡ false) es point) (bound : point ≤ length es) (later : at ≡ max point first) where
-  passed : (k : ℕ) → first ≤ k → k < at → leaves node (slice_index_or es k d) ≡ false
-  passed k a b = let t = parts.0 k d (omega arith) (omega arith) in grind (arith, nat_tests)
+module _ (node first at : ℕ) (es : List Edge) (d : Edge) (ordered : AreFrom 0 es) (begins : BeginsAt node first at es) where
+  passed : (k : ℕ) → first ≤ k → k < at → k < length es → leaves node (slice_index_or es k d) ≡ false
+  passed k a b l = let t = begins.passed k d a b l in grind (arith, nat_tests)
 
   pub leaving : at < length es → (slice_index_or es at d).from.0 ≡ node → slice_get (numbered (leaves node) first (drop first es)) 0 ≡ Some (at, slice_index_or es at d)
   leaving l is =
-      ap (λ xs. slice_get xs 0) (skip (leaves node) es d first (at - first) (omega arith) (λ k a b. passed k a (omega arith))
+      let later = begins.later in
+      ap (λ xs. slice_get xs 0) (skip (leaves node) es d first (at - first) (omega arith) (λ k a b. passed k a (omega arith) (omega arith))
       ∙ ap (λ k. numbered (leaves node) k (drop k es)) (let to : first + (at - first) ≡ at = omega arith in to))
       ∙ here (leaves node) es d at l (grind (arith, nat_tests))
 
   pub none_leaving : (at < length es → (slice_index_or es at d).from.0 ≡ node → ⊥) → slice_get (numbered (leaves node) first (drop first es)) 0 ≡ None
-  none_leaving other = none_left (leaves node) es d first (λ k a l. elim (order k at) [ inl high ↦ behind k high l | inr low ↦ passed k a low ])
+  none_leaving other = none_left (leaves node) es d first (λ k a l. elim (order k at) [ inl high ↦ behind k high l | inr low ↦ passed k a low l ])
     where
       order : (a b : ℕ) → (b ≤ a) ⊎ (a < b)
       order a b = grind arith
@@ -71,7 +72,26 @@ module _ (node first point at : ℕ) (es : List Edge) (d : Edge) (ordered : AreF
       behind : (k : ℕ) → at ≤ k → k < length es → leaves node (slice_index_or es k d) ≡ false
       behind k high l =
           let inside : at < length es = omega arith in
-          let t = parts.1 at d (omega arith) inside in
+          let t = begins.reached at d (omega arith) inside in
           let s : (slice_index_or es at d).from.0 ≡ node → ⊥ = other inside in
           let up = rises 0 es ordered at k d high l in
           grind (arith, nat_tests)
+
+-- behind a connection of the node or of a later one it begins at once
+pub begins_next : (node first : ℕ) (es : List Edge) (d : Edge) → AreFrom 0 es → 0 < first → first ≤ length es → node ≤ (slice_index_or es (first - 1) d).from.0 → BeginsAt node first first es
+begins_next node first es d ordered some within on = record {
+  later = omega arith;
+  passed = λ k e a b l. absurd (omega arith);
+  reached = λ k e a l.
+      let up = rises 0 es ordered (first - 1) k d (omega arith) l in
+      let same = ap (λ (x : Edge). x.from.0) (get_or_default es k d e l) in
+      omega arith;
+}
+
+-- and it begins where the halving stops
+pub begins_halved : (node first point at : ℕ) (es : List Edge) → IsPartitionPoint (λ (e : Edge). nat_lt e.from.0 node ≡ true) (λ (e : Edge). nat_lt e.from.0 node ≡ false) es point → at ≡ max point first → BeginsAt node first at es
+begins_halved node first point at es parts later = record {
+  later = omega arith;
+  passed = λ k e a b l. let t = parts.0 k e (omega arith) (omega arith) in grind (arith, nat_tests);
+  reached = λ k e a l. let t = parts.1 k e (omega arith) l in grind (arith, nat_tests);
+}

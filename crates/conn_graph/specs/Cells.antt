@@ -1,5 +1,5 @@
 -- How the connections are kept: in one list, whose places are the cells.
-use Rattle.std.specs.Prelude.{ℕ, suc, List, [], ◌∷◌, map, length, Bool, nat_lt, ◌==◌, if◌then◌else◌}
+use Rattle.std.specs.Prelude.{ℕ, suc, ◌<◌, ◌≤◌, slice_index_or, List, [], ◌∷◌, map, length, Bool, nat_lt, ◌==◌, if◌then◌else◌}
 use Rattle.std.specs.List.{range_with_len}
 use Rattle.conn_graph.specs.declared.edges.Edge.{Edge}
 use Rattle.conn_graph.specs.declared.edges.Ports.{Ports}
@@ -26,6 +26,12 @@ walks test count edges = map (λ node. numbered (test node) 0 edges) (range_with
 abbrev pub place : List Edge → ℕ → ℕ
 place [] from = 0
 place (e ∷ es) from = if nat_lt from e.from.0 then 0 else suc (place es from)
+
+-- From a first place on, the connections before another place leave earlier nodes, and those from it on do not.
+pub record BeginsAt (node first at : ℕ) (edges : List Edge) : Type 0 where
+  pub later : first ≤ at
+  pub passed : (k : ℕ) (e : Edge) → first ≤ k → k < at → k < length edges → (slice_index_or edges k e).from.0 < node
+  pub reached : (k : ℕ) (e : Edge) → at ≤ k → k < length edges → node ≤ (slice_index_or edges k e).from.0
 
 abbrev pub connections_of : List Ports → List Edge → Connections
 connections_of nodes edges = record { nodes = nodes; edges = edges }

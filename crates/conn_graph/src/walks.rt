@@ -1,20 +1,18 @@
 ghost use Rattle.std.specs.Prelude.{◌≡◌, ◌≤◌, length, drop, slice_get, filter, not, OnOk, OnErr};
 ghost use Rattle.std.specs.List.{list_any};
 ghost use Rattle.conn_graph.specs.Edges.{same_edge, is_named};
-ghost use Rattle.conn_graph.specs.Cells.{numbered, leaves, enters, place};
+ghost use Rattle.conn_graph.specs.Cells.{numbered, leaves, enters, place, BeginsAt};
 ghost use Rattle.conn_graph.specs.Graph.{AreFrom, with_edge};
 
 use crate::edges::{Edge, Form, is_named, same_edge};
 use wa_base::{NoMemory, NodeId};
 
-// The first connection of a node from a place on, and its place. It is looked for by halving, since
-// the connections stand in the order of their sources.
+// The first connection of a node from a place on, and its place.
 pub(crate) fn next_leaving(edges: &[Edge], node: NodeId, first: usize) -> Option<(usize, Edge)>
     requires { AreFrom 0 edges.now }
     ensures { result ≡ slice_get (numbered (leaves node.0) first (drop first edges.now)) 0 }
 {
-    let point = edges.partition_point(|edge| edge.from.0 < node.0);
-    let place = point.max(first);
+    let place = place_of(edges, node, first);
     if place >= edges.len() {
         return None;
     }
@@ -24,6 +22,21 @@ pub(crate) fn next_leaving(edges: &[Edge], node: NodeId, first: usize) -> Option
     } else {
         None
     }
+}
+
+// The first place, from `first` on, behind which no connection leaves an earlier node. Behind a
+// connection of the node or of a later one it is the next place, and else it is looked for by
+// halving, since the connections stand in the order of their sources.
+fn place_of(edges: &[Edge], node: NodeId, first: usize) -> usize
+    requires { AreFrom 0 edges.now }
+    ensures { BeginsAt node.0 first result edges.now }
+{
+    if 0 < first && first <= edges.len() && node.0 <= edges[first - 1].from.0 {
+        return first;
+    }
+    edges
+        .partition_point(|edge| edge.from.0 < node.0)
+        .max(first)
 }
 
 // The first connection to a node from a place on, and its place.

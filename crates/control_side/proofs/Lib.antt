@@ -1,5 +1,6 @@
 mod Called
 mod Deciding
+pub mod EndedOrder
 pub mod Finding
 mod Leaving
 mod Marks

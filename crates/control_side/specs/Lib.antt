@@ -7,3 +7,4 @@ pub mod Shapers
 pub mod Steady
 pub mod Step
 pub mod Turns
+pub mod Laws

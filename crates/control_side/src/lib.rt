@@ -8,6 +8,7 @@ mod contexts;
 mod control;
 mod decide;
 mod ends;
+mod laws;
 mod nodes;
 mod params;
 mod shapers;
@@ -15,4 +16,5 @@ mod sources;
 mod stop;
 
 pub use control::{Control, Stepped};
+pub use laws::ended_law;
 pub use stop::Stop;

@@ -13,6 +13,7 @@ pub mod Tallies
 pub mod Placed
 pub mod Sums
 pub mod Looks
+mod Merging
 pub mod Ways
 pub mod Finishing
 pub mod Leading

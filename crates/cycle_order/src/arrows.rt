@@ -66,7 +66,7 @@ pub(crate) fn node_arrows(alloc: Global, lists: &[Items<Edge>]) -> Result<Vec<Ta
 fn node_targets(alloc: Global, edges: &[Edge]) -> Result<Targets, NoMemory>
     ensures { IfOk result (λ targets. targets ≡ spec.node_targets edges.now) }
 {
-    let mut targets = Items::new(alloc);
+    let mut targets = Items::from(Vec::with_capacity(alloc, edges.len())?);
     for edge in edges {
         targets.push(edge.to.node().0 as usize)?;
     }
@@ -141,7 +141,7 @@ fn reader_targets(alloc: Global, graph: &Graph, edges: &[Edge]) -> Result<Target
     requires { (e : Edge) → IsIn e edges.now → target_node e.to < length graph.now.value.nodes }
     ensures { IfOk result (λ targets. targets ≡ spec.reader_targets graph.now.value edges.now) }
 {
-    let mut targets = Items::new(alloc);
+    let mut targets = Items::from(Vec::with_capacity(alloc, edges.len())?);
     for edge in edges {
         targets.push(vertex_of(arrives_at(graph, edge.to)))?;
     }

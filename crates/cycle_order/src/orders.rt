@@ -1,4 +1,5 @@
-ghost use Rattle.std.specs.Prelude.{◌≡◌, ◌≤◌, ◌+◌, ◌*◌, length, IfOk};
+ghost use Rattle.std.specs.Prelude.{◌≡◌, ◌↔◌, ◌≤◌, ◌+◌, ◌*◌, Bool, Some, not, filter, length, slice_get, IsTrue, IfOk};
+ghost use Rattle.wa_base.specs.declared.graph_names.End.{End as an_end};
 ghost use Rattle.std.specs.List.{list_any};
 ghost use Rattle.conn_graph.specs.Ends.{same_end};
 ghost use Rattle.conn_graph.specs.Orders.{IsLegalOrder};
@@ -47,9 +48,35 @@ fn unmuted_ends(alloc: Global, graph: &Graph, muted: &[End]) -> Result<Vec<End>,
     requires { muted.now ≡ muted_ends graph.now.value }
     ensures { IfOk result (λ unmuted. unmuted.items ≡ spec.unmuted_ends graph.now.value) }
 {
-    let mut unmuted = ends(alloc, graph)?;
-    unmuted.retain(|end| !is_listed(muted, *end));
-    Ok(unmuted)
+    let all = ends(alloc, graph)?;
+    unlisted(alloc, all.as_slice(), muted)
+}
+
+// The ends without those that are listed, in the order in which the list has them too. Both lists are
+// gone along at once.
+fn unlisted(alloc: Global, ends: &[End], listed: &[End]) -> Result<Vec<End>, NoMemory>
+    ensures { IfOk result (λ rest. (test : an_end → Bool) → listed.now ≡ filter test ends.now → rest.items ≡ filter (λ e. not (test e)) ends.now) }
+{
+    let mut rest = Vec::new(alloc);
+    let mut place = 0;
+    for end in ends {
+        if has_at(listed, place, *end) {
+            place += 1;
+        } else {
+            rest.push(*end)?;
+        }
+    }
+    Ok(rest)
+}
+
+// Whether a list has an end at a place.
+fn has_at(ends: &[End], place: usize, end: End) -> bool
+    ensures { IsTrue result ↔ (slice_get ends.now place ≡ Some end) }
+{
+    match ends.get(place) {
+        Some(other) => *other == end,
+        None => false,
+    }
 }
 
 pub(crate) fn is_listed(ends: &[End], end: End) -> bool

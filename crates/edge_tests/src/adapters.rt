@@ -1,5 +1,6 @@
 use crate::on_disk::{empty_folder, files_here, holds, take_away};
 use io_edge::{Files, ReadSource, Sink, WriteSink, append_all, read_all, write_all};
+use std::io::BufWriter;
 use std::test::Fail;
 use std::{fs, io};
 
@@ -88,5 +89,23 @@ fn a_file_is_read_whole_and_written_whole(rt: HostRuntime) -> Result<(), Fail> {
     empty_folder(&rt, "passed_on")?;
     assert!(rt; passes_on(&rt, paths[0], paths[1])?);
     take_away(&rt, paths, "passed_on")?;
+    Ok(())
+}
+
+// Whether what a sink takes stands in the file at this path, although its writer keeps bytes back until
+// it is flushed.
+fn passes_through_a_buffer(rt: &HostRuntime, path: &str) -> io::Result<bool> {
+    let file = fs::File::create(rt, path)?;
+    let mut sink = WriteSink::new(BufWriter::new(rt.alloc(), file)?);
+    let written = writes_whole(rt, &mut sink, path);
+    drop(sink);
+    written
+}
+
+#[test]
+fn a_sink_flushes_each_write(rt: HostRuntime) -> Result<(), Fail> {
+    let path = "flushed.txt";
+    assert!(rt; passes_through_a_buffer(&rt, path)?);
+    fs::remove_file(&rt, path)?;
     Ok(())
 }

@@ -1,7 +1,7 @@
 use crate::on_disk::files_here;
 use io_edge::{
     EdgeErr, Failed, Files, MemFiles, MemSink, MemSource, ReadSource, Sink, Source, SureFiles,
-    SureSink, SureSource, WriteSink, append_all,
+    SureSink, SureSource, WriteSink, append_all, read_all,
 };
 use std::alloc::Global;
 use std::test::Fail;
@@ -38,6 +38,25 @@ fn a_source_fails_at_its_second_read_only(rt: HostRuntime) -> Result<(), Fail> {
     let fails = fails_at_its_second_read(&mut source);
     drop(source);
     assert!(rt; fails?);
+    Ok(())
+}
+
+// Whether a source of six bytes, which come in two reads, is read to its end and then let be: the fourth
+// read would fail.
+fn is_read_to_its_end(alloc: Global, source: &mut MemSource) -> Result<bool, NoMemory> {
+    source.fail(4)?;
+    Ok(match read_all(alloc, source, 6) {
+        Ok(bytes) => bytes.as_slice() == b"script".as_slice(),
+        Err(_) => false,
+    })
+}
+
+#[test]
+fn a_source_is_not_read_behind_its_end(rt: HostRuntime) -> Result<(), Fail> {
+    let mut source = MemSource::new(rt.alloc(), bytes_of(rt.alloc(), b"script")?, 4);
+    let is_read = is_read_to_its_end(rt.alloc(), &mut source);
+    drop(source);
+    assert!(rt; is_read?);
     Ok(())
 }
 

@@ -9,22 +9,13 @@ use Rattle.param_events.specs.Events.{time_of, until, after, last}
 use Rattle.param_events.specs.Timeline.{IsOrderedFrom, IsTimeline}
 use Rattle.param_events.specs.Values.{between, curve_value, towards, value_at}
 use Rattle.param_events.proofs.Finds.{found, found_base}
-use Rattle.param_events.proofs.Order.{split_at, rising_times, last_taken, last_event, last_is}
+use Rattle.param_events.proofs.Order.{parted, last_taken, last_event, last_is}
 
 pub curve_runs : (base : ℤ) (time duration end : ℕ) (points : List ℤ) (next : Option Event) (f : ℕ) → f < end
     → between base (Some (Curve time duration end points)) next f ≡ curve_value points duration (f - time)
 curve_runs base time duration end points next f l =
     let t : nat_lt f end ≡ true = grind (arith, nat_tests) in
     ap (λ b. cond b (curve_value points duration (f - time)) (towards (curve_value points duration (end - time)) end next f)) t
-
--- the events up to a frame that lies between two neighbours
-pub parted : (f place : ℕ) (es : List Event) → IsOrderedFrom 0 es → place ≤ length es → ((d : Event) → 0 < place → time_of (get_or es (place - 1) d) ≤ f) → ((d : Event) → place < length es → f < time_of (get_or es place d))
-    → (until f es ≡ take place es) × (after f es ≡ drop place es)
-parted f place es h within before behind =
-    let d = Set 0 (pos 0) in
-    split_at f 0 place es d h within
-    (λ k l. let up = rising_times 0 k (place - 1) es d h (omega arith) (omega arith) in let top = before d (omega arith) in omega (arith, up, top))
-    (behind d)
 
 some_is : (a b : Event) → Some a ≡ Some b → a ≡ b
 some_is a b h = ap (λ o. unwrap_or o a) h

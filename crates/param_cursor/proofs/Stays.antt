@@ -8,9 +8,8 @@ use Rattle.param_events.specs.Events.{time_of, after, first, last}
 use Rattle.param_events.specs.Timeline.{IsSound, IsOrderedFrom, IsTimeline}
 use Rattle.param_events.specs.Values.{between, towards, curve_value, value_at}
 use Rattle.param_events.proofs.Finds.{curve_held, get_first, sound_at}
-use Rattle.param_events.proofs.Order.{last_taken}
+use Rattle.param_events.proofs.Order.{parted, last_taken}
 use Rattle.param_cursor.proofs.Counting.{StandsAt}
-use Rattle.param_cursor.proofs.Neighbours.{parted}
 
 -- where no ramp comes next, a value is held
 pub not_towards : (value : ℤ) (from : ℕ) (next : Option Event) (frame : ℕ) → is_ramp next ≡ false → towards value from next frame ≡ value

@@ -1,7 +1,7 @@
 -- The moment of a call, which is not before now.
-use Rattle.std.proofs.Common.{ℕ, ℤ, pos, negsuc, ◌≡◌, ◌≤◌, max, Bool, true, false, refl, cond, ap, arith, rules}
-use Rattle.std.specs.Prelude.{unsigned_abs, nat_lt, int_lt}
-use Rattle.std.specs.Int.{is_negative, int_max}
+use Rattle.std.proofs.Common.{ℕ, ℤ, pos, negsuc, ◌≡◌, ◌≤◌, max, Bool, true, false, refl, cond, arith, rules}
+use Rattle.std.specs.Prelude.{unsigned_abs, nat_lt}
+use Rattle.std.specs.Int.{is_negative}
 use Rattle.std.proofs.lemmas.Bool.Decides.{nat_tests}
 use Rattle.param_events.specs.Edits.{moment}
 

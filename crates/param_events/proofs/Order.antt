@@ -1,5 +1,5 @@
 -- The events before a time and those after it.
-use Rattle.std.proofs.Common.{ℕ, zero, suc, ◌≡◌, ◌<◌, ◌≤◌, ◌-◌, List, [], ◌∷◌, length, take, drop, get_or, true, false, cond, refl, ◌∙◌, ap, sym, subst, arith, Option, Some, None, ◌⊎◌, inl, inr}
+use Rattle.std.proofs.Common.{ℕ, pos, zero, suc, ◌≡◌, ◌<◌, ◌≤◌, ◌-◌, List, [], ◌∷◌, length, take, drop, get_or, true, false, cond, refl, ◌∙◌, ap, sym, subst, arith, Option, Some, None, ◌⊎◌, inl, inr}
 use Rattle.std.specs.Prelude.{nat_le, nat_lt, slice_get}
 use Rattle.std.proofs.lemmas.Bool.Decides.{nat_tests}
 use Rattle.param_events.specs.declared.events.Event.{Event}
@@ -107,3 +107,12 @@ last_taken zero es d some l = absurd (omega arith)
 last_taken (suc k) es d some l =
     let e : k ≡ suc k - 1 = omega arith in
     last_is (take (suc k) es) ∙ subst (λ j. last_event (take (suc k) es) ≡ Some (get_or es j d)) e (last_at k es d (omega arith))
+
+-- the events up to a time that lies between two neighbours
+pub parted : (f place : ℕ) (es : List Event) → IsOrderedFrom 0 es → place ≤ length es → ((d : Event) → 0 < place → time_of (get_or es (place - 1) d) ≤ f) → ((d : Event) → place < length es → f < time_of (get_or es place d))
+    → (until f es ≡ take place es) × (after f es ≡ drop place es)
+parted f place es h within before behind =
+    let d = Set 0 (pos 0) in
+    split_at f 0 place es d h within
+    (λ k l. let up = rising_times 0 k (place - 1) es d h (omega arith) (omega arith) in let top = before d (omega arith) in omega (arith, up, top))
+    (behind d)

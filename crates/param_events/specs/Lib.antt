@@ -1,6 +1,7 @@
 pub mod Edits
 pub mod Events
 pub mod Lines
+pub mod Pieces
 pub mod Places
 pub mod Timeline
 pub mod Values

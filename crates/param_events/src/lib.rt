@@ -5,6 +5,7 @@ mod edits;
 mod events;
 mod laws;
 mod lines;
+mod pieces;
 mod refusals;
 mod timeline;
 mod values;

@@ -5,7 +5,7 @@ ghost use Rattle.param_events.specs.Edits as edits;
 ghost use Rattle.param_events.specs.Timeline.{IsOrderedFrom};
 
 use crate::edits::{goes_past, place};
-use crate::events::Event;
+use crate::pieces::Events;
 use std::alloc::{AllocError, AllocFailed};
 use wa_base::NoMemory;
 
@@ -71,7 +71,7 @@ pub(crate) fn moment(now: u64, time: i64) -> Result<u64, ParamErr>
 }
 
 // The place of the first curve that is under way at a time. Only the last event that has begun can be.
-fn first_running(events: &[Event], at: u64) -> Option<usize>
+fn first_running(events: &Events, at: u64) -> Option<usize>
     requires { IsOrderedFrom 0 events.now }
     ensures { result ≡ position (edits.runs_at at) events.now }
 {
@@ -84,12 +84,12 @@ fn first_running(events: &[Event], at: u64) -> Option<usize>
 }
 
 // The place of the first event that lies strictly between two times. Only the first one after `start` can.
-fn first_between(events: &[Event], start: u64, finish: u64) -> Option<usize>
+fn first_between(events: &Events, start: u64, finish: u64) -> Option<usize>
     requires { IsOrderedFrom 0 events.now }
     ensures { result ≡ position (edits.lies_between start finish) events.now }
 {
     let i = place(events, start);
-    if i < events.len() && events[i].time() < finish {
+    if i < events.len() && events.get(i).time() < finish {
         Some(i)
     } else {
         None
@@ -98,7 +98,7 @@ fn first_between(events: &[Event], start: u64, finish: u64) -> Option<usize>
 
 // That no curve is under way at a time.
 #[tactic(auto, unfolding(crate::specs::Edits::in_curve))]
-pub(crate) fn outside_curves(events: &[Event], at: u64) -> Result<(), ParamErr>
+pub(crate) fn outside_curves(events: &Events, at: u64) -> Result<(), ParamErr>
     requires { IsOrderedFrom 0 events.now }
     ensures ok { OnOk result (edits.in_curve at events.now ≡ None) }
     ensures err { IfErr result (λ e. edits.in_curve at events.now ≡ Some e) }
@@ -111,7 +111,7 @@ pub(crate) fn outside_curves(events: &[Event], at: u64) -> Result<(), ParamErr>
 
 // The moment of an event that may be put there.
 #[tactic(auto, unfolding(crate::specs::Edits::event_refusal))]
-pub(crate) fn free_moment(events: &[Event], now: u64, time: i64) -> Result<u64, ParamErr>
+pub(crate) fn free_moment(events: &Events, now: u64, time: i64) -> Result<u64, ParamErr>
     requires { IsOrderedFrom 0 events.now }
     ensures value { IfOk result (λ at. at ≡ edits.moment now time) }
     ensures outside { IfOk result (λ at. edits.in_curve at events.now ≡ None) }
@@ -127,7 +127,7 @@ pub(crate) fn free_moment(events: &[Event], now: u64, time: i64) -> Result<u64, 
 
 // That no event lies strictly between two times.
 #[tactic(auto, unfolding(crate::specs::Edits::curve_over))]
-pub(crate) fn empty_between(events: &[Event], start: u64, finish: u64) -> Result<(), ParamErr>
+pub(crate) fn empty_between(events: &Events, start: u64, finish: u64) -> Result<(), ParamErr>
     requires { IsOrderedFrom 0 events.now }
     ensures ok { OnOk result (edits.curve_over start finish events.now ≡ None) }
     ensures err { IfErr result (λ e. edits.curve_over start finish events.now ≡ Some e) }
@@ -141,7 +141,7 @@ pub(crate) fn empty_between(events: &[Event], start: u64, finish: u64) -> Result
 // The moment at which a curve may be put that is to have so many points and a duration.
 #[tactic(auto, unfolding(crate::specs::Edits::span_refusal))]
 pub(crate) fn free_span(
-    events: &[Event],
+    events: &Events,
     now: u64,
     count: usize,
     time: i64,

@@ -5,7 +5,8 @@ ghost use Rattle.param_events.specs.Timeline.{IsTimeline};
 ghost use Rattle.param_events.specs.Values as values;
 
 use crate::edits::{base_after, cancel_from, hold_from, put_curve, put_ramp, put_set};
-use crate::events::{Event, copy_events};
+use crate::events::Event;
+use crate::pieces::Events;
 use crate::refusals::{ParamErr, free_moment, free_span, moment, outside_curves, refusal_of};
 use crate::values::value_at;
 use std::alloc::Global;
@@ -26,7 +27,7 @@ use wa_base::{Fix, NoMemory, Samples, Steps};
 pub struct Timeline {
     base: Fix,
     slot: Fix,
-    events: Vec<Event>,
+    events: Events,
 }
 
 impl Model for Timeline {
@@ -34,9 +35,9 @@ impl Model for Timeline {
 
     ghost Value = { Timeline };
 
-    ghost view = { λ t. record { base = t.base; slot = t.slot; events = t.events.items } };
+    ghost view = { λ t. record { base = t.base; slot = t.slot; events = t.events } };
 
-    ghost invariant = { λ t. IsTimeline t.events.items };
+    ghost invariant = { λ t. IsTimeline t.events };
 }
 
 impl Timeline {
@@ -47,7 +48,7 @@ impl Timeline {
         Timeline {
             base,
             slot: base,
-            events: Vec::new(alloc),
+            events: Events::new(alloc),
         }
     }
 
@@ -80,7 +81,7 @@ impl Timeline {
         ensures cost { steps.new ≡ steps.old + 1 }
     {
         steps.tick();
-        &self.events[i]
+        self.events.get(i)
     }
 
     /// Schedules a jump to a value at a frame (setValueAtTime). It is refused for a negative time, and
@@ -92,7 +93,7 @@ impl Timeline {
         ensures refused { IfErr result (λ e. IsCause e (edits.event_refusal now time self.old.events)) }
         ensures err { OnErr result (self.new ≡ self.old) }
     {
-        let at = match free_moment(self.events.as_slice(), now, time) {
+        let at = match free_moment(&self.events, now, time) {
             Ok(at) => at,
             Err(refusal) => return Err(refusal),
         };
@@ -108,7 +109,7 @@ impl Timeline {
         ensures refused { IfErr result (λ e. IsCause e (edits.event_refusal now time self.old.events)) }
         ensures err { OnErr result (self.new ≡ self.old) }
     {
-        let at = match free_moment(self.events.as_slice(), now, time) {
+        let at = match free_moment(&self.events, now, time) {
             Ok(at) => at,
             Err(refusal) => return Err(refusal),
         };
@@ -131,11 +132,11 @@ impl Timeline {
         ensures refused { IfErr result (λ e. IsCause e (edits.curve_refusal now points.now time duration self.old.events)) }
         ensures err { OnErr result (self.new ≡ self.old) }
     {
-        let at = match free_span(self.events.as_slice(), now, points.len(), time, duration) {
+        let at = match free_span(&self.events, now, points.len(), time, duration) {
             Ok(at) => at,
             Err(refusal) => return Err(refusal),
         };
-        let points = Samples::from(Vec::from_slice(*self.events.allocator(), points)?);
+        let points = Samples::from(Vec::from_slice(self.events.allocator(), points)?);
         put_curve(&mut self.events, at, duration as u64, points)
     }
 
@@ -148,7 +149,7 @@ impl Timeline {
         ensures refused { IfErr result (λ e. IsCause e (edits.in_curve now self.old.events)) }
         ensures err { OnErr result (self.new ≡ self.old) }
     {
-        if let Err(refusal) = outside_curves(self.events.as_slice(), now) {
+        if let Err(refusal) = outside_curves(&self.events, now) {
             return Err(refusal);
         }
         put_set(&mut self.events, now, value)?;
@@ -171,7 +172,7 @@ impl Timeline {
             Err(refusal) => return Err(refusal),
         };
         cancel_from(&mut self.events, at);
-        let base = base_after(self.events.as_slice(), now, self.base, self.slot);
+        let base = base_after(&self.events, now, self.base, self.slot);
         self.base = base;
         Ok(())
     }
@@ -190,7 +191,7 @@ impl Timeline {
             Ok(at) => at,
             Err(refusal) => return Err(refusal),
         };
-        let value = value_at(self.base, self.events.as_slice(), at);
+        let value = value_at(self.base, &self.events, at);
         hold_from(&mut self.events, at, value);
         Ok(())
     }
@@ -200,7 +201,7 @@ impl Timeline {
     pub fn event_refusal(&self, now: u64, time: i64) -> Option<ParamErr>
         ensures { result ≡ edits.event_refusal now time self.now.events }
     {
-        refusal_of(free_moment(self.events.as_slice(), now, time))
+        refusal_of(free_moment(&self.events, now, time))
     }
 
     /// Why `curve` is refused, if it is. Nothing is changed, and no step is counted, as in `event_refusal`.
@@ -214,14 +215,14 @@ impl Timeline {
         requires { now ≤ 2 ^ 62 }
         ensures { result ≡ edits.curve_refusal now points.now time duration self.now.events }
     {
-        refusal_of(free_span(self.events.as_slice(), now, points.len(), time, duration))
+        refusal_of(free_span(&self.events, now, points.len(), time, duration))
     }
 
     /// Why `set_now` is refused, if it is. Nothing is changed, and no step is counted, as in `event_refusal`.
     pub fn now_refusal(&self, now: u64) -> Option<ParamErr>
         ensures { result ≡ edits.in_curve now self.now.events }
     {
-        refusal_of(outside_curves(self.events.as_slice(), now))
+        refusal_of(outside_curves(&self.events, now))
     }
 
     /// Why `cancel` and `hold` are refused at a time, if they are, whatever the timeline.
@@ -244,14 +245,14 @@ impl Timeline {
     pub fn mark_at(&mut self, frame: u64)
         ensures { self.new ≡ record self.old { slot = values.value_at self.old.base self.old.events frame } }
     {
-        self.slot = value_at(self.base, self.events.as_slice(), frame);
+        self.slot = value_at(self.base, &self.events, frame);
     }
 
     /// An equal timeline with memory of its own.
     pub fn copy(&self) -> Result<Timeline, NoMemory>
         ensures { IfOk result (λ copy. copy ≡ self.now) }
     {
-        let events = copy_events(*self.events.allocator(), self.events.as_slice())?;
+        let events = self.events.copy()?;
         Ok(Timeline {
             base: self.base,
             slot: self.slot,

@@ -6,6 +6,7 @@ ghost use Rattle.param_events.specs.Timeline.{IsSound, IsTimeline};
 use crate::edits::place;
 use crate::events::Event;
 use crate::lines::along;
+use crate::pieces::Events;
 use wa_base::Fix;
 
 /// The value of a curve n frames after its time: its points lie evenly over the duration, with lines
@@ -67,18 +68,18 @@ pub(crate) fn between(here: &Event, next: Option<&Event>, frame: u64) -> Fix
 }
 
 // The event at a place, where there is one.
-fn event_at(events: &[Event], place: usize) -> Option<&Event>
+fn event_at(events: &Events, place: usize) -> Option<&Event>
     ensures { option_copied result ≡ slice_get events.now place }
 {
     if place < events.len() {
-        Some(&events[place])
+        Some(events.get(place))
     } else {
         None
     }
 }
 
 // The intrinsic value at a frame, by a search among all events.
-pub(crate) fn value_at(base: Fix, events: &[Event], frame: u64) -> Fix
+pub(crate) fn value_at(base: Fix, events: &Events, frame: u64) -> Fix
     requires { IsTimeline events.now }
     ensures { result ≡ values.value_at base events.now frame }
 {
@@ -86,6 +87,6 @@ pub(crate) fn value_at(base: Fix, events: &[Event], frame: u64) -> Fix
     if i == 0 {
         base
     } else {
-        between(&events[i - 1], event_at(events, i), frame)
+        between(events.get(i - 1), event_at(events, i), frame)
     }
 }

@@ -234,9 +234,9 @@ def back_and_forth() -> list[Call]:
 
 TIMELINES = [
     Worst("100,000 events in rising order of time", lambda: events(100000, 1)),
-    Worst("25,000 events in falling order of time", lambda: events(25000, -1)),
     Worst("50,000 events in falling order of time", lambda: events(50000, -1)),
-    Worst("50,000 events in any order of time", lambda: events_in_any_order(50000)),
+    Worst("100,000 events in falling order of time", lambda: events(100000, -1)),
+    Worst("100,000 events in any order of time", lambda: events_in_any_order(100000)),
     Worst(
         "10,000 cancels behind 50,000 events",
         lambda: edits_behind(50000, {"op": "cancelScheduledValues"}, 10000),

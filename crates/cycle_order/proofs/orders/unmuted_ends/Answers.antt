@@ -1,21 +1,19 @@
-use Rattle.std.proofs.Common.{rules, not, ◌≡◌, ◌∙◌, ap}
-use Rattle.std.specs.List.{filter, list_any}
-use Rattle.std.proofs.lemmas.Fn.{filter_same}
-use Rattle.conn_graph.specs.Ends.{same_end, ends}
+use Rattle.std.proofs.Common.{◌≡◌, not, refl, ◌∙◌, ap, sym}
+use Rattle.std.proofs.lemmas.Result.{IfOk-weaker}
+use Rattle.std.specs.List.{filter}
+use Rattle.conn_graph.specs.Ends.{ends, muted}
 use Rattle.conn_graph.specs.Graph.{Connections}
 use Rattle.cycle_order.specs.Choices.{unmuted_ends}
 use Rattle.cycle_order.specs.Surveys.{muted_ends}
-use Rattle.cycle_order.proofs.EndArrows.{is_listed}
-use Rattle.cycle_order.proofs.Lists.{filter_agrees}
 use Rattle.cycle_order.proofs.orders.unmuted_ends.Goals as goal
+
+muted_are : (g : Connections) → muted_ends g ≡ filter (muted g) (ends g)
+unfolding muted_ends
+muted_are g = refl
 
 pub returns : goal.returns
 unfolding unmuted_ends
 returns c =
     let g : Connections = c.args.graph.now.value in
-    let kept : c.retain.new.self.items ≡ filter (λ e. not (list_any (λ other. same_end other e) c.args.muted.now)) c.in_ok-unmuted.unmuted.items =
-    filter_same _ _ _ (λ x b f' k. search rules) _ _ c.retain.ensures.filtered in
-    kept
-    ∙ ap (λ ms. filter (λ e. not (list_any (λ other. same_end other e) ms)) c.in_ok-unmuted.unmuted.items) c.requires
-    ∙ ap (λ es. filter (λ e. not (list_any (λ other. same_end other e) (muted_ends g))) es) c.in_ok-unmuted.ensures
-    ∙ filter_agrees _ _ (ends g) (λ e in_e. ap not (is_listed g e in_e))
+    let all : c.as_slice.result.now ≡ ends g = c.as_slice.ensures.value ∙ c.in_ok-all.ensures in
+    IfOk-weaker c.unlisted.result _ _ (λ rest h. h (muted g) (c.requires ∙ muted_are g ∙ ap (filter (muted g)) (sym all)) ∙ ap (filter (λ e. not (muted g e))) all) c.unlisted.ensures

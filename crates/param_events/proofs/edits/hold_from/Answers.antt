@@ -7,5 +7,5 @@ use Rattle.param_events.proofs.edits.hold_from.Goals as goal
 
 pub returns-clause-kept : goal.returns-clause-kept
 returns-clause-kept c =
-    let e : c.end_at.new.items.items ≡ held (until c.args.time c.args.items.now.items) (after c.args.time c.args.items.now.items) c.args.time c.args.value = search rules in
-    subst IsTimeline (sym e) (held_kept c.args.items.now.items c.args.time c.args.value c.requires)
+    let e : c.end_at.new.items ≡ held (until c.args.time c.args.items.now) (after c.args.time c.args.items.now) c.args.time c.args.value = search rules in
+    subst IsTimeline (sym e) (held_kept c.args.items.now c.args.time c.args.value c.requires)

@@ -13,7 +13,7 @@ returns-clause-ok c =
     let fits_base : FitsSigned w32 c.self.inside.base = search rules in
     let fits_slot : FitsSigned w32 c.self.inside.slot = search rules in
     let fits : FitsSigned w32 c.base_after-base.result = search rules in
-    let base : c.base_after-base.result ≡ base_after (until c.args.now c.cancel_from.new.items.items) c.self.inside.base c.self.inside.slot =
-    simp (to_z-of_z _ _ fits_base, to_z-of_z _ _ fits_slot) at c.base_after-base.ensures ∙ ap (λ es. base_after (until c.args.now es) c.self.inside.base c.self.inside.slot) c.as_slice.ensures.value in
-    ap (λ b. let l : Timeline = record { base = b; slot = c.self.inside.slot; events = c.cancel_from.new.items.items } in l) (to_z-of_z _ _ fits ∙ base)
-    ∙ cancel_is c.args.self.now c.self.inside.base c.self.inside.slot c.self.inside.events.items c.cancel_from.new.items.items c.args.now c.in-Ok.at c.args.time c.self.view_is at c.cancel_from.ensures.value
+    let base : c.base_after-base.result ≡ base_after (until c.args.now c.cancel_from.new.items) c.self.inside.base c.self.inside.slot =
+    simp (to_z-of_z _ _ fits_base, to_z-of_z _ _ fits_slot) at c.base_after-base.ensures in
+    ap (λ b. let l : Timeline = record { base = b; slot = c.self.inside.slot; events = c.cancel_from.new.items } in l) (to_z-of_z _ _ fits ∙ base)
+    ∙ cancel_is c.args.self.now c.self.inside.base c.self.inside.slot c.self.inside.events c.cancel_from.new.items c.args.now c.in-Ok.at c.args.time c.self.view_is at c.cancel_from.ensures.value
