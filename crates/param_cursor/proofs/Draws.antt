@@ -1,5 +1,5 @@
 -- Values that are drawn one after another, and shares that rise.
-use Rattle.std.proofs.Common.{ℕ, ℤ, pos, negsuc, ◌≡◌, ◌≢◌, ◌+◌, ◌-◌, ◌*◌, ◌/◌, ◌%◌, ◌^◌, ◌<◌, ◌≤◌, ◌+ℤ◌, ◌-ℤ◌, ◌*ℤ◌, List, length, get_or, set, get_or-set_other, get_or-set_same, ap, refl, sym, subst, ◌∙◌, arith, inl, inr, neg_ℤ, ◌≤ℤ◌, FitsSigned, true, false, cond}
+use Rattle.std.proofs.Common.{ℕ, zero, suc, ℤ, pos, negsuc, ◌≡◌, ◌≢◌, ◌+◌, ◌-◌, ◌*◌, ◌/◌, ◌%◌, ◌^◌, ◌<◌, ◌≤◌, ◌+ℤ◌, ◌-ℤ◌, ◌*ℤ◌, List, length, get_or, set, get_or-set_other, get_or-set_same, ap, refl, sym, subst, ◌∙◌, arith, inl, inr, neg_ℤ, ◌≤ℤ◌, FitsSigned, true, false, cond}
 use Rattle.std.specs.Prelude.{unsigned_abs, nat_lt}
 use Rattle.std.specs.Int.{w32, w64, int_div_euclid}
 use Rattle.std.proofs.lemmas.Bool.Decides.{nat_tests}
@@ -12,7 +12,10 @@ use Rattle.param_events.proofs.Euclid.{in_bounds, share_part, along_fits, euclid
 use Rattle.param_events.proofs.Order.{order}
 use Rattle.param_events.proofs.Rounding.{div-le-div}
 use Rattle.param_cursor.specs.Cursors.{IsDrawn}
-use Rattle.param_cursor.specs.Rising.{Rising, share_rising}
+use Rattle.param_cursor.specs.Rising.{Rising, share_rising, numerator_on, value_on}
+use borrow.Rule.Slice.PartMut.{put_mid}
+use lib.ListN.{take, get_or-append}
+use lib.Seq.{get_or-append-add, get_or-take, length-take-le}
 use Rattle.param_cursor.proofs.Parts.{rest_is}
 
 abbrev pub segment_value : List ℤ → ℕ → ℕ → ℕ → ℤ
@@ -121,3 +124,55 @@ pub drawn_one : (old : List ℤ) (at end : ℕ) (value : ℕ → ℤ) (v : ℤ) 
 drawn_one old at end value v behind inside e =
     subst (λ stop. IsDrawn old (set old at v) at stop value) behind
     (drawn_more old old at at value v (record { drawn = λ m low high. absurd (omega arith); kept = λ m low. refl }) (omega arith) (omega arith) e)
+
+-- what a part of a list that is written over leaves before it, and has in it
+before_part : (now ys : List ℤ) (m k j : ℕ) → m ≤ length now → j < m → get_or (put_mid m k now ys) j (pos 0) ≡ get_or now j (pos 0)
+before_part now ys m k j there low =
+    let long = length-take-le m now there in
+    get_or-append (take m now) _ (pos 0) j (omega (arith, long)) ∙ get_or-take m now j (pos 0) low
+
+in_part : (now ys : List ℤ) (m k i : ℕ) → m ≤ length now → i < length ys → get_or (put_mid m k now ys) (m + i) (pos 0) ≡ get_or ys i (pos 0)
+in_part now ys m k i there low =
+    let long = length-take-le m now there in
+    ap (λ n. get_or (put_mid m k now ys) (n + i) (pos 0)) (sym long) ∙ get_or-append-add (take m now) _ i (pos 0) ∙ get_or-append ys _ (pos 0) i low
+
+-- several values that are drawn at once
+pub drawn_part : (old now ys : List ℤ) (at m k n : ℕ) (value : ℕ → ℤ) → IsDrawn old now at m value → at ≤ m → m + n ≤ length now → length ys ≡ n
+    → ((i : ℕ) → i < n → get_or ys i (pos 0) ≡ value (m + i)) → IsDrawn old (put_mid m k now ys) at (m + n) value
+drawn_part old now ys at m k n value h l inside long is = record {
+  drawn = λ j low high. elim (order m j) [
+    | inl up ↦
+        let place : m + (j - m) ≡ j = omega arith in
+        subst (λ i. get_or (put_mid m k now ys) i (pos 0) ≡ value i) place (in_part now ys m k (j - m) (omega arith) (omega (arith, long)) ∙ is (j - m) (omega arith))
+    | inr below ↦ before_part now ys m k j (omega arith) below ∙ h.drawn j low below
+  ];
+  kept = λ j low. before_part now ys m k j (omega arith) (omega arith) ∙ h.kept j low;
+}
+
+pub numerator_more : (r : Rising) (k i : ℕ) → numerator_on r (k + i) ≡ numerator_on r k +ℤ r.step *ℤ pos i
+numerator_more r k i = let e = times_sum r.step k i in omega (arith, ints, e)
+
+times_none : (x : ℤ) → x *ℤ pos 0 ≡ pos 0
+times_none (pos a) = omega (arith, ints)
+times_none (negsuc a) = omega (arith, ints)
+
+times_times : (x : ℤ) (a b : ℕ) → (x *ℤ pos a) *ℤ pos b ≡ x *ℤ pos (a * b)
+times_times x a zero = let none : a * zero ≡ 0 = omega arith in times_none (x *ℤ pos a) ∙ sym (times_none x) ∙ ap (λ k. x *ℤ pos k) (sym none)
+times_times x a (suc b) =
+    let more : a * suc b ≡ a * b + a = omega arith in
+    let one : suc b ≡ b + 1 = omega arith in
+    ap (λ k. (x *ℤ pos a) *ℤ pos k) one ∙ times_sum (x *ℤ pos a) b 1 ∙ ap (λ z. z +ℤ (x *ℤ pos a) *ℤ pos 1) (times_times x a b) ∙ ap (λ z. x *ℤ pos (a * b) +ℤ z) (times_one (x *ℤ pos a))
+    ∙ sym (times_sum x (a * b) a) ∙ ap (λ k. x *ℤ pos k) (sym more)
+  where
+    times_one : (y : ℤ) → y *ℤ pos 1 ≡ y
+    times_one (pos c) = omega (arith, ints)
+    times_one (negsuc c) = omega (arith, ints)
+
+-- a share so many frames on
+pub share_on : (x : ℤ) (n gain parts k : ℕ) → numerator_on (share_rising x n gain parts) k ≡ (share_rising x (n + gain * k) gain parts).numerator
+share_on x n gain parts k = let e = times_times x gain k in let f = times_sum x n (gain * k) in omega (arith, ints, e, f)
+
+-- and the value on the line there
+pub line_on : (from to : ℤ) (n gain parts k : ℕ) → 0 < parts → value_on from (share_rising (to -ℤ from) n gain parts) k ≡ along from to (n + gain * k) parts
+line_on from to n gain parts k some =
+    ap (λ z. from +ℤ int_div_euclid z (pos parts)) (share_on (to -ℤ from) n gain parts k) ∙ ap (λ z. from +ℤ z) (rounded_by_half ((to -ℤ from) *ℤ pos (n + gain * k)) parts some)

@@ -3,3 +3,4 @@ mod Draws
 mod Neighbours
 mod Parts
 mod Stays
+mod Striding

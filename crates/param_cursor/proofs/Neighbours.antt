@@ -1,12 +1,12 @@
 -- Neighbours in a list of events, and the values between them.
-use Rattle.std.proofs.Common.{ℕ, ℤ, pos, zero, suc, ◌≡◌, ◌+◌, ◌-◌, ◌<◌, ◌≤◌, List, [], ◌∷◌, length, get_or, take, drop, ap, sym, ◌∙◌, refl, arith, Option, Some, None, true, cond, rules, unwrap_or, add-one}
+use Rattle.std.proofs.Common.{ℕ, ℤ, pos, zero, suc, ◌≡◌, ◌+◌, ◌-◌, ◌<◌, ◌≤◌, List, [], ◌∷◌, length, get_or, take, ap, sym, ◌∙◌, refl, arith, Option, Some, None, true, cond, rules, unwrap_or, add-one}
 use Rattle.std.specs.Prelude.{nat_lt, slice_get, IfSome}
 use Rattle.std.specs.Option.{IsSomeAnd}
 use Rattle.std.proofs.lemmas.Bool.Decides.{nat_tests}
 use Rattle.param_events.specs.declared.events.Event.{Event}
 use Rattle.param_events.specs.declared.events.Event.TheVariants.{Set, Curve}
-use Rattle.param_events.specs.Events.{time_of, until, after, last}
-use Rattle.param_events.specs.Timeline.{IsOrderedFrom, IsTimeline}
+use Rattle.param_events.specs.Events.{time_of, last}
+use Rattle.param_events.specs.Timeline.{IsTimeline}
 use Rattle.param_events.specs.Values.{between, curve_value, towards, value_at}
 use Rattle.param_events.proofs.Finds.{found, found_base}
 use Rattle.param_events.proofs.Order.{parted, last_taken, last_event, last_is}

@@ -1,6 +1,6 @@
 -- Where a value stays.
-use Rattle.std.proofs.Common.{ℕ, ℤ, pos, ◌≡◌, ◌-◌, ◌<◌, ◌≤◌, List, [], ◌∷◌, zero, suc, length, get_or, take, ap, sym, subst, ◌∙◌, refl, arith, Option, Some, None, true, false, rules}
-use Rattle.std.specs.Prelude.{nat_lt, slice_get, IfSome}
+use Rattle.std.proofs.Common.{ℕ, ℤ, pos, ◌≡◌, ◌-◌, ◌<◌, ◌≤◌, List, zero, suc, length, get_or, take, ap, sym, subst, ◌∙◌, refl, arith, Option, Some, None, false, rules}
+use Rattle.std.specs.Prelude.{slice_get, IfSome}
 use Rattle.param_events.specs.declared.events.Event.{Event}
 use Rattle.param_events.specs.declared.events.Event.TheVariants.{Set, Ramp, Curve}
 use Rattle.param_events.specs.Edits.{is_ramp}

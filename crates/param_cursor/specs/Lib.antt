@@ -1,3 +1,4 @@
 pub mod Cursors
 pub mod Rising
 pub mod Slopes
+pub mod Strides

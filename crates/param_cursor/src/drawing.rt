@@ -1,9 +1,11 @@
-ghost use Rattle.std.specs.Prelude.{◌≡◌, ℕ, length, ◌+◌, ◌-◌, ◌*◌, ◌<◌, ◌≤◌, ◌^◌, unsigned_abs};
+ghost use Rattle.std.specs.Prelude.{◌≡◌, ℕ, length, ◌+◌, ◌-◌, ◌*◌, ◌<◌, ◌≤◌, ◌^◌, unsigned_abs, FitsSigned};
+ghost use Rattle.std.specs.Int.{w32};
 ghost use Rattle.param_events.specs.Values as values;
 ghost use Rattle.param_cursor.specs.Cursors.{IsDrawn};
-ghost use Rattle.param_cursor.specs.Rising.{share_rising};
+ghost use Rattle.param_cursor.specs.Rising.{share_rising, numerator_on, value_on};
+ghost use Rattle.param_cursor.specs.Strides.{IsStrided};
 
-use crate::slope::Slope;
+use crate::slope::{LANES, Slope, Strides};
 use param_events::{along, rise, times};
 use wa_base::Fix;
 
@@ -38,10 +40,57 @@ fn share_from(rise: i64, n: u64, gain: u64, parts: u64) -> Slope
     Slope::new(start + (parts / 2) as i128, step, parts)
 }
 
+// As many frames of a slope that begins at a value as are drawn LANES at a time. It gives the index at
+// which it stops.
+fn draw_strides(out: &mut [Fix], at: usize, end: usize, from: Fix, slope: &mut Slope) -> usize
+    requires ends { end ≤ length out.old }
+    requires order { at ≤ end }
+    requires small { (k : ℕ) → at + k < end → unsigned_abs (numerator_on slope.old k) ≤ 2 ^ 34 * slope.old.divisor }
+    requires fits { (k : ℕ) → at + k < end → FitsSigned w32 (value_on from slope.old k) }
+    ensures within { (at ≤ result) × (result ≤ end) }
+    ensures length { length out.new ≡ length out.old }
+    ensures drawn { IsDrawn out.old out.new at result (λ m. value_on from slope.old (m - at)) }
+    ensures slope { slope.new ≡ record slope.old { numerator = numerator_on slope.old (result - at) } }
+{
+    match slope.strides() {
+        Some(strides) => draw_by(out, at, end, from, slope, &strides),
+        None => at,
+    }
+}
+
+// The same by strides that are known.
+fn draw_by(
+    out: &mut [Fix],
+    at: usize,
+    end: usize,
+    from: Fix,
+    slope: &mut Slope,
+    strides: &Strides,
+) -> usize
+    requires ends { end ≤ length out.old }
+    requires order { at ≤ end }
+    requires strided { IsStrided strides.now slope.old.step slope.old.divisor }
+    requires small { (k : ℕ) → at + k < end → unsigned_abs (numerator_on slope.old k) ≤ 2 ^ 34 * slope.old.divisor }
+    requires fits { (k : ℕ) → at + k < end → FitsSigned w32 (value_on from slope.old k) }
+    ensures within { (at ≤ result) × (result ≤ end) }
+    ensures length { length out.new ≡ length out.old }
+    ensures drawn { IsDrawn out.old out.new at result (λ m. value_on from slope.old (m - at)) }
+    ensures slope { slope.new ≡ record slope.old { numerator = numerator_on slope.old (result - at) } }
+{
+    let mut m = at;
+    while end - m >= LANES {
+        slope.draw(&mut out[m..m + LANES], from, strides);
+        slope.leap(strides);
+        m += LANES;
+    }
+    m
+}
+
 // A line from its n-th part on, where each frame takes `gain` parts. Its first value and its step are
-// divided out; then each frame takes an addition and a comparison.
+// divided out; then LANES frames are drawn at a time, and of the rest each takes an addition and a comparison.
 fn draw_steps(out: &mut [Fix], at: usize, end: usize, segment: Segment, n: u64, gain: u64)
     requires ends { end ≤ length out.old }
+    requires order { at ≤ end }
     requires before { (m : ℕ) → at ≤ m → m < end → n + gain * (m - at) ≤ segment.parts }
     requires some { 0 < segment.parts }
     requires within { n ≤ segment.parts }
@@ -49,7 +98,8 @@ fn draw_steps(out: &mut [Fix], at: usize, end: usize, segment: Segment, n: u64, 
     ensures { IsDrawn out.old out.new at end (λ m. values.along segment.from segment.to (n + gain * (m - at)) segment.parts) }
 {
     let mut slope = share_from(rise(segment.from, segment.to), n, gain, segment.parts);
-    for m in at..end {
+    let middle = draw_strides(out, at, end, segment.from, &mut slope);
+    for m in middle..end {
         out[m] = (segment.from as i64 + slope.value()) as i32;
         slope.advance();
     }

@@ -1,6 +1,7 @@
 pub mod Slots
 pub mod Connections
 pub mod Made
+pub mod Attenuating
 pub mod Sources
 pub mod Lanes
 pub mod Orders
