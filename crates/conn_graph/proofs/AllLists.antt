@@ -16,7 +16,7 @@ use Rattle.conn_graph.specs.declared.edges.Edge.{Edge}
 use Rattle.conn_graph.specs.declared.edges.Ports.{Ports}
 use Rattle.conn_graph.specs.Graph.{no_ports}
 use Rattle.conn_graph.specs.Walks.{Walk}
-use Rattle.conn_graph.specs.Lists.{end_of, ends_of, links_of, node_of, node_at, slot, edge_at, keys, edges_of, edges_in, first_of, last_of, longer, shorter, changed, along, IsList, walk_at, walks_of, AreListsOf, AreBoth, AreLists, threads_of, AreThreads}
+use Rattle.conn_graph.specs.Lists.{end_of, ends_of, links_of, node_of, node_at, slot, edge_at, keys, edges_of, edges_in, first_of, last_of, longer, shorter, changed, along, IsList, walk_at, walks_of, AreListsOf, AreInBoth, AreLists, threads_of, AreThreads}
 use Rattle.conn_graph.proofs.Segments.{key_in, key_first, key_second, first_in, last_in_all, step_of_key, linked_at, along_linked}
 use Rattle.conn_graph.proofs.OneList.{to_behind, to_before, changed_not, key_held, list_still, list_longer, list_shorter, links_there}
 
@@ -110,12 +110,12 @@ module _ (side : Side) (nodes : List Node) (at : ℕ → Option Cell) (ws : List
 
 -- ---- both sides
 
-pub settled : (nodes : List Node) (cells : Slab Cell) (outs ins : List Walk) → AreBoth nodes cells outs ins
+pub settled : (nodes : List Node) (cells : Slab Cell) (outs ins : List Walk) → AreInBoth nodes cells outs ins
     → AreLists nodes cells × (walks_of Out nodes (get cells) ≡ outs) × (walks_of In nodes (get cells) ≡ ins)
 settled nodes cells outs ins both =
     let out = walks_are Out nodes (get cells) outs both.out in
     let into = walks_are In nodes (get cells) ins both.into in
-    (subst (λ ys. AreBoth nodes cells (walks_of Out nodes (get cells)) ys) (sym into) (subst (λ xs. AreBoth nodes cells xs ins) (sym out) both), out, into)
+    (subst (λ ys. AreInBoth nodes cells (walks_of Out nodes (get cells)) ys) (sym into) (subst (λ xs. AreInBoth nodes cells xs ins) (sym out) both), out, into)
 
 pub are_threads : (nodes : List Node) (cells : Slab Cell) (room : ℕ) → AreLists nodes cells → AreThreads (threads_of nodes (get cells) room)
 are_threads nodes cells room both = record {
@@ -212,7 +212,7 @@ lists_more side nodes at ws p all = record {
     none In i = record { first = refl; last = refl; count = refl; linked = tt; once = tt; own = λ step m. absurd m }
 
 pub both_more : (nodes : List Node) (cells : Slab Cell) (p : Ports) → AreLists nodes cells
-    → AreBoth (nodes ++ node_of p ∷ []) cells (walks_of Out nodes (get cells) ++ [] ∷ []) (walks_of In nodes (get cells) ++ [] ∷ [])
+    → AreInBoth (nodes ++ node_of p ∷ []) cells (walks_of Out nodes (get cells) ++ [] ∷ []) (walks_of In nodes (get cells) ++ [] ∷ [])
 both_more nodes cells p both = record {
   out = lists_more Out nodes (get cells) outs p both.out;
   into = lists_more In nodes (get cells) ins p both.into;

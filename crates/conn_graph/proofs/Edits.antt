@@ -16,10 +16,18 @@ use Rattle.conn_graph.specs.declared.edges.Ports.{Ports}
 use Rattle.conn_graph.specs.Edges.{target_node}
 use Rattle.conn_graph.specs.Graph.{no_ports}
 use Rattle.conn_graph.specs.Walks.{Walk}
-use Rattle.conn_graph.specs.Lists.{AreLists, end_links, node_of, walks_of, other_side, end_of, ends_of, with_ends, with_before, with_behind, node_at, slot, edge_at, longer, shorter, changed, edges_of, edges_in, walk_at, AreBoth}
+use Rattle.conn_graph.specs.Lists.{AreLists, end_links, node_of, walks_of, end_of, ends_of, with_before, with_behind, node_at, slot, edge_at, longer, shorter, changed, edges_of, edges_in, walk_at, AreInBoth}
 use Rattle.conn_graph.proofs.Segments.{last_in_all, split_at}
 use Rattle.conn_graph.proofs.OneList.{to_behind, to_before, changed_not, changed_map, changed_same, key_held}
 use Rattle.conn_graph.proofs.AllLists.{seen, within, edge_there, settled, grown, shrunk}
+
+abbrev pub other_side : Side → Side
+other_side Out = In
+other_side In = Out
+
+abbrev pub with_ends : Side → Ends → Node → Node
+with_ends Out ends n = record n { out = ends }
+with_ends In ends n = record n { into = ends }
 
 -- ---- what a change of a cell's links is on either side
 
@@ -121,7 +129,7 @@ new_in ws node w s low = subst (λ x. IsIn s x) (sym (get_or-set_same ws node (w
 
 -- ---- put
 
-pub put_both : (nodes nodes1 nodes2 : List Node) (cells cells1 cells2 cells3 : Slab Cell) (outs ins : List Walk) (key : ℕ) (e : Edge) (from to : ℕ) → AreBoth nodes cells outs ins
+pub put_both : (nodes nodes1 nodes2 : List Node) (cells cells1 cells2 cells3 : Slab Cell) (outs ins : List Walk) (key : ℕ) (e : Edge) (from to : ℕ) → AreInBoth nodes cells outs ins
     → end_of Out e ≡ from → end_of In e ≡ to → from < length nodes → to < length nodes
     → get cells key ≡ None
     → Updates cells cells1 key (Some (record { edge = e; out = record { before = (node_at nodes from).out.last; behind = None }; into = record { before = (node_at nodes to).into.last; behind = None } }))
@@ -132,7 +140,7 @@ pub put_both : (nodes nodes1 nodes2 : List Node) (cells cells1 cells2 cells3 : S
     → nodes2 ≡ slice_set nodes1 to (with_ends In (longer (ends_of In (node_at nodes to)) key) (node_at nodes1 to))
     → ((k : ℕ) → get cells3 k ≡ changed (with_behind In (Some key)) (ends_of In (node_at nodes to)).last k (get cells2 k))
     → slab_len cells3 ≡ slab_len cells2
-    → AreBoth nodes2 cells3 (slice_set outs from (walk_at outs from ++ (key, e) ∷ [])) (slice_set ins to (walk_at ins to ++ (key, e) ∷ []))
+    → AreInBoth nodes2 cells3 (slice_set outs from (walk_at outs from ++ (key, e) ∷ [])) (slice_set ins to (walk_at ins to ++ (key, e) ∷ []))
     × (map (λ (n : Node). n.ports) nodes2 ≡ map (λ (n : Node). n.ports) nodes)
 put_both nodes nodes1 nodes2 cells cells1 cells2 cells3 outs ins key e from to both from_is to_is from_low to_low vacant put held1 nodes1_is cells2_is held2 nodes2_is cells3_is held3 = (
   record {
@@ -230,7 +238,7 @@ stays_without front back key e s other m = by_part (IsIn-append front ((key, e) 
     by_part (inr (inl same)) = absurd (other (ap (λ (t : ℕ × Edge). t.0) same))
     by_part (inr (inr h)) = IsIn-append_second front back s h
 
-pub take_both : (nodes nodes1 nodes2 : List Node) (cells cells1 cells2 cells3 : Slab Cell) (outs ins : List Walk) (key : ℕ) (cell : Cell) (from to : ℕ) (out_front out_back in_front in_back : Walk) → AreBoth nodes cells outs ins
+pub take_both : (nodes nodes1 nodes2 : List Node) (cells cells1 cells2 cells3 : Slab Cell) (outs ins : List Walk) (key : ℕ) (cell : Cell) (from to : ℕ) (out_front out_back in_front in_back : Walk) → AreInBoth nodes cells outs ins
     → from < length nodes → to < length nodes
     → walk_at outs from ≡ out_front ++ (key, cell.edge) ∷ out_back → walk_at ins to ≡ in_front ++ (key, cell.edge) ∷ in_back
     → get cells key ≡ Some cell
@@ -242,7 +250,7 @@ pub take_both : (nodes nodes1 nodes2 : List Node) (cells cells1 cells2 cells3 : 
     → nodes2 ≡ slice_set nodes1 to (with_ends In (shorter (ends_of In (node_at nodes to)) cell.into) (node_at nodes1 to))
     → ((k : ℕ) → get cells3 k ≡ changed (with_before In cell.into.before) cell.into.behind k (changed (with_behind In cell.into.behind) cell.into.before k (get cells2 k)))
     → slab_len cells3 ≡ slab_len cells2
-    → AreBoth nodes2 cells3 (slice_set outs from (out_front ++ out_back)) (slice_set ins to (in_front ++ in_back))
+    → AreInBoth nodes2 cells3 (slice_set outs from (out_front ++ out_back)) (slice_set ins to (in_front ++ in_back))
     × (map (λ (n : Node). n.ports) nodes2 ≡ map (λ (n : Node). n.ports) nodes)
 take_both nodes nodes1 nodes2 cells cells1 cells2 cells3 outs ins key cell from to out_front out_back in_front in_back both from_low to_low out_split in_split there gone held1 nodes1_is cells2_is held2 nodes2_is cells3_is held3 = (
   record {

@@ -16,10 +16,6 @@ use Rattle.conn_graph.specs.Walks.{Walk, GraphView}
 
 -- ---- a cell and a node, on one side
 
-abbrev pub other_side : Side → Side
-other_side Out = In
-other_side In = Out
-
 -- the node in whose list a connection stands
 abbrev pub end_of : Side → Edge → ℕ
 end_of Out e = e.from.0
@@ -42,10 +38,6 @@ with_behind side behind c = with_links side (record (links_of side c) { behind =
 abbrev pub ends_of : Side → Node → Ends
 ends_of Out n = n.out
 ends_of In n = n.into
-
-abbrev pub with_ends : Side → Ends → Node → Node
-with_ends Out ends n = record n { out = ends }
-with_ends In ends n = record n { into = ends }
 
 abbrev pub no_cells : Ends
 no_cells = record { first = None; last = None; count = 0 }
@@ -145,14 +137,14 @@ edges_in [] = []
 edges_in (walk ∷ walks) = edges_of walk ++ edges_in walks
 
 -- Each cell is in exactly the two lists of its ends.
-pub record AreBoth (nodes : List Node) (cells : Slab Cell) (outs ins : List Walk) : Type 0 where
+pub record AreInBoth (nodes : List Node) (cells : Slab Cell) (outs ins : List Walk) : Type 0 where
   pub out : AreListsOf Out nodes (get cells) outs
   pub into : AreListsOf In nodes (get cells) ins
   pub each : (key : ℕ) (e : Edge) → edge_at (get cells) key ≡ Some e → IsIn (key, e) (walk_at outs (end_of Out e)) × IsIn (key, e) (walk_at ins (end_of In e))
   pub held : slab_len cells ≡ length (edges_in outs)
 
 abbrev pub AreLists : List Node → Slab Cell → Type 0
-AreLists nodes cells = AreBoth nodes cells (walks_of Out nodes (get cells)) (walks_of In nodes (get cells))
+AreLists nodes cells = AreInBoth nodes cells (walks_of Out nodes (get cells)) (walks_of In nodes (get cells))
 
 -- ---- what is seen of the lists
 
@@ -166,8 +158,8 @@ pub record Threads : Type 0 where
 abbrev pub threads_of : List Node → (ℕ → Option Cell) → ℕ → Threads
 threads_of nodes at room = record { nodes = map (λ n. n.ports) nodes; outs = walks_of Out nodes at; ins = walks_of In nodes at; room = room }
 
-abbrev pub no_threads : Threads → Type 0
-no_threads t = (t.nodes ≡ []) × (t.outs ≡ []) × (t.ins ≡ [])
+abbrev pub IsEmpty : Threads → Type 0
+IsEmpty t = (t.nodes ≡ []) × (t.outs ≡ []) × (t.ins ≡ [])
 
 -- nothing but the room changed, and it did not shrink
 abbrev pub SameThreads : Threads → Threads → Type 0

@@ -2,7 +2,7 @@ ghost use Rattle.std.specs.Prelude.{◌≡◌, ◌<◌, ◌≤◌, ◌^◌, ◌+
 ghost use Rattle.conn_graph.specs.Edges.{target_node};
 ghost use Rattle.conn_graph.specs.Graph.{no_ports};
 ghost use Rattle.conn_graph.specs.Walks.{Walk, next_step, IsOnWalk};
-ghost use Rattle.conn_graph.specs.Lists.{walk_at, thread, edges_in, no_threads, SameThreads, AreThreads};
+ghost use Rattle.conn_graph.specs.Lists.{walk_at, thread, edges_in, IsEmpty, SameThreads, AreThreads};
 
 use crate::cells::{Cell, Node, Side, relink, set_behind};
 use crate::edges::{Edge, Ports};
@@ -37,7 +37,7 @@ impl Model for Lists {
 impl Lists {
     /// No nodes. It takes no memory until it grows.
     pub(crate) fn new(alloc: Global) -> Lists
-        ensures empty { no_threads result }
+        ensures empty { IsEmpty result }
         ensures whole { AreThreads result }
     {
         Lists {
