@@ -88,7 +88,7 @@ AreFrom-filter p low (e ∷ es) h = by_test (p e) (AreFrom-filter p e.from.0 es 
     by_test true k = (h.0, k)
     by_test false k = from_low low e.from.0 (filter p es) h.0 k
 
-length-filter_low : (p : Edge → Bool) (es : List Edge) → length (filter p es) ≤ length es
+pub length-filter_low : (p : Edge → Bool) (es : List Edge) → length (filter p es) ≤ length es
 length-filter_low p [] = omega arith
 length-filter_low p (e ∷ es) = by_test (p e) (length-filter_low p es)
   where

@@ -1,4 +1,3 @@
-pub mod Cells
 pub mod Puts
 pub mod Graphs
 pub mod EndLaws
@@ -8,7 +7,15 @@ pub mod RankLaws
 pub mod OrderLaws
 pub mod Rows
 pub mod WalkLaws
-mod OutWalks
+mod Segments
+mod OneList
+mod AllLists
+mod Edits
+mod Joined
+mod Walking
+mod Nexts
+mod Going
+mod Wholes
 mod Leaving
 pub mod FormRows
 pub mod EditLaws

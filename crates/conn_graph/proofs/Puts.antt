@@ -1,25 +1,15 @@
 -- A connection put in behind the others of its source.
 use Rattle.std.proofs.Common.{ℕ, suc, ◌≡◌, ◌<◌, ◌≤◌, length, List, [], ◌∷◌, ◌++◌, filter, Bool, true, false, cond, ◌⊎◌, inl, inr, refl, sym, ◌∙◌, ap, ap₂, arith}
 use Rattle.std.specs.Prelude.{if◌then◌else◌, nat_lt, nat_le}
-use Rattle.std.specs.List.{insert}
 use Rattle.std.proofs.lemmas.Bool.Decides.{nat_tests}
 use Rattle.law_base.specs.Members.{IsIn, AreDistinct}
 use Rattle.conn_graph.specs.declared.edges.Edge.{Edge}
 use Rattle.conn_graph.specs.Graph.{with_edge, AreFrom}
-use Rattle.conn_graph.specs.Cells.{place}
 
 -- before the first connection of a later node
 abbrev pub put : List Edge → Edge → List Edge
 put [] e = e ∷ []
 put (x ∷ xs) e = if nat_lt e.from.0 x.from.0 then e ∷ x ∷ xs else x ∷ put xs e
-
-pub insert-place : (xs : List Edge) (e : Edge) → insert xs (place xs e.from.0) e ≡ put xs e
-insert-place [] e = refl
-insert-place (x ∷ xs) e = by_test (nat_lt e.from.0 x.from.0) (insert-place xs e)
-  where
-    by_test : (b : Bool) → insert xs (place xs e.from.0) e ≡ put xs e → insert (x ∷ xs) (if b then 0 else suc (place xs e.from.0)) e ≡ (if b then e ∷ x ∷ xs else x ∷ put xs e)
-    by_test true below = refl
-    by_test false below = ap (λ ys. x ∷ ys) below
 
 -- where all connections are of later nodes, none is before the new one
 none_before : (low n : ℕ) (xs : List Edge) → n < low → AreFrom low xs → (filter (λ x. nat_le x.from.0 n) xs ≡ []) × (filter (λ x. nat_lt n x.from.0) xs ≡ xs)

@@ -1,4 +1,5 @@
 ghost use Rattle.std.specs.Prelude.{◌≡◌, option_map};
+ghost use Rattle.conn_graph.specs.Cells.{edge_form};
 ghost use Rattle.conn_graph.specs.Edges as spec;
 
 use wa_base::{NodeId, ParamId};
@@ -99,6 +100,18 @@ impl Form {
     }
 }
 
+impl Edge {
+    // The form of disconnect that names this connection alone.
+    pub(crate) fn form(self) -> Form
+        ensures { result ≡ edge_form self }
+    {
+        match self.to {
+            Target::Input { node, input } => Form::NodeOutputInput(node, self.output, input),
+            Target::Param(param) => Form::ParamOutput(param, self.output),
+        }
+    }
+}
+
 fn is_input(target: Target, n: NodeId, i: u32) -> bool
     ensures { result ≡ spec.is_input n.0 i target }
 {
@@ -124,13 +137,6 @@ fn is_param(target: Target, p: ParamId) -> bool
         Target::Input { .. } => false,
         Target::Param(param) => param.node.0 == p.node.0 && param.name == p.name,
     }
-}
-
-// Whether all four parts agree.
-pub(crate) fn same_edge(a: &Edge, b: &Edge) -> bool
-    ensures { result ≡ spec.same_edge a.now b.now }
-{
-    a.from.0 == b.from.0 && a.output == b.output && a.to.is_same(b.to)
 }
 
 // Whether a form of disconnect means a connection of the node that it leaves.

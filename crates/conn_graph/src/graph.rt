@@ -1,12 +1,15 @@
 ghost use Rattle.std.specs.Prelude.{◌≡◌, ◌↔◌, ◌<◌, ◌+◌, ◌-◌, ◌^◌, [], ◌∷◌, ◌++◌, if◌then◌else◌, length, not, Some, IsOk, IfOk, OnOk, OnErr, IsErrOf, IfSome, IsNone};
 ghost use Rattle.wa_base.specs.declared.exceptions.Exc.{Exc};
 ghost use Rattle.wa_base.specs.declared.exceptions.Refusal.TheVariants as Refusal;
-ghost use Rattle.conn_graph.specs.Edges.{target_node, form_node};
+ghost use Rattle.std.specs.List.{list_any};
+ghost use Rattle.conn_graph.specs.Edges.{target_node, form_node, is_named};
 ghost use Rattle.conn_graph.specs.Graph as spec;
 ghost use Rattle.conn_graph.specs.Walks.{out_walk, in_walk, next_step, IsOnWalk, IsOutWalk, IsInWalk, LeavesGraph, one_more};
 
+use crate::cells::Side;
 use crate::edges::{Edge, Form, Ports, Target};
-use crate::walks::{has_edge, keep_unnamed, names_one, next_entering, next_leaving, put_edge};
+use crate::lists::Lists;
+use crate::walks::{is_one_named, take_named};
 use std::alloc::Global;
 use std::marker::Model;
 use std::sync::ledger::Ledger;
@@ -22,22 +25,19 @@ const MAX_EDGES: usize = 8_192;
 /// is still that graph.
 #[derive(Drop)]
 pub struct Graph {
-    nodes: Vec<Ports>,
-    edges: Vec<Edge>,
+    lists: Lists,
     edits: u64,
 }
 
 impl Model for Graph {
-    ghost use Rattle.std.specs.Prelude.{◌-◌, vec_capacity, vec_len};
-    ghost use Rattle.conn_graph.specs.Cells.{connections_of, view_of};
-    ghost use Rattle.conn_graph.specs.Graph.{IsGraph};
+    ghost use Rattle.conn_graph.specs.Lists.{view_of, IsWhole};
     ghost use Rattle.conn_graph.specs.Walks.{GraphView};
 
     ghost Value = { GraphView };
 
-    ghost view = { λ g. view_of g.nodes.items g.edges.items (vec_capacity g.nodes - vec_len g.nodes) g.edits };
+    ghost view = { λ g. view_of g.lists g.edits };
 
-    ghost invariant = { λ g. IsGraph (connections_of g.nodes.items g.edges.items) };
+    ghost invariant = { λ g. IsWhole g.lists };
 }
 
 impl Graph {
@@ -47,8 +47,7 @@ impl Graph {
         ensures edits { result.edits ≡ 0 }
     {
         Graph {
-            nodes: Vec::new(alloc),
-            edges: Vec::new(alloc),
+            lists: Lists::new(alloc),
             edits: 0,
         }
     }
@@ -58,8 +57,7 @@ impl Graph {
         ensures graph { LeavesGraph self.old self.new }
         ensures room { OnOk result (0 < self.new.room) }
     {
-        self.nodes.reserve(1)?;
-        Ok(())
+        self.lists.reserve()
     }
 
     /// Adds a node with so many inputs and outputs, and no connection. After `NoMemory` the graph
@@ -71,7 +69,7 @@ impl Graph {
         ensures reserved { 0 < self.old.room → IsOk result }
         ensures err { OnErr result (LeavesGraph self.old self.new) }
     {
-        self.nodes.push(Ports {
+        self.lists.add_node(Ports {
             inputs,
             outputs,
             is_delay,
@@ -100,10 +98,10 @@ impl Graph {
         if let Some(exc) = self.connect_refusal(edge) {
             return Err(Refusal::Exc(exc));
         }
-        if has_edge(self.edges.as_slice(), &edge) {
+        if self.has_edge(edge) {
             return Ok(false);
         }
-        put_edge(&mut self.edges, edge)?;
+        self.lists.put(edge)?;
         self.edits = edits_after(self.edits);
         Ok(true)
     }
@@ -122,10 +120,34 @@ impl Graph {
         if edge.output >= self.ports(edge.from).outputs || self.lacks_input(edge.to) {
             return Some(Exc::IndexSize);
         }
-        if self.edges.len() >= MAX_EDGES && !has_edge(self.edges.as_slice(), &edge) {
+        if self.lists.edges() >= MAX_EDGES && !self.has_edge(edge) {
             return Some(Exc::NotSupported(Some(Feature::ConnectionLimit)));
         }
         None
+    }
+
+    // Whether an identical connection is there. It is looked for on the shorter one of the two walks
+    // that would have it.
+    fn has_edge(&self, edge: Edge) -> bool
+        requires from { edge.from.0 < length self.now.value.nodes }
+        requires to { target_node edge.to < length self.now.value.nodes }
+        ensures { result ≡ spec.has_edge self.now.value edge }
+    {
+        let from = edge.from;
+        let to = edge.to.node();
+        if self.lists.count(Side::In, to) < self.lists.count(Side::Out, from) {
+            is_one_named(&self.lists, Side::In, to, from, edge.form())
+        } else {
+            is_one_named(&self.lists, Side::Out, from, from, edge.form())
+        }
+    }
+
+    // Whether a disconnect from a node names a connection.
+    fn names_one(&self, from: NodeId, form: Form) -> bool
+        requires { from.0 < length self.now.value.nodes }
+        ensures { result ≡ list_any (is_named from.0 form) self.now.value.edges }
+    {
+        is_one_named(&self.lists, Side::Out, from, from, form)
     }
 
     fn lacks_input(&self, target: Target) -> bool
@@ -156,7 +178,7 @@ impl Graph {
         if let Some(exc) = self.disconnect_refusal(from, form) {
             return Err(exc);
         }
-        keep_unnamed(&mut self.edges, from, form);
+        take_named(&mut self.lists, from, form);
         self.edits = edits_after(self.edits);
         Ok(())
     }
@@ -182,7 +204,7 @@ impl Graph {
         if lacks_output || lacks_input {
             return Some(Exc::IndexSize);
         }
-        if form.names_a_target() && !names_one(self.edges.as_slice(), from, form) {
+        if form.names_a_target() && !self.names_one(from, form) {
             return Some(Exc::InvalidAccess);
         }
         None
@@ -193,7 +215,7 @@ impl Graph {
         ensures number { result ≡ length self.now.value.nodes }
         ensures whole { spec.IsGraph self.now.value }
     {
-        self.nodes.len() as u32
+        self.lists.nodes() as u32
     }
 
     /// Whether a node is a delay.
@@ -208,7 +230,7 @@ impl Graph {
         requires { node.0 < length self.now.value.nodes }
         ensures { result ≡ spec.ports_at self.now.value node.0 }
     {
-        self.nodes[node.0 as usize]
+        self.lists.ports(node)
     }
 
     /// The next connection to a node, with its cell, for one step: the first one after `None`, and
@@ -227,7 +249,7 @@ impl Graph {
         ensures walk { IsInWalk self.now.value node.0 (in_walk self.now node.0) }
     {
         steps.tick();
-        next_entering(self.edges.as_slice(), node, place_after(after))
+        self.lists.next(Side::In, node, after)
     }
 
     /// The next connection from a node, with its cell, for one step, in the graph's order: the
@@ -246,7 +268,7 @@ impl Graph {
         ensures walk { IsOutWalk self.now.value node.0 (out_walk self.now node.0) }
     {
         steps.tick();
-        next_leaving(self.edges.as_slice(), node, place_after(after))
+        self.lists.next(Side::Out, node, after)
     }
 
     /// How often the graph was edited: the number of nodes that were added, of new connections that
@@ -263,10 +285,8 @@ impl Graph {
         ensures value { IfOk result (λ graph. graph.value ≡ self.now.value) }
         ensures edits { IfOk result (λ graph. graph.edits ≡ self.now.edits) }
     {
-        let alloc = *self.nodes.allocator();
         Ok(Graph {
-            nodes: Vec::from_slice(alloc, self.nodes.as_slice())?,
-            edges: Vec::from_slice(alloc, self.edges.as_slice())?,
+            lists: self.lists.copy()?,
             edits: self.edits,
         })
     }
@@ -277,12 +297,4 @@ fn edits_after(edits: u64) -> u64
     ensures { result ≡ one_more edits }
 {
     if edits < u64::MAX { edits + 1 } else { edits }
-}
-
-// The place behind a cell, or the first one.
-fn place_after(cell: Option<usize>) -> usize
-    ensures none { IsNone cell → result ≡ 0 }
-    ensures some { IfSome cell (λ place. place < 2 ^ 64 - 1 → result ≡ place + 1) }
-{
-    cell.map_or(0, |place| place.saturating_add(1))
 }

@@ -6,8 +6,10 @@
 ghost use Rattle.conn_graph.specs.Ends.{EndsOrderLaw};
 ghost use Rattle.conn_graph.specs.Orders.{LegalOrderLaw, MutingLaw};
 
+mod cells;
 mod edges;
 mod graph;
+mod lists;
 mod walks;
 
 pub use edges::{Edge, Form, Ports, Target};

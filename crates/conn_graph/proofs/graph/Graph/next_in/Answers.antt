@@ -1,17 +1,5 @@
-use Rattle.std.proofs.Common.{length}
-use Rattle.conn_graph.specs.Cells.{enters}
-use Rattle.conn_graph.proofs.Cells.{next_step_is, is_in_walk}
+use Rattle.conn_graph.proofs.Joined.{is_in_walk}
 use Rattle.conn_graph.proofs.graph.Graph.next_in.Goals as goal
 
-pub returns-clause-next : goal.returns-clause-next
-returns-clause-next g c =
-    let node = rw (← c.self.view_is) at c.requires.node in
-    let after = rw (← c.self.view_is) at c.requires.after in
-    rw (← c.self.view_is, c.next_entering.ensures, c.as_slice.ensures.value)
-    (next_step_is enters (length c.self.inside.nodes.items) c.args.node.0 c.self.inside.edges.items c.args.after c.place_after.result
-    node c.self.invariant.few after c.place_after.ensures.none c.place_after.ensures.some)
-
 pub returns-clause-walk : goal.returns-clause-walk
-returns-clause-walk g c =
-    let node = rw (← c.self.view_is) at c.requires.node in
-    rw (← c.self.view_is) (is_in_walk c.self.inside.nodes.items c.self.inside.edges.items c.args.node.0 node c.self.invariant.once)
+returns-clause-walk g c = rw (← c.self.view_is) (is_in_walk c.self.inside.lists c.self.invariant.threads c.self.invariant.graph.once c.args.node.0)
