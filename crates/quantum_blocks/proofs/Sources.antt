@@ -19,16 +19,13 @@ use Rattle.conn_graph.specs.Cells.{enters}
 use Rattle.conn_graph.specs.Edges.{target_node, is_input, is_param}
 use Rattle.conn_graph.specs.Ends.{reader_of, ends}
 use Rattle.conn_graph.specs.Graph.{Connections, no_ports, ports_at, HasPlace, IsGraph, edges_to_input, edges_to_param}
-use Rattle.conn_graph.proofs.EndLaws.{end_is, has_end}
+use Rattle.conn_graph.proofs.EndLaws.{end_is}
 use Rattle.meaning.specs.declared.world.World.{World}
 use Rattle.meaning.specs.World.{no_node, kind_of}
 use Rattle.meaning.specs.Validity.{ports_of, IsValid}
-use Rattle.quantum_blocks.specs.Blocks.{BlockView, slot, counts_in}
+use Rattle.quantum_blocks.specs.Blocks.{slot}
 use Rattle.quantum_blocks.specs.Connections.{into, leads_to}
-use Rattle.quantum_blocks.specs.Fits.{AreFit, IsSource}
-use Rattle.automation.specs.Levels.{LevelView}
-use Rattle.quantum_blocks.specs.Sites.{IsSite}
-use Rattle.quantum_blocks.proofs.Slots.{slot_low, output_low}
+use Rattle.quantum_blocks.proofs.Slots.{slot_low}
 
 filter_within : {X : Type 0} (p q : X → Bool) → ((x : X) → p x ≡ true → q x ≡ true) → (xs : List X) → filter p (filter q xs) ≡ filter p xs
 filter_within p q each [] = refl
@@ -93,13 +90,6 @@ outputs_are w valid n l = ap (λ (ports : List Ports). (slice_index_or ports n n
 pub end_low : (w : World) → IsValid w → (e : End) → IsIn e (ends w.graph.value) → e.node.0 < length w.nodes
 end_low w valid e is = subst (λ k. e.node.0 < k) (same_nodes w valid) (end_is w.graph.value e is).0
 
--- the connections of a site come from ends that are there
-pub source_there : (w : World) (e : End) (edges : List Edge) (counts : List ℕ) (levels : List LevelView) (first : ℕ) → IsSite w e edges counts levels first → (i : ℕ) (d : Edge) → i < length edges
-    → HasPlace w.graph.value (slice_index_or edges i d)
-source_there w e edges counts levels first site i d l =
-    subst (λ (es : List Edge). HasPlace w.graph.value (slice_index_or es i d)) (sym site.into)
-    (into_places w.graph.value e.node.0 site.quantum.valid.graph i d (subst (λ (es : List Edge). i < length es) site.into l))
-
 -- and so do all that lead to a node
 pub into_slots : (w : World) → IsValid w → (n : ℕ) (counts : List ℕ) → length counts ≡ 2 * length w.nodes → (edges : List Edge) → edges ≡ into w.graph.value n → (i : ℕ) (d : Edge) → i < length edges
     → slot (reader_of (slice_index_or edges i d).from.0) < length counts
@@ -107,40 +97,6 @@ into_slots w valid n counts places edges here i d l =
     let x : Edge = slice_index_or edges i d in
     let place = subst (λ (es : List Edge). HasPlace w.graph.value (slice_index_or es i d)) (sym here) (into_places w.graph.value n valid.graph i d (subst (λ (es : List Edge). i < length es) here l)) in
     subst (λ k. slot (reader_of x.from.0) < k) (sym places) (slot_low (reader_of x.from.0) (length w.nodes) (subst (λ k. x.from.0 < k) (same_nodes w valid) place.from))
-
-pub source_slot : (w : World) (e : End) (edges : List Edge) (counts : List ℕ) (levels : List LevelView) (first : ℕ) → IsSite w e edges counts levels first → (i : ℕ) (d : Edge) → i < length edges
-    → slot (reader_of (slice_index_or edges i d).from.0) < length counts
-source_slot w e edges counts levels first site i d l = into_slots w site.quantum.valid e.node.0 counts site.quantum.range.places edges site.into i d l
-
--- and from outputs that their blocks have
-pub source_is : (w : World) (e : End) (edges : List Edge) (counts : List ℕ) (levels : List LevelView) (first : ℕ) (blocks : List BlockView) → IsSite w e edges counts levels first → AreFit w counts blocks
-    → (i : ℕ) (d : Edge) → i < length edges → IsSource counts blocks (slice_index_or edges i d)
-source_is w e edges counts levels first blocks site fit i d l =
-    let x : Edge = slice_index_or edges i d in
-    let source : End = reader_of x.from.0 in
-    let place = source_there w e edges counts levels first site i d l in
-    let node : x.from.0 < length w.nodes = subst (λ k. x.from.0 < k) (same_nodes w site.quantum.valid) place.from in
-    let there : slot source < length counts = source_slot w e edges counts levels first site i d l in
-    let long = site.quantum.range.places in
-    let wide = fit.places in
-    record {
-      block = omega arith;
-      count = there;
-      low = site.quantum.range.low (slot source) there;
-      high = site.quantum.range.high (slot source) there;
-      lanes = subst (λ n. x.output * counts_in counts source + counts_in counts source ≤ n) (sym (fit.lanes source (has_end w.graph.value x.from.0 place.from)))
-          (output_low x.output (outputs (kind_of w x.from.0)) (counts_in counts source) (subst (λ n. x.output < n) (outputs_are w site.quantum.valid x.from.0 node) place.output));
-    }
-
-pub site_few : (w : World) (e : End) (edges : List Edge) (counts : List ℕ) (levels : List LevelView) (first : ℕ) → IsSite w e edges counts levels first → length edges ≤ 8192
-site_few w e edges counts levels first site = subst (λ (es : List Edge). length es ≤ 8192) (sym site.into) (into_few w.graph.value e.node.0 site.quantum.valid.graph)
-
--- a site's end has its place
-pub site_slot : (w : World) (e : End) (edges : List Edge) (counts : List ℕ) (levels : List LevelView) (first : ℕ) → IsSite w e edges counts levels first → slot e < length counts
-site_slot w e edges counts levels first site = subst (λ k. slot e < k) (sym site.quantum.range.places) (slot_low e (length w.nodes) (end_low w site.quantum.valid e site.there))
-
-pub place_within : (w : World) (e : End) (edges : List Edge) (counts : List ℕ) (levels : List LevelView) (first : ℕ) → IsSite w e edges counts levels first → (k : ℕ) → k ≡ slot e → k < length counts
-place_within w e edges counts levels first site k here = subst (λ j. j < length counts) (sym here) (site_slot w e edges counts levels first site)
 
 -- ---- the connections to each node, one connection after another
 

@@ -30,3 +30,7 @@ pub record IsSource (counts : List ℕ) (blocks : List BlockView) (e : Edge) : T
   pub low : 1 ≤ counts_in counts (reader_of e.from.0)
   pub high : counts_in counts (reader_of e.from.0) ≤ 32
   pub lanes : e.output * counts_in counts (reader_of e.from.0) + counts_in counts (reader_of e.from.0) ≤ (block_of blocks (reader_of e.from.0)).lanes
+
+-- and so does each of several connections
+abbrev pub AreSources : List ℕ → List BlockView → List Edge → Type 0
+AreSources counts blocks edges = (i : ℕ) (d : Edge) → i < length edges → IsSource counts blocks (slice_index_or edges i d)

@@ -4,4 +4,3 @@ pub mod Held
 pub mod Heard
 pub mod Fits
 pub mod Sums
-pub mod Sites

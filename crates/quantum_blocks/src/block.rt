@@ -1,21 +1,13 @@
-ghost use Rattle.std.specs.Prelude.{◌≡◌, ◌≤◌, ◌<◌, ◌*◌, ◌+◌, ◌/◌, ◌^◌, ◌+ℤ◌, ◌∷◌, [], ℕ, ℤ, List, pos, Some, length, slice_index_or, OnOk, IfOk, IfSome, FitsSigned, if◌then◌else◌};
+ghost use Rattle.std.specs.Prelude.{◌≡◌, ◌≤◌, ◌<◌, ◌*◌, ◌+◌, ◌/◌, ◌^◌, ◌+ℤ◌, ◌∷◌, [], ℕ, ℤ, pos, Some, length, slice_index_or, OnOk, IfOk, IfSome, FitsSigned, if◌then◌else◌};
 ghost use Rattle.std.specs.Int.{w32};
 ghost use Rattle.wa_base.specs.Numbers.{sat as saturated, scale as scaled};
 ghost use Rattle.causal_core.specs.Curves.{IsCurve, shaper_value};
 ghost use Rattle.sched_source.specs.Schedule.{is_between, played};
 ghost use Rattle.meaning.specs.World.{channels_in, samples_in, up_to as clamped};
 ghost use Rattle.channel_mix.specs.Blocks.{sample};
-ghost use Rattle.automation.specs.Levels.{HasRoom, level_at};
-ghost use Rattle.filter_bank.specs.Heard.{FilterView as a_filter, room_of as filter_room};
-ghost use Rattle.filter_bank.specs.Banks.{filter_at, Hears};
-ghost use Rattle.delay_line.specs.Delays.{Writer};
-ghost use Rattle.delay_line.specs.Spans.{delay_at as frames_back};
-ghost use Rattle.delay_bank.specs.Kept.{DelayView as a_delay, HasKept, IsAsked, AreFew, read_back};
-ghost use Rattle.delay_bank.specs.Banks.{delay_at};
-ghost use Rattle.meaning.specs.World.{node_at};
-ghost use Rattle.quantum_blocks.specs.Blocks.{quantum, at, shown, carried, room_of, lanes_of, counts_in};
+ghost use Rattle.quantum_blocks.specs.Blocks.{quantum, at, shown, carried, room_of};
 ghost use Rattle.quantum_blocks.specs.Sums.{sum_at};
-ghost use Rattle.quantum_blocks.specs.Held.{IsHeld, IsCarried, IsWidened, AreLanes};
+ghost use Rattle.quantum_blocks.specs.Held.{IsHeld, IsCarried, IsWidened};
 
 use crate::held::Held;
 use crate::kernels::{
@@ -23,16 +15,12 @@ use crate::kernels::{
     scale_steady, silence, sound, spread, unfold_if, up_to, up_to_each,
 };
 use crate::playing::Source;
-use crate::site::Site;
 use crate::sums::Sums;
-use automation::{Level, Values};
-use delay_bank::{Delays, Reading};
-use filter_bank::Filters;
 use lane_kern::sat_into;
 use shaper_iir::shape_all;
 use std::alloc::Global;
 use std::marker::Model;
-use wa_base::{Fix, NoMemory, NodeId, Samples};
+use wa_base::{Fix, NoMemory, Samples};
 
 /// The frames of a render quantum.
 pub const QUANTUM: usize = wa_base::QUANTUM as usize;
@@ -163,8 +151,8 @@ impl Block {
         fill(&mut self.values[0..self.lanes], 0);
     }
 
-    // Becomes one lane with the same value at all frames.
-    pub(crate) fn hold(&mut self, value: Fix)
+    /// Becomes one lane with the same value at all frames.
+    pub fn hold(&mut self, value: Fix)
         requires { quantum ≤ room_of self.old }
         ensures lanes { self.new.lanes ≡ 1 }
         ensures room { room_of self.new ≡ room_of self.old }
@@ -173,21 +161,6 @@ impl Block {
         self.lanes = 1;
         self.steady = true;
         fill(&mut self.values[0..1], value);
-    }
-
-    /// Becomes one lane with the values of a level.
-    pub fn take_level(&mut self, level: &Level)
-        requires room { quantum ≤ room_of self.old }
-        requires level { HasRoom level.now }
-        ensures lanes { self.new.lanes ≡ 1 }
-        ensures room { room_of self.new ≡ room_of self.old }
-        ensures values { (m : ℕ) → m < quantum → at self.new 0 m ≡ level_at level.now m }
-        ensures fit { (m : ℕ) → m < quantum → FitsSigned w32 (level_at level.now m) }
-    {
-        match level.values() {
-            Values::Steady(value) => self.hold(value),
-            Values::Moving(values) => self.copy_moving(values, 1),
-        }
     }
 
     /// Of one lane, adds at each frame the sum there, saturated before and after.
@@ -380,7 +353,9 @@ impl Block {
         copy_values(&mut self.values[0..self.lanes], held);
     }
 
-    fn copy_moving(&mut self, values: &[Fix], lanes: usize)
+    /// Becomes so many lanes with these values: one for each frame of the first lane, then those of the
+    /// second and so on.
+    pub fn copy_moving(&mut self, values: &[Fix], lanes: usize)
         requires length { length values.now ≡ lanes * quantum }
         requires few { lanes ≤ 32 }
         requires room { lanes * quantum ≤ room_of self.old }
@@ -525,52 +500,5 @@ impl Block {
                 shape_all(curve, values, &mut self.values[0..self.lanes * QUANTUM]);
             }
         }
-    }
-
-    /// Becomes what a node's filter puts out for its input, which has so many lanes.
-    pub fn filter(&mut self, heard: &[Fix], lanes: usize, filters: &mut Filters, node: NodeId)
-        requires length { length heard.now ≡ lanes * quantum }
-        requires few { lanes ≤ 32 }
-        requires room { lanes * quantum ≤ room_of self.old }
-        requires there { node.0 < length filters.old.filters }
-        requires wide { (f : a_filter) → filter_at filters.old node.0 ≡ Some f → lanes ≡ filter_room f }
-        ensures lanes { self.new.lanes ≡ lanes }
-        ensures room { room_of self.new ≡ room_of self.old }
-        ensures hears { (y : List ℤ) × AreLanes self.new y × Hears filters.old filters.new node.0 heard.now y }
-    {
-        self.lanes = lanes;
-        self.steady = false;
-        filters.hear(node, heard, &mut self.values[0..lanes * QUANTUM]);
-    }
-
-    /// Becomes what the reader of a site's delay gives, with a delay for each frame.
-    pub fn read_delay(&mut self, delays: &Delays, site: &Site, spans: &[u64])
-        requires lanes { self.old.lanes ≡ counts_in site.now.counts site.now.end }
-        requires spans { length spans.now ≡ quantum }
-        ensures lanes { self.new.lanes ≡ self.old.lanes }
-        ensures values { (d : a_delay) (longest born now : ℕ) (writer : Writer) → delay_at delays.now site.now.end.node.0 ≡ Some d → HasKept d longest born now writer → IsAsked site.now.first now longest spans.now →
-            AreFew born writer self.old.lanes site.now.first spans.now → quantum * (born / quantum) ≡ born → (c m : ℕ) → c < self.old.lanes → m < quantum →
-            at self.new c m ≡ read_back born writer (node_at site.now.world site.now.end.node.0).attrs.interp self.old.lanes (site.now.first + m) (frames_back spans.now m) c }
-    {
-        let node = site.end.node;
-        let asked = Reading {
-            first: site.first,
-            delays: spans,
-            channels: self.lanes() as u32,
-            interp: site.world.nodes.attrs(node).interp,
-        };
-        self.read_frames(delays, node, asked);
-    }
-
-    fn read_frames(&mut self, delays: &Delays, node: NodeId, asked: Reading<'_>)
-        requires lanes { asked.channels ≡ self.old.lanes }
-        requires delays { length asked.delays.now ≡ quantum }
-        requires time { asked.first ≤ 2 ^ 62 }
-        ensures lanes { self.new.lanes ≡ self.old.lanes }
-        ensures values { (d : a_delay) (longest born now : ℕ) (writer : Writer) → delay_at delays.now node.0 ≡ Some d → HasKept d longest born now writer → IsAsked asked.entry.first now longest asked.entry.delays.now → AreFew born writer self.old.lanes asked.entry.first asked.entry.delays.now → quantum * (born / quantum) ≡ born →
-            (c m : ℕ) → c < self.old.lanes → m < quantum → at self.new c m ≡ read_back born writer asked.entry.interp self.old.lanes (asked.entry.first + m) (frames_back asked.entry.delays.now m) c }
-    {
-        self.steady = false;
-        delays.read(node, &mut self.values[0..self.lanes * QUANTUM], asked);
     }
 }

@@ -1,11 +1,11 @@
-ghost use Rattle.std.specs.Prelude.{◌≡◌, ◌≤◌, ◌<◌, ◌*◌, ℕ, length, slice_index_or, OnOk};
+ghost use Rattle.std.specs.Prelude.{◌≡◌, ◌<◌, ◌*◌, ℕ, length, slice_index_or, OnOk};
 ghost use Rattle.wa_base.specs.declared.graph_names.End.{End as an_end};
 ghost use Rattle.meaning.specs.Validity.{IsValid};
-ghost use Rattle.quantum_blocks.specs.Blocks.{slot as slot_of, lanes_of, no_block, IsSilent, Writes};
+ghost use Rattle.quantum_blocks.specs.Blocks.{slot as slot_of, lanes_of, IsSilent, Writes};
 ghost use Rattle.quantum_blocks.specs.Fits.{AreInRange, AreFit};
 
 use crate::block::Block;
-use crate::site::slot;
+use crate::ends::slot;
 use meaning::World;
 use std::alloc::Global;
 use wa_base::{End, NoMemory, NodeId};

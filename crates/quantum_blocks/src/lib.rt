@@ -3,19 +3,19 @@
 
 mod block;
 mod blocks;
+mod ends;
 mod held;
 mod kernels;
 mod places;
 mod playing;
-mod site;
 mod spans;
 mod sums;
 
 pub use block::{Block, QUANTUM};
 pub use blocks::{fit_blocks, hush};
+pub use ends::{reader, slot, writer};
 pub use held::Held;
 pub use places::{near_of, places_of, play_place};
 pub use playing::{Source, sounding};
-pub use site::{Quantum, Site, reader, slot, writer};
 pub use spans::{span_all, span_each};
 pub use sums::{CHANNELS, Inlet, Sums};

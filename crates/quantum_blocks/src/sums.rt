@@ -1,4 +1,4 @@
-ghost use Rattle.std.specs.Prelude.{◌≡◌, ◌≤◌, ◌<◌, ◌+◌, ◌*◌, ◌^◌, ◌+ℤ◌, ℕ, pos, length, slice_index_or, map, filter, if◌then◌else◌, All, take, drop, IfOk, IfSome};
+ghost use Rattle.std.specs.Prelude.{◌≡◌, ◌≤◌, ◌<◌, ◌+◌, ◌*◌, ◌+ℤ◌, ℕ, pos, length, slice_index_or, map, filter, if◌then◌else◌, take, IfOk, IfSome};
 ghost use Rattle.channel_mix.specs.Blocks.{sample, frame_at};
 ghost use Rattle.wa_base.specs.Numbers.{sat as saturated};
 ghost use Rattle.channel_mix.specs.Mixing.{mix, total};
@@ -6,13 +6,13 @@ ghost use Rattle.meaning.specs.declared.world.World.{World as world};
 ghost use Rattle.meaning.specs.Values.{part};
 ghost use Rattle.quantum_blocks.specs.Blocks.{quantum, frame_of};
 ghost use Rattle.quantum_blocks.specs.Connections.{leads_to};
-ghost use Rattle.quantum_blocks.specs.Fits.{IsSource, AreFit};
+ghost use Rattle.quantum_blocks.specs.Fits.{IsSource, AreSources};
 ghost use Rattle.quantum_blocks.specs.Sums.{sum_at};
 
 use crate::block::{Block, QUANTUM};
+use crate::ends::{reader, slot};
 use crate::held::Held;
 use crate::kernels::{clear_unless, each_level, each_level_on, fill, settle};
-use crate::site::{Site, reader, slot};
 use channel_mix::mix_add;
 use conn_graph::{Edge, Target};
 use std::alloc::Global;
@@ -192,18 +192,20 @@ impl Sums {
         }
     }
 
-    /// Adds up what the connections of a site to an inlet carry.
-    pub fn gather(&mut self, blocks: &[Block], site: &Site, inlet: Inlet)
+    /// Adds up what those of the connections carry that lead to an inlet, with the channels of each end by
+    /// its slot.
+    pub fn gather(&mut self, blocks: &[Block], into: &[Edge], counts: &[u32], inlet: Inlet)
         requires low { 1 ≤ inlet.count }
         requires high { inlet.count ≤ 32 }
-        requires fit { AreFit site.now.world site.now.counts blocks.now }
+        requires few { length into.now ≤ 8192 }
+        requires sources { AreSources counts.now blocks.now into.now }
         ensures count { self.new.count ≡ inlet.count }
         ensures sums { (w : world) (c m : ℕ) → c < inlet.count → m < quantum →
-            sum_at self.new c m ≡ total (map (part (frame_of w blocks.now site.now.counts m) inlet.interp inlet.count c) (filter (leads_to inlet.target) site.now.into)) }
+            sum_at self.new c m ≡ total (map (part (frame_of w blocks.now counts.now m) inlet.interp inlet.count c) (filter (leads_to inlet.target) into.now)) }
     {
         self.clear(inlet.count);
-        for edge in site.into {
-            self.hear(blocks, site.counts, edge, inlet);
+        for edge in into {
+            self.hear(blocks, counts, edge, inlet);
         }
     }
 }

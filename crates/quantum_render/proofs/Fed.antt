@@ -29,7 +29,7 @@ use Rattle.delay_bank.specs.Kept.{IsKept}
 use Rattle.delay_bank.specs.Banks.{BankView as DelayBank, delay_at}
 use Rattle.quantum_blocks.specs.Blocks.{BlockView, at, shown, block_of, counts_in, drafts_of}
 use Rattle.quantum_render.specs.Plans.{AreCounted}
-use Rattle.quantum_blocks.specs.Sites.{SiteView}
+use Rattle.quantum_render.specs.Sites.{SiteView}
 use Rattle.quantum_render.specs.Listening.{writer_in, HasKept, IsTimely}
 use Rattle.quantum_render.specs.Renders.{IsFed, IsWritten, Stores}
 use Rattle.quantum_render.proofs.Listening.{is_among, among_in, in_among, not_among, now_among, other_among}

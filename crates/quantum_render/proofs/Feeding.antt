@@ -13,7 +13,7 @@ use Rattle.meaning.proofs.Asking.{delay_within, delay_long}
 use Rattle.delay_bank.specs.Kept.{IsAsked, AreFew, read_back}
 use Rattle.delay_bank.specs.Banks.{BankView as DelayBank}
 use Rattle.quantum_blocks.specs.Blocks.{BlockView, counts_in}
-use Rattle.quantum_blocks.specs.Sites.{SiteView}
+use Rattle.quantum_render.specs.Sites.{SiteView}
 use Rattle.quantum_render.specs.Listening.{writer_in}
 use Rattle.quantum_render.specs.Renders.{IsFed, past_of, here_of}
 

@@ -22,11 +22,11 @@ use Rattle.filter_bank.specs.Heard.{FilterView, Brings, IsHeard, room_of as filt
 use Rattle.filter_bank.specs.Banks.{BankView, filter_at, HaveRoom, Hears}
 use Rattle.quantum_blocks.specs.Blocks.{BlockView, at, shown, slot, counts_in}
 use Rattle.quantum_blocks.specs.Held.{IsWidened}
-use Rattle.quantum_blocks.specs.Sites.{SiteView, IsSite}
+use Rattle.quantum_render.specs.Sites.{SiteView, IsSite}
 use Rattle.quantum_render.specs.declared.memory.Memory.{Memory}
 use Rattle.quantum_render.specs.Renders.{IsReadyFor, past_of, here_of}
 use Rattle.quantum_render.proofs.Listening.{heard_like}
-use Rattle.quantum_blocks.proofs.Sources.{site_slot}
+use Rattle.quantum_render.proofs.SiteLaws.{site_slot}
 
 -- a widened block has its lanes, and is silent past them
 pub widened : (x : List ℤ) (heard : BlockView) (lanes c k : ℕ) → IsWidened heard lanes x → heard.lanes ≤ lanes → k < 128 → item x (c * 128 + k) ≡ shown heard k c

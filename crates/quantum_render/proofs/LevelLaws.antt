@@ -25,7 +25,7 @@ use Rattle.meaning.specs.Blocks.{with_drafts, drafted}
 use Rattle.quantum_blocks.specs.Blocks.{BlockView, counts_in, drafts_of, frame_of}
 use Rattle.quantum_blocks.specs.Connections.{into, leads_to}
 use Rattle.quantum_render.specs.Parameters.{unclamped_value}
-use Rattle.quantum_blocks.specs.Sites.{IsBegun}
+use Rattle.quantum_render.specs.Sites.{IsBegun}
 use Rattle.quantum_blocks.proofs.Sources.{param_sources}
 
 -- the frame of the quantum at which a parameter is taken: at k-rate the first one

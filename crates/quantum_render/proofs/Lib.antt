@@ -9,6 +9,7 @@ pub mod CountPass
 pub mod Passing
 pub mod Parts
 pub mod OutLaws
+pub mod SiteLaws
 pub mod Rendering
 pub mod Staging
 pub mod RowCounts

@@ -22,7 +22,7 @@ use Rattle.meaning.proofs.Seeing.{plain_end, plain_reader, same_since}
 use Rattle.filter_bank.specs.Heard.{FilterView, IsHeard, IsRested}
 use Rattle.filter_bank.specs.Banks.{BankView, filter_at, IsRestedIfThere}
 use Rattle.quantum_blocks.specs.Blocks.{BlockView, counts_in, drafts_of}
-use Rattle.quantum_blocks.specs.Sites.{SiteView}
+use Rattle.quantum_render.specs.Sites.{SiteView}
 use Rattle.quantum_render.specs.declared.memory.Memory.{Memory}
 use Rattle.quantum_render.specs.Renders.{Renders, RendersWith}
 

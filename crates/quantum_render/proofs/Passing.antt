@@ -28,7 +28,7 @@ use Rattle.quantum_blocks.specs.Blocks.{BlockView, at, carried, slot, block_of, 
 use Rattle.quantum_blocks.specs.Fits.{AreFit}
 use Rattle.quantum_render.specs.Plans.{IsPlan, AreCounted}
 use Rattle.automation.specs.Levels.{LevelView}
-use Rattle.quantum_blocks.specs.Sites.{SiteView}
+use Rattle.quantum_render.specs.Sites.{SiteView}
 use Rattle.filter_bank.specs.Heard.{IsHeard}
 use Rattle.filter_bank.specs.Banks.{filter_at, IsRestedIfThere}
 use Rattle.delay_bank.specs.Kept.{DelayView, IsKept}

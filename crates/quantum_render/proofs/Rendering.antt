@@ -15,9 +15,10 @@ use Rattle.automation.specs.Levels.{LevelView}
 use Rattle.delay_bank.specs.Banks.{BankView as DelayBank}
 use Rattle.quantum_blocks.specs.Blocks.{BlockView, at, room_of, slot, counts_in}
 use Rattle.quantum_blocks.specs.Fits.{AreFit}
-use Rattle.quantum_blocks.specs.Sites.{QuantumView, SiteView, IsQuantum, IsSite}
+use Rattle.quantum_render.specs.Sites.{QuantumView, SiteView, IsQuantum, IsSite}
 use Rattle.quantum_blocks.proofs.Slots.{slot_low, slot-half, lane-only}
-use Rattle.quantum_blocks.proofs.Sources.{end_low, site_slot}
+use Rattle.quantum_blocks.proofs.Sources.{end_low}
+use Rattle.quantum_render.proofs.SiteLaws.{site_slot}
 use Rattle.quantum_render.specs.declared.memory.Memory.{Memory}
 use Rattle.quantum_render.specs.Renders.{HasLanes, HasCount, Renders, RendersWith, IsReadyFor, Stores, past_of, here_of}
 

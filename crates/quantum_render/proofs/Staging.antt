@@ -4,7 +4,7 @@ use Rattle.std.proofs.lemmas.List.{get_or_default}
 use Rattle.meaning.specs.World.{kind_of}
 use Rattle.quantum_blocks.specs.Blocks.{BlockView, no_block, slot, block_of, Writes}
 use Rattle.quantum_blocks.specs.Fits.{AreFit}
-use Rattle.quantum_blocks.specs.Sites.{SiteView, IsSite}
+use Rattle.quantum_render.specs.Sites.{SiteView, IsSite}
 use Rattle.quantum_blocks.proofs.Connections.{writes_one, written}
 use Rattle.quantum_render.specs.declared.memory.Memory.{Memory}
 use Rattle.quantum_render.specs.Listening.{HasRooms}

@@ -9,6 +9,8 @@ pub record BenchView : Type 0 where
   pub merged : BlockView
   -- for so many values of a widened input there is room
   pub wide : ℕ
+  -- and for so many of what a filter or a delay gives
+  pub given : ℕ
   -- how many frames a delay lasts at each frame of the quantum
   pub spans : List ℕ
 
@@ -19,4 +21,5 @@ pub record IsBench (b : BenchView) : Type 0 where
   pub mono : b.levels.lanes ≡ 1
   pub merged : room_of b.merged ≡ 4096
   pub wide : b.wide ≡ 4096
+  pub given : b.given ≡ 4096
   pub spans : length b.spans ≡ 128

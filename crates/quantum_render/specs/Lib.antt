@@ -1,3 +1,4 @@
+pub mod Sites
 pub mod Parameters
 pub mod Benches
 pub mod Renders

@@ -18,7 +18,7 @@ use Rattle.delay_bank.specs.Banks.{BankView as DelayBank, delay_at}
 use Rattle.quantum_render.specs.declared.memory.Memory.{Memory}
 use Rattle.quantum_render.specs.Listening.{writer_in, HasRooms}
 use Rattle.quantum_blocks.specs.Blocks.{BlockView, at, block_of, counts_in, drafts_of, frame_of, Writes}
-use Rattle.quantum_blocks.specs.Sites.{SiteView}
+use Rattle.quantum_render.specs.Sites.{SiteView}
 
 -- the frames that an equation sees: those before the quantum, and of the quantum what the blocks have
 abbrev pub past_of : SiteView → List BlockView → (ℕ → Frame) → ℕ → Frame

@@ -1,29 +1,34 @@
-ghost use Rattle.std.specs.Prelude.{[], ◌∷◌, true, ◌≡◌, ◌≤◌, ◌<◌, ◌+◌, ◌*◌, ◌^◌, ◌+ℤ◌, ℕ, ℤ, pos, List, Some, length, slice_index_or, max, IsSome, IfSome};
-ghost use Rattle.wa_base.specs.Numbers.{sat as saturated};
-ghost use Rattle.meaning.specs.World.{sounding, kind_of, param_id};
+ghost use Rattle.std.specs.Prelude.{◌≡◌, ◌≤◌, ◌<◌, ◌+◌, ◌*◌, ◌/◌, ◌^◌, ℕ, ℤ, List, Some, length, slice_index_or, max, IfSome, FitsSigned};
+ghost use Rattle.std.specs.Int.{w32};
+ghost use Rattle.meaning.specs.World.{sounding, node_at, kind_of, param_id};
 ghost use Rattle.node_table.specs.Kinds.{param_name};
 ghost use Rattle.node_table.specs.Delays.{frames_of as whole_frames};
 ghost use Rattle.meaning.specs.Counts.{input_channels};
 ghost use Rattle.meaning.specs.Values.{Frame as a_frame, input_value, computed_value};
 ghost use Rattle.std.specs.List.{list_any};
-ghost use Rattle.quantum_blocks.specs.Blocks.{at, counts_in};
+ghost use Rattle.automation.specs.Levels.{HasRoom, level_at};
+ghost use Rattle.quantum_blocks.specs.Blocks.{at, room_of, counts_in};
 ghost use Rattle.quantum_blocks.specs.Connections.{leads_to};
 ghost use Rattle.quantum_blocks.specs.Fits.{AreFit};
 ghost use Rattle.quantum_blocks.specs.Held.{IsWidened, AreLanes};
 ghost use Rattle.filter_bank.specs.Heard.{FilterView as a_filter, room_of as filter_room};
 ghost use Rattle.filter_bank.specs.Banks.{filter_at, Hears};
-ghost use Rattle.delay_bank.specs.Kept.{DelayView as a_delay, room_of as delay_room};
+ghost use Rattle.delay_line.specs.Delays.{Writer};
+ghost use Rattle.delay_line.specs.Spans.{delay_at as frames_back};
+ghost use Rattle.delay_bank.specs.Kept.{DelayView as a_delay, room_of as delay_room, HasKept, IsAsked, AreFew, read_back};
 ghost use Rattle.delay_bank.specs.Banks.{delay_at, Writes as DelayWrites};
 ghost use Rattle.quantum_render.specs.Parameters.{unclamped_value};
-ghost use Rattle.quantum_blocks.specs.Sites.{IsLone};
+ghost use Rattle.quantum_render.specs.Sites.{IsLone};
 ghost use Rattle.quantum_render.specs.Renders.{past_of, here_of};
 
+use crate::site::Site;
+use automation::{Level, Values};
 use conn_graph::{Edge, Target};
-use delay_bank::Delays;
+use delay_bank::{Delays, Reading};
 use filter_bank::Filters;
 use node_table::Range;
 use quantum_blocks::{
-    Block, CHANNELS, Held, Inlet, QUANTUM, Site, Sums, reader, slot, span_all, span_each,
+    Block, CHANNELS, Held, Inlet, QUANTUM, Sums, reader, slot, span_all, span_each,
 };
 use std::alloc::Global;
 use std::marker::Model;
@@ -31,13 +36,15 @@ use wa_base::{Fix, Interp, NoMemory, NodeId, ParamId, ParamName, Rate};
 
 // What is at hand while an end is rendered, one end after another: what its input carries, the
 // levels of its parameter, what its inputs carry, one lane each, its input with silent lanes behind it,
-// how many frames its delay lasts at each frame of the quantum, and the sums that all are made of.
+// what its filter or its delay gives, how many frames its delay lasts at each frame of the quantum, and
+// the sums that all are made of.
 #[derive(Drop)]
 pub(crate) struct Bench {
     pub heard: Block,
     pub levels: Block,
     pub merged: Block,
     pub wide: Vec<Fix>,
+    pub given: Vec<Fix>,
     pub spans: Vec<u64>,
     sums: Sums,
 }
@@ -48,9 +55,9 @@ impl Model for Bench {
 
     ghost Value = { BenchView };
 
-    ghost view = { λ b. record { heard = b.heard; levels = b.levels; merged = b.merged; wide = length b.wide.items; spans = b.spans.items } };
+    ghost view = { λ b. record { heard = b.heard; levels = b.levels; merged = b.merged; wide = length b.wide.items; given = length b.given.items; spans = b.spans.items } };
 
-    ghost invariant = { λ b. IsBench (record { heard = b.heard; levels = b.levels; merged = b.merged; wide = length b.wide.items; spans = b.spans.items }) };
+    ghost invariant = { λ b. IsBench (record { heard = b.heard; levels = b.levels; merged = b.merged; wide = length b.wide.items; given = length b.given.items; spans = b.spans.items }) };
 }
 
 impl Bench {
@@ -60,6 +67,7 @@ impl Bench {
             levels: Block::new(alloc, 1)?,
             merged: Block::new(alloc, CHANNELS)?,
             wide: vec![in alloc; 0; CHANNELS * QUANTUM]?,
+            given: vec![in alloc; 0; CHANNELS * QUANTUM]?,
             spans: vec![in alloc; 0; QUANTUM]?,
             sums: Sums::new(alloc)?,
         })
@@ -87,7 +95,7 @@ impl Bench {
                 .copy_output(source, edge.output as usize, channels);
             return;
         }
-        self.sums.gather(blocks, site, inlet);
+        self.sums.gather(blocks, site.into, site.counts, inlet);
         self.heard.saturate(&self.sums);
     }
 
@@ -136,7 +144,7 @@ impl Bench {
             name,
         };
         let level = &site.levels[site.end.node.0 as usize];
-        self.levels.take_level(level);
+        take_level(&mut self.levels, level);
         let target = Target::Param(id);
         if !is_reached(site.into, target) {
             return;
@@ -146,7 +154,7 @@ impl Bench {
             count: 1,
             interp: Interp::Speakers,
         };
-        self.sums.gather(blocks, site, inlet);
+        self.sums.gather(blocks, site.into, site.counts, inlet);
         self.levels.add(&self.sums);
         match level.rate() {
             Rate::A => {}
@@ -166,24 +174,51 @@ impl Bench {
         }
     }
 
-    // In `merged`, what a node's filter puts out for what is heard, with silent lanes behind it up to so
-    // many.
-    pub(crate) fn filter_heard(&mut self, lanes: usize, filters: &mut Filters, node: NodeId)
+    // Makes of an end's block what its node's filter puts out for what is heard. The filter hears that
+    // with silent lanes behind it up to so many.
+    pub(crate) fn filter_heard(
+        &mut self,
+        block: &mut Block,
+        lanes: usize,
+        filters: &mut Filters,
+        node: NodeId,
+    )
         requires few { lanes ≤ 32 }
         requires within { self.old.heard.lanes ≤ lanes }
+        requires own { block.old.lanes ≤ lanes }
         requires there { node.0 < length filters.old.filters }
         requires wide { (f : a_filter) → filter_at filters.old node.0 ≡ Some f → lanes ≡ filter_room f }
-        ensures lanes { self.new.merged.lanes ≡ lanes }
-        ensures hears { (x : List ℤ) × (y : List ℤ) × IsWidened self.old.heard lanes x × AreLanes self.new.merged y × Hears filters.old filters.new node.0 x y }
+        ensures lanes { block.new.lanes ≡ block.old.lanes }
+        ensures hears { (x : List ℤ) × (y : List ℤ) × IsWidened self.old.heard lanes x × AreLanes block.new y × Hears filters.old filters.new node.0 x y }
     {
         match self.heard.plain(lanes) {
-            Some(heard) => self.merged.filter(heard, lanes, filters, node),
+            Some(heard) => filter_block(block, heard, filters, node, self.given.as_mut_slice()),
             None => {
                 self.heard.copy_out(self.wide.as_mut_slice(), lanes);
                 let wide = &self.wide[..lanes * QUANTUM];
-                self.merged.filter(wide, lanes, filters, node);
+                filter_block(block, wide, filters, node, self.given.as_mut_slice());
             }
         }
+    }
+
+    // Makes of an end's block what the reader of its node's delay gives, where `spans` has the delay of
+    // each frame.
+    pub(crate) fn read_delay(&mut self, block: &mut Block, delays: &Delays, site: &Site)
+        requires lanes { block.old.lanes ≡ counts_in site.now.counts site.now.end }
+        ensures lanes { block.new.lanes ≡ block.old.lanes }
+        ensures values { (d : a_delay) (longest born now : ℕ) (writer : Writer) → delay_at delays.now site.now.end.node.0 ≡ Some d → HasKept d longest born now writer → IsAsked site.now.first now longest self.old.spans →
+            AreFew born writer block.old.lanes site.now.first self.old.spans → 128 * (born / 128) ≡ born → (c m : ℕ) → c < block.old.lanes → m < 128 →
+            at block.new c m ≡ read_back born writer (node_at site.now.world site.now.end.node.0).attrs.interp block.old.lanes (site.now.first + m) (frames_back self.old.spans m) c }
+    {
+        let node = site.end.node;
+        let lanes = block.lanes();
+        let asked = Reading {
+            first: site.first,
+            delays: self.spans.as_slice(),
+            channels: lanes as u32,
+            interp: site.world.nodes.attrs(node).interp,
+        };
+        read_block(block, delays, node, asked, self.given.as_mut_slice());
     }
 
     // The writer of a node's delay writes what is heard in the quantum that begins at `first`.
@@ -204,6 +239,67 @@ impl Bench {
             }
         }
     }
+}
+
+// Makes of a block one lane with the values of a level.
+fn take_level(block: &mut Block, level: &Level)
+    requires room { 128 ≤ room_of block.old }
+    requires level { HasRoom level.now }
+    ensures lanes { block.new.lanes ≡ 1 }
+    ensures room { room_of block.new ≡ room_of block.old }
+    ensures values { (m : ℕ) → m < 128 → at block.new 0 m ≡ level_at level.now m }
+    ensures fit { (m : ℕ) → m < 128 → FitsSigned w32 (level_at level.now m) }
+{
+    match level.values() {
+        Values::Steady(value) => block.hold(value),
+        Values::Moving(values) => block.copy_moving(values, 1),
+    }
+}
+
+// A node's filter hears a quantum, lane after lane, and writes what it puts out into the front of
+// `given`. A block becomes the first lanes of that, as many as it has.
+fn filter_block(
+    block: &mut Block,
+    heard: &[Fix],
+    filters: &mut Filters,
+    node: NodeId,
+    given: &mut [Fix],
+)
+    requires there { node.0 < length filters.old.filters }
+    requires heard { (f : a_filter) → filter_at filters.old node.0 ≡ Some f → length heard.now ≡ filter_room f * 128 }
+    requires given { length heard.now ≤ length given.old }
+    requires lanes { block.old.lanes * 128 ≤ length heard.now }
+    ensures lanes { block.new.lanes ≡ block.old.lanes }
+    ensures given { length given.new ≡ length given.old }
+    ensures hears { (y : List ℤ) × AreLanes block.new y × Hears filters.old filters.new node.0 heard.now y }
+{
+    let lanes = block.lanes();
+    let given = &mut given[..heard.len()];
+    filters.hear(node, heard, given);
+    block.copy_moving(&given[..lanes * QUANTUM], lanes);
+}
+
+// A node's reader reads a quantum into the front of `given`, and a block becomes that.
+fn read_block(
+    block: &mut Block,
+    delays: &Delays,
+    node: NodeId,
+    asked: Reading<'_>,
+    given: &mut [Fix],
+)
+    requires lanes { asked.channels ≡ block.old.lanes }
+    requires given { block.old.lanes * 128 ≤ length given.old }
+    requires delays { length asked.delays.now ≡ 128 }
+    requires time { asked.first ≤ 2 ^ 62 }
+    ensures lanes { block.new.lanes ≡ block.old.lanes }
+    ensures given { length given.new ≡ length given.old }
+    ensures values { (d : a_delay) (longest born now : ℕ) (writer : Writer) → delay_at delays.now node.0 ≡ Some d → HasKept d longest born now writer → IsAsked asked.entry.first now longest asked.entry.delays.now → AreFew born writer block.old.lanes asked.entry.first asked.entry.delays.now → 128 * (born / 128) ≡ born →
+        (c m : ℕ) → c < block.old.lanes → m < 128 → at block.new c m ≡ read_back born writer asked.entry.interp block.old.lanes (asked.entry.first + m) (frames_back asked.entry.delays.now m) c }
+{
+    let lanes = block.lanes();
+    let given = &mut given[..lanes * QUANTUM];
+    delays.read(node, given, asked);
+    block.copy_moving(given, lanes);
 }
 
 // The connection to a site's node, where there is one alone, it leads to the inlet, and it has the

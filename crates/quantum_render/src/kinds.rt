@@ -4,7 +4,6 @@ ghost use Rattle.causal_core.specs.declared.equation.Equation.{Equation as an_eq
 ghost use Rattle.sched_source.specs.Schedule.{is_between};
 ghost use Rattle.node_table.specs.declared.kinds.Kind.TheVariants.{Destination, Constant, Buffer, Gain, Delay, Splitter, Merger, Shaper, Causal};
 ghost use Rattle.node_table.specs.Kinds.{IsInLimits};
-ghost use Rattle.meaning.specs.Validity.{IsValid};
 ghost use Rattle.meaning.specs.World.{kind_of, sounds_at};
 ghost use Rattle.quantum_blocks.specs.Blocks.{BlockView as a_block};
 ghost use Rattle.quantum_blocks.specs.Fits.{AreFit};
@@ -16,9 +15,10 @@ ghost use Rattle.quantum_render.specs.Renders.{HasLanes, Renders, RendersWith, L
 
 use crate::bench::Bench;
 use crate::memory::Memory;
+use crate::site::Site;
 use delay_bank::Delays;
 use node_table::Kind;
-use quantum_blocks::{Block, Site, play_place, sounding};
+use quantum_blocks::{Block, play_place, sounding};
 use wa_base::{ParamName, Samples};
 
 // What each kind of node does in a quantum: a line of the table, and a function that takes an input
@@ -164,8 +164,7 @@ impl Bench {
         let channels = site.channels();
         self.take_input(blocks, site, 0, channels);
         let room = memory.filters.room(node).max(channels);
-        self.filter_heard(room, &mut memory.filters, node);
-        block.copy_output(&self.merged, 0, channels);
+        self.filter_heard(block, room, &mut memory.filters, node);
     }
 
     // A delay's writer takes its input in, and its reader gives it later.
@@ -225,7 +224,7 @@ impl Bench {
     {
         self.take_levels(blocks, site, ParamName::DelayTime);
         self.take_spans(site.world.spec.rate, site.least_delay());
-        block.read_delay(delays, site, self.spans.as_slice());
+        self.read_delay(block, delays, site);
     }
 }
 

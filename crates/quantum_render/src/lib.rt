@@ -8,6 +8,7 @@ mod memory;
 mod pass;
 mod plan;
 mod renderer;
+mod site;
 mod stage;
 
 pub use renderer::Renderer;

@@ -11,8 +11,9 @@ ghost use Rattle.quantum_render.specs.Listening.{IsTimely, IsMemory, HasRooms};
 
 use crate::memory::Memory;
 use crate::plan::Plan;
+use crate::site::Quantum;
 use crate::stage::Stage;
-use quantum_blocks::{Block, Quantum, hush};
+use quantum_blocks::{Block, hush};
 
 // Renders all ends: the muted ones are silent, and the others are rendered along the order, each
 // from the blocks of those before it. A filter that no end of the order has hears silence.

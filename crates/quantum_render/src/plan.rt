@@ -6,13 +6,14 @@ ghost use Rattle.conn_graph.specs.declared.edges.Edge.{Edge as an_edge};
 ghost use Rattle.conn_graph.specs.Edges.{target_node};
 ghost use Rattle.conn_graph.specs.Cells.{leaves, enters};
 ghost use Rattle.conn_graph.specs.Ends.{ends};
-ghost use Rattle.quantum_blocks.specs.Sites.{site_in};
+ghost use Rattle.quantum_render.specs.Sites.{site_in};
 ghost use Rattle.quantum_render.specs.Plans.{IsPlan, IsPlanned, IsUnedited, AreCycles};
 
+use crate::site::{Quantum, Site};
 use conn_graph::{Edge, Graph};
 use cycle_order::{Ends, order, survey};
 use meaning::World;
-use quantum_blocks::{Quantum, Site, near_of, places_of};
+use quantum_blocks::{near_of, places_of};
 use std::alloc::Global;
 use std::marker::Model;
 use std::sync::ledger::Ledger;

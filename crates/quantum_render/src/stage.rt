@@ -4,7 +4,8 @@ ghost use Rattle.quantum_render.specs.Renders.{IsRendered};
 
 use crate::bench::Bench;
 use crate::memory::Memory;
-use quantum_blocks::{Block, CHANNELS, Site, slot};
+use crate::site::Site;
+use quantum_blocks::{Block, CHANNELS, slot};
 use std::alloc::Global;
 use std::marker::Model;
 use std::mem;

@@ -5,8 +5,8 @@ use Rattle.conn_graph.specs.declared.edges.Edge.{Edge}
 use Rattle.conn_graph.specs.Ends.{reader_of}
 use Rattle.quantum_blocks.specs.Blocks.{slot, counts_in}
 use Rattle.quantum_blocks.specs.Connections.{into, no_edge}
-use Rattle.quantum_blocks.specs.Sites.{SiteView}
-use Rattle.quantum_blocks.proofs.Sources.{source_slot}
+use Rattle.quantum_render.specs.Sites.{SiteView}
+use Rattle.quantum_render.proofs.SiteLaws.{source_slot}
 use Rattle.quantum_blocks.proofs.Connections.{one_item}
 use Rattle.quantum_render.proofs.bench.lone_connection.Goals as goal
 

@@ -4,7 +4,7 @@ use Rattle.sched_source.specs.Schedule.{played}
 use Rattle.meaning.specs.World.{channels_in, samples_in, played_channels}
 use Rattle.quantum_blocks.specs.Blocks.{counts_in}
 use Rattle.quantum_blocks.specs.Heard.{SourceView, heard_source}
-use Rattle.quantum_blocks.specs.Sites.{SiteView}
+use Rattle.quantum_render.specs.Sites.{SiteView}
 use Rattle.quantum_blocks.proofs.Heard.{heard, unheard, heard_channels}
 use Rattle.quantum_render.proofs.Rendering.{lanes_own, renders_own}
 use Rattle.quantum_render.proofs.kinds.render_buffer.Goals as goal

@@ -6,7 +6,7 @@ use Rattle.meaning.proofs.Joined.{joined}
 use Rattle.filter_bank.specs.Banks.{filter_at, IsRestedIfThere}
 use Rattle.quantum_blocks.specs.Blocks.{slot, IsSilent}
 use Rattle.quantum_blocks.specs.Fits.{AreFit}
-use Rattle.quantum_blocks.specs.Sites.{QuantumView, SiteView, site_in}
+use Rattle.quantum_render.specs.Sites.{QuantumView, SiteView, site_in}
 use Rattle.quantum_render.specs.Listening.{HasRooms}
 use Rattle.quantum_render.specs.Renders.{IsRendered}
 use Rattle.quantum_blocks.proofs.Orders.{no_end}

@@ -1,5 +1,4 @@
-use Rattle.std.specs.Prelude.{if◌then◌else◌}
-use Rattle.std.proofs.Common.{ℤ, pos, ◌≡◌, ◌+ℤ◌, map, filter, slice_index_or, sym, ◌∙◌, ap, arith, subst}
+use Rattle.std.proofs.Common.{ℤ, ◌+ℤ◌, map, filter, sym, ◌∙◌, ap, arith}
 use Rattle.std.proofs.Math.IntN.{+ℤ_idr}
 use Rattle.std.proofs.Math.ListN.{drop_of_length-le}
 use Rattle.channel_mix.specs.Mixing.{total}
@@ -8,20 +7,16 @@ use Rattle.conn_graph.specs.declared.edges.Edge.{Edge}
 use Rattle.meaning.specs.Values.{part}
 use Rattle.quantum_blocks.specs.Blocks.{frame_of}
 use Rattle.quantum_blocks.specs.Connections.{leads_to, no_edge}
-use Rattle.quantum_blocks.specs.Fits.{AreFit}
 use Rattle.quantum_blocks.specs.Sums.{sum_at}
-use Rattle.quantum_blocks.specs.Sites.{SiteView}
-use Rattle.quantum_blocks.proofs.Sources.{source_is, site_few}
 use Rattle.quantum_blocks.proofs.Connections.{total_step}
 use Rattle.quantum_blocks.proofs.sums.Sums.gather.Goals as goal
 
 pub hear-requires-clause-source : goal.hear-requires-clause-source
-hear-requires-clause-source c =
-    source_is _ _ _ _ _ _ c.args.blocks.now c.site.invariant.0 (subst (λ (s : SiteView). AreFit s.world s.counts c.args.blocks.now) (sym c.site.view_is) c.requires.fit) c.loop-edge.edge-index no_edge c.loop-edge-test.true
+hear-requires-clause-source c = c.requires.sources c.loop-edge.edge-index no_edge c.loop-edge-test.true
 
 pub hear-requires-clause-added : goal.hear-requires-clause-added
 hear-requires-clause-added c =
-    let few = site_few _ _ _ _ _ _ c.site.invariant.0 in
+    let few = c.requires.few in
     let added = c.loop-edge.invariant.added in
     omega arith
 
@@ -30,19 +25,17 @@ loop-edge-preserved c = record {
   count = c.hear.ensures.count;
   added = let a = c.hear.ensures.added in let b = c.loop-edge.invariant.added in omega arith;
   sums = λ w channel m in_range now.
-      let f : Edge → ℤ = part (frame_of w c.args.blocks.now c.args.site.now.counts m) c.args.inlet.interp c.args.inlet.count channel in
-      let edge : Edge = slice_index_or c.site.inside.into.now c.loop-edge.edge-index no_edge in
-      let step = total_step c.args.inlet.target f c.site.inside.into.now c.loop-edge.edge-index no_edge c.loop-edge-test.true in
+      let f : Edge → ℤ = part (frame_of w c.args.blocks.now c.args.counts.now m) c.args.inlet.interp c.args.inlet.count channel in
+      let step = total_step c.args.inlet.target f c.args.into.now c.loop-edge.edge-index no_edge c.loop-edge-test.true in
       let whole = c.loop-edge.invariant.sums w channel m in_range now in
-      let added = subst (λ (s : SiteView). sum_at c.hear.new.self channel m ≡ sum_at c.loop-edge.self channel m +ℤ (if leads_to c.args.inlet.target edge then part (frame_of w c.args.blocks.now s.counts m) c.args.inlet.interp c.args.inlet.count channel edge else pos 0)) c.site.view_is (c.hear.ensures.sums w channel m in_range now) in
+      let added = c.hear.ensures.sums w channel m in_range now in
       omega (arith, ints, step, whole, added);
 }
 
 pub returns-clause-sums : goal.returns-clause-sums
 returns-clause-sums c w channel m in_range now =
-    let f : Edge → ℤ = part (frame_of w c.args.blocks.now c.args.site.now.counts m) c.args.inlet.interp c.args.inlet.count channel in
+    let f : Edge → ℤ = part (frame_of w c.args.blocks.now c.args.counts.now m) c.args.inlet.interp c.args.inlet.count channel in
     let sum : ℤ = sum_at c.loop-edge.self channel m in
     sym (+ℤ_idr sum)
-    ∙ ap (λ es. sum +ℤ total (map f (filter (leads_to c.args.inlet.target) es))) (sym (drop_of_length-le c.site.inside.into.now c.loop-edge-test.false))
+    ∙ ap (λ es. sum +ℤ total (map f (filter (leads_to c.args.inlet.target) es))) (sym (drop_of_length-le c.args.into.now c.loop-edge-test.false))
     ∙ c.loop-edge.invariant.sums w channel m in_range now
-    ∙ ap (λ (s : SiteView). total (map f (filter (leads_to c.args.inlet.target) s.into))) c.site.view_is

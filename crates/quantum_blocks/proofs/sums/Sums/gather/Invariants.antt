@@ -13,6 +13,6 @@ invariant-loop-edge l = record {
   count : l.self.count ≡ l.inlet.count;
   added : l.self.added ≤ l.edge-index;
   sums : (w : World) (c m : ℕ) → c < l.inlet.count → m < 128 →
-      sum_at l.self c m +ℤ total (map (part (frame_of w l.blocks l.site.counts m) l.inlet.interp l.inlet.count c) (filter (leads_to l.inlet.target) (drop l.edge-index l.edge-items)))
-      ≡ total (map (part (frame_of w l.blocks l.site.counts m) l.inlet.interp l.inlet.count c) (filter (leads_to l.inlet.target) l.edge-items));
+      sum_at l.self c m +ℤ total (map (part (frame_of w l.blocks l.counts m) l.inlet.interp l.inlet.count c) (filter (leads_to l.inlet.target) (drop l.edge-index l.into)))
+      ≡ total (map (part (frame_of w l.blocks l.counts m) l.inlet.interp l.inlet.count c) (filter (leads_to l.inlet.target) l.into));
 }

@@ -3,7 +3,7 @@ use Rattle.std.specs.Prelude.{if◌then◌else◌}
 use Rattle.node_table.specs.Kinds.{row, param_name}
 use Rattle.meaning.specs.World.{sounds_at}
 use Rattle.quantum_blocks.specs.Blocks.{BlockView, at}
-use Rattle.quantum_blocks.specs.Sites.{SiteView}
+use Rattle.quantum_render.specs.Sites.{SiteView}
 use Rattle.quantum_render.specs.Benches.{BenchView}
 use Rattle.quantum_render.proofs.Rendering.{site_is, mono_own, own_room, renders_own}
 use Rattle.quantum_render.proofs.bench.Bench.render_constant.Goals as goal

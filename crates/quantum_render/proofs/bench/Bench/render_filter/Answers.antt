@@ -1,6 +1,4 @@
-use Rattle.std.proofs.Common.{ℕ, ℤ, ◌≡◌, ◌<◌, ◌≤◌, ◌+◌, ◌*◌, length, List, Some, slice_index_or, true, pos, inl, inr, refl, sym, ◌∙◌, ap, arith, subst}
-use Rattle.std.specs.Prelude.{if◌then◌else◌, nat_lt}
-use Rattle.std.proofs.lemmas.Bool.Decides.{nat_tests}
+use Rattle.std.proofs.Common.{ℕ, ℤ, ◌≡◌, ◌<◌, ◌≤◌, ◌+◌, ◌*◌, length, List, Some, slice_index_or, inl, inr, refl, sym, ◌∙◌, ap, arith, subst}
 use Rattle.causal_core.specs.declared.equation.Equation.{Equation}
 use Rattle.node_table.specs.declared.kinds.Kind.TheVariants.{Causal}
 use Rattle.meaning.specs.World.{sounding, kind_of}
@@ -8,13 +6,12 @@ use Rattle.meaning.specs.Counts.{input_channels}
 use Rattle.meaning.specs.Values.{Frame}
 use Rattle.filter_bank.specs.Heard.{Brings, room_of as filter_room}
 use Rattle.filter_bank.specs.Banks.{BankView, filter_at, Hears}
-use Rattle.quantum_blocks.specs.Blocks.{BlockView, at, shown, carried, counts_in}
-use Rattle.quantum_render.specs.Benches.{BenchView}
-use Rattle.quantum_blocks.specs.Sites.{SiteView}
+use Rattle.quantum_blocks.specs.Blocks.{counts_in}
+use Rattle.quantum_render.specs.Sites.{SiteView}
 use Rattle.quantum_render.specs.Renders.{IsReadyFor}
 use Rattle.quantum_render.proofs.Filtering.{lanes_are, takes, has_heard, brings, puts_out, hears_on}
 use Rattle.law_base.proofs.Places.{this_or_other}
-use Rattle.quantum_render.proofs.Rendering.{site_is, renders_with_own}
+use Rattle.quantum_render.proofs.Rendering.{site_is, lanes_own, renders_with_own}
 use Rattle.quantum_render.proofs.bench.Bench.render_filter.Goals as goal
 
 pub filter_heard-requires-clause-wide : goal.filter_heard-requires-clause-wide
@@ -24,16 +21,23 @@ filter_heard-requires-clause-wide c f is =
     lanes_are s site c.requires.kind.0 c.requires.kind.1 c.args.memory.now.filters c.requires.rooms.filter_rooms f (subst (λ k. filter_at c.args.memory.now.filters k ≡ Some f) (ap (λ (x : SiteView). x.end.node.0) c.site.view_is) is)
     c.room.result c.channels-channels.result c.max-room.result (c.room.ensures.room f is) c.channels-channels.ensures.count c.max-room.ensures
 
+pub filter_heard-requires-clause-own : goal.filter_heard-requires-clause-own
+filter_heard-requires-clause-own c =
+    let own = lanes_own c.args.site.now _ c.requires.kind.1 refl c.args.block.now c.requires.lanes in
+    let channels = c.channels-channels.ensures.count in
+    let most = c.max-room.ensures in
+    grind arith
+
 -- the input with silent lanes behind it, which the filter hears
-abbrev input_of : goal.After-copy_output → List ℤ
+abbrev input_of : goal.After-filter_heard → List ℤ
 input_of c = c.filter_heard.ensures.hears.0
 
 -- and what it puts out for that
-abbrev output_of : goal.After-copy_output → List ℤ
+abbrev output_of : goal.After-filter_heard → List ℤ
 output_of c = c.filter_heard.ensures.hears.1
 
 -- what is heard is what the input carries
-heard_brings : (c : goal.After-copy_output) (equation : Equation) → (is : kind_of c.args.site.now.world c.args.site.now.end.node.0 ≡ Causal equation) → (before : ℕ → Frame) → (ready : IsReadyFor c.args.site.now c.args.memory.now c.args.blocks.now before)
+heard_brings : (c : goal.After-filter_heard) (equation : Equation) → (is : kind_of c.args.site.now.world c.args.site.now.end.node.0 ≡ Causal equation) → (before : ℕ → Frame) → (ready : IsReadyFor c.args.site.now c.args.memory.now c.args.blocks.now before)
     → counts_in c.args.site.now.counts c.args.site.now.end ≡ input_channels (sounding c.args.site.now.world) (counts_in c.args.site.now.counts) c.args.site.now.end.node.0 0
     → Brings c.args.site.now.first (input_of c) (takes c.args.site.now (site_is c.args.site.now _ _ _ _ _ _ c.site.invariant.0 c.site.view_is) c.args.memory.now c.args.blocks.now equation is before ready)
 heard_brings c equation is before ready counted =
@@ -44,10 +48,10 @@ heard_brings c equation is before ready counted =
     c.filter_heard.ensures.hears.2 c.take_input.ensures.lanes (within c) (channels ∙ counted)
     (λ k m low now. c.take_input.ensures.input (channels ∙ counted) k m low now)
   where
-    within : (c : goal.After-copy_output) → c.channels-channels.result ≤ c.max-room.result
+    within : (c : goal.After-filter_heard) → c.channels-channels.result ≤ c.max-room.result
     within c = let most = c.max-room.ensures in grind arith
 
-hears_own : (c : goal.After-copy_output) → Hears c.args.memory.now.filters c.filter_heard.new.filters c.args.site.now.end.node.0 (input_of c) (output_of c)
+hears_own : (c : goal.After-filter_heard) → Hears c.args.memory.now.filters c.filter_heard.new.filters c.args.site.now.end.node.0 (input_of c) (output_of c)
 hears_own c = subst (λ k. Hears c.args.memory.now.filters c.filter_heard.new.filters k (input_of c) (output_of c)) (ap (λ (x : SiteView). x.end.node.0) c.site.view_is) c.filter_heard.ensures.hears.4
 
 pub returns-clause-renders : goal.returns-clause-renders
@@ -58,28 +62,17 @@ returns-clause-renders c =
     let site = site_is s _ _ _ _ _ _ c.site.invariant.0 c.site.view_is in
     let filters : BankView = c.args.memory.now.filters in
     let channels : c.channels-channels.result ≡ counts_in s.counts s.end = c.channels-channels.ensures.count in
-    renders_with_own s _ is refl c.args.blocks.now c.copy_output.new.self (c.copy_output.ensures.lanes ∙ channels) c.args.memory.now (λ j earlier begins counted before ready channel m low now.
+    renders_with_own s _ is refl c.args.blocks.now c.filter_heard.new.block (c.filter_heard.ensures.lanes ∙ lanes_own s _ is refl c.args.block.now c.requires.lanes) c.args.memory.now (λ j earlier begins counted before ready channel m low now.
     let own = has_heard s site c.args.memory.now c.args.blocks.now equation is before ready in
     let there : filter_at filters c.site.inside.end.node.0 ≡ Some own.filter = subst (λ k. filter_at filters k ≡ Some own.filter) (sym (ap (λ (x : SiteView). x.end.node.0) c.site.view_is)) own.there in
     let lanes : c.max-room.result ≡ filter_room own.filter = lanes_are s site equation is filters c.requires.rooms.filter_rooms own.filter own.there c.room.result c.channels-channels.result c.max-room.result (c.room.ensures.room own.filter there) channels c.max-room.ensures in
     let low' : channel < c.channels-channels.result = subst (λ k. channel < k) (sym channels) low in
-    let few : channel < c.max-room.result = lower c channel low' in
-    let merged : c.self.inside.merged ≡ c.filter_heard.new.self.merged = ap (λ (b : BenchView). b.merged) c.self.view_is in
-    let all : c.self.inside.merged.lanes ≡ c.max-room.result = ap (λ (b : BlockView). b.lanes) merged ∙ c.filter_heard.ensures.lanes in
-    c.copy_output.ensures.values channel m low' now
-    ∙ carried_first c.self.inside.merged c.channels-channels.result channel m low' (subst (λ k. channel < k) (sym all) few)
-    ∙ ap (λ (b : BlockView). at b channel m) merged
-    ∙ c.filter_heard.ensures.hears.3 channel m (subst (λ k. channel < k) (sym c.filter_heard.ensures.lanes) few) now
-    ∙ puts_out s site c.args.memory.now c.args.blocks.now equation is before ready (input_of c) (output_of c) c.filter_heard.new.filters (hears_own c) (heard_brings c equation is before ready counted) site.quantum.begun.time channel m (subst (λ k. channel < k) lanes few) now)
+    c.filter_heard.ensures.hears.3 channel m (subst (λ k. channel < k) (sym (c.filter_heard.ensures.lanes ∙ lanes_own s _ is refl c.args.block.now c.requires.lanes)) low) now
+    ∙ puts_out s site c.args.memory.now c.args.blocks.now equation is before ready (input_of c) (output_of c) c.filter_heard.new.filters (hears_own c) (heard_brings c equation is before ready counted) site.quantum.begun.time channel m
+    (subst (λ k. channel < k) lanes (lower c channel low')) now)
   where
-    lower : (c : goal.After-copy_output) → (k : ℕ) → k < c.channels-channels.result → k < c.max-room.result
+    lower : (c : goal.After-filter_heard) → (k : ℕ) → k < c.channels-channels.result → k < c.max-room.result
     lower c k low = let most = c.max-room.ensures in grind arith
-
-    carried_first : (b : BlockView) (n k m : ℕ) → k < n → k < b.lanes → carried b n 0 m k ≡ at b k m
-    carried_first b n k m low within =
-        ap (λ t. if t then shown b m (0 * n + k) else pos 0) (let yes : nat_lt k n ≡ true = grind (arith, nat_tests) in yes)
-        ∙ ap (shown b m) (let e : 0 * n + k ≡ k = omega arith in e)
-        ∙ ap (λ t. if t then at b k m else pos 0) (let yes : nat_lt k b.lanes ≡ true = grind (arith, nat_tests) in yes)
 
 pub returns-clause-listens : goal.returns-clause-listens
 returns-clause-listens c = record {

@@ -2,7 +2,7 @@ use Rattle.std.proofs.Common.{◌≡◌, ◌<◌, sym, ◌∙◌, ap, ap₂, ref
 use Rattle.wa_base.specs.Numbers.{scale}
 use Rattle.node_table.specs.Kinds.{param_name}
 use Rattle.quantum_blocks.specs.Blocks.{BlockView, at, counts_in}
-use Rattle.quantum_blocks.specs.Sites.{SiteView}
+use Rattle.quantum_render.specs.Sites.{SiteView}
 use Rattle.quantum_render.specs.Benches.{BenchView}
 use Rattle.quantum_render.proofs.Rendering.{own_room, renders_own}
 use Rattle.quantum_render.proofs.bench.Bench.render_gain.Goals as goal

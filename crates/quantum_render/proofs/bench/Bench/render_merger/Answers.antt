@@ -1,6 +1,6 @@
 use Rattle.std.proofs.Common.{◌≡◌, ◌<◌, sym, ◌∙◌, ap, refl, subst}
 use Rattle.quantum_blocks.specs.Blocks.{BlockView, at, counts_in}
-use Rattle.quantum_blocks.specs.Sites.{SiteView}
+use Rattle.quantum_render.specs.Sites.{SiteView}
 use Rattle.quantum_blocks.proofs.Sources.{end_low}
 use Rattle.quantum_render.specs.Benches.{BenchView}
 use Rattle.quantum_render.proofs.Ports.{merger_channels}

@@ -1,7 +1,7 @@
 use Rattle.std.proofs.Common.{◌∷◌, [], ◌≡◌, ◌<◌, sym, ◌∙◌, ap, refl, subst}
 use Rattle.causal_core.specs.Curves.{shaper_value}
 use Rattle.quantum_blocks.specs.Blocks.{BlockView, at, counts_in}
-use Rattle.quantum_blocks.specs.Sites.{SiteView}
+use Rattle.quantum_render.specs.Sites.{SiteView}
 use Rattle.quantum_render.specs.Benches.{BenchView}
 use Rattle.quantum_render.proofs.Rendering.{own_room, renders_own}
 use Rattle.quantum_render.proofs.bench.Bench.render_shaper.Goals as goal

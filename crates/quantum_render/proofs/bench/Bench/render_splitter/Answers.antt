@@ -4,7 +4,7 @@ use Rattle.node_table.specs.declared.kinds.Kind.TheVariants.{Splitter}
 use Rattle.node_table.specs.Kinds.{row, outputs, IsInLimits}
 use Rattle.meaning.specs.World.{kind_of}
 use Rattle.quantum_blocks.specs.Blocks.{BlockView, at, counts_in}
-use Rattle.quantum_blocks.specs.Sites.{SiteView, IsSite}
+use Rattle.quantum_render.specs.Sites.{SiteView, IsSite}
 use Rattle.quantum_blocks.proofs.Sources.{end_low}
 use Rattle.quantum_render.specs.Benches.{BenchView}
 use Rattle.quantum_render.specs.Renders.{Renders}

@@ -8,10 +8,11 @@ use Rattle.meaning.specs.Values.{input_value, delayed}
 use Rattle.delay_bank.specs.Banks.{delay_at, Writes}
 use Rattle.quantum_blocks.specs.Blocks.{BlockView, at, shown, slot, counts_in}
 use Rattle.quantum_render.specs.Benches.{BenchView}
-use Rattle.quantum_blocks.specs.Sites.{SiteView}
+use Rattle.quantum_render.specs.Sites.{SiteView}
 use Rattle.quantum_render.specs.Renders.{past_of, here_of}
 use Rattle.law_base.proofs.Places.{this_or_other}
-use Rattle.quantum_blocks.proofs.Sources.{end_low, site_slot}
+use Rattle.quantum_blocks.proofs.Sources.{end_low}
+use Rattle.quantum_render.proofs.SiteLaws.{site_slot}
 use Rattle.quantum_render.proofs.Rendering.{site_is, own_room, renders_own}
 use Rattle.quantum_render.proofs.bench.Bench.render_writer.Goals as goal
 

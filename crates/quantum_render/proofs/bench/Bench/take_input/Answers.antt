@@ -12,8 +12,9 @@ use Rattle.quantum_blocks.specs.Blocks.{BlockView, no_block, slot, block_of, car
 use Rattle.quantum_blocks.specs.Connections.{into, leads_to, no_edge}
 use Rattle.quantum_blocks.specs.Fits.{AreFit, IsSource}
 use Rattle.quantum_blocks.specs.Sums.{sum_at}
-use Rattle.quantum_blocks.specs.Sites.{SiteView, IsSite, IsLone}
-use Rattle.quantum_blocks.proofs.Sources.{end_low, source_is}
+use Rattle.quantum_render.specs.Sites.{SiteView, IsSite, IsLone}
+use Rattle.quantum_blocks.proofs.Sources.{end_low}
+use Rattle.quantum_render.proofs.SiteLaws.{source_is, site_few}
 use Rattle.meaning.proofs.NodeKinds.{attrs_are}
 use Rattle.quantum_render.proofs.InputLaws.{input_is, lone_input}
 use Rattle.quantum_render.proofs.Rendering.{site_is}
@@ -44,6 +45,12 @@ copy_output-requires-clause-output c =
     subst (λ (b : BlockView). c.in-Some.edge.output * c.args.channels + c.args.channels ≤ b.lanes) (sym block)
     (subst (λ n. c.in-Some.edge.output * n + n ≤ (block_of c.args.blocks.now (reader_of c.in-Some.edge.from.0)).lanes) c.in-Some.ensures.count source.lanes)
 
+pub gather-requires-clause-few : goal.gather-requires-clause-few
+gather-requires-clause-few c = site_few _ _ _ _ _ _ c.site.invariant.0
+
+pub gather-requires-clause-sources : goal.gather-requires-clause-sources
+gather-requires-clause-sources c = source_is _ _ _ _ _ _ c.args.blocks.now c.site.invariant.0 (subst (λ (x : SiteView). AreFit x.world x.counts c.args.blocks.now) (sym c.site.view_is) c.requires.fit)
+
 pub returns-in-Some-clause-input : goal.returns-in-Some-clause-input
 returns-in-Some-clause-input c channels channel m low now =
     let s : SiteView = c.args.site.now in
@@ -67,5 +74,5 @@ returns-clause-input c channels channel m low now =
     c.saturate.ensures.values channel m low' now
     ∙ input_is s.world blocks s.counts s.end.node.0 c.args.input channel m c.args.channels low s.into site.into channels c.attrs.result.interp (sum_at c.gather.new.self channel m)
     (ap (λ (a : Attrs). a.interp) (attrs_are s.world s.end.node.0 c.attrs.result (end_low s.world site.quantum.valid s.end site.there) (subst (λ (x : SiteView). attrs_at x.world.nodes x.end.node.0 ≡ Some c.attrs.result) c.site.view_is c.attrs.ensures.value)))
-    (subst (λ (x : SiteView). sum_at c.gather.new.self channel m ≡ total (map (part (frame_of (sounding s.world) blocks s.counts m) c.attrs.result.interp c.args.channels channel) (filter (leads_to (Input (record { 0 = x.end.node.0 }) c.args.input)) s.into))) c.site.view_is
+    (subst (λ (x : SiteView). sum_at c.gather.new.self channel m ≡ total (map (part (frame_of (sounding s.world) blocks x.counts m) c.attrs.result.interp c.args.channels channel) (filter (leads_to (Input (record { 0 = x.end.node.0 }) c.args.input)) x.into))) c.site.view_is
     (c.gather.ensures.sums (sounding s.world) channel m low now))

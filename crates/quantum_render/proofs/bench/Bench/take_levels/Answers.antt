@@ -13,7 +13,7 @@ use Rattle.meaning.proofs.NodeKinds.{row_there}
 use Rattle.quantum_render.specs.Benches.{BenchView}
 use Rattle.quantum_blocks.specs.Blocks.{BlockView, at}
 use Rattle.quantum_render.specs.Renders.{past_of, here_of}
-use Rattle.quantum_blocks.specs.Sites.{SiteView}
+use Rattle.quantum_render.specs.Sites.{SiteView}
 use Rattle.quantum_render.proofs.LevelLaws.{computed_is, limited_is}
 use Rattle.quantum_render.proofs.bench.Bench.take_levels.Goals as goal
 

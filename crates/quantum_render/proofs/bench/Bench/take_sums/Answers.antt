@@ -17,14 +17,16 @@ use Rattle.meaning.specs.World.{sounding, kind_of, is_k, is_k_rate, intrinsic_va
 use Rattle.automation.specs.Levels.{LevelView, HasRoom, level_at, level_of, no_level}
 use Rattle.quantum_blocks.specs.Blocks.{frame_of}
 use Rattle.quantum_blocks.specs.Connections.{leads_to}
+use Rattle.quantum_blocks.specs.Fits.{AreFit}
 use Rattle.quantum_blocks.specs.Sums.{sum_at}
-use Rattle.quantum_blocks.specs.Sites.{SiteView, IsSite}
+use Rattle.quantum_render.specs.Sites.{SiteView, IsSite}
 use Rattle.node_table.specs.Kinds.{param_name}
 use Rattle.quantum_blocks.proofs.Sources.{end_low}
 use Rattle.quantum_render.proofs.Automated.{has_param, has_room, level_within, rate_is, intrinsic_is}
 use Rattle.quantum_render.proofs.InputLaws.{sat_of_fix}
 use Rattle.quantum_render.proofs.LevelLaws.{taken_at, level_is, level_unreached, unclamped_is}
 use Rattle.quantum_render.proofs.Rendering.{site_is}
+use Rattle.quantum_render.proofs.SiteLaws.{source_is, site_few}
 use Rattle.quantum_render.proofs.bench.Bench.take_sums.Goals as goal
 
 -- the parameter that the kind has is there
@@ -45,6 +47,12 @@ take_level-requires-clause-level c =
     let id = param_id c.site.inside.end.node.0 c.args.name in
     subst HasRoom (get_or_default c.site.inside.levels.now c.site.inside.end.node.0 no_level c.index-site-site.result (level_within w c.site.invariant.0.quantum.valid c.site.inside.first c.site.inside.levels.now c.site.invariant.0.quantum.levels id there))
     (has_room w c.site.invariant.0.quantum.valid c.site.inside.first c.site.inside.levels.now c.site.invariant.0.quantum.levels id there)
+
+pub gather-requires-clause-few : goal.gather-requires-clause-few
+gather-requires-clause-few c = site_few _ _ _ _ _ _ c.site.invariant.0
+
+pub gather-requires-clause-sources : goal.gather-requires-clause-sources
+gather-requires-clause-sources c = source_is _ _ _ _ _ _ c.args.blocks.now c.site.invariant.0 (subst (λ (x : SiteView). AreFit x.world x.counts c.args.blocks.now) (sym c.site.view_is) c.requires.fit)
 
 -- the level that is at hand is that of the site's node
 here : (s : SiteView) → IsSite s.world s.end s.into s.counts s.levels s.first → (name : ParamName) → IsIn (param_id s.end.node.0 name) (param_ids s.world) → (level d : LevelView)
@@ -97,7 +105,7 @@ returns-in-A-clause-levels c before m now =
     (intrinsic s site c.args.name (is_there s site c.args.name c.requires.there) level d is m now)
     (rate s site c.args.name (is_there s site c.args.name c.requires.there) level d is ∙ ap is_k (sym c.rate.ensures ∙ c.in-A.is))
     (λ k low.
-    subst (λ (x : SiteView). sum_at c.gather.new.self 0 k ≡ total (map (part (frame_of (sounding s.world) c.args.blocks.now s.counts k) Speakers 1 0) (filter (leads_to (Param (param_id x.end.node.0 c.args.name))) s.into))) c.site.view_is
+    subst (λ (x : SiteView). sum_at c.gather.new.self 0 k ≡ total (map (part (frame_of (sounding s.world) c.args.blocks.now x.counts k) Speakers 1 0) (filter (leads_to (Param (param_id x.end.node.0 c.args.name))) x.into))) c.site.view_is
     (c.gather.ensures.sums (sounding s.world) 0 k (omega arith) low))
     ∙ unclamped_is (sounding s.world) c.args.blocks.now s.counts before s.first m site.quantum.begun now (param_id s.end.node.0 c.args.name)
 
@@ -118,6 +126,6 @@ returns-in-K-clause-levels c before m now =
     (at_first (sounding s.world) (param_id s.end.node.0 c.args.name) m k_rate) (intrinsic s site c.args.name (is_there s site c.args.name c.requires.there) level d is 0 (omega arith)))
     k_rate
     (λ k low.
-    subst (λ (x : SiteView). sum_at c.gather.new.self 0 k ≡ total (map (part (frame_of (sounding s.world) c.args.blocks.now s.counts k) Speakers 1 0) (filter (leads_to (Param (param_id x.end.node.0 c.args.name))) s.into))) c.site.view_is
+    subst (λ (x : SiteView). sum_at c.gather.new.self 0 k ≡ total (map (part (frame_of (sounding s.world) c.args.blocks.now x.counts k) Speakers 1 0) (filter (leads_to (Param (param_id x.end.node.0 c.args.name))) x.into))) c.site.view_is
     (c.gather.ensures.sums (sounding s.world) 0 k (omega arith) low))
     ∙ unclamped_is (sounding s.world) c.args.blocks.now s.counts before s.first m site.quantum.begun now (param_id s.end.node.0 c.args.name)

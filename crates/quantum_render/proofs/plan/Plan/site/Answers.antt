@@ -6,7 +6,7 @@ use Rattle.conn_graph.specs.declared.edges.Edge.{Edge}
 use Rattle.conn_graph.specs.Ends.{ends}
 use Rattle.meaning.specs.declared.world.World.{World}
 use Rattle.quantum_blocks.specs.Connections.{into}
-use Rattle.quantum_blocks.specs.Sites.{QuantumView, SiteView, site_in}
+use Rattle.quantum_render.specs.Sites.{QuantumView, SiteView, site_in}
 use Rattle.quantum_render.specs.Plans.{PlanView, IsPlan, AreCycles}
 use Rattle.quantum_blocks.proofs.Sources.{same_nodes, end_low}
 use Rattle.quantum_render.proofs.plan.Plan.site.Goals as goal

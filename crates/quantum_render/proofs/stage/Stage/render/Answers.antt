@@ -1,7 +1,7 @@
 use Rattle.std.proofs.Common.{◌≡◌, List, slice_set, sym, ◌∙◌, ap, subst}
 use Rattle.meaning.specs.World.{kind_of}
 use Rattle.quantum_blocks.specs.Blocks.{BlockView, slot}
-use Rattle.quantum_blocks.specs.Sites.{SiteView}
+use Rattle.quantum_render.specs.Sites.{SiteView}
 use Rattle.quantum_render.specs.Renders.{RendersWith, Stores}
 use Rattle.quantum_render.proofs.Rendering.{site_is}
 use Rattle.quantum_render.proofs.Staging.{rendered}

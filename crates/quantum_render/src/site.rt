@@ -1,46 +1,22 @@
 ghost use Rattle.std.specs.Prelude.{◌≡◌, ◌≤◌, true, if◌then◌else◌};
 ghost use Rattle.node_table.specs.Kinds.{outputs as outputs_of, IsInLimits};
-ghost use Rattle.conn_graph.specs.Ends.{writer_of, reader_of, is_delay, in_cycle as cycle_of};
+ghost use Rattle.conn_graph.specs.Ends.{is_delay, in_cycle as cycle_of};
 ghost use Rattle.meaning.specs.World.{kind_of};
-ghost use Rattle.quantum_blocks.specs.Blocks.{slot as slot_of, counts_in};
-ghost use Rattle.quantum_blocks.specs.Sites.{IsSite};
+ghost use Rattle.quantum_blocks.specs.Blocks.{counts_in};
+ghost use Rattle.quantum_render.specs.Sites.{IsSite};
 
-use crate::block::QUANTUM;
 use automation::Level;
 use conn_graph::Edge;
 use meaning::World;
 use node_table::Kind;
+use quantum_blocks::{QUANTUM, slot};
 use std::marker::Model;
-use wa_base::{End, NodeId};
+use wa_base::End;
 
-/// The place of an end among the blocks and the counts.
-pub fn slot(end: End) -> usize
-    ensures { result ≡ slot_of end }
-{
-    2 * end.node.0 as usize + if end.writer { 0 } else { 1 }
-}
-
-/// The end from which a node's connections leave.
-pub fn reader(node: NodeId) -> End
-    ensures { result ≡ reader_of node.0 }
-{
-    End {
-        node,
-        writer: false,
-    }
-}
-
-/// The end at which the input of a delay arrives.
-pub fn writer(node: NodeId) -> End
-    ensures { result ≡ writer_of node.0 }
-{
-    End { node, writer: true }
-}
-
-/// What the ends of a valid world are rendered by in the quantum that begins at a frame: the channels of
-/// each end, by its slot, and the level of each node's parameter.
+// What the ends of a valid world are rendered by in the quantum that begins at a frame: the channels of
+// each end, by its slot, and the level of each node's parameter.
 #[derive(Drop)]
-pub struct Quantum<'a> {
+pub(crate) struct Quantum<'a> {
     pub world: &'a World,
     pub counts: &'a [u32],
     pub levels: &'a [Level],
@@ -48,7 +24,7 @@ pub struct Quantum<'a> {
 }
 
 impl<'a> Model for Quantum<'a> {
-    ghost use Rattle.quantum_blocks.specs.Sites.{QuantumView, IsQuantum};
+    ghost use Rattle.quantum_render.specs.Sites.{QuantumView, IsQuantum};
 
     ghost Value = { QuantumView };
 
@@ -57,25 +33,25 @@ impl<'a> Model for Quantum<'a> {
     ghost invariant = { λ q. IsQuantum q.world.now q.counts.now q.levels.now q.first };
 }
 
-/// An end of a node of a valid world with the connections that lead to the node, in the quantum that
-/// begins at a frame.
+// An end of a node of a valid world with the connections that lead to the node, in the quantum that
+// begins at a frame.
 #[derive(Drop)]
-pub struct Site<'a> {
+pub(crate) struct Site<'a> {
     pub world: &'a World,
     pub end: End,
     pub into: &'a [Edge],
-    /// The channels of each end, by its slot.
+    // The channels of each end, by its slot.
     pub counts: &'a [u32],
-    /// The level of each node's parameter.
+    // The level of each node's parameter.
     pub levels: &'a [Level],
     pub first: u64,
     pub near: usize,
-    /// Whether the node is a delay in a cycle.
+    // Whether the node is a delay in a cycle.
     pub in_cycle: bool,
 }
 
 impl<'a> Model for Site<'a> {
-    ghost use Rattle.quantum_blocks.specs.Sites.{SiteView, IsSite, IsMarked};
+    ghost use Rattle.quantum_render.specs.Sites.{SiteView, IsSite, IsMarked};
 
     ghost Value = { SiteView };
 
@@ -85,8 +61,8 @@ impl<'a> Model for Site<'a> {
 }
 
 impl Site<'_> {
-    /// The number of channels of the end.
-    pub fn channels(&self) -> usize
+    // The number of channels of the end.
+    pub(crate) fn channels(&self) -> usize
         ensures count { result ≡ counts_in self.now.counts self.now.end }
         ensures low { 1 ≤ result }
         ensures high { result ≤ 32 }
@@ -95,8 +71,8 @@ impl Site<'_> {
         self.counts[slot(self.end)] as usize
     }
 
-    /// What the end's node is.
-    pub fn kind(&self) -> &Kind
+    // What the end's node is.
+    pub(crate) fn kind(&self) -> &Kind
         ensures value { result.now ≡ kind_of self.now.world self.now.end.node.0 }
         ensures limits { IsInLimits result.now }
         ensures site { IsSite self.now.world self.now.end self.now.into self.now.counts self.now.levels self.now.first }
@@ -104,8 +80,8 @@ impl Site<'_> {
         self.world.nodes.kind(self.end.node)
     }
 
-    /// The number of outputs of the end's node.
-    pub fn outputs(&self) -> u32
+    // The number of outputs of the end's node.
+    pub(crate) fn outputs(&self) -> u32
         ensures count { result ≡ outputs_of (kind_of self.now.world self.now.end.node.0) }
         ensures ports { IsInLimits (kind_of self.now.world self.now.end.node.0) }
         ensures site { IsSite self.now.world self.now.end self.now.into self.now.counts self.now.levels self.now.first }
@@ -113,8 +89,8 @@ impl Site<'_> {
         self.kind().row().outputs
     }
 
-    /// The least number of frames that a delay lasts: in a cycle those of a quantum.
-    pub fn least_delay(&self) -> u64
+    // The least number of frames that a delay lasts: in a cycle those of a quantum.
+    pub(crate) fn least_delay(&self) -> u64
         ensures { is_delay self.now.world.graph.value self.now.end.node.0 ≡ true → result ≡ (if cycle_of self.now.world.graph.value self.now.end.node.0 then 128 else 0) }
     {
         if self.in_cycle { QUANTUM as u64 } else { 0 }

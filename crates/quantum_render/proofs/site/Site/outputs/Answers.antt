@@ -1,7 +1,7 @@
 use Rattle.std.proofs.Common.{◌∙◌, ap, subst}
 use Rattle.node_table.specs.declared.rows.Row.{Row}
 use Rattle.node_table.specs.Kinds.{outputs, IsInLimits}
-use Rattle.quantum_blocks.proofs.site.Site.outputs.Goals as goal
+use Rattle.quantum_render.proofs.site.Site.outputs.Goals as goal
 
 pub returns-clause-count : goal.returns-clause-count
 returns-clause-count c = ap (λ (r : Row). r.outputs) c.row.ensures ∙ ap outputs c.kind.ensures.value

@@ -1,9 +1,9 @@
 use Rattle.std.proofs.Common.{rules, ◌<◌, ◌≤◌, slice_index_or, sym, ◌∙◌, ap, arith, subst}
 use Rattle.std.proofs.lemmas.List.{get_or_default}
 use Rattle.quantum_blocks.specs.Blocks.{counts_in}
-use Rattle.quantum_blocks.specs.Sites.{SiteView, IsSite}
-use Rattle.quantum_blocks.proofs.Sources.{place_within}
-use Rattle.quantum_blocks.proofs.site.Site.channels.Goals as goal
+use Rattle.quantum_render.specs.Sites.{SiteView, IsSite}
+use Rattle.quantum_render.proofs.SiteLaws.{place_within}
+use Rattle.quantum_render.proofs.site.Site.channels.Goals as goal
 
 pub bounds-self-inside-slot : goal.bounds-self-inside-slot
 bounds-self-inside-slot c = place_within _ _ _ _ _ _ c.self.invariant.0 c.slot.result c.slot.ensures

@@ -2,9 +2,9 @@ use Rattle.std.proofs.Common.{sym, ◌∙◌, ap, subst}
 use Rattle.node_table.specs.Kinds.{IsInLimits}
 use Rattle.meaning.specs.World.{kind_of}
 use Rattle.meaning.proofs.NodeKinds.{kind_is, limits_there}
-use Rattle.quantum_blocks.specs.Sites.{SiteView, IsSite}
+use Rattle.quantum_render.specs.Sites.{SiteView, IsSite}
 use Rattle.quantum_blocks.proofs.Sources.{end_low}
-use Rattle.quantum_blocks.proofs.site.Site.kind.Goals as goal
+use Rattle.quantum_render.proofs.site.Site.kind.Goals as goal
 
 pub kind-requires : goal.kind-requires
 kind-requires c = end_low c.self.inside.world.now c.self.invariant.0.quantum.valid c.self.inside.end c.self.invariant.0.there

@@ -1,6 +1,6 @@
 use Rattle.std.proofs.Common.{ℕ, pos, ◌≡◌, ◌+◌, ◌*◌, slice_index_or, sym, ◌∙◌, ap, arith, subst, FitsSigned}
 use Rattle.std.specs.Int.{w32}
-use Rattle.quantum_blocks.proofs.block.Block.take_level.Goals as goal
+use Rattle.quantum_render.proofs.bench.take_level.Goals as goal
 
 -- frame m of the first lane
 first_lane : (m : ℕ) → 0 * 128 + m ≡ m

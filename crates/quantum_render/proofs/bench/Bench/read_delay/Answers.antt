@@ -1,0 +1,26 @@
+use Rattle.std.proofs.Common.{◌≡◌, ◌+◌, Some, sym, ◌∙◌, ap, subst}
+use Rattle.delay_line.specs.Spans.{delay_at as frames_back}
+use Rattle.node_table.specs.declared.nodes.Attrs.{Attrs}
+use Rattle.meaning.specs.World.{node_at}
+use Rattle.meaning.proofs.NodeKinds.{attrs_are}
+use Rattle.delay_bank.specs.Kept.{IsAsked, AreFew, read_back}
+use Rattle.delay_bank.specs.Banks.{delay_at}
+use Rattle.quantum_blocks.proofs.Sources.{end_low}
+use Rattle.quantum_render.specs.Benches.{BenchView}
+use Rattle.quantum_render.specs.Sites.{SiteView}
+use Rattle.quantum_render.proofs.bench.Bench.read_delay.Goals as goal
+
+pub attrs-requires : goal.attrs-requires
+attrs-requires c = end_low c.site.inside.world.now c.site.invariant.0.quantum.valid c.site.inside.end c.site.invariant.0.there
+
+pub returns-clause-values : goal.returns-clause-values
+returns-clause-values c d longest born now writer there has asked few whole channel m low here =
+    let attrs = attrs_are c.site.inside.world.now c.site.inside.end.node.0 c.attrs.result (end_low c.site.inside.world.now c.site.invariant.0.quantum.valid c.site.inside.end c.site.invariant.0.there) c.attrs.ensures.value in
+    let spans : c.as_slice.result.now ≡ c.args.self.now.spans = c.as_slice.ensures.value ∙ ap (λ (b : BenchView). b.spans) c.self.view_is in
+    c.read_block.ensures.values d longest born now writer (subst (λ (x : SiteView). delay_at c.args.delays.now x.end.node.0 ≡ Some d) (sym c.site.view_is) there) has
+    (subst (λ xs. IsAsked c.site.inside.first now longest xs) (sym spans) (subst (λ (x : SiteView). IsAsked x.first now longest c.args.self.now.spans) (sym c.site.view_is) asked))
+    (subst (λ xs. AreFew born writer c.args.block.now.lanes c.site.inside.first xs) (sym spans) (subst (λ (x : SiteView). AreFew born writer c.args.block.now.lanes x.first c.args.self.now.spans) (sym c.site.view_is) few))
+    whole channel m low here
+    ∙ ap (λ xs. read_back born writer c.attrs.result.interp c.args.block.now.lanes (c.site.inside.first + m) (frames_back xs m) channel) spans
+    ∙ ap (λ (a : Attrs). read_back born writer a.interp c.args.block.now.lanes (c.site.inside.first + m) (frames_back c.args.self.now.spans m) channel) (sym attrs)
+    ∙ ap (λ (x : SiteView). read_back born writer (node_at x.world x.end.node.0).attrs.interp c.args.block.now.lanes (x.first + m) (frames_back c.args.self.now.spans m) channel) c.site.view_is
