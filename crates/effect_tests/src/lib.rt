@@ -1,9 +1,11 @@
-//! Tests of effects over their public calls: wave shapers, IIR filters and delay lines. A crate with tests
-//! is proved twice, so they stand apart.
+//! Tests of effects over their public calls: wave shapers, IIR filters, convolvers and delay lines. A
+//! crate with tests is proved twice, so they stand apart.
 #![tactic(auto)]
 
 #[cfg(test)]
 mod causal_digests;
+#[cfg(test)]
+mod convolvers;
 #[cfg(test)]
 mod delay_blocks;
 #[cfg(test)]
