@@ -148,6 +148,8 @@ function withoutPlace(recording, method, args) {
 export function eventOf(parameter, method, args) {
   const {recording} = parameter;
   if (method === 'value') return {kind: 'set', place: recording.now, value: Math.fround(+args[0])};
-  const [event, seconds] = withoutPlace(recording, method, args);
-  return {...event, place: placeOf(parameter, +seconds, event)};
+  const [event, seconds] = withoutPlace(recording, method, args), place = placeOf(parameter, +seconds, event);
+  // Of a target the product that Chromium makes of its time, for `targets.js`.
+  const made = event.kind === 'target' ? {exact: seconds * recording.rate, isOnFrame: +seconds === place / recording.rate} : {};
+  return {...event, place, ...made};
 }

@@ -43,6 +43,8 @@ export const LOSS_KINDS = {
 
   'browser-rounded': {grade: 'exact',
     says: 'filters that Chromium is less exact in than the script; the error is its own, for a sound of full scale'},
+  'browser-target': {grade: 'exact',
+    says: 'targets that Chromium begins a frame off, or takes for reached too early; the error is its own, of the value'},
 
   // Rewritten calls.
   'lowered-ramp': {grade: 'lowered', says: 'linear ramps between frames; curves and values'},

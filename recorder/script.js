@@ -10,6 +10,7 @@ import {lowerLoops} from './loops.js';
 import {lowerPanners} from './panners.js';
 import {Replacements} from './replacing.js';
 import {settings} from './settings.js';
+import {loseOfTargets} from './targets.js';
 import {ONE} from './values.js';
 import {passedLimit, voicesOf} from './voices.js';
 import {Widths} from './widths.js';
@@ -74,6 +75,7 @@ async function lower(recording) {
   const filters = new Replacements(recording);
   await lowerFilters(recording, filters, graph);
   filters.apply();
+  loseOfTargets(recording);
 }
 
 // What is done once before a recording is written.

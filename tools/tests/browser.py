@@ -3,10 +3,12 @@
 import base64
 import pathlib
 import time
+from typing import Any
 
 from waplay_tools import chromium
 
 PROGRAM = chromium.find_chromium()
+PATIENCE = 240  # seconds for what takes a moment, but on a machine that does much else
 KEYS = {"Tab": 9, "Enter": 13, "Home": 36, "End": 35, "ArrowLeft": 37, "ArrowRight": 39}
 
 
@@ -16,6 +18,11 @@ class Browser(chromium.Browser):
     def __init__(self) -> None:
         super().__init__(PROGRAM or "chromium")
         self.call("Accessibility.enable")
+
+    def call(self, method: str, of: str | None = "page", timeout: float = PATIENCE,
+             **params: Any) -> dict[str, Any]:
+        """Calls a method of the debugging protocol, with patience."""
+        return super().call(method, of, max(timeout, PATIENCE), **params)
 
     def show(self, path: str, width: int, scheme: str = "light", scripts: bool = True,
              height: int = 900) -> None:
@@ -27,7 +34,7 @@ class Browser(chromium.Browser):
                   features=[{"name": "prefers-color-scheme", "value": scheme}])
         self.events.clear()
         self.open(pathlib.Path(path).absolute().as_uri())
-        deadline = time.monotonic() + 60
+        deadline = time.monotonic() + PATIENCE
         while not any(event.method == "Page.loadEventFired" for event in self.events):
             if time.monotonic() > deadline:
                 raise AssertionError(f"{path} is not loaded")

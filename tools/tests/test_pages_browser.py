@@ -5,24 +5,24 @@ script runs.
 The variable REPORT_PICTURES may name a folder, which then gets a picture of each page.
 """
 
-import array
-import json
 import os
 import re
 import struct
 import tempfile
 import unittest
-from pathlib import Path
 
-import fixtures
 import browser
-from test_report_take import REPORT, take
-from waplay_tools.archive import summary
-from waplay_tools.archive.adding import Program
-from waplay_tools.archive.verifying import Result
-from waplay_tools.recorder.results import wav_of_words
+import pages_shown
 from waplay_tools.reporting import waveform
 from waplay_tools.reporting.wav_samples import sound_of, spans
+
+# What keys stop at, in the order of the page; of a choice it is the one that is chosen.
+STOPS = """window.stops = [...document.querySelectorAll(
+    'a[href], button, input, audio, summary, [tabindex="0"]')].filter(
+    it => it.checkVisibility() && (it.type !== 'radio' || it.checked));
+stops.length"""
+AT = """[stops.indexOf(document.activeElement), document.activeElement === document.body,
+    getComputedStyle(document.activeElement).outlineStyle, document.activeElement.localName]"""
 
 HERE = os.path.dirname(os.path.abspath(__file__))
 GROUNDS = {"light": "rgb(255, 255, 255)", "dark": "rgb(15, 20, 25)"}
@@ -40,101 +40,14 @@ NAMED = {
 }
 
 
-def pages():
-    """Of each page its name, and its script, transcript, file and other file."""
-    data, text, sound = fixtures.resumed()
-    other = bytearray(sound[:-600])  # 200 frames fewer
-    other[44 + 3 * 700] ^= 0x55
-    other[44 + 3 * 900 + 1] ^= 0x33
-    wide = fixtures.script([{"op": "startRendering"}], 32, 30000)
-    quiet = fixtures.wav(
-        [[(frame * channel) % 999 for frame in range(30000)] for channel in range(32)]
-    )
-    yield "resumed", data, text, sound, bytes(other)
-    yield "stalled", *fixtures.suspended(), None, None
-    yield "hostile", *fixtures.hostile(), None
-    yield "ended", *fixtures.session_of_case("hi_hat_choked"), None
-    yield "decoded", *fixtures.session_of_case("drum_loop"), None
-    yield "refused", *fixtures.session_of_case("refused_calls"), None
-    yield "wide", wide, "1 pending\n1 resolved\ncomplete 30000\nend completed\n", quiet, None
-    yield "x" * 120, b'{"version": 1, "context": [}', "script: BadJson\n", None, None
-    yield "fault", fixtures.script([{"op": "<b>" * 100}]), "script: 1 op UnknownOp\n", None, None
-    yield "idle", fixtures.script(
-        [{"op": "createGain", "as": "g" * 64}]
-    ), "1 ok\nend idle\n", None, None
-
-
-def loud(calls):
-    """Calls of a piece with a pluck, a refused compressor and an edit while it plays."""
-    return [
-        {"op": "createConstantSource", "as": "c", "offset": 2**22},
-        {"op": "createGain", "as": "fade"},
-        {"op": "connect", "from": "c", "to": "fade"},
-        {"op": "connect", "from": "fade", "to": "destination"},
-        {"op": "linearRampToValueAtTime", "node": "fade", "param": "gain", "value": 0,
-         "time": 9600},
-        {"op": "start", "node": "c"},
-        {"op": "suspend", "time": 4800, "then": [
-            {"op": "disconnect", "from": "fade"},
-            {"op": "connect", "from": "c", "to": "destination"}, {"op": "resume"}]},
-        *calls,
-        {"op": "startRendering"},
-    ]
-
-
-def take_pages(folder):
-    """Pages of takes, of two runs and of an archive: of each its name and its path."""
-    many = [{"op": "setValueAtTime", "node": "fade", "param": "gain", "value": at,
-             "time": 9600 + at} for at in range(13000)]
-    refused = [{"op": "createDynamicsCompressor", "as": "k"},
-               {"op": "connect", "from": "c", "to": "k"}]
-    silent = [{"op": "createDynamicsCompressor", "as": "k"}, {"op": "startRendering"}]
-    for name, calls, length in (
-        ("take", loud(refused), 9600), ("long", loud(many), 24000), ("beside", loud([]), 480_000),
-        ("silent", silent, 9600),
-    ):
-        path = os.path.join(folder, name)
-        os.mkdir(path)
-        data = fixtures.script(calls, 2, length)
-        take(path, data)
-        sound = sound_of(fixtures.read(path, "1.wav"), "it")
-        samples = [value / 2**23 for pair in zip(*sound.channels) for value in pair]
-        samples[200:400] = [0.75] * 200
-        rendered = wav_of_words(array.array("f", samples), 2, 48000, 3)
-        fixtures.write(path, "1.browser.wav", rendered)
-        fixtures.write(path, "1.report.txt", REPORT)
-        fixtures.write(path, "take.json", json.dumps({"page": "x" * 90, "title": name}))
-        if name == "take":
-            take(path, data, rendered, number=2)
-        page = os.path.join(path, "report.html")
-        assert fixtures.run("report", path, "-o", page).returncode == 0
-        yield name, page
-    page = os.path.join(folder, "compared.html")
-    words = [os.path.join(folder, name) for name in ("take", "long")]
-    assert fixtures.run("compare", *words, "-o", page).returncode == 1
-    yield "compared", page
-    results = [Result("piece", ["data/1.wav has another digest"]), Result("other", [], 1)]
-    summary.write(Path(folder), results, ["line 1 was changed"], Program("waplay", "ab" * 32))
-    yield "archive", os.path.join(folder, "verified.html")
-
-
 @unittest.skipUnless(browser.PROGRAM, "chromium is not installed")
 class Pages(unittest.TestCase):
     @classmethod
     def setUpClass(cls):
         folder = tempfile.TemporaryDirectory()
         cls.addClassCleanup(folder.cleanup)
-        cls.paths, cls.sounds = {}, {}
-        for name, data, text, sound, other in pages():
-            paths = fixtures.written(folder.name, name, data, text, sound)
-            more = ["--against", fixtures.write(folder.name, "other.wav", other)] if other else []
-            ran = fixtures.run("report", *paths, *more)
-            assert ran.returncode == 0, ran.stderr
-            cls.paths[name], cls.sounds[name] = (
-                fixtures.write(folder.name, name[:20] + ".html", ran.stdout),
-                sound,
-            )
-        cls.paths.update(take_pages(folder.name))
+        cls.paths = pages_shown.paths_of_all(folder.name)
+        cls.sounds = {it.name: it.sound for it in pages_shown.sessions_shown()}
         cls.browser = browser.Browser()
         cls.addClassCleanup(cls.browser.close)
 
@@ -378,7 +291,7 @@ class Pages(unittest.TestCase):
             it.load();
         })"""
         )
-        self.assertEqual(seconds, 10)
+        self.assertEqual(seconds, 5)
 
     def test_long_pages_are_small(self):
         self.assertLess(os.path.getsize(self.paths["long"]), 5_000_000)
@@ -400,6 +313,45 @@ class Pages(unittest.TestCase):
         self.assertEqual(self.browser.evaluate(note), "c")
         other = "document.querySelector('#part-2 .status').textContent"
         self.assertIn("the whole", self.browser.evaluate(other))
+
+    def stops(self):
+        """The places in the list of what keys stop at, as Tab goes from one to the next. What has
+        the keys is seen."""
+        found = []
+        for _ in range(3000):
+            self.browser.key("Tab")
+            place, is_over, outline, kind = self.browser.evaluate(AT)
+            if is_over:
+                break
+            if kind != "audio":  # whose own controls are seen
+                self.assertEqual(outline, "solid", (place, kind))
+            if found[-1:] != [place]:  # a player has several controls
+                found.append(place)
+        return found
+
+    def test_keys_reach_each_control_in_the_order_of_the_page(self):
+        for name, width in (
+            ("take", 390), ("ended", 1280), ("long", 1280), ("compared", 390), ("archive", 1280),
+        ):
+            self.show(name, width)
+            count = self.browser.evaluate(STOPS)
+            self.assertGreater(count, 2)
+            self.assertEqual(self.stops(), list(range(count)), (name, width))
+
+    def test_a_sound_beyond_full_scale_is_drawn_whole(self):
+        self.show("beside")
+        scales = "[...document.querySelectorAll('.drawing[data-sound=sound]')].map(" \
+                 "it => Number(it.dataset.scale))"
+        self.assertEqual(self.browser.evaluate(scales), [2, 2])
+        highest = "Math.min(...document.querySelector('.other').getAttribute('d')" \
+                  ".match(/[V,]-?[\\d.]+/g).map(it => Number(it.slice(1))))"
+        wanted = waveform.HEIGHT / 2 - pages_shown.BEYOND / 2 * waveform.REACH
+        self.assertAlmostEqual(self.browser.evaluate(highest), wanted, delta=0.11)
+        self.browser.evaluate(
+            "(form => { form.elements.first.value = 0; form.elements.last.value = 30000; "
+            "form.requestSubmit(); })(document.querySelector('.range'))"
+        )
+        self.assertAlmostEqual(self.browser.evaluate(highest), wanted, delta=0.11)
 
     def test_boxes_that_are_wider_than_they_show_say_so(self):
         self.show("take", 390)

@@ -90,10 +90,13 @@ class Judging(unittest.TestCase):
             found = self.kind(run(0.5, script, 0.5 + 1.2 * judging.TOLERANCE, text))
             self.assertEqual(found, judging.TOLD, text)
 
-    def test_rounding_of_the_browser_tells_of_what_is_large_enough(self) -> None:
-        for error, kind in [(0.02, judging.TOLD), (0.01, judging.NOT_TOLD), (None, judging.TOLD)]:
-            made = loss("browser-rounded", "exact", error)
-            self.assertEqual(self.kind(run(0.5, 0.25, 0.25, judging.ROUNDED, kinds=(made,))), kind)
+    def test_what_the_browser_does_tells_of_what_is_large_enough(self) -> None:
+        for text, its in judging.MEASURED.items():
+            for error, kind in [(0.02, judging.TOLD), (0.01, judging.NOT_TOLD),
+                                (None, judging.TOLD)]:
+                made = loss(its, "exact", error)
+                found = self.kind(run(0.5, 0.25, 0.25, text, kinds=(made,)))
+                self.assertEqual(found, kind, text)
 
     def test_a_late_change_tells_where_runs_differ(self) -> None:
         one = run(0.5, 0.5, 0.25, departures.LATE_CHANGE)

@@ -1,5 +1,7 @@
 """Tests of the page that tools/report writes, without a browser."""
 
+import array
+import base64
 import html.parser
 import io
 import json
@@ -16,12 +18,24 @@ import test_reading
 
 from waplay_tools import report
 from waplay_tools.expecting import sessions
+from waplay_tools.recorder.results import wav_of_words
 from waplay_tools.reporting import waveform
 from waplay_tools.reporting.content import File, Room
 from waplay_tools.reporting.players import players_html
-from waplay_tools.reporting.wav_samples import Differences, front_of, sound_of
+from waplay_tools.reporting.wav_samples import Differences, front_of, sound_of, spans
 
 VOID = {"meta", "input", "br", "wbr", "img", "link", "hr"}
+
+
+def floats(samples):
+    """The bytes of a WAV file of floats with one channel."""
+    return wav_of_words(array.array("f", samples), 1, 48000, 3)
+
+
+def columns_of(text):
+    """The lowest and the highest number of each column for zooming, as a page reads them."""
+    numbers = array.array("h", base64.b64decode(text))
+    return list(zip(numbers[::2], numbers[1::2]))
 
 
 class Page(html.parser.HTMLParser):
@@ -395,6 +409,30 @@ class Waveforms(unittest.TestCase):
             ([1], 2**-23),
         ):
             self.assertEqual(waveform.scale_of([sound_of(fixtures.wav([samples]), "it")]), scale)
+
+    def test_the_scale_of_floats_beyond_1(self):
+        for greatest, scale in (1.0, 1), (1.001, 2), (-2, 2), (2.5, 4), (-128, 128), (1e30, 128):
+            sound = sound_of(floats([0.5, greatest]), "it")
+            self.assertEqual(waveform.scale_of([sound]), scale)
+
+    def test_columns_for_zooming_of_samples_beyond_full_scale(self):
+        samples = [0.25, -0.25, 1.0, -1.0, 1.5, -1.5, 3e38, -3e38]
+        heights = columns_of(waveform.fine_columns(samples, 1.0))
+        edge = 32767
+        wanted = [8192, -8192, edge, -edge, edge, -edge, edge, -edge]
+        self.assertEqual(heights, [(it, it) for it in wanted])
+        whole = columns_of(waveform.fine_columns(samples[:6], 2.0))
+        self.assertEqual(whole, [(it, it) for it in (4096, -4096, 16384, -16384, 24575, -24575)])
+
+    def test_columns_for_zooming_hold_the_ends_of_many_samples(self):
+        rng = random.Random("columns")
+        samples = [rng.uniform(-2, 2) for _ in range(5 * waveform.FINE_COLUMNS + 3)]
+        for full in 1.0, 2.0:
+            found = columns_of(waveform.fine_columns(samples, full))
+            wanted = [tuple(max(-32767, min(32767, round(it * 32767 / full))) for it in pair)
+                      for pair in spans(samples, waveform.FINE_COLUMNS)]
+            self.assertEqual(len(found), waveform.FINE_COLUMNS)
+            self.assertEqual(found, wanted)
 
     def test_files_that_are_too_large_for_a_page(self):
         data = fixtures.wav([[1, 2, 3]]), fixtures.wav([[1, 2, 3, 4]])

@@ -4,6 +4,7 @@ import array
 import io
 import json
 import os
+import re
 import tempfile
 import unittest
 import unittest.mock
@@ -114,6 +115,19 @@ class Takes(unittest.TestCase):
         self.assertIn("2002000.004167 s0.25\u221212.0 dB", rows)
         self.assertEqual(len(page.of("path", **{"class": "other"})), 1)
         self.assertEqual(len(page.of("path", **{"class": "tolerance"})), 1)
+
+    def test_a_sound_beyond_full_scale_is_drawn_whole(self):
+        samples = [0.25] * 256
+        samples[100], samples[200] = 2.5, -3.0
+        take(self.folder, fixtures.script(CONSTANT, length=256), floats(samples))
+        page = self.page()
+        self.assertIn("\u22124 to 4", page.text())
+        (other,) = page.of("path", **{"class": "other"})
+        # The middle is at 100, and 4 is 96 above or below it.
+        heights = {float(it) for it in re.findall(r"[V,](-?[\d.]+)H", other["d"])}
+        self.assertEqual(heights, {94.0, 40.0, 172.0})
+        (own,) = page.of("path", **{"class": "envelope"})[:1]
+        self.assertEqual({float(it) for it in re.findall(r"[V,](-?[\d.]+)H", own["d"])}, {94.0})
 
     def test_the_piece_heads_the_page(self):
         take(self.folder, fixtures.script(CONSTANT, length=256), floats([0.25] * 256), REPORT)

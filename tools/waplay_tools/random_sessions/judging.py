@@ -28,7 +28,8 @@ CLASSES = (EXACT, NEAR, TOLD, NOT_TOLD, SILENT, SILENT_NOT_TOLD, FAILED)
 BAD = (NOT_TOLD, SILENT_NOT_TOLD, FAILED)
 
 DEPARTURE = "known departure: "
-ROUNDED = BY_LOSS["browser-rounded"]
+# Departures whose error a loss tells.
+MEASURED = {BY_LOSS[kind]: kind for kind in ("browser-rounded", "browser-target")}
 # What sets a page apart from its script, which has no targets and no biquads any more.
 OF_PAGES = {*BY_LOSS.values(), *BY_OPERATION.values()}
 # What both may have: a script has cancels and holds of its own.
@@ -119,7 +120,7 @@ def departures_that_tell(run: Run, distances: Distances) -> Iterator[str]:
             continue
         if text == LATE_CHANGE and distances.changes <= TOLERANCE:
             continue
-        if text == ROUNDED and not is_large(run, "browser-rounded", distances.greatest()):
+        if text in MEASURED and not is_large(run, MEASURED[text], distances.greatest()):
             continue
         is_of_page = text in OF_PAGES and distances.part(distances.page)
         is_of_script = (text not in OF_PAGES or text in OF_BOTH) and distances.part(

@@ -107,6 +107,8 @@ BY_OPERATION["cancelAndHoldAtTime"] = BY_OPERATION["cancelScheduledValues"]
 BY_LOSS = {
     "lowered-biquad": "Chromium ends biquads at an estimated tail",
     "lowered-target": "a target is late in Chromium where another event lies in the same quantum",
+    "browser-target": "Chromium begins a target a frame off where a ramp or another target leads "
+                      "to it or by a rounding of its time, and takes it for reached too early",
     "browser-rounded": "Chromium rounds what filters feed back: to single floats in biquads, to "
                        "double ones in IIR filters",
     "buffer-written": "Chromium plays what is written into a buffer after a source acquired it",

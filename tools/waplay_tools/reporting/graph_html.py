@@ -25,7 +25,7 @@ _LABEL = '<text class="arrow-label" x="{x:.1f}" y="{y:.1f}">{text}</text>'
 
 _PICTURE = """<div class="scroll graph" tabindex="0" role="region" aria-label="{label}">\
 <svg role="img" aria-label="{label}" width="{width:.0f}" height="{height:.0f}"\
- viewBox="{edge} {edge} {width:.0f} {height:.0f}">{arrows}{boxes}</svg></div>"""
+ viewBox="{edge} {edge} {width:.0f} {height:.0f}">{arrows}{boxes}{labels}</svg></div>"""
 
 
 def _box(placed: Placed) -> Html:
@@ -52,18 +52,18 @@ def _box(placed: Placed) -> Html:
 
 
 def _arrow(drawn: Drawn) -> Html:
-    """An arrow with its label."""
-    path = filled(
-        _ARROW, passing="" if drawn.arrow.is_lasting else " passing", path=drawn.path
-    )
-    if not drawn.arrow.label:
-        return path
+    """An arrow."""
+    return filled(_ARROW, passing="" if drawn.arrow.is_lasting else " passing", path=drawn.path)
+
+
+def _label(drawn: Drawn) -> Html:
+    """The label of an arrow."""
     x, y = drawn.label_at
-    return Html(path + filled(_LABEL, x=x, y=y - 2, text=drawn.arrow.label))
+    return filled(_LABEL, x=x, y=y - 2, text=drawn.arrow.label)
 
 
 def _picture(made: Layout, label: str) -> Html:
-    """The picture as SVG."""
+    """The picture as SVG. Labels stand over all arrows."""
     return filled(
         _PICTURE,
         label=label,
@@ -72,6 +72,7 @@ def _picture(made: Layout, label: str) -> Html:
         height=made.height + 2 * EDGE,
         arrows=joined(map(_arrow, made.arrows)),
         boxes=joined(map(_box, made.boxes)),
+        labels=joined(_label(it) for it in made.arrows if it.arrow.label),
     )
 
 

@@ -103,13 +103,7 @@ def _losses_html(content: Content) -> Html:
     if not content.losses and not content.lines:
         return Html()
     rows = (
-        filled(
-            '<tr><th scope="row">{grade}</th><td><code>{kind}</code></td><td>{told}</td></tr>',
-            grade=loss.grade,
-            kind=loss.kind,
-            told=loss.told,
-        )
-        for loss in content.losses
+        filled(_LOSS, grade=loss.grade, kind=loss.kind, told=loss.told) for loss in content.losses
     )
     lines = (filled("<li>{line}</li>", line=line) for line in content.lines)
     return filled(
@@ -122,10 +116,15 @@ def _losses_html(content: Content) -> Html:
 _LOSSES = """<h3>What the recorder tells</h3>
 {table}{lines}"""
 
+# Its roles are named, as a narrow page shows it as blocks, and then browsers take it for no table.
 _LOSS_TABLE = """<div class="scroll" tabindex="0" role="region" aria-label="Losses">
-<table class="losses" aria-label="Losses"><thead><tr><th scope="col">Grade</th>
-<th scope="col">Kind</th><th scope="col">What it is</th></tr></thead>
-<tbody>{rows}</tbody></table></div>"""
+<table role="table" class="losses" aria-label="Losses"><thead role="rowgroup"><tr role="row">\
+<th role="columnheader" scope="col">Grade</th><th role="columnheader" scope="col">Kind</th>\
+<th role="columnheader" scope="col">What it is</th></tr></thead>
+<tbody role="rowgroup">{rows}</tbody></table></div>"""
+
+_LOSS = """<tr role="row"><th role="rowheader" scope="row">{grade}</th>\
+<td role="cell"><code>{kind}</code></td><td role="cell">{told}</td></tr>"""
 
 
 def _no_sound(content: Content) -> Html:

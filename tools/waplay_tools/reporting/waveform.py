@@ -20,6 +20,7 @@ HEIGHT = 200  # of the drawing's own units
 REACH = 96  # how far the drawing goes up and down from its middle
 FINE_COLUMNS = 8192  # of a sound that is not in the page, for zooming
 DEEPEST = -144.0  # decibels at the lower edge of a drawing of differences
+WIDEST = 128.0  # the greatest scale of a drawing: values of waplay lie below it
 
 # Of each kind of mark its row on the time line, the drawing of its sign, and its word.
 MARKS = {
@@ -38,12 +39,14 @@ BAND = Html(
 
 
 def scale_of(sounds: list[Sound]) -> float:
-    """The power of two that the drawing goes up and down to: the least that holds all samples, and
-    1 of silence."""
+    """The power of two that the drawing goes up and down to: the least that holds all samples, at
+    most that of waplay's values, and 1 of silence."""
     greatest = max((sound.greatest() for sound in sounds), default=0)
     scale = 1.0
     while scale / 2 >= greatest > 0:
         scale /= 2
+    while scale < min(greatest, WIDEST):
+        scale *= 2
     return scale
 
 
