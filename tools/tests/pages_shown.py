@@ -91,8 +91,10 @@ def write_take(path: str, data: bytes, level: float) -> bytes:
 def takes_shown(folder: str, events: int = MANY_EVENTS) -> Iterator[tuple[str, str]]:
     """The pages of takes, of two runs and of an archive: of each its name and its path. The long
     take has so many events."""
-    many = [{"op": "setValueAtTime", "node": "fade", "param": "gain", "value": at,
-             "time": 9600 + at} for at in range(events)]
+    names = [f"level{at}" for at in range(50)]
+    many = [{"op": "createGain", "as": name} for name in names]
+    many += [{"op": "setValueAtTime", "node": names[at % 50], "param": "gain", "value": at,
+              "time": 9600 + at} for at in range(events)]
     refused = [{"op": "createDynamicsCompressor", "as": "k"},
                {"op": "connect", "from": "c", "to": "k"}]
     silent = [{"op": "createDynamicsCompressor", "as": "k"}, {"op": "startRendering"}]

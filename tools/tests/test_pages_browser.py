@@ -315,13 +315,13 @@ class Pages(unittest.TestCase):
         self.assertIn("the whole", self.browser.evaluate(other))
 
     def stops(self):
-        """The places in the list of what keys stop at, as Tab goes from one to the next. What has
-        the keys is seen."""
+        """The places in the list of what keys stop at, as Tab goes from one to the next, once
+        around. What has the keys is seen."""
         found = []
         for _ in range(3000):
             self.browser.key("Tab")
             place, is_over, outline, kind = self.browser.evaluate(AT)
-            if is_over:
+            if is_over or (found[1:] and place == found[0]):
                 break
             if kind != "audio":  # whose own controls are seen
                 self.assertEqual(outline, "solid", (place, kind))
@@ -335,7 +335,7 @@ class Pages(unittest.TestCase):
         ):
             self.show(name, width)
             count = self.browser.evaluate(STOPS)
-            self.assertGreater(count, 2)
+            self.assertGreaterEqual(count, 2)
             self.assertEqual(self.stops(), list(range(count)), (name, width))
 
     def test_a_sound_beyond_full_scale_is_drawn_whole(self):

@@ -322,6 +322,16 @@ class Lanes(unittest.TestCase):
         points = [tuple(it) for it in notes_html.points_of(thing, "offset", 2**22, 1024)]
         self.assertEqual(points, [(0, 2**22), (256, 2**22), (256, 0), (512, 2**24), (1024, 2**24)])
 
+    def test_many_notes_are_drawn_without_their_names(self):
+        for count in (3, 401):
+            calls = [call for at in range(count) for call in (
+                {"op": "createConstantSource", "as": f"c{at}"}, {"op": "start", "node": f"c{at}"})]
+            lanes = notes_html.note_lanes(content_of(fixtures.script(calls + CONSTANT[3:])))
+            drawn = (count, 0) if count == 3 else (0, count)
+            found = [lanes.count(f'<{kind} class="placed note"') for kind in ("svg", "rect")]
+            self.assertEqual(tuple(found), drawn)
+            self.assertEqual(lanes.count("<title>"), count)
+
 
 class Graphs(unittest.TestCase):
     def looped(self, *between):

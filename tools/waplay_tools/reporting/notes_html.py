@@ -21,6 +21,7 @@ from waplay_tools.reporting.text import counted, decimal, grouped
 
 MOST_LANES = 24  # of notes, and of parameters
 MOST_NOTES = 3000  # that are drawn
+MANY_NOTES = 400  # from which on they are drawn without their names, so that a page opens soon
 MOST_POINTS = 400  # of one curve
 COLUMNS = 800  # of a parameter's line that has more points than can be seen
 ROW = 18  # units of height of a lane of notes
@@ -73,18 +74,22 @@ _NOTE = """<svg class="placed note" data-low="{low}" data-high="{high}" data-nam
  x="{x:.3f}%" y="2" width="{width:.3f}%" height="14"><title>{title}</title>\
 <rect width="100%" height="14"/><text x="3" y="11">{shown}</text></svg>"""
 
+_BARE = """<rect class="placed note" data-low="{low}" data-high="{high}" x="{x:.3f}%" y="2"\
+ width="{width:.3f}%" height="14"><title>{title}</title></rect>"""
+
 _LANE = """<div class="lane-name"><span>{name}</span><span class="aside">{told}</span></div>\
 <svg class="lane notes" role="img" aria-label="{label}" width="100%"\
  height="{height}">{notes}</svg>"""
 
 
-def _note(note: Note, frames: int) -> Html:
-    """A note in its lane; its name is there where it has room on a narrow page."""
+def _note(note: Note, frames: int, is_bare: bool) -> Html:
+    """A note in its lane; its name is there where it has room on a narrow page, and is told by its
+    title alone where it is bare."""
     width = max(0.0, 100 * (note.last - note.first) / frames)
     name = note.thing.name
     has_room = width / 100 * NARROW > LETTER * len(name) + 6
     return filled(
-        _NOTE,
+        _BARE if is_bare else _NOTE,
         low=note.first,
         high=note.last,
         x=100 * note.first / frames,
@@ -97,7 +102,8 @@ def _note(note: Note, frames: int) -> Html:
 
 def note_lanes(content: Content) -> Html:
     """The lanes of the notes."""
-    lanes = lanes_of(notes_of(content))
+    every = notes_of(content)
+    lanes, is_bare = lanes_of(every), len(every) > MANY_NOTES
     drawn, left = [], MOST_NOTES
     for name, notes in lanes[:MOST_LANES]:
         starts = counted(len(notes), "start")
@@ -108,7 +114,7 @@ def note_lanes(content: Content) -> Html:
                 told=starts,
                 label=f"Notes of {name}: {starts}; the table of notes has them",
                 height=ROW,
-                notes=joined(_note(note, content.frames) for note in notes[:left]),
+                notes=joined(_note(note, content.frames, is_bare) for note in notes[:left]),
             )
         )
         left = max(0, left - len(notes))

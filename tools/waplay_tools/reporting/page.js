@@ -85,7 +85,8 @@
 
   // Boxes that are wider than they show say so.
   function hint() {
-    for (const box of document.querySelectorAll(".scroll")) box.classList.toggle("overflows", box.scrollWidth > box.clientWidth + 1);
+    const boxes = [...document.querySelectorAll(".scroll")], wider = boxes.map(box => box.scrollWidth > box.clientWidth + 1);
+    boxes.forEach((box, at) => box.classList.toggle("overflows", wider[at]));
   }
   hint();
   addEventListener("resize", hint);
@@ -170,6 +171,7 @@
     const place = frame => 100 * (frame - first) / (last - first);
 
     function draw() {
+      const wide = wave.clientWidth; // read before anything changes, as the page is laid out for it
       for (const [drawing, content] of contents) {
         if (content) drawLane(drawing, content);
       }
@@ -188,17 +190,18 @@
         } else {
           mark.setAttribute("x", from + "%");
           if (mark.localName !== "use") mark.setAttribute("width", Math.max(0.02, to - from) + "%");
-          if (mark.localName === "svg") name(mark, to - from);
+          if (mark.localName === "svg") name(mark, (to - from) / 100 * wide);
         }
       }
       label();
       movePlayhead();
     }
 
-    // The name of a note stands in it where it has room.
-    function name(note, percent) {
-      const told = note.dataset.name, text = note.querySelector("text"), room = percent / 100 * wave.clientWidth;
-      text.textContent = room > LETTER * told.length + 6 ? told : "";
+    // The name of a note stands in it where it has room, which is so many pixels.
+    function name(note, room) {
+      const told = note.dataset.name, text = note.querySelector("text");
+      const shown = room > LETTER * told.length + 6 ? told : "";
+      if (text.textContent !== shown) text.textContent = shown;
     }
 
     function label() {
