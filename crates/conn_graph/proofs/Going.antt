@@ -1,15 +1,19 @@
 -- Going along a walk, and taking the named connections of it away on the way.
-use Rattle.std.proofs.Common.{ℕ, zero, suc, ◌≡◌, ◌+◌, ◌<◌, ◌≤◌, length, [], ◌∷◌, ◌++◌, take, drop, slice_get, slice_set, filter, Bool, true, false, not, cond, ◌||◌, Option, None, Some, inl, refl, sym, ◌∙◌, ap, ap₂, subst, arith}
+use Rattle.std.proofs.Common.{ℕ, zero, suc, ◌≡◌, ◌+◌, ◌<◌, ◌≤◌, length, [], ◌∷◌, ◌++◌, take, drop, slice_get, slice_set, filter, Bool, true, false, not, cond, ◌||◌, Option, None, Some, inl, inr, refl, sym, ◌∙◌, ap, ap₂, subst, arith}
+use Rattle.std.specs.Prelude.{◌==◌}
 use Rattle.std.specs.List.{list_any}
-use Rattle.std.proofs.lemmas.List.{append-nil, append_assoc, get_or-set_same, set-set, set-get_or, drop_all, take_all}
+use Rattle.std.proofs.lemmas.List.{append-nil, append_assoc, get_or-set_same, set-set, set-get_or, length-set, length-append, drop_all, take_all}
 use Rattle.std.proofs.lemmas.List.Elements.{filter-append}
 use Rattle.law_base.specs.Members.{IsIn, AreDistinct}
-use Rattle.law_base.proofs.Members.{IsIn-append_second}
+use Rattle.std.proofs.lemmas.Bool.{eqb-true}
+use Rattle.law_base.proofs.Members.{IsIn-append_second, list_any-IsIn}
+use Rattle.law_base.proofs.Tests.{and_parts}
+use Rattle.conn_graph.proofs.Leaving.{entered}
 use Rattle.conn_graph.specs.declared.edges.Edge.{Edge}
 use Rattle.conn_graph.specs.declared.edges.Form.{Form}
 use Rattle.conn_graph.specs.declared.cells.Side.{Side}
 use Rattle.conn_graph.specs.declared.cells.Side.TheVariants.{Out, In}
-use Rattle.conn_graph.specs.Edges.{is_named}
+use Rattle.conn_graph.specs.Edges.{target_node, form_node, is_meant, is_named}
 use Rattle.conn_graph.specs.Walks.{Walk, next_step, IsOnWalk}
 use Rattle.conn_graph.specs.Lists.{keys, edges_of, walk_at, thread, Threads, AreThreads}
 use Rattle.conn_graph.proofs.Segments.{key_in}
@@ -34,6 +38,9 @@ cells_of t In node h = h.in_cells node
 
 pub on_walk : (walk : Walk) (i : ℕ) (s : ℕ × Edge) → Some s ≡ slice_get (drop i walk) 0 → IsOnWalk walk (Some s.0)
 on_walk walk i s h = subst (λ w. IsIn s.0 (keys w)) (sym (step_here walk i s h).1) (key_in _ s (IsIn-append_second (take i walk) (s ∷ drop (i + 1) walk) s (inl refl)))
+
+pub in_walk : (walk : Walk) (i : ℕ) (s : ℕ × Edge) → Some s ≡ slice_get (drop i walk) 0 → IsIn s walk
+in_walk walk i s h = subst (λ w. IsIn s w) (sym (step_here walk i s h).1) (IsIn-append_second (take i walk) (s ∷ drop (i + 1) walk) s (inl refl))
 
 -- the step behind it stands at the next place
 pub next_here : (walk : Walk) (i : ℕ) (s : ℕ × Edge) → AreDistinct (keys walk) → Some s ≡ slice_get (drop i walk) 0 → next_step walk (Some s.0) ≡ slice_get (drop (i + 1) walk) 0
@@ -165,3 +172,91 @@ taking_stopped old now from form i h = taking_ended old now from form i None (pa
     past [] n e = omega arith
     past (x ∷ w) zero e = absurd cc
     past (x ∷ w) (suc n) e = let l = past w n e in omega arith
+
+-- ---- taking connections away that are found on the other walk
+
+-- So far only connections that are named went.
+pub record IsFinding (old now : Threads) (from : ℕ) (form : Form) : Type 0 where
+  pub outs : now.outs ≡ slice_set old.outs from (walk_at now.outs from)
+  pub left : filter (unnamed from form) (walk_at now.outs from) ≡ filter (unnamed from form) (walk_at old.outs from)
+  pub nodes : now.nodes ≡ old.nodes
+  pub room : now.room ≡ old.room
+  pub whole : AreThreads now
+
+pub finding_begins : (old : Threads) (from : ℕ) (form : Form) → AreThreads old → IsFinding old old from form
+finding_begins old from form whole = record { outs = sym (set-get_or old.outs from []); left = refl; nodes = refl; room = refl; whole = whole }
+
+split_at : (steps : Walk) (s : ℕ × Edge) → IsIn s steps → (front back : Walk) × (steps ≡ front ++ s ∷ back)
+split_at [] s h = elim h [ ]
+split_at (x ∷ rest) s (inl e) = ([], rest, ap (λ y. y ∷ rest) (sym e))
+split_at (x ∷ rest) s (inr m) = let r = split_at rest s m in (x ∷ r.0, r.1, ap (λ w. x ∷ w) r.2)
+
+without_named : (test : ℕ × Edge → Bool) (front back : Walk) (s : ℕ × Edge) → test s ≡ false → filter test (front ++ back) ≡ filter test (front ++ s ∷ back)
+without_named test front back s fails =
+    filter-append test front back ∙ ap (λ c. filter test front ++ cond c (s ∷ filter test back) (filter test back)) (sym fails) ∙ sym (filter-append test front (s ∷ back))
+
+module _ (old now later : Threads) (from : ℕ) (form : Form) (to key : ℕ) (e : Edge) (low : from < length old.outs) (h : IsFinding old now from form)
+    (here : IsIn (key, e) (walk_at now.ins to)) (named : is_named from form e ≡ true)
+    (taken : (f b : Walk) (x : Edge) → walk_at now.outs x.from.0 ≡ f ++ (key, x) ∷ b → later.outs ≡ slice_set now.outs x.from.0 (f ++ b))
+    (nodes : later.nodes ≡ now.nodes) (room : later.room ≡ now.room) (whole : AreThreads later) where
+  source : e.from.0 ≡ from
+  source = eqb-true e.from.0 from (and_parts (e.from.0 == from) (is_meant form e) named).0
+
+  on_out : IsIn (key, e) (walk_at now.outs from)
+  on_out = subst (λ n. IsIn (key, e) (walk_at now.outs n)) source ((h.whole.to to (key, e)).0 here).1
+
+  parts : (front back : Walk) × (walk_at now.outs from ≡ front ++ (key, e) ∷ back)
+  parts = split_at (walk_at now.outs from) (key, e) on_out
+
+  there : from < length now.outs
+  there = let same = ap length h.outs in let kept = length-set old.outs from (walk_at now.outs from) in omega (arith, same, kept)
+
+  later_outs : later.outs ≡ slice_set now.outs from (parts.0 ++ parts.1)
+  later_outs = taken parts.0 parts.1 e (ap (walk_at now.outs) source ∙ parts.2) ∙ ap (λ n. slice_set now.outs n (parts.0 ++ parts.1)) source
+
+  later_walk : walk_at later.outs from ≡ parts.0 ++ parts.1
+  later_walk = ap (λ ws. walk_at ws from) later_outs ∙ get_or-set_same now.outs from (parts.0 ++ parts.1) [] there
+
+  pub finding_more : IsFinding old later from form
+  finding_more = record {
+    outs = later_outs ∙ ap (λ ws. slice_set ws from (parts.0 ++ parts.1)) h.outs ∙ set-set old.outs from (walk_at now.outs from) (parts.0 ++ parts.1) ∙ ap (slice_set old.outs from) (sym later_walk);
+    left = ap (filter (unnamed from form)) later_walk ∙ without_named (unnamed from form) parts.0 parts.1 (key, e) (ap not named) ∙ ap (filter (unnamed from form)) (sym parts.2) ∙ h.left;
+    nodes = nodes ∙ h.nodes;
+    room = room ∙ h.room;
+    whole = whole;
+  }
+
+  pub finding_fewer : length (walk_at later.outs from) < length (walk_at now.outs from)
+  finding_fewer =
+      let a = ap length later_walk in
+      let b = ap length parts.2 in
+      let c = length-append parts.0 parts.1 in
+      let d = length-append parts.0 ((key, e) ∷ parts.1) in
+      omega (arith, a, b, c, d)
+
+edge_in : (steps : Walk) (s : ℕ × Edge) → IsIn s steps → IsIn s.1 (edges_of steps)
+edge_in [] s h = elim h [ ]
+edge_in (x ∷ rest) s (inl e) = inl (ap (λ t. t.1) e)
+edge_in (x ∷ rest) s (inr m) = inr (edge_in rest s m)
+
+keeps_all : (test : ℕ × Edge → Bool) (steps : Walk) → ((s : ℕ × Edge) → IsIn s steps → test s ≡ true) → filter test steps ≡ steps
+keeps_all test [] all = refl
+keeps_all test (s ∷ rest) all = ap₂ (λ b w. cond b (s ∷ w) w) (all s (inl refl)) (keeps_all test rest (λ t m. all t (inr m)))
+
+-- none is named any more
+pub finding_ended : (old now : Threads) (from : ℕ) (form : Form) (to : ℕ) → IsFinding old now from form → form_node form ≡ Some to
+    → list_any (is_named from form) (edges_of (walk_at now.ins to)) ≡ false → now.outs ≡ slice_set old.outs from (filter (unnamed from form) (walk_at old.outs from))
+finding_ended old now from form to h f none =
+    h.outs ∙ ap (slice_set old.outs from) (sym (keeps_all (unnamed from form) (walk_at now.outs from) all) ∙ h.left)
+  where
+    all : (s : ℕ × Edge) → IsIn s (walk_at now.outs from) → unnamed from form s ≡ true
+    all s m = by_test (is_named from form s.1) refl
+      where
+        by_test : (b : Bool) → is_named from form s.1 ≡ b → not b ≡ true
+        by_test false is = refl
+        by_test true is =
+            let source : s.1.from.0 ≡ from = h.whole.from from s m in
+            let target : target_node s.1.to ≡ to = eqb-true (target_node s.1.to) to (entered form to s.1 f (and_parts (s.1.from.0 == from) (is_meant form s.1) is).1) in
+            let on_in : IsIn s (walk_at now.ins to) = (h.whole.to to s).1 (target, subst (λ n. IsIn s (walk_at now.outs n)) (sym source) m) in
+            let found : list_any (is_named from form) (edges_of (walk_at now.ins to)) ≡ true = list_any-IsIn (is_named from form) (edges_of (walk_at now.ins to)) s.1 (edge_in (walk_at now.ins to) s on_in) is in
+            absurd cc

@@ -1,5 +1,5 @@
 -- Tests that only the connections of one node pass.
-use Rattle.std.proofs.Common.{ℕ, ◌≡◌, List, [], ◌∷◌, filter, Bool, true, false, cond, ◌||◌, refl, sym, ◌∙◌, ap, ap₂, eq-eqb}
+use Rattle.std.proofs.Common.{ℕ, Some, subst, ◌≡◌, List, [], ◌∷◌, filter, Bool, true, false, cond, ◌||◌, refl, sym, ◌∙◌, ap, ap₂, eq-eqb}
 use Rattle.std.specs.Prelude.{◌==◌, ◌&&◌}
 use Rattle.std.specs.List.{list_any}
 use Rattle.std.proofs.lemmas.Bool.{eqb-true}
@@ -8,7 +8,10 @@ use Rattle.conn_graph.specs.declared.edges.Edge.{Edge}
 use Rattle.conn_graph.specs.declared.edges.Form.{Form}
 use Rattle.conn_graph.specs.declared.edges.Target.{Target}
 use Rattle.conn_graph.specs.declared.edges.Target.TheVariants.{Input, Param}
-use Rattle.conn_graph.specs.Edges.{same_name, same_target, same_edge, target_node, is_meant, is_named}
+use Rattle.conn_graph.specs.declared.edges.Form.TheVariants.{All, Output, Node, NodeOutput, NodeOutputInput, ParamOutput}
+use Rattle.conn_graph.specs.declared.edges.Form.TheVariants as form
+use Rattle.wa_base.specs.declared.graph_names.ParamId.{ParamId}
+use Rattle.conn_graph.specs.Edges.{same_name, same_target, same_edge, target_node, form_node, is_input, is_an_input_of, is_param, is_meant, is_named}
 use Rattle.conn_graph.specs.Cells.{leaves, enters, target_form, edge_form}
 
 -- a test that only connections of one sort pass looks at these alone
@@ -57,19 +60,32 @@ any_same_test : {X : Type 0} (p q : X → Bool) (xs : List X) → ((x : X) → p
 any_same_test p q [] same = refl
 any_same_test p q (x ∷ xs) same = ap₂ (λ b c. b || c) (same x) (any_same_test p q xs same)
 
--- an identical connection is looked for among those from its source, or among those to its target
-pub any_same_out : (a : Edge) (es : List Edge) → list_any (is_named a.from.0 (edge_form a)) (filter (leaves a.from.0) es) ≡ list_any (same_edge a) es
-any_same_out a es = any_named a.from.0 (edge_form a) es ∙ any_same_test _ _ es (named_alone a)
+-- an identical connection is the one that its own form names
+pub any_same : (a : Edge) (es : List Edge) → list_any (is_named a.from.0 (edge_form a)) es ≡ list_any (same_edge a) es
+any_same a es = any_same_test _ _ es (named_alone a)
 
-same_target_node : (s t : Target) → same_target s t ≡ true → (target_node t == target_node s) ≡ true
-same_target_node (Input node input) (Input other place) h = (and_parts (other.0 == node.0) (place == input) h).0
-same_target_node (Input node input) (Param param) h = absurd cc
-same_target_node (Param param) (Input other place) h = absurd cc
-same_target_node (Param param) (Param other) h = (and_parts (other.node.0 == param.node.0) (same_name other.name param.name) h).0
+-- ---- the node to which the connections lead that a form names
 
-pub any_same_in : (a : Edge) (es : List Edge) → list_any (is_named a.from.0 (edge_form a)) (filter (enters (target_node a.to)) es) ≡ list_any (same_edge a) es
-any_same_in a es =
-    any_among (is_named a.from.0 (edge_form a)) (enters (target_node a.to)) (λ e t.
-    let same : same_edge a e ≡ true = sym (named_alone a e) ∙ t in
-    same_target_node a.to e.to (and_parts (a.from.0 == e.from.0 && a.output == e.output) (same_target a.to e.to) same).1) es
-    ∙ any_same_test _ _ es (named_alone a)
+input_enters : (n : ℕ) (t : Target) → is_an_input_of n t ≡ true → (target_node t == n) ≡ true
+input_enters n (Input node input) h = h
+input_enters n (Param param) h = absurd cc
+
+place_enters : (n i : ℕ) (t : Target) → is_input n i t ≡ true → (target_node t == n) ≡ true
+place_enters n i (Input node input) h = (and_parts (node.0 == n) (input == i) h).0
+place_enters n i (Param param) h = absurd cc
+
+param_enters : (p : ParamId) (t : Target) → is_param p t ≡ true → (target_node t == p.node.0) ≡ true
+param_enters p (Input node input) h = absurd cc
+param_enters p (Param param) h = (and_parts (param.node.0 == p.node.0) (same_name param.name p.name) h).0
+
+pub entered : (form : Form) (node : ℕ) (e : Edge) → form_node form ≡ Some node → is_meant form e ≡ true → enters node e ≡ true
+entered All node e f h = absurd cc
+entered (Output output) node e f h = absurd cc
+entered (Node n) node e f h = let same : n.0 ≡ node = cc in subst (λ k. enters k e ≡ true) same (input_enters n.0 e.to h)
+entered (NodeOutput n output) node e f h = let same : n.0 ≡ node = cc in subst (λ k. enters k e ≡ true) same (input_enters n.0 e.to (and_parts (e.output == output) (is_an_input_of n.0 e.to) h).1)
+entered (NodeOutputInput n output input) node e f h = let same : n.0 ≡ node = cc in subst (λ k. enters k e ≡ true) same (place_enters n.0 input e.to (and_parts (e.output == output) (is_input n.0 input e.to) h).1)
+entered (form.Param p) node e f h = let same : p.node.0 ≡ node = cc in subst (λ k. enters k e ≡ true) same (param_enters p e.to h)
+entered (ParamOutput p output) node e f h = let same : p.node.0 ≡ node = cc in subst (λ k. enters k e ≡ true) same (param_enters p e.to (and_parts (e.output == output) (is_param p e.to) h).1)
+
+pub any_entering : (from : ℕ) (form : Form) (node : ℕ) (es : List Edge) → form_node form ≡ Some node → list_any (is_named from form) (filter (enters node) es) ≡ list_any (is_named from form) es
+any_entering from form node es f = any_among (is_named from form) (enters node) (λ e t. entered form node e f (and_parts (e.from.0 == from) (is_meant form e) t).1) es

@@ -1,5 +1,5 @@
 -- What every change of the lists makes of the graph, and what holds of every graph.
-use Rattle.std.proofs.Common.{ℕ, ◌≡◌, ◌-◌, ◌^◌, ◌<◌, length, List, [], ◌∷◌, ◌++◌, slice_set, filter, false, not, None, sym, ◌∙◌, ap, ap₂, subst, arith}
+use Rattle.std.proofs.Common.{ℕ, ◌≡◌, ◌-◌, ◌^◌, ◌<◌, length, List, [], ◌∷◌, ◌++◌, slice_set, filter, false, not, None, Some, sym, ◌∙◌, ap, ap₂, subst, arith}
 use Rattle.std.specs.Prelude.{if◌then◌else◌}
 use Rattle.std.specs.List.{list_any}
 use Rattle.std.proofs.lemmas.List.{length-map}
@@ -7,14 +7,14 @@ use Rattle.law_base.proofs.Members.{IsIn-filter}
 use Rattle.conn_graph.specs.declared.edges.Edge.{Edge}
 use Rattle.conn_graph.specs.declared.edges.Form.{Form}
 use Rattle.conn_graph.specs.declared.edges.Ports.{Ports}
-use Rattle.conn_graph.specs.Edges.{target_node, is_named}
-use Rattle.conn_graph.specs.Cells.{leaves, enters, edge_form}
+use Rattle.conn_graph.specs.Edges.{target_node, form_node, is_named}
+use Rattle.conn_graph.specs.Cells.{leaves, enters}
 use Rattle.conn_graph.specs.Graph.{Connections, IsGraph, with_node, with_edge, has_edge, connect_refusal, connected, disconnected}
 use Rattle.conn_graph.specs.Walks.{IsInWalk}
 use Rattle.conn_graph.specs.Lists.{edges_of, edges_in, walk_at, Threads, SameThreads, AreThreads, connections_of, IsWhole}
 use Rattle.conn_graph.proofs.Puts.{put_is}
 use Rattle.conn_graph.proofs.Graphs.{IsGraph-with_node, IsGraph-with_edge, IsGraph-filter, allowed, length-filter_low}
-use Rattle.conn_graph.proofs.Leaving.{any_named, any_same_out, any_same_in}
+use Rattle.conn_graph.proofs.Leaving.{any_named, any_entering}
 use Rattle.conn_graph.proofs.AllLists.{edges_more}
 use Rattle.conn_graph.proofs.Joined.{of_nodes, edges_from, is_in_walk, put_in, kept, unnamed_of_others, any_members, fewer}
 
@@ -69,14 +69,11 @@ module _ (t : Threads) (h : IsWhole t) where
   pub named_on : (from : ℕ) (form : Form) → list_any (is_named from form) (edges_of (walk_at t.outs from)) ≡ list_any (is_named from form) (edges_in t.outs)
   named_on from form = ap (list_any (is_named from form)) (sym (edges_from t h.threads from)) ∙ any_named from form (edges_in t.outs)
 
-  pub has_out : (e : Edge) → list_any (is_named e.from.0 (edge_form e)) (edges_of (walk_at t.outs e.from.0)) ≡ has_edge (connections_of t) e
-  has_out e = ap (list_any (is_named e.from.0 (edge_form e))) (sym (edges_from t h.threads e.from.0)) ∙ any_same_out e (edges_in t.outs)
-
-  pub has_in : (e : Edge) → list_any (is_named e.from.0 (edge_form e)) (edges_of (walk_at t.ins (target_node e.to))) ≡ has_edge (connections_of t) e
-  has_in e =
-      let walk : IsInWalk (connections_of t) (target_node e.to) (walk_at t.ins (target_node e.to)) = is_in_walk t h.threads h.graph.once (target_node e.to) in
-      any_members (is_named e.from.0 (edge_form e)) (edges_of (walk_at t.ins (target_node e.to))) (filter (enters (target_node e.to)) (edges_in t.outs)) (λ x. (walk.edges x).0) (λ x. (walk.edges x).1)
-      ∙ any_same_in e (edges_in t.outs)
+  pub named_on_in : (from : ℕ) (form : Form) (node : ℕ) → form_node form ≡ Some node → list_any (is_named from form) (edges_of (walk_at t.ins node)) ≡ list_any (is_named from form) (edges_in t.outs)
+  named_on_in from form node f =
+      let walk : IsInWalk (connections_of t) node (walk_at t.ins node) = is_in_walk t h.threads h.graph.once node in
+      any_members (is_named from form) (edges_of (walk_at t.ins node)) (filter (enters node) (edges_in t.outs)) (λ x. (walk.edges x).0) (λ x. (walk.edges x).1)
+      ∙ any_entering from form node (edges_in t.outs) f
 
   -- no walk is longer than the graph has connections
   pub few_out : (node : ℕ) → length (walk_at t.outs node) < 2 ^ 32

@@ -1,4 +1,4 @@
-ghost use Rattle.std.specs.Prelude.{◌≡◌, option_map};
+ghost use Rattle.std.specs.Prelude.{◌≡◌, Some, IfSome, option_map};
 ghost use Rattle.conn_graph.specs.Cells.{edge_form};
 ghost use Rattle.conn_graph.specs.Edges as spec;
 
@@ -69,6 +69,30 @@ impl Target {
 }
 
 impl Form {
+    // The node to which the connections lead that the form names.
+    pub(crate) fn node(self) -> Option<NodeId>
+        ensures { option_map (λ n. n.0) result ≡ spec.form_node self }
+    {
+        match self {
+            Form::All | Form::Output(_) => None,
+            Form::Node(node) | Form::NodeOutput(node, _) | Form::NodeOutputInput(node, _, _) => {
+                Some(node)
+            }
+            Form::Param(param) | Form::ParamOutput(param, _) => Some(param.node),
+        }
+    }
+
+    // The node to which the connection leads that the form names, where it can name one at most.
+    pub(crate) fn target_of_one(self) -> Option<NodeId>
+        ensures { IfSome result (λ node. spec.form_node self ≡ Some node.0) }
+    {
+        match self {
+            Form::NodeOutputInput(node, _, _) => Some(node),
+            Form::ParamOutput(param, _) => Some(param.node),
+            _ => None,
+        }
+    }
+
     // The output that the form speaks of.
     pub(crate) fn output(self) -> Option<u32>
         ensures { result ≡ spec.form_output self }

@@ -1,4 +1,4 @@
-ghost use Rattle.std.specs.Prelude.{◌≡◌, ◌↔◌, ◌<◌, ◌+◌, ◌-◌, ◌^◌, [], ◌∷◌, ◌++◌, if◌then◌else◌, length, not, Some, IsOk, IfOk, OnOk, OnErr, IsErrOf, IfSome, IsNone};
+ghost use Rattle.std.specs.Prelude.{◌≡◌, ◌↔◌, ◌<◌, ◌+◌, ◌-◌, ◌^◌, [], ◌∷◌, ◌++◌, if◌then◌else◌, length, not, Some, IsOk, IfOk, OnOk, OnErr, IsErrOf, IfSome};
 ghost use Rattle.wa_base.specs.declared.exceptions.Exc.{Exc};
 ghost use Rattle.wa_base.specs.declared.exceptions.Refusal.TheVariants as Refusal;
 ghost use Rattle.std.specs.List.{list_any};
@@ -126,28 +126,36 @@ impl Graph {
         None
     }
 
-    // Whether an identical connection is there. It is looked for on the shorter one of the two walks
-    // that would have it.
+    // Whether an identical connection is there.
     fn has_edge(&self, edge: Edge) -> bool
         requires from { edge.from.0 < length self.now.value.nodes }
         requires to { target_node edge.to < length self.now.value.nodes }
         ensures { result ≡ spec.has_edge self.now.value edge }
     {
-        let from = edge.from;
-        let to = edge.to.node();
-        if self.lists.count(Side::In, to) < self.lists.count(Side::Out, from) {
-            is_one_named(&self.lists, Side::In, to, from, edge.form())
-        } else {
-            is_one_named(&self.lists, Side::Out, from, from, edge.form())
+        self.names_one(edge.from, edge.form())
+    }
+
+    // Whether a disconnect from a node names a connection. Where it names a target, it is looked for on
+    // the shorter one of the two walks that would have it.
+    fn names_one(&self, from: NodeId, form: Form) -> bool
+        requires from { from.0 < length self.now.value.nodes }
+        requires to { IfSome (form_node form) (λ node. node < length self.now.value.nodes) }
+        ensures { result ≡ list_any (is_named from.0 form) self.now.value.edges }
+    {
+        match form.node() {
+            Some(to) if self.has_fewer_in(to, from) => {
+                is_one_named(&self.lists, Side::In, to, from, form)
+            }
+            _ => is_one_named(&self.lists, Side::Out, from, from, form),
         }
     }
 
-    // Whether a disconnect from a node names a connection.
-    fn names_one(&self, from: NodeId, form: Form) -> bool
-        requires { from.0 < length self.now.value.nodes }
-        ensures { result ≡ list_any (is_named from.0 form) self.now.value.edges }
+    // Whether fewer connections lead to a node than from another.
+    fn has_fewer_in(&self, to: NodeId, from: NodeId) -> bool
+        requires to { to.0 < length self.now.value.nodes }
+        requires from { from.0 < length self.now.value.nodes }
     {
-        is_one_named(&self.lists, Side::Out, from, from, form)
+        self.lists.count(Side::In, to) < self.lists.count(Side::Out, from)
     }
 
     fn lacks_input(&self, target: Target) -> bool

@@ -1,8 +1,8 @@
 use Rattle.std.proofs.Common.{◌+◌, ◌<◌, length, sym, ◌∙◌, subst, arith}
 use Rattle.conn_graph.specs.Lists.{Threads}
 use Rattle.conn_graph.proofs.Going.{IsTaking, is_on_current, taking_kept, taking_gone, taking_stopped}
-use Rattle.conn_graph.proofs.walks.take_named.Goals.{then-is_named, else-is_named}
-use Rattle.conn_graph.proofs.walks.take_named.Goals as goal
+use Rattle.conn_graph.proofs.walks.take_along.Goals.{then-is_named, else-is_named}
+use Rattle.conn_graph.proofs.walks.take_along.Goals as goal
 
 pub next-next-requires-in-loop-clause-after : goal.next-next-requires-in-loop-clause-after
 next-next-requires-in-loop-clause-after c =
