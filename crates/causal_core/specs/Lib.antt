@@ -1,3 +1,4 @@
+pub mod Convolutions
 pub mod Curves
 pub mod Equations
 pub mod Filters

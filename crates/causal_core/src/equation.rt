@@ -1,7 +1,7 @@
 ghost use Rattle.std.specs.Prelude.{◌≡◌, IfOk};
 ghost use Rattle.causal_core.specs.Equations as spec;
 
-use crate::refusals::filter_refusal;
+use crate::refusals::{filter_refusal, response_refusal};
 use wa_base::{Exc, NoMemory, Samples};
 
 /// What a node puts out on a channel at each frame, from all frames that the channel took in since the
@@ -15,11 +15,17 @@ pub enum Equation {
         /// Those of the outputs (feedback), of which the first is not 0.
         back: Samples,
     },
+    /// The convolution with a response (ConvolverNode): at most 16,384 samples, none of them further
+    /// from 0 than 2.0. Without a sample the output is 0.
+    Convolution {
+        /// The response to a single frame of 1.0, in units of 2^-24.
+        response: Samples,
+    },
 }
 
 impl Equation {
     /// The exception with which a node of this equation is refused at its creation, as `filter_refusal`
-    /// says.
+    /// and `response_refusal` say.
     pub fn refusal(&self) -> Option<Exc>
         ensures { result ≡ spec.equation_refusal self.now }
     {
@@ -27,6 +33,18 @@ impl Equation {
             Equation::Filter { forward, back } => {
                 filter_refusal(forward.as_slice(), back.as_slice())
             }
+            Equation::Convolution { response } => response_refusal(response.as_slice()),
+        }
+    }
+
+    /// Whether a node of this equation has at most two channels (the recommendation's constraints on the
+    /// channelCount of ConvolverNode).
+    pub fn is_at_most_stereo(&self) -> bool
+        ensures { result ≡ spec.is_at_most_stereo self.now }
+    {
+        match self {
+            Equation::Filter { .. } => false,
+            Equation::Convolution { .. } => true,
         }
     }
 
@@ -38,6 +56,9 @@ impl Equation {
             Equation::Filter { forward, back } => Equation::Filter {
                 forward: forward.copy()?,
                 back: back.copy()?,
+            },
+            Equation::Convolution { response } => Equation::Convolution {
+                response: response.copy()?,
             },
         })
     }

@@ -10,4 +10,4 @@ mod refusals;
 pub use causal::Causal;
 pub use equation::Equation;
 pub use laws::{block_law, silence_law};
-pub use refusals::{curve_refusal, filter_refusal};
+pub use refusals::{curve_refusal, filter_refusal, response_refusal};

@@ -1,7 +1,8 @@
 -- What the rows of the table of nodes say.
-use Rattle.std.specs.Prelude.{ℕ, ℤ, Bool, true, false, Option, Some, None}
+use Rattle.std.specs.Prelude.{ℕ, ℤ, Bool, true, false, if◌then◌else◌, Option, Some, None}
 use Rattle.wa_base.specs.declared.graph_names.Interp.TheVariants.{Speakers}
-use Rattle.wa_base.specs.declared.graph_names.Mode.TheVariants.{Max}
+use Rattle.wa_base.specs.declared.graph_names.Mode.{Mode}
+use Rattle.wa_base.specs.declared.graph_names.Mode.TheVariants.{Max, ClampedMax}
 use Rattle.wa_base.specs.declared.graph_names.ParamName.{ParamName}
 use Rattle.node_table.specs.declared.rows.Row.{Row}
 use Rattle.node_table.specs.declared.rows.Fixed.{Fixed}
@@ -21,6 +22,14 @@ fixed_mixing = record { count = true; mode = true; interp = false }
 abbrev pub all_fixed : Fixed
 all_fixed = record { count = true; mode = true; interp = true }
 
+-- the most channels that a channelCount may ask for
+abbrev pub most_channels : Row → ℕ
+most_channels row = if row.at_most_stereo then 2 else 32
+
+-- the channelCountMode at the creation of a node that hears what its input took in, by whether it has at most two channels
+abbrev pub mode_heard : Bool → Mode
+mode_heard at_most_stereo = if at_most_stereo then ClampedMax else Max
+
 -- a node with one input and one output, which has as many channels as come in
 abbrev pub effect : Row
 effect = record {
@@ -31,6 +40,7 @@ effect = record {
   mode = Max;
   interp = Speakers;
   fixed = free;
+  at_most_stereo = false;
   param = None;
   plays = None;
   keeps = Nothing;

@@ -1,1 +1,1 @@
-mod Rounding
+pub mod Rounding

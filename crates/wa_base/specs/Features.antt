@@ -1,7 +1,7 @@
 -- The words of the features that the profile leaves out or limits.
 use Rattle.std.specs.Prelude.{ℕ, List, codes}
 use Rattle.wa_base.specs.declared.features.Feature.{Feature}
-use Rattle.wa_base.specs.declared.features.Feature.TheVariants.{Oscillator, PeriodicWave, Biquad, StereoPanner, Panner, Listener, Compressor, Analyser, MediaElementSource, MediaStreamSource, MediaStreamTrackSource, MediaStreamDestination, ScriptProcessor, AudioWorklet, Convolver, ExponentialRamp, SetTarget, Oversample, Resampling, PlaybackRate, PlaybackRateAutomation, Detune, LoopChange, LateBuffer, BufferAcquired, DestinationOutput, LongDelay, AssetSize, NodeLimit, ConnectionLimit, BufferLimit, DelayLimit}
+use Rattle.wa_base.specs.declared.features.Feature.TheVariants.{Oscillator, PeriodicWave, Biquad, StereoPanner, Panner, Listener, Compressor, Analyser, MediaElementSource, MediaStreamSource, MediaStreamTrackSource, MediaStreamDestination, ScriptProcessor, AudioWorklet, ExponentialRamp, SetTarget, Oversample, Resampling, PlaybackRate, PlaybackRateAutomation, Detune, LoopChange, LateBuffer, BufferAcquired, DestinationOutput, LongDelay, Normalization, ResponseChannels, LongResponse, LoudResponse, AssetSize, NodeLimit, ConnectionLimit, BufferLimit, DelayLimit}
 
 -- the word that stands for a feature in a transcript
 abbrev pub feature_word : Feature → List ℕ
@@ -19,7 +19,6 @@ feature_word MediaStreamTrackSource = codes "media-stream-track-source"
 feature_word MediaStreamDestination = codes "media-stream-destination"
 feature_word ScriptProcessor = codes "script-processor"
 feature_word AudioWorklet = codes "audio-worklet"
-feature_word Convolver = codes "convolver"
 feature_word ExponentialRamp = codes "exponential-ramp"
 feature_word SetTarget = codes "set-target"
 feature_word Oversample = codes "oversample"
@@ -32,6 +31,10 @@ feature_word LateBuffer = codes "late-buffer"
 feature_word BufferAcquired = codes "buffer-acquired"
 feature_word DestinationOutput = codes "destination-output"
 feature_word LongDelay = codes "long-delay"
+feature_word Normalization = codes "normalization"
+feature_word ResponseChannels = codes "response-channels"
+feature_word LongResponse = codes "long-response"
+feature_word LoudResponse = codes "loud-response"
 feature_word AssetSize = codes "asset-size"
 feature_word NodeLimit = codes "node-limit"
 feature_word ConnectionLimit = codes "connection-limit"
