@@ -11,7 +11,7 @@ use Rattle.wa_base.specs.declared.exceptions.Exc.TheVariants.{NotSupported, Inde
 use Rattle.wa_base.specs.declared.features.Feature.TheVariants.{NodeLimit, DelayLimit, PlaybackRate, LongDelay}
 use Rattle.causal_core.specs.Curves.{IsCurve, curve_refusal}
 use Rattle.node_table.specs.declared.kinds.Kind.{Kind}
-use Rattle.node_table.specs.declared.kinds.Kind.TheVariants.{Constant, Buffer, Delay, Splitter, Merger, Shaper}
+use Rattle.node_table.specs.declared.kinds.Kind.TheVariants.{Constant, Buffer, Delay, Splitter, Merger}
 use Rattle.node_table.specs.declared.nodes.Node.{Node}
 use Rattle.node_table.specs.declared.rows.Channels.{Channels}
 use Rattle.node_table.specs.declared.rows.Channels.TheVariants.{Always, OfInput, OfBuffer}
@@ -128,7 +128,7 @@ room_left nodes kind accepted = by_room (nat_lt (length nodes) 1024) refl (first
 
 -- ---- what the delays keep
 
-kept_by : (nodes : List Node) (kind : Kind) → delay_limit_refusal nodes kind ≡ None → capacities nodes + capacity_of kind ≤ 4194304
+kept_by : (nodes : List Node) (kind : Kind) → delay_limit_refusal nodes (capacity_of kind) ≡ None → capacities nodes + capacity_of kind ≤ 4194304
 kept_by nodes kind fine = by_room (nat_le (capacities nodes + capacity_of kind) 4194304) refl fine
   where
     by_room : (b : Bool) → nat_le (capacities nodes + capacity_of kind) 4194304 ≡ b → (if b then None else Some (NotSupported (Some DelayLimit))) ≡ None → capacities nodes + capacity_of kind ≤ 4194304

@@ -10,6 +10,8 @@ use Rattle.wa_base.specs.declared.graph_names.Mode.TheVariants.{Max, ClampedMax,
 use Rattle.wa_base.specs.declared.graph_names.Interp.{Interp}
 use Rattle.wa_base.specs.declared.graph_names.Interp.TheVariants.{Speakers, Discrete}
 use Rattle.node_table.specs.declared.nodes.Node.{Node}
+use Rattle.node_table.specs.declared.rows.Row.{Row}
+use Rattle.node_table.specs.Rows.{most_channels}
 use Rattle.node_table.specs.Kinds.{row, capacity_of, same_mode, same_interp}
 use Rattle.node_table.proofs.NodeLists.{capacities-cons}
 use Rattle.node_table.specs.Nodes.{with_count, with_mode, with_interp, fixed_refusal, count_refusal, mode_refusal, interp_refusal, changed_at, refusal_at, capacities, AreNodes, IsFirst, IsCreated}
@@ -102,13 +104,20 @@ pub record CountIsFree (count : ℕ) (n : Node) : Type 0 where
   pub high : count ≤ 32
   pub kept : (row n.kind).fixed.count ≡ true → count ≡ n.attrs.count
 
-pub count_free : (count : ℕ) (n : Node) → count_refusal count n ≡ None → CountIsFree count n
-count_free count n fine = by_range (nat_le 1 count && nat_le count 32) refl fine
+most_few : (r : Row) → most_channels r ≤ 32
+most_few r = by_most r.at_most_stereo
   where
-    by_range : (b : Bool) → (nat_le 1 count && nat_le count 32) ≡ b → (if not b then Some (NotSupported None) else fixed_refusal (row n.kind).fixed.count (n.attrs.count == count)) ≡ None → CountIsFree count n
+    by_most : (b : Bool) → (if b then 2 else 32) ≤ 32
+    by_most true = omega arith
+    by_most false = omega arith
+
+pub count_free : (count : ℕ) (n : Node) → count_refusal count n ≡ None → CountIsFree count n
+count_free count n fine = by_range (nat_le 1 count && nat_le count (most_channels (row n.kind))) refl fine
+  where
+    by_range : (b : Bool) → (nat_le 1 count && nat_le count (most_channels (row n.kind))) ≡ b → (if not b then Some (NotSupported None) else fixed_refusal (row n.kind).fixed.count (n.attrs.count == count)) ≡ None → CountIsFree count n
     by_range true is h = record {
       low = grind (arith, nat_tests);
-      high = grind (arith, nat_tests);
+      high = let most = most_few (row n.kind) in grind (arith, nat_tests);
       kept = λ fixed. let same = kept_if_fixed (row n.kind).fixed.count (n.attrs.count == count) h fixed in grind (arith, nat_tests);
     }
     by_range false is h = absurd cc
@@ -131,7 +140,11 @@ keeps_count count = record {
 }
 
 pub mode_kept : (mode : Mode) (n : Node) → mode_refusal mode n ≡ None → (row n.kind).fixed.mode ≡ true → n.attrs.mode ≡ mode
-mode_kept mode n fine fixed = same_mode_is n.attrs.mode mode (kept_if_fixed (row n.kind).fixed.mode (same_mode n.attrs.mode mode) fine fixed)
+mode_kept mode n fine fixed = same_mode_is n.attrs.mode mode (kept_if_fixed (row n.kind).fixed.mode (same_mode n.attrs.mode mode) (not_max _ _ fine) fixed)
+  where
+    not_max : (b : Bool) (others : Option Exc) → (if b then Some (NotSupported None) else others) ≡ None → others ≡ None
+    not_max true others h = absurd cc
+    not_max false others h = h
 
 pub keeps_mode : (mode : Mode) → Keeps (mode_refusal mode) (with_mode mode)
 keeps_mode mode = record {

@@ -3,15 +3,15 @@ use Rattle.std.specs.Prelude.{neg_ℤ, is_some, option_map}
 use Rattle.std.proofs.Common.{ℤ, pos, ◌≡◌, List, [], ◌∷◌, None, Some, map, true, false, refl}
 use Rattle.wa_base.specs.declared.contexts.ContextSpec.{ContextSpec}
 use Rattle.wa_base.specs.declared.exceptions.Exc.TheVariants.{NotSupported, InvalidState, IndexSize, WrongType}
-use Rattle.wa_base.specs.declared.features.Feature.TheVariants.{PlaybackRate, LongDelay, DelayLimit}
+use Rattle.wa_base.specs.declared.features.Feature.TheVariants.{PlaybackRate, LongDelay, DelayLimit, LoudResponse}
 use Rattle.wa_base.specs.declared.graph_names.Interp.TheVariants.{Speakers, Discrete}
-use Rattle.wa_base.specs.declared.graph_names.Mode.TheVariants.{Max, Explicit}
+use Rattle.wa_base.specs.declared.graph_names.Mode.TheVariants.{Max, ClampedMax, Explicit}
 use Rattle.wa_base.specs.declared.graph_names.ParamName.TheVariants as param
-use Rattle.causal_core.specs.declared.equation.Equation.TheVariants.{Filter}
+use Rattle.causal_core.specs.declared.equation.Equation.TheVariants.{Filter, Convolution}
 use Rattle.node_table.specs.declared.kinds.Kind.{Kind}
 use Rattle.node_table.specs.declared.kinds.Kind.TheVariants.{Destination, Constant, Buffer, Gain, Delay, Splitter, Merger, Shaper, Causal}
 use Rattle.node_table.specs.Kinds.{row, is_destination, inputs, outputs, is_delay_kind, param_name, lasting, remembers, with_curve, set_curve_refusal}
-use Rattle.node_table.specs.Nodes.{destination_of, node_of, creation_refusal, count_refusal, kind_at, attrs_at}
+use Rattle.node_table.specs.Nodes.{destination_of, node_of, creation_refusal, count_refusal, mode_refusal, kind_at, attrs_at}
 
 -- a node with the equation of a filter
 abbrev filter : (forward back : List ℤ) → Kind
@@ -117,6 +117,35 @@ lasting-shaper = refl
 refused-filters : map (λ kind. creation_refusal (destination_of context ∷ []) kind) (filter [] (pos 1 ∷ []) ∷ filter (pos 0 ∷ []) [] ∷ filter (pos 0 ∷ []) (pos 0 ∷ []) ∷ filter (pos 1 ∷ []) (pos 0 ∷ pos 1 ∷ []) ∷ filter (pos 0 ∷ pos 1 ∷ []) (pos 1 ∷ []) ∷ [])
     ≡ Some (NotSupported None) ∷ Some (NotSupported None) ∷ Some InvalidState ∷ Some InvalidState ∷ None ∷ []
 refused-filters = refl
+
+-- ---- convolvers
+
+abbrev convolver : List ℤ → Kind
+convolver response = Causal (Convolution response)
+
+-- a convolver takes in one or two channels at its creation
+attrs-convolver : (node_of (convolver []) 128).attrs ≡ record { count = 2; mode = ClampedMax; interp = Speakers; birth = 128 }
+attrs-convolver = refl
+
+-- of a convolver 1 and 2 may be set, of a filter 32 too
+convolver-counts : map (λ count. count_refusal count (node_of (convolver []) 0)) (0 ∷ 1 ∷ 2 ∷ 3 ∷ 32 ∷ 33 ∷ [])
+    ≡ Some (NotSupported None) ∷ None ∷ None ∷ Some (NotSupported None) ∷ Some (NotSupported None) ∷ Some (NotSupported None) ∷ []
+convolver-counts = refl
+
+filter-counts : map (λ count. count_refusal count (node_of (filter (pos 1 ∷ []) (pos 1 ∷ [])) 0)) (0 ∷ 3 ∷ 32 ∷ 33 ∷ []) ≡ Some (NotSupported None) ∷ None ∷ None ∷ Some (NotSupported None) ∷ []
+filter-counts = refl
+
+-- of a convolver every mode but the first may be set, of a filter that one too
+convolver-modes : map (λ mode. mode_refusal mode (node_of (convolver []) 0)) (Max ∷ ClampedMax ∷ Explicit ∷ []) ≡ Some (NotSupported None) ∷ None ∷ None ∷ []
+convolver-modes = refl
+
+filter-modes : map (λ mode. mode_refusal mode (node_of (filter (pos 1 ∷ []) (pos 1 ∷ [])) 0)) (Max ∷ ClampedMax ∷ Explicit ∷ []) ≡ None ∷ None ∷ None ∷ []
+filter-modes = refl
+
+-- a sample of 2.0 is not too loud, and one further from 0 is
+refused-responses : map (λ sample. creation_refusal (destination_of context ∷ []) (convolver (pos 1 ∷ sample ∷ []))) (pos 33554432 ∷ neg_ℤ (pos 33554432) ∷ pos 33554433 ∷ neg_ℤ (pos 33554433) ∷ [])
+    ≡ None ∷ None ∷ Some (NotSupported (Some LoudResponse)) ∷ Some (NotSupported (Some LoudResponse)) ∷ []
+refused-responses = refl
 
 -- filters alone remember all that they took in
 remembering : map remembers kinds ≡ false ∷ false ∷ false ∷ false ∷ false ∷ false ∷ false ∷ false ∷ true ∷ []

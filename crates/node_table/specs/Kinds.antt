@@ -11,7 +11,7 @@ use Rattle.wa_base.specs.declared.graph_names.Mode.TheVariants.{Max, ClampedMax,
 use Rattle.wa_base.specs.declared.graph_names.ParamName.{ParamName}
 use Rattle.wa_base.specs.declared.graph_names.ParamName.TheVariants as param
 use Rattle.causal_core.specs.Curves as curves
-use Rattle.causal_core.specs.Equations.{equation_refusal, HasFixCoefficients}
+use Rattle.causal_core.specs.Equations.{equation_refusal, is_at_most_stereo, HasFixCoefficients}
 use Rattle.node_table.specs.declared.kinds.Kind.{Kind}
 use Rattle.node_table.specs.declared.kinds.Kind.TheVariants.{Destination, Constant, Buffer, Gain, Delay, Splitter, Merger, Shaper, Causal}
 use Rattle.node_table.specs.declared.rows.Row.{Row}
@@ -19,7 +19,7 @@ use Rattle.node_table.specs.declared.rows.Channels.TheVariants.{Always, OfBuffer
 use Rattle.node_table.specs.declared.rows.Range.TheVariants.{UpTo}
 use Rattle.node_table.specs.declared.rows.Plays.TheVariants.{Value, Content}
 use Rattle.node_table.specs.declared.rows.Keeps.TheVariants.{Heard, Written}
-use Rattle.node_table.specs.Rows.{effect, fixed_mixing, all_fixed, any_value, is_written, frames_written, is_heard}
+use Rattle.node_table.specs.Rows.{effect, fixed_mixing, all_fixed, any_value, mode_heard, is_written, frames_written, is_heard}
 
 -- ---- the table of nodes
 
@@ -33,7 +33,7 @@ row (Delay longest time capacity) = record effect { param = Some (record { name 
 row (Splitter ports) = record effect { outputs = ports; channels = Always 1; count = ports; mode = Explicit; interp = Discrete; fixed = all_fixed }
 row (Merger ports) = record effect { inputs = ports; channels = Always ports; count = 1; mode = Explicit; fixed = fixed_mixing }
 row (Shaper curve was_set) = effect
-row (Causal equation) = record effect { keeps = Heard }
+row (Causal equation) = record effect { mode = mode_heard (is_at_most_stereo equation); at_most_stereo = is_at_most_stereo equation; keeps = Heard }
 
 abbrev pub is_destination : Kind → Bool
 is_destination Destination = true

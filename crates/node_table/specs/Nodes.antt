@@ -7,13 +7,14 @@ use Rattle.wa_base.specs.declared.exceptions.Exc.{Exc}
 use Rattle.wa_base.specs.declared.exceptions.Exc.TheVariants.{NotSupported, InvalidState}
 use Rattle.wa_base.specs.declared.features.Feature.TheVariants.{NodeLimit, DelayLimit}
 use Rattle.wa_base.specs.declared.graph_names.Mode.{Mode}
-use Rattle.wa_base.specs.declared.graph_names.Mode.TheVariants.{Explicit}
+use Rattle.wa_base.specs.declared.graph_names.Mode.TheVariants.{Max, Explicit}
 use Rattle.wa_base.specs.declared.graph_names.Interp.{Interp}
 use Rattle.wa_base.specs.declared.graph_names.Interp.TheVariants.{Speakers}
 use Rattle.node_table.specs.declared.kinds.Kind.{Kind}
 use Rattle.node_table.specs.declared.kinds.Kind.TheVariants.{Destination}
 use Rattle.node_table.specs.declared.nodes.Attrs.{Attrs}
 use Rattle.node_table.specs.declared.nodes.Node.{Node}
+use Rattle.node_table.specs.Rows.{most_channels}
 use Rattle.node_table.specs.Kinds.{row, is_destination, same_mode, same_interp, capacity_of, range_refusal, IsInLimits, with_curve, set_curve_refusal}
 
 -- the destination of a context
@@ -39,13 +40,17 @@ node_limit_refusal nodes = if has_room nodes then None else Some (NotSupported (
 abbrev pub capacities : List Node → ℕ
 capacities nodes = sum_by (λ node. capacity_of node.kind) nodes
 
--- they keep at most 4,194,304
-abbrev pub delay_limit_refusal : List Node → Kind → Option Exc
-delay_limit_refusal nodes kind = if nat_le (capacities nodes + capacity_of kind) 4194304 then None else Some (NotSupported (Some DelayLimit))
+-- with those of another node they keep at most 4,194,304
+abbrev pub delay_limit_refusal : List Node → ℕ → Option Exc
+delay_limit_refusal nodes frames = if nat_le (capacities nodes + frames) 4194304 then None else Some (NotSupported (Some DelayLimit))
+
+-- why a graph has no room for a node that keeps so many frames of what it wrote
+abbrev pub limit_refusal : List Node → ℕ → Option Exc
+limit_refusal nodes frames = option_or (node_limit_refusal nodes) (delay_limit_refusal nodes frames)
 
 -- the exception with which the creation of a node is refused, if it is: what it would be created with comes first, and then the limits of the graph
 abbrev pub creation_refusal : List Node → Kind → Option Exc
-creation_refusal nodes kind = option_or (range_refusal kind) (option_or (node_limit_refusal nodes) (delay_limit_refusal nodes kind))
+creation_refusal nodes kind = option_or (range_refusal kind) (limit_refusal nodes (capacity_of kind))
 
 -- what a node is, if it is there
 abbrev pub kind_at : List Node → ℕ → Option Kind
@@ -71,13 +76,15 @@ with_interp interp node = record node { attrs = record node.attrs { interp = int
 abbrev pub fixed_refusal : Bool → Bool → Option Exc
 fixed_refusal is_fixed is_same = if is_fixed && not is_same then Some InvalidState else None
 
--- why a channelCount is refused: it is not from 1 to 32, or that of the node is fixed
+-- why a channelCount is refused: it is not from 1 to the most that the node may have, or that of the node is fixed
 abbrev pub count_refusal : ℕ → Node → Option Exc
 count_refusal count node =
-    if not (nat_le 1 count && nat_le count 32) then Some (NotSupported None) else fixed_refusal (row node.kind).fixed.count (node.attrs.count == count)
+    if not (nat_le 1 count && nat_le count (most_channels (row node.kind))) then Some (NotSupported None) else fixed_refusal (row node.kind).fixed.count (node.attrs.count == count)
 
+-- why a channelCountMode is refused: it is `max`, and the node has at most two channels, or that of the node is fixed
 abbrev pub mode_refusal : Mode → Node → Option Exc
-mode_refusal mode node = fixed_refusal (row node.kind).fixed.mode (same_mode node.attrs.mode mode)
+mode_refusal mode node =
+    if (row node.kind).at_most_stereo && same_mode mode Max then Some (NotSupported None) else fixed_refusal (row node.kind).fixed.mode (same_mode node.attrs.mode mode)
 
 abbrev pub interp_refusal : Interp → Node → Option Exc
 interp_refusal interp node = fixed_refusal (row node.kind).fixed.interp (same_interp node.attrs.interp interp)

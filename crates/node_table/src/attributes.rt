@@ -5,13 +5,12 @@ ghost use Rattle.node_table.specs.Nodes as table;
 use crate::nodes::{Node, Nodes};
 use wa_base::{Exc, Interp, Mode, NodeId};
 
-const MAX_CHANNELS: u32 = 32;
-
 /// How the channels of a node's inputs are mixed, set anew (the recommendation's section on the
 /// attributes of AudioNode). Only the node that is named changes, and a refused call changes nothing.
 impl Nodes {
-    /// Sets channelCount. It is refused with NotSupportedError for 0 and for more than 32, and with
-    /// InvalidStateError where another count would take the place of a fixed one.
+    /// Sets channelCount. It is refused with NotSupportedError for 0 and for more than 32, of a
+    /// node that has at most two channels for more than 2, and with InvalidStateError where another count
+    /// would take the place of a fixed one.
     pub fn set_count(&mut self, node: NodeId, count: u32) -> Result<(), Exc>
         requires { node.0 < length self.old }
         ensures refusal { result_err result ≡ table.refusal_at self.old node.0 (table.count_refusal count) }
@@ -31,14 +30,15 @@ impl Nodes {
         ensures { result ≡ table.refusal_at self.now node.0 (table.count_refusal count) }
     {
         let Node { kind, attrs } = self.node(node);
-        if count == 0 || count > MAX_CHANNELS {
+        let row = kind.row();
+        if count == 0 || count > row.most_channels() {
             return Some(Exc::NotSupported(None));
         }
-        fixed_refusal(kind.row().fixed.count, attrs.count == count)
+        fixed_refusal(row.fixed.count, attrs.count == count)
     }
 
-    /// Sets channelCountMode. It is refused with InvalidStateError where another mode would take the
-    /// place of a fixed one.
+    /// Sets channelCountMode. It is refused with NotSupportedError for `max` on a node that has at most
+    /// two channels, and with InvalidStateError where another mode would take the place of a fixed one.
     pub fn set_mode(&mut self, node: NodeId, mode: Mode) -> Result<(), Exc>
         requires { node.0 < length self.old }
         ensures refusal { result_err result ≡ table.refusal_at self.old node.0 (table.mode_refusal mode) }
@@ -58,7 +58,11 @@ impl Nodes {
         ensures { result ≡ table.refusal_at self.now node.0 (table.mode_refusal mode) }
     {
         let Node { kind, attrs } = self.node(node);
-        fixed_refusal(kind.row().fixed.mode, attrs.mode == mode)
+        let row = kind.row();
+        if row.at_most_stereo && mode == Mode::Max {
+            return Some(Exc::NotSupported(None));
+        }
+        fixed_refusal(row.fixed.mode, attrs.mode == mode)
     }
 
     /// Sets channelInterpretation. It is refused with InvalidStateError where another interpretation

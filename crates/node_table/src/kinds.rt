@@ -55,7 +55,8 @@ pub enum Kind {
         /// Whether a curve was set before. It stays so where the curve is taken away.
         was_set: bool,
     },
-    /// A node whose output rests on all that its input took in since its creation (IIRFilterNode).
+    /// A node whose output rests on all that its input took in since its creation (IIRFilterNode,
+    /// ConvolverNode).
     Causal {
         /// What it puts out of it.
         equation: Equation,
@@ -120,6 +121,22 @@ fn merger_row(inputs: u32) -> Row
     }
 }
 
+fn causal_row(equation: &Equation) -> Row
+    ensures { result ≡ spec.row (Kind.Causal equation.now) }
+{
+    let at_most_stereo = equation.is_at_most_stereo();
+    Row {
+        mode: if at_most_stereo {
+            Mode::ClampedMax
+        } else {
+            Mode::Max
+        },
+        at_most_stereo,
+        keeps: Keeps::Heard,
+        ..Row::EFFECT
+    }
+}
+
 impl Kind {
     /// What the kind has: its row in the table of nodes.
     pub fn row(&self) -> Row
@@ -156,15 +173,13 @@ impl Kind {
             Kind::Splitter { outputs } => splitter_row(*outputs),
             Kind::Merger { inputs } => merger_row(*inputs),
             Kind::Shaper { .. } => Row::EFFECT,
-            Kind::Causal { .. } => Row {
-                keeps: Keeps::Heard,
-                ..Row::EFFECT
-            },
+            Kind::Causal { equation } => causal_row(equation),
         }
     }
 
     /// The exception with which a node of the kind is refused because of what it would be created
-    /// with: the number of its ports, its rate, its longest delay, its curve, or its coefficients.
+    /// with: the number of its ports, its rate, its longest delay, its curve, its coefficients, or its
+    /// response.
     pub fn range_refusal(&self) -> Option<Exc>
         ensures { result ≡ spec.range_refusal self.now }
     {

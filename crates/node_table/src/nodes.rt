@@ -127,7 +127,7 @@ impl Nodes {
     /// source would have the rate 0, with NotSupportedError where the longest delay of a delay would not
     /// be above 0, and with that and the feature `long-delay` where it would be above 16 seconds, with
     /// InvalidStateError where a shaper would have a curve of fewer than two points, as `filter_refusal`
-    /// says for a filter, then with NotSupportedError and the feature `node-limit` where 1,024 nodes are
+    /// says for a filter, as `response_refusal` says for a convolver, then with NotSupportedError and the feature `node-limit` where 1,024 nodes are
     /// there, the destination among them, and then with the feature `delay-limit` where the delays would
     /// keep more than 4,194,304 frames together. After a refusal, and after `NoMemory`, the nodes are as
     /// before, and the kind is dropped.
@@ -159,17 +159,25 @@ impl Nodes {
         if let Some(exc) = kind.range_refusal() {
             return Some(exc);
         }
+        self.limit_refusal(kind.row().keeps.frames())
+    }
+
+    /// The exception with which a node that keeps so many frames of what it wrote would be refused now
+    /// for want of room, whatever its kind: the features are `node-limit` and `delay-limit`.
+    pub fn limit_refusal(&self, frames: u64) -> Option<Exc>
+        ensures { result ≡ table.limit_refusal self.now frames }
+    {
         if self.nodes.len() >= MAX_NODES {
             return Some(Exc::NotSupported(Some(Feature::NodeLimit)));
         }
-        self.delay_limit_refusal(kind)
+        self.delay_limit_refusal(frames)
     }
 
     // The delays keep at most so many frames together.
-    fn delay_limit_refusal(&self, kind: &Kind) -> Option<Exc>
-        ensures { result ≡ table.delay_limit_refusal self.now kind.now }
+    fn delay_limit_refusal(&self, frames: u64) -> Option<Exc>
+        ensures { result ≡ table.delay_limit_refusal self.now frames }
     {
-        if kind.row().keeps.frames() > MAX_DELAY_FRAMES - self.delay_frames {
+        if frames > MAX_DELAY_FRAMES - self.delay_frames {
             Some(Exc::NotSupported(Some(Feature::DelayLimit)))
         } else {
             None

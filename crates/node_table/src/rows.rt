@@ -3,6 +3,8 @@ ghost use Rattle.node_table.specs.Rows as spec;
 
 use wa_base::{Fix, Interp, Mode, ParamName};
 
+const MAX_CHANNELS: u32 = 32;
+
 /// What a kind of node has: a row of the table of nodes. It is all that is asked of a kind, but for its
 /// equation and for what it is refused for.
 #[derive(Clone, Copy)]
@@ -22,6 +24,9 @@ pub struct Row {
     pub interp: Interp,
     /// Which of these three stay as they are.
     pub fixed: Fixed,
+    /// Whether it has at most two channels: a channelCount above 2 is refused, and so is the
+    /// channelCountMode `max` (the recommendation's constraints on ConvolverNode).
+    pub at_most_stereo: bool,
     /// The parameter that can be automated, if there is one.
     pub param: Option<ParamRow>,
     /// What a source plays. Another kind plays nothing.
@@ -41,10 +46,22 @@ impl Row {
         mode: Mode::Max,
         interp: Interp::Speakers,
         fixed: Fixed::NONE,
+        at_most_stereo: false,
         param: None,
         plays: None,
         keeps: Keeps::Nothing,
     };
+
+    /// The most channels that a channelCount may ask for.
+    pub fn most_channels(&self) -> u32
+        ensures { result ≡ spec.most_channels self.now }
+    {
+        if self.at_most_stereo {
+            2
+        } else {
+            MAX_CHANNELS
+        }
+    }
 }
 
 /// How many channels each output of a node has (computedNumberOfChannels).
