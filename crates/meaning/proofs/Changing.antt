@@ -30,14 +30,16 @@ use Rattle.meaning.specs.declared.world.World.{World}
 use Rattle.meaning.specs.declared.scheds.Play.{Play}
 use Rattle.meaning.specs.World.{plain, no_node, node_at, find_play}
 use Rattle.meaning.specs.Validity.{IsValid, play_nodes}
-use Rattle.meaning.specs.Plays.{new_source}
-use Rattle.meaning.specs.Sources.{changed_play, resampling_refusal}
+use Rattle.meaning.specs.Convolvers.{convolver_of, response_channels_refusal}
+use Rattle.meaning.specs.Plays.{new_source, frozen_in}
+use Rattle.wa_base.specs.declared.graph_names.BufId.{BufId}
+use Rattle.meaning.specs.Sources.{with_store, changed_play, resampling_refusal}
 use Rattle.meaning.specs.Worlds.{HasCapacity}
 use Rattle.meaning.specs.Changes.{created, edited, new_play, with_nodes, output_refusal, refusal, changed, attribute_set, attribute_refusal, IsNamed, Accepts, Grows, ChangeLaw}
 use Rattle.meaning.proofs.Valid.{plain_valid, connected_valid, disconnected_valid}
 use Rattle.meaning.proofs.Creating.{created_valid, node_kept, node_new, IsNewPlay}
 use Rattle.meaning.proofs.Setting.{KeepsNode, set_valid, changed_same, node_keeps_attribute, node_keeps_curve}
-use Rattle.meaning.proofs.Sourcing.{new_play_is, new_source_is, source_edited_valid, acquired_keeps}
+use Rattle.meaning.proofs.Sourcing.{new_play_is, new_source_is, source_edited_valid, acquired_keeps, with_store_valid, frozen_keeps, frozen_are}
 use Rattle.meaning.proofs.OneChanged.{written_over}
 use Rattle.meaning.proofs.Automating.{automated_valid}
 use Rattle.meaning.proofs.Buffering.{buffers_edited_valid, buffers_stay}
@@ -90,6 +92,17 @@ grows_created w kind play new now other capacity accepted = record {
     long : length (w.nodes ++ node_of kind now ∷ []) ≡ length w.nodes + 1
     long = length-append w.nodes (node_of kind now ∷ [])
 
+-- and a buffer that is acquired
+grows_frozen : (w : World) (buffer : Option BufId) (now : ℕ) (kind : Kind) → Grows now w (created w kind None now) → Grows now w (with_store (created w kind None now) (frozen_in w.store buffer))
+grows_frozen w buffer now kind grows = record {
+  valid = λ valid. with_store_valid (created w kind None now) (frozen_in w.store buffer) (frozen_keeps w.store buffer) (frozen_are w.store buffer valid.store) (grows.valid valid);
+  spec = refl;
+  buffers = (frozen_keeps w.store buffer).long;
+  stays = λ i l. let stays = grows.stays i l in record { there = stays.there; kind = stays.kind; birth = stays.birth };
+  born = grows.born;
+  capacity = grows.capacity;
+}
+
 -- an attribute of one node
 grows_set : (w : World) (node now : ℕ) (refusal : Node → Option Exc) (change : Node → Node) → KeepsNode refusal change → refusal_at w.nodes node refusal ≡ None → Grows now w (with_nodes w (changed_at node change w.nodes))
 grows_set w node now refusal change keeps fine = record {
@@ -121,6 +134,9 @@ edited_grows w now (edit.Create kind) named accepted valid = grows_created w kin
 edited_grows w now (edit.CreateBufferSource rate buffer points) named accepted valid =
     grows_created w (Buffer rate) (Some (new_source (length w.nodes) rate buffer points)) (new_source_is w rate buffer points named) now refl tt
     (second_none (resampling_refusal w buffer) _ (second_none (range_refusal (Buffer rate)) _ accepted))
+edited_grows w now (edit.CreateConvolver buffer) named accepted valid =
+    grows_frozen w buffer now (convolver_of w.store buffer) (grows_created w (convolver_of w.store buffer) None (record { own = λ p is. absurd cc; sources = refl; fits = λ p is. absurd cc }) now refl tt
+    (second_none (resampling_refusal w buffer) _ (second_none (response_channels_refusal w.store buffer) _ accepted)))
 edited_grows w now (edit.Connect edge) named accepted valid =
     grows_still now w _ (λ v. connected_valid w edge v named.0 named.1 (unrefused edge.from.0 w edge accepted)) refl (omega arith) refl
 edited_grows w now (edit.Disconnect from form) named accepted valid = grows_still now w _ (λ v. disconnected_valid w from.0 form v) refl (omega arith) refl

@@ -14,7 +14,7 @@ use Rattle.law_base.proofs.SchemeLaws.{moment-zero}
 use Rattle.causal_core.specs.Curves.{on_way, curve_at}
 use Rattle.causal_core.specs.Filters.{dot, quotient, filtered, filter_value}
 use Rattle.causal_core.specs.declared.equation.Equation.{Equation}
-use Rattle.causal_core.specs.declared.equation.Equation.TheVariants.{Filter}
+use Rattle.causal_core.specs.declared.equation.Equation.TheVariants.{Filter, Convolution}
 use Rattle.causal_core.specs.Equations.{equation_value}
 use Rattle.causal_core.specs.Frames.{item}
 use Rattle.causal_core.proofs.Shares.{between_fix}
@@ -148,6 +148,7 @@ filter_fix forward back (x ∷ xs) = quotient_fix (dot forward (x ∷ xs) -ℤ d
 
 causal_fix : (equation : Equation) (frames : List ℤ) → IsFix (equation_value equation frames)
 causal_fix (Filter forward back) frames = filter_fix forward back frames
+causal_fix (Convolution response) frames = sat_fix _
 
 -- ---- each end
 

@@ -235,11 +235,11 @@ module _ (w : World) (store : List AudioBuffer) (keeps : KeepsFrames w.store sto
   edit_stays e (Some played.Value) p named fine old is = constant_stays e (frames_in w.store p.buffer) p fine is
   edit_stays e (Some (played.Content rate)) p named fine old is = source_stays e rate p named fine old.there is
 
-frozen_keeps : (store : List AudioBuffer) (source : Option BufId) → KeepsFrames store (frozen_in store source)
+pub frozen_keeps : (store : List AudioBuffer) (source : Option BufId) → KeepsFrames store (frozen_in store source)
 frozen_keeps store None = keeps_all store
 frozen_keeps store (Some b) = keeps_changed store b.0 frozen (λ x. refl)
 
-frozen_are : (store : List AudioBuffer) (source : Option BufId) → AreBuffers store → AreBuffers (frozen_in store source)
+pub frozen_are : (store : List AudioBuffer) (source : Option BufId) → AreBuffers store → AreBuffers (frozen_in store source)
 frozen_are store None are = are
 frozen_are store (Some b) are = are_buffers_changed b.0 frozen store (λ x is. keeps_frozen x) are
 

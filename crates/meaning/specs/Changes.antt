@@ -4,6 +4,7 @@ use Rattle.wa_base.specs.Contexts.{quantum_of}
 use Rattle.wa_base.specs.declared.exceptions.Exc.{Exc}
 use Rattle.wa_base.specs.declared.exceptions.Exc.TheVariants.{NotSupported}
 use Rattle.wa_base.specs.declared.features.Feature.TheVariants.{DestinationOutput}
+use Rattle.wa_base.specs.declared.graph_names.BufId.{BufId}
 use Rattle.wa_base.specs.declared.graph_names.ParamName.{ParamName}
 use Rattle.wa_base.specs.declared.graph_names.Rate.TheVariants.{A}
 use Rattle.law_base.specs.Members.{IsIn}
@@ -27,7 +28,8 @@ use Rattle.meaning.specs.declared.params.Param.{Param}
 use Rattle.meaning.specs.declared.scheds.Play.{Play}
 use Rattle.meaning.specs.Automation.{automated, automation_refusal}
 use Rattle.meaning.specs.Lists.{listed}
-use Rattle.meaning.specs.Plays.{new_source}
+use Rattle.meaning.specs.Convolvers.{convolver_of, convolver_refusal}
+use Rattle.meaning.specs.Plays.{new_source, frozen_in}
 use Rattle.meaning.specs.Sources.{with_store, source_edited, buffers_edited, makes_buffer, source_refusal, source_creation_refusal, buffers_refusal, IsBufferOf, IsNamedBy, IsEditOf}
 use Rattle.meaning.specs.World.{bare, node_at, param_id, first_sched, find_play, not_started}
 use Rattle.meaning.specs.Validity.{ports_of, param_ids, IsValid}
@@ -61,6 +63,10 @@ created w kind play now = record w {
   scheds = listed (w.scheds.items ++ plays_of play);
 }
 
+-- a world with a convolver more, which acquires the buffer of its response
+abbrev pub convolver_created : World → Option BufId → ℕ → World
+convolver_created w buffer now = with_store (created w (convolver_of w.store buffer) None now) (frozen_in w.store buffer)
+
 -- ---- connections and attributes
 
 abbrev pub with_graph : World → Connections → World
@@ -80,6 +86,7 @@ attribute_set (attribute.Interp interp) node = with_interp interp node
 abbrev pub edited : World → ℕ → Edit → World
 edited w now (edit.Create kind) = created w kind (new_play (length w.nodes) kind) now
 edited w now (edit.CreateBufferSource rate buffer points) = created w (Buffer rate) (Some (new_source (length w.nodes) rate buffer points)) now
+edited w now (edit.CreateConvolver buffer) = convolver_created w buffer now
 edited w now (edit.Connect edge) = with_graph w (connected w.graph.value edge)
 edited w now (edit.Disconnect from form) = with_graph w (disconnected w.graph.value from.0 form)
 edited w now (edit.Source node e) = source_edited w now node.0 e
@@ -92,6 +99,7 @@ edited w now (edit.Buffers e) = with_store w (buffers_edited w.store e)
 abbrev pub creates : Edit → Bool
 creates (edit.Create kind) = true
 creates (edit.CreateBufferSource rate buffer points) = true
+creates (edit.CreateConvolver buffer) = true
 creates (edit.Connect edge) = false
 creates (edit.Disconnect from form) = false
 creates (edit.Source node e) = false
@@ -119,6 +127,7 @@ attribute_refusal (attribute.Interp interp) = interp_refusal interp
 abbrev pub refusal : World → ℕ → Edit → Option Exc
 refusal w now (edit.Create kind) = creation_refusal w.nodes kind
 refusal w now (edit.CreateBufferSource rate buffer points) = source_creation_refusal w rate buffer
+refusal w now (edit.CreateConvolver buffer) = convolver_refusal w buffer
 refusal w now (edit.Connect edge) = output_refusal edge.from.0 (connect_refusal w.graph.value edge)
 refusal w now (edit.Disconnect from form) = output_refusal from.0 (disconnect_refusal w.graph.value from.0 form)
 refusal w now (edit.Source node e) = source_refusal w e (find_play w.scheds.items node.0)
@@ -138,6 +147,7 @@ IsTarget w (to_param id) = IsIn id (param_ids w)
 abbrev pub IsNamed : World → Edit → Type 0
 IsNamed w (edit.Create kind) = (is_destination kind ≡ false) × HasCapacity (quantum_of w.spec) w.spec kind
 IsNamed w (edit.CreateBufferSource rate buffer points) = IsBufferOf w.store buffer
+IsNamed w (edit.CreateConvolver buffer) = IsBufferOf w.store buffer
 IsNamed w (edit.Connect edge) = (edge.from.0 < length w.nodes) × IsTarget w edge.to
 IsNamed w (edit.Disconnect from form) = (from.0 < length w.nodes) × IfSome (form_node form) (λ node. node < length w.nodes)
 IsNamed w (edit.Source node e) = IsNamedBy w.store e

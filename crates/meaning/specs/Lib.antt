@@ -1,6 +1,7 @@
 pub mod Lists
 pub mod World
 pub mod Validity
+pub mod Convolvers
 pub mod Counts
 pub mod Worlds
 pub mod Values

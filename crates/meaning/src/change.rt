@@ -31,6 +31,11 @@ pub enum Edit {
         buffer: Option<BufId>,
         points: Loop,
     },
+    /// A convolver is created, with the buffer of its response, which it acquires, or with none
+    /// (BaseAudioContext.createConvolver).
+    CreateConvolver {
+        buffer: Option<BufId>,
+    },
     /// A connection is made (AudioNode.connect).
     Connect {
         edge: Edge,
@@ -98,6 +103,7 @@ impl World {
             Edit::CreateBufferSource { rate, buffer, .. } => {
                 self.source_creation_refusal(*rate, *buffer)
             }
+            Edit::CreateConvolver { buffer } => self.convolver_refusal(*buffer),
             Edit::Connect { edge } => self.connect_refusal(*edge),
             Edit::Disconnect { from, form } => self.disconnect_refusal(*from, *form),
             Edit::Source { node, edit } => self.source_refusal(*node, *edit),
@@ -159,6 +165,7 @@ impl World {
                 buffer,
                 points,
             } => self.create_source(*rate, *buffer, *points, now),
+            Edit::CreateConvolver { buffer } => self.create_convolver(*buffer, now),
             Edit::Connect { edge } => self.connect(*edge),
             Edit::Disconnect { from, form } => {
                 self.disconnect(*from, *form);

@@ -62,7 +62,7 @@ impl World {
     }
 
     // Adds a node of a kind, with its ports, its parameter and its schedule.
-    fn add(&mut self, kind: Kind, play: Option<Play>, now: u64) -> Result<(), NoMemory>
+    pub(crate) fn add(&mut self, kind: Kind, play: Option<Play>, now: u64) -> Result<(), NoMemory>
         requires kind { is_destination kind ≡ false }
         requires valid { IsValid self.old }
         requires accepted { creation_refusal self.old.nodes kind ≡ None }

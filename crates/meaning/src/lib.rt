@@ -8,6 +8,7 @@ ghost use Rattle.meaning.specs.Changes.{ChangeLaw};
 mod automation;
 mod buffers;
 mod change;
+mod convolvers;
 mod growth;
 mod listed;
 mod params;

@@ -79,7 +79,7 @@ impl World {
     }
 
     // No buffer is resampled.
-    fn resampling_refusal(&self, buffer: Option<BufId>) -> Option<Exc>
+    pub(crate) fn resampling_refusal(&self, buffer: Option<BufId>) -> Option<Exc>
         requires { spec.IsBufferOf self.now.store buffer }
         ensures { result ≡ spec.resampling_refusal (plain self.now) buffer }
     {

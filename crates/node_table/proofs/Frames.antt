@@ -1,21 +1,9 @@
 -- A time in frames by a shift, and the ranges on the way to it.
-use Rattle.std.proofs.Common.{◌≡◌, ◌≤◌, ◌<◌, ◌+◌, ◌-◌, ◌*◌, ◌/◌, ◌^◌, ◌+ℤ◌, ◌*ℤ◌, suc, ℕ, ℤ, pos, negsuc, FitsSigned, ap, ◌∙◌, arith}
+use Rattle.std.proofs.Common.{◌≤◌, ◌<◌, ◌-◌, ◌*◌, ◌^◌, ◌+ℤ◌, ◌*ℤ◌, ℕ, ℤ, pos, negsuc, FitsSigned, arith}
 use Rattle.std.specs.Prelude.{unsigned_abs}
-use Rattle.std.specs.Int.{w32, w64, int_div_euclid}
+use Rattle.std.specs.Int.{w32, w64}
 use Rattle.std.proofs.lemmas.Int.{ints, unsigned_abs-mul}
 use Rattle.std.proofs.lemmas.Nat.{mul-le}
-use lib.Signed.{shr_z, mag_shr}
-use Rattle.wa_base.specs.Numbers.{rnd}
-
-twice_over_twice : (z : ℤ) → int_div_euclid (z +ℤ z) (pos 33554432) ≡ shr_z z 16777216
-twice_over_twice (pos a) = let halved : (a + a) / 33554432 ≡ a / 16777216 = omega arith in ap pos halved
-twice_over_twice (negsuc a) = let halved : suc (a + a) / 33554432 ≡ a / 16777216 = omega arith in ap negsuc halved
-
--- to round is to add a half and then to shift
-pub rnd_by_shift : (z : ℤ) → rnd z (pos 16777216) ≡ shr_z (z +ℤ pos 8388608) 16777216
-rnd_by_shift z =
-    let doubled : (pos 2 *ℤ z) +ℤ pos 16777216 ≡ (z +ℤ pos 8388608) +ℤ (z +ℤ pos 8388608) = omega (arith, ints) in
-    ap (λ (v : ℤ). int_div_euclid v (pos 33554432)) doubled ∙ twice_over_twice (z +ℤ pos 8388608)
 
 abs_of_32_bits : (x : ℤ) → FitsSigned w32 x → unsigned_abs x ≤ 2 ^ 31
 abs_of_32_bits (pos n) h = omega (arith, ints)
@@ -32,9 +20,6 @@ product_fits (negsuc n) h = omega (arith, ints)
 pub with_half_fits : (z : ℤ) → unsigned_abs z ≤ 2 ^ 31 * (2 ^ 32 - 1) → FitsSigned w64 (z +ℤ pos 8388608)
 with_half_fits (pos n) h = omega (arith, ints)
 with_half_fits (negsuc n) h = omega (arith, ints)
-
-pub shifted_fits : (z : ℤ) → FitsSigned w64 z → FitsSigned w64 (shr_z z 16777216)
-shifted_fits z h = record { sfits = let less = mag_shr z 16777216 in let within = h.sfits in omega arith }
 
 pub rate_fits : (rate : ℕ) → rate < 2 ^ 32 → FitsSigned w64 (pos rate)
 rate_fits rate h = omega (arith, ints)

@@ -28,16 +28,6 @@ pub sat_same : (z : ℤ) → FitsSigned w32 z → sat z ≡ z
 sat_same (pos n) h = omega (arith, ints)
 sat_same (negsuc n) h = omega (arith, ints)
 
-twice_over_twice : (z : ℤ) → int_div_euclid (z +ℤ z) (pos 33554432) ≡ shr_z z 16777216
-twice_over_twice (pos a) = let halved : (a + a) / 33554432 ≡ a / 16777216 = omega arith in ap pos halved
-twice_over_twice (negsuc a) = let halved : suc (a + a) / 33554432 ≡ a / 16777216 = omega arith in ap negsuc halved
-
--- to round is to add a half and then to shift
-pub rnd_by_shift : (z : ℤ) → rnd z (pos 16777216) ≡ shr_z (z +ℤ pos 8388608) 16777216
-rnd_by_shift z =
-    let doubled : (pos 2 *ℤ z) +ℤ pos 16777216 ≡ (z +ℤ pos 8388608) +ℤ (z +ℤ pos 8388608) = omega (arith, ints) in
-    ap (λ (v : ℤ). int_div_euclid v (pos 33554432)) doubled ∙ twice_over_twice (z +ℤ pos 8388608)
-
 pub product_fits : (z : ℤ) → unsigned_abs z ≤ 2 ^ 31 * (2 ^ 24 - 1) → FitsSigned w64 z
 product_fits (pos n) h = omega (arith, ints)
 product_fits (negsuc n) h = omega (arith, ints)
@@ -45,6 +35,3 @@ product_fits (negsuc n) h = omega (arith, ints)
 pub with_half_fits : (z : ℤ) → unsigned_abs z ≤ 2 ^ 31 * (2 ^ 24 - 1) → FitsSigned w64 (z +ℤ pos 8388608)
 with_half_fits (pos n) h = omega (arith, ints)
 with_half_fits (negsuc n) h = omega (arith, ints)
-
-pub shifted_fits : (z : ℤ) → FitsSigned w64 z → FitsSigned w64 (shr_z z 16777216)
-shifted_fits z h = record { sfits = let less = mag_shr z 16777216 in let within = h.sfits in omega arith }

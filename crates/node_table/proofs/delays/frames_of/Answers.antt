@@ -2,7 +2,8 @@ use Rattle.std.proofs.Common.{rules, ◌*ℤ◌, pos, FitsSigned, ap, ◌∙◌,
 use Rattle.std.specs.Prelude.{unsigned_abs}
 use Rattle.std.specs.Int.{w64, int_max}
 use Rattle.std.proofs.lemmas.Int.{to_z-of_z}
-use Rattle.node_table.proofs.Frames.{rnd_by_shift, abs_of_product, product_fits, with_half_fits, shifted_fits, rate_fits}
+use Rattle.wa_base.proofs.Rounding.{rnd_by_shift, shifted_fits}
+use Rattle.node_table.proofs.Frames.{abs_of_product, product_fits, with_half_fits, rate_fits}
 use Rattle.node_table.proofs.delays.frames_of.Goals as goal
 
 pub returns : goal.returns

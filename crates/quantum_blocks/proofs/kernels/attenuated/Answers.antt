@@ -2,7 +2,8 @@ use Rattle.std.proofs.Common.{◌*ℤ◌, ◌∙◌, FitsSigned, ap, sym, rules}
 use Rattle.std.specs.Int.{w64}
 use Rattle.std.proofs.lemmas.Int.{to_z-of_z}
 use Rattle.wa_base.specs.Numbers.{sat}
-use Rattle.quantum_blocks.proofs.Attenuating.{abs_below, rounded_fits, sat_same, rnd_by_shift, product_fits, with_half_fits, shifted_fits}
+use Rattle.wa_base.proofs.Rounding.{rnd_by_shift, shifted_fits}
+use Rattle.quantum_blocks.proofs.Attenuating.{abs_below, rounded_fits, sat_same, product_fits, with_half_fits}
 use Rattle.quantum_blocks.proofs.kernels.attenuated.Goals as goal
 
 pub overflow_cast-result-2 : goal.overflow_cast-result-2
