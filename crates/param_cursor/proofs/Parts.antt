@@ -74,16 +74,19 @@ below_by a k d some h = elim (order a k) [
 ]
 
 -- a quotient of a number that is no more than so many divisors
-pub quotient_small : (v z : ℤ) (r d : ℕ) → v *ℤ pos d +ℤ pos r ≡ z → r < d → unsigned_abs z ≤ 2 ^ 34 * d → unsigned_abs v ≤ 2 ^ 34
-quotient_small (pos a) z r d e l h = let m : unsigned_abs (pos a *ℤ pos d +ℤ pos r) ≡ unsigned_abs z = ap unsigned_abs e in below_by a (2 ^ 34) d (omega arith) (omega (arith, ints, m, h))
-quotient_small (negsuc a) z r d e l h =
+pub quotient_within : (k : ℕ) (v z : ℤ) (r d : ℕ) → v *ℤ pos d +ℤ pos r ≡ z → r < d → unsigned_abs z ≤ k * d → unsigned_abs v ≤ k
+quotient_within k (pos a) z r d e l h = let m : unsigned_abs (pos a *ℤ pos d +ℤ pos r) ≡ unsigned_abs z = ap unsigned_abs e in below_by a k d (omega arith) (omega (arith, ints, m, h))
+quotient_within k (negsuc a) z r d e l h =
     let m : unsigned_abs (negsuc a *ℤ pos d +ℤ pos r) ≡ unsigned_abs z = ap unsigned_abs e in
-    let below : a * d + 1 ≤ 2 ^ 34 * d = omega (arith, ints, m, h, l) in
-    let k = below_by a (2 ^ 34) d (omega arith) (omega (arith, below)) in
-    elim (order (2 ^ 34) a) [
-      | inl up ↦ let same : a ≡ 2 ^ 34 = omega (arith, k, up) in absurd (omega (arith, below, ap (λ x. x * d) same))
+    let below : a * d + 1 ≤ k * d = omega (arith, ints, m, h, l) in
+    let up = below_by a k d (omega arith) (omega (arith, below)) in
+    elim (order k a) [
+      | inl more ↦ let same : a ≡ k = omega (arith, up, more) in absurd (omega (arith, below, ap (λ x. x * d) same))
       | inr less ↦ less
     ]
+
+pub quotient_small : (v z : ℤ) (r d : ℕ) → v *ℤ pos d +ℤ pos r ≡ z → r < d → unsigned_abs z ≤ 2 ^ 34 * d → unsigned_abs v ≤ 2 ^ 34
+quotient_small v z r d = quotient_within (2 ^ 34) v z r d
 
 pub sum_is_small : (v s : ℤ) → unsigned_abs v ≤ 2 ^ 34 → unsigned_abs s ≤ 2 ^ 34 → FitsSigned w64 (v +ℤ s)
 sum_is_small v s a b = small_fits (v +ℤ s) (omega (arith, ints, small_bounds v a, small_bounds s b)) (omega (arith, ints, small_bounds v a, small_bounds s b))

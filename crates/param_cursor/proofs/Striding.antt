@@ -1,5 +1,5 @@
 -- The quotient so many steps on.
-use Rattle.std.proofs.Common.{ℕ, ℤ, pos, negsuc, ◌≡◌, ◌≢◌, ◌+◌, ◌-◌, ◌*◌, ◌<◌, ◌≤◌, ◌^◌, ◌+ℤ◌, ◌*ℤ◌, List, length, slice_index_or, slice_set, get_or-set_same, get_or-set_other, FitsSigned, arith, ap, subst, inl, inr}
+use Rattle.std.proofs.Common.{ℕ, ℤ, pos, negsuc, ◌≡◌, ◌≢◌, ◌+◌, ◌-◌, ◌*◌, ◌<◌, ◌≤◌, ◌^◌, ◌+ℤ◌, ◌*ℤ◌, List, length, slice_index_or, slice_set, get_or-set_same, get_or-set_other, FitsSigned, arith, subst, inl, inr}
 use Rattle.std.specs.Int.{w32, w64, int_div_euclid}
 use Rattle.std.specs.Prelude.{unsigned_abs}
 use Rattle.std.proofs.lemmas.Int.{ints, unsigned_abs-mul}
@@ -52,29 +52,6 @@ value_is x v w s n y r c d i e h low up same = elim (order c r) [
   | inl l ↦ let q = carried v w s n r c d i e h low l in let u = up l in omega (arith, ints, q, u)
   | inr l ↦ let q = uncarried v w s n r c d i e h l in let u = same l in omega (arith, ints, q, u)
 ]
-
-below_by : (a k d : ℕ) → 0 < d → a * d ≤ k * d → a ≤ k
-below_by a k d some h = elim (order a k) [
-  | inl l ↦ l
-  | inr m ↦ let up = mul-le (k + 1) d a d (omega arith) (omega arith) in absurd (omega (arith, up, h))
-]
-
--- a quotient of a number that is no more than so many divisors
-pub quotient_within : (k : ℕ) (v z : ℤ) (r d : ℕ) → v *ℤ pos d +ℤ pos r ≡ z → r < d → unsigned_abs z ≤ k * d → unsigned_abs v ≤ k
-quotient_within k (pos a) z r d e l h = let m : unsigned_abs (pos a *ℤ pos d +ℤ pos r) ≡ unsigned_abs z = ap unsigned_abs e in below_by a k d (omega arith) (omega (arith, ints, m, h))
-quotient_within k (negsuc a) z r d e l h =
-    let m : unsigned_abs (negsuc a *ℤ pos d +ℤ pos r) ≡ unsigned_abs z = ap unsigned_abs e in
-    let below : a * d + 1 ≤ k * d = omega (arith, ints, m, h, l) in
-    let up = below_by a k d (omega arith) (omega (arith, below)) in
-    elim (order k a) [
-      | inl more ↦ let same : a ≡ k = omega (arith, up, more) in absurd (omega (arith, below, ap (λ x. x * d) same))
-      | inr less ↦ less
-    ]
-
--- a number whose quotient is no more than k
-pub product_within : (k : ℕ) (v z : ℤ) (r d : ℕ) → v *ℤ pos d +ℤ pos r ≡ z → r < d → unsigned_abs v ≤ k → unsigned_abs z ≤ (k + 1) * d
-product_within k (pos a) z r d e l h = let m = mul-le a d k d h (omega arith) in let same = ap unsigned_abs e in omega (arith, ints, m, same)
-product_within k (negsuc a) z r d e l h = let m = mul-le (a + 1) d k d (omega (arith, h)) (omega arith) in let same = ap unsigned_abs e in omega (arith, ints, m, same)
 
 -- at most 16 steps of a slope that is not steep
 pub sixteen_within : (s : ℤ) (i d : ℕ) → unsigned_abs s ≤ (2 ^ 26 + 1) * d → i ≤ 16 → unsigned_abs (s *ℤ pos i) ≤ (2 ^ 30 + 16) * d

@@ -4,7 +4,8 @@ use Rattle.std.specs.Prelude.{unsigned_abs}
 use Rattle.std.proofs.lemmas.Int.{to_z-of_z}
 use Rattle.param_cursor.specs.Rising.{Rising}
 use Rattle.param_cursor.specs.Strides.{AreStrides}
-use Rattle.param_cursor.proofs.Striding.{quotient_within, sixteen_within, fits_32, one_more_step, stride_of, strides_more}
+use Rattle.param_cursor.proofs.Parts.{quotient_within}
+use Rattle.param_cursor.proofs.Striding.{sixteen_within, fits_32, one_more_step, stride_of, strides_more}
 use Rattle.param_cursor.proofs.slope.Slope.strides_of_32_bits.Goals as goal
 
 pub overflow_cast-strides : goal.overflow_cast-strides
