@@ -6,7 +6,7 @@ use Rattle.std.proofs.lemmas.List.{get_or-take, get_or-drop, length-take, length
 use Rattle.causal_core.specs.Frames.{item}
 use Rattle.causal_core.proofs.Sums.{dot_same, dot_zero}
 use Rattle.wa_base.specs.Numbers.{rnd, sat}
-use Rattle.convolve.specs.Convolution.{convolution}
+use Rattle.causal_core.specs.Convolutions.{convolution}
 use Rattle.convolve.specs.Lines.{Recalls, in_front, silence, IsQuiet}
 
 pub frames_long : (xs : List ℤ) (start kept : ℕ) → start + kept ≤ length xs → length (take kept (drop start xs)) ≡ kept

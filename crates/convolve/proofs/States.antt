@@ -3,7 +3,7 @@ use Rattle.std.proofs.Common.{◌≡◌, ◌<◌, ◌+◌, ◌-◌, ◌*◌, ℕ
 use Rattle.std.proofs.lemmas.Bool.{cases_lt}
 use Rattle.std.proofs.lemmas.List.{get_or_append_left, get_or-append_right, get_or-replicate, length-append, length-replicate}
 use Rattle.causal_core.specs.Frames.{item, heard}
-use Rattle.convolve.specs.Convolution.{convolution}
+use Rattle.causal_core.specs.Convolutions.{convolution}
 use Rattle.convolve.specs.Convolver.{ConvolverView, ConvolverStands}
 use Rattle.convolve.specs.Lines.{Recalls, AreLong, silence}
 use Rattle.convolve.proofs.Hearing.{HaveHeard, block_stands}

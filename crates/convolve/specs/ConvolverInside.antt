@@ -1,6 +1,6 @@
 -- What holds of each convolver.
 use Rattle.std.specs.Prelude.{length}
-use Rattle.convolve.specs.Convolution.{IsResponse}
+use Rattle.convolve.specs.Responses.{IsResponse}
 use Rattle.convolve.specs.Convolver.{ConvolverView}
 use Rattle.convolve.specs.Lines.{AreLong}
 use Rattle.convolve.specs.declared.convolver.Convolver.TheInside.{Inside}

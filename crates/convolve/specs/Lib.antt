@@ -1,5 +1,5 @@
-pub mod Convolution
 pub mod Convolver
 pub mod ConvolverInside
 pub mod LineInside
 pub mod Lines
+pub mod Responses

@@ -1,6 +1,7 @@
-ghost use Rattle.std.specs.Prelude.{◌≡◌, ◌<◌, ◌≤◌, ◌+◌, ◌*◌, ◌++◌, [], ℕ, ℤ, List, length, replicate, max, slice_index_or, IfOk, OnOk, OnErr};
+ghost use Rattle.std.specs.Prelude.{◌≡◌, ◌<◌, ◌≤◌, ◌+◌, ◌*◌, ◌++◌, [], ℕ, ℤ, List, None, length, replicate, max, slice_index_or, IfOk, OnOk, OnErr};
 ghost use Rattle.causal_core.specs.Frames.{item, heard};
-ghost use Rattle.convolve.specs.Convolution.{IsResponse, convolution};
+ghost use Rattle.causal_core.specs.Convolutions.{convolution, response_refusal};
+ghost use Rattle.convolve.specs.Responses.{IsResponse};
 ghost use Rattle.convolve.specs.Convolver.{ConvolverStands, kept_of};
 ghost use Rattle.convolve.specs.Lines.{Recalls, HasHeard, AreLong, silence};
 
@@ -33,10 +34,10 @@ impl Model for Convolver {
 
 impl Convolver {
     /// A convolver at its birth, which has heard nothing and has no room for a channel (createConvolver):
-    /// the samples of its response, in units of 2^-24. `is_response` says which ones it can have. With
-    /// none it is silent.
+    /// the samples of its response, in units of 2^-24. `response_refusal` says which ones it can have.
+    /// With none it is silent.
     pub fn new(alloc: Global, response: &[Fix]) -> Result<Convolver, NoMemory>
-        requires { IsResponse response.now }
+        requires { response_refusal response.now ≡ None }
         ensures value { IfOk result (λ convolver. convolver ≡ record { response = response.now; channels = [] }) }
         ensures born { IfOk result (λ convolver. (c : ℕ) → ConvolverStands convolver c []) }
     {
@@ -57,7 +58,7 @@ impl Convolver {
 
 impl Causal for Convolver {
     ghost use Rattle.std.specs.Prelude.{length};
-    ghost use Rattle.convolve.specs.Convolution.{convolution};
+    ghost use Rattle.causal_core.specs.Convolutions.{convolution};
 
     ghost stands = { ConvolverStands };
 

@@ -4,8 +4,6 @@
 
 mod convolver;
 mod lines;
-mod responses;
 mod sums;
 
 pub use convolver::Convolver;
-pub use responses::is_response;

@@ -1,11 +1,11 @@
 ghost use Rattle.std.specs.Prelude.{◌≡◌, ◌≤◌, ◌+◌, length, IfOk};
 
 use crate::random::Random;
-use causal_core::Causal;
-use convolve::{Convolver, is_response};
+use causal_core::{Causal, response_refusal};
+use convolve::Convolver;
 use std::alloc::Global;
 use std::test::Fail;
-use wa_base::{Fix, NoMemory};
+use wa_base::{Exc, Feature, Fix, NoMemory};
 
 const ONE: Fix = 16_777_216;
 
@@ -73,7 +73,7 @@ fn are_blocks(
     requires { frames ≤ 1024 }
 {
     let response = response_of(alloc, random, taps)?;
-    if !is_response(&response) {
+    if response_refusal(&response).is_some() {
         return Ok(false);
     }
     let mut convolver = Convolver::new(alloc, &response)?;
@@ -113,7 +113,7 @@ fn loud_frames(alloc: Global, frame: Fix) -> Result<Vec<Fix>, NoMemory>
 fn is_loudest_exact(alloc: Global, frame: Fix) -> Result<bool, NoMemory> {
     let mut response = vec![in alloc; TWO; 16_384]?;
     response[1_024..].fill(-TWO);
-    if !is_response(&response) {
+    if response_refusal(&response).is_some() {
         return Ok(false);
     }
     let mut convolver = Convolver::new(alloc, &response)?;
@@ -132,7 +132,7 @@ fn no_sum_wraps(rt: HostRuntime) -> Result<(), Fail> {
 
 // The outputs of the second channel, which comes a frame late, and then hears an impulse and silence.
 fn late_channel(alloc: Global, response: &[Fix; 3]) -> Result<[Fix; 4], NoMemory> {
-    if !is_response(response) {
+    if response_refusal(response).is_some() {
         return Ok([0; 4]);
     }
     let mut convolver = Convolver::new(alloc, response)?;
@@ -162,10 +162,14 @@ fn a_late_channel_was_silent_before(rt: HostRuntime) -> Result<(), Fail> {
 #[test]
 fn responses_that_no_convolver_has(rt: HostRuntime) -> Result<(), Fail> {
     let long = vec![in rt.alloc(); 0; 16_385]?;
-    assert!(rt; is_response(&long[1..]));
-    assert!(rt; !is_response(&long));
-    assert!(rt; is_response(&[TWO, -TWO]));
-    assert!(rt; !is_response(&[0, TWO + 1]));
-    assert!(rt; !is_response(&[i32::MIN]));
+    assert_eq!(rt; response_refusal(&long[1..]), None);
+    assert_eq!(rt;
+        response_refusal(&long),
+        Some(Exc::NotSupported(Some(Feature::LongResponse)))
+    );
+    let loud = Some(Exc::NotSupported(Some(Feature::LoudResponse)));
+    assert_eq!(rt; response_refusal(&[TWO, -TWO]), None);
+    assert_eq!(rt; response_refusal(&[0, TWO + 1]), loud);
+    assert_eq!(rt; response_refusal(&[i32::MIN]), loud);
     Ok(())
 }
