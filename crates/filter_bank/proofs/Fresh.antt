@@ -1,7 +1,8 @@
 -- Nodes that have heard nothing.
-use Rattle.std.proofs.Common.{ℕ, ℤ, ◌≡◌, ◌-◌, [], Option, None, refl, arith, subst}
+use Rattle.std.proofs.Common.{ℕ, ℤ, ◌≡◌, ◌-◌, [], length, Option, None, refl, arith, subst}
 use Rattle.causal_core.specs.declared.equation.Equation.{Equation}
 use Rattle.causal_core.specs.declared.equation.Equation.TheVariants as equation
+use Rattle.convolve.proofs.Fronts.{born_recalls}
 use Rattle.shaper_iir.proofs.Recalling.{born_stands}
 use Rattle.node_table.specs.declared.kinds.Kind.{Kind}
 use Rattle.node_table.specs.declared.kinds.Kind.TheVariants.{Causal}
@@ -17,9 +18,11 @@ none_for other birth not = refl
 -- a first state stands for no frames, and goes by its equation
 first_stands : (e : Equation) (c : ℕ) → stands (first_state e) c []
 first_stands (equation.Filter forward back) c = born_stands forward back
+first_stands (equation.Convolution response) c = born_recalls (length response)
 
 first_outputs : (e : Equation) → HasOutputs (first_state e) e
 first_outputs (equation.Filter forward back) frames = refl
+first_outputs (equation.Convolution response) frames = refl
 
 pub fresh_heard : (found : Option FilterView) (e : Equation) (birth : ℕ) (at : ℕ → ℕ → ℤ) → found ≡ first_filter (Causal e) birth → IsHeard found e birth birth at
 fresh_heard found e birth at is = record {

@@ -2,4 +2,3 @@ pub mod Since
 pub mod Fresh
 pub mod Growing
 pub mod Same
-pub mod States

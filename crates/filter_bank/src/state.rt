@@ -4,6 +4,7 @@ ghost use Rattle.causal_core.specs.Frames.{item, heard};
 ghost use Rattle.filter_bank.specs.States as spec;
 
 use causal_core::{Causal, Equation};
+use convolve::Convolver;
 use shaper_iir::Iir;
 use std::alloc::Global;
 use wa_base::{Fix, NoMemory};
@@ -13,6 +14,8 @@ use wa_base::{Fix, NoMemory};
 pub enum State {
     /// What a filter remembers (IIRFilterNode).
     Filter(Iir),
+    /// What a convolver remembers (ConvolverNode).
+    Convolution(Convolver),
 }
 
 impl State {
@@ -21,13 +24,14 @@ impl State {
         requires { equation_refusal equation.now ≡ None }
         ensures { IfOk result (λ state. state ≡ spec.first_state equation.now) }
     {
-        match equation {
-            Equation::Filter { forward, back } => Ok(State::Filter(Iir::new(
-                alloc,
-                forward.as_slice(),
-                back.as_slice(),
-            )?)),
-        }
+        Ok(match equation {
+            Equation::Filter { forward, back } => {
+                State::Filter(Iir::new(alloc, forward.as_slice(), back.as_slice())?)
+            }
+            Equation::Convolution { response } => {
+                State::Convolution(Convolver::new(alloc, response.as_slice())?)
+            }
+        })
     }
 
     // For so many channels there is room.
@@ -36,6 +40,7 @@ impl State {
     {
         match self {
             State::Filter(filter) => filter.channels(),
+            State::Convolution(convolver) => convolver.channels(),
         }
     }
 }
@@ -56,18 +61,21 @@ impl Causal for State {
     {
         match self {
             State::Filter(filter) => filter.grow(channels),
+            State::Convolution(convolver) => convolver.grow(channels),
         }
     }
 
     fn step(&mut self, x: &[Fix], y: &mut [Fix]) {
         match self {
             State::Filter(filter) => filter.step(x, y),
+            State::Convolution(convolver) => convolver.step(x, y),
         }
     }
 
     fn block(&mut self, x: &[Fix], y: &mut [Fix], frames: usize) {
         match self {
             State::Filter(filter) => filter.block(x, y, frames),
+            State::Convolution(convolver) => convolver.block(x, y, frames),
         }
     }
 }

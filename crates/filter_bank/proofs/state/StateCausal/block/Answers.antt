@@ -1,12 +1,10 @@
-use Rattle.filter_bank.proofs.States.{only}
 use Rattle.filter_bank.proofs.state.StateCausal.block.Goals as goal
 
-pub returns-clause-stands : goal.returns-clause-stands
-returns-clause-stands c =
-    let is = only c.args.self.now in
-    rw is.1 (rw is.1 at c.block.ensures.stands)
+pub returns-in-Filter-clause-stands : goal.returns-in-Filter-clause-stands
+returns-in-Filter-clause-stands c = rw c.in-Filter.is c.block.ensures.stands
 
-pub returns-clause-value : goal.returns-clause-value
-returns-clause-value c =
-    let is = only c.args.self.now in
-    rw is.1 (rw is.1 at c.block.ensures.value)
+pub returns-in-Filter-clause-value : goal.returns-in-Filter-clause-value
+returns-in-Filter-clause-value c = rw c.in-Filter.is c.block.ensures.value
+
+pub returns-in-Convolution-clause-value : goal.returns-in-Convolution-clause-value
+returns-in-Convolution-clause-value c = rw c.in-Convolution.is c.block-in-Convolution.ensures.value
