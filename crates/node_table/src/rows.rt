@@ -56,11 +56,7 @@ impl Row {
     pub fn most_channels(&self) -> u32
         ensures { result ≡ spec.most_channels self.now }
     {
-        if self.at_most_stereo {
-            2
-        } else {
-            MAX_CHANNELS
-        }
+        if self.at_most_stereo { 2 } else { MAX_CHANNELS }
     }
 }
 
