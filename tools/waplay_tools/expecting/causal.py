@@ -1,14 +1,29 @@
-"""Nodes that are made of what their input was up to a frame: wave shapers and IIR filters."""
+"""Nodes that are made of what their input was up to a frame: wave shapers, IIR filters and
+convolvers."""
 
 import itertools
 import operator
+from collections.abc import Sequence
+from typing import Generic, TypeVar
 
-from waplay_tools.expecting.nodes import Node
-from waplay_tools.expecting.numbers import ONE, SILENCE, Blocks, rounded_quotient, saturated
+from waplay_tools.expecting.nodes import Buffer, Node
+from waplay_tools.expecting.numbers import (
+    ONE,
+    QUANTUM,
+    SILENCE,
+    Block,
+    Blocks,
+    rounded_quotient,
+    saturated,
+)
 from waplay_tools.expecting.reading import Call
 from waplay_tools.expecting.refusals import Refused, profile
 
-History = tuple[int, ...]  # of a channel, the newest one first
+RESPONSE_LIMIT = 2**14  # samples of a convolver's response
+LOUDEST = 2 * ONE  # how far from 0 they may be
+
+Frames = tuple[int, ...]  # of a channel, the newest one first
+History = TypeVar("History")
 
 
 def check_oversample(word: str) -> None:
@@ -47,10 +62,37 @@ class Shaper(Node):
         return self.curve[point] + rounded_quotient(rise * part, 2 * ONE)
 
 
-class Filter(Node):
-    """An IIR filter. Of each channel that it has heard it keeps the inputs and the outputs that its
-    coefficients reach, the newest ones first. A channel that it has not heard yet was 0 from its
-    birth on."""
+class Causal(Node, Generic[History]):
+    """A node that hears its input from its birth on. Of each channel that it has heard it keeps
+    what it needs of it. A channel that it has not heard yet was 0 from its birth on."""
+
+    unheard: History  # what is kept of such a channel
+
+    def __init__(self, kind: str, name: str) -> None:
+        super().__init__(kind, name)
+        self.histories: list[History] = []
+
+    def passed(self, block: Block, history: History) -> tuple[Block, History]:
+        """What it gives on a channel that hears this in a quantum, and what is kept then."""
+        raise NotImplementedError
+
+    def filtered(self, blocks: Blocks) -> Blocks:
+        """What it gives that hears these channels in a quantum. Every other channel is heard as
+        0."""
+        given, histories = [], []
+        for block, history in itertools.zip_longest(blocks, self.histories):
+            outputs, history = self.passed(
+                SILENCE if block is None else block, self.unheard if history is None else history
+            )
+            given.append(outputs)
+            histories.append(history)
+        self.histories = histories
+        return given[: len(blocks)]
+
+
+class Filter(Causal[tuple[Frames, Frames]]):
+    """An IIR filter. It keeps the inputs and the outputs that its coefficients reach, the newest
+    ones first."""
 
     def __init__(self, call: Call) -> None:
         super().__init__("filter", call["as"])
@@ -59,9 +101,9 @@ class Filter(Node):
             raise Refused("NotSupportedError")
         if not any(self.forward) or self.back[0] == 0:
             raise Refused("InvalidStateError")
-        self.histories: list[tuple[History, History]] = []
+        self.unheard = (0,) * len(self.forward), (0,) * len(self.back)
 
-    def heard(self, x: int, inputs: History, outputs: History) -> tuple[History, History]:
+    def heard(self, x: int, inputs: Frames, outputs: Frames) -> tuple[Frames, Frames]:
         """The inputs and the outputs of a channel that hears this next."""
         inputs = (x, *inputs[:-1])
         total = sum(map(operator.mul, self.forward, inputs)) - sum(
@@ -72,17 +114,72 @@ class Filter(Node):
             total, divisor = -total, -divisor
         return inputs, (saturated(rounded_quotient(total, divisor)), *outputs[:-1])
 
-    def filtered(self, blocks: Blocks) -> Blocks:
-        """What it gives that hears these channels in a quantum. Every other channel is heard as
-        0."""
-        silent = (0,) * len(self.forward), (0,) * len(self.back)
-        given, histories = [], []
-        for block, history in itertools.zip_longest(blocks, self.histories):
-            history, outputs = history or silent, []
-            for x in block or SILENCE:
-                history = self.heard(x, *history)
-                outputs.append(history[1][0])
-            given.append(outputs)
-            histories.append(history)
-        self.histories = histories
-        return given[: len(blocks)]
+    def passed(
+        self, block: Block, history: tuple[Frames, Frames]
+    ) -> tuple[Block, tuple[Frames, Frames]]:
+        """What it gives of a channel, frame after frame."""
+        outputs = []
+        for x in block:
+            history = self.heard(x, *history)
+            outputs.append(history[1][0])
+        return outputs, history
+
+
+# Lists of whole numbers as one whole number: each is a digit of 80 bits, which may be negative. The
+# product of two such numbers has as its digits what the lists give convolved with one another. A
+# response has up to 2^14 samples of up to 2^25, and what it hears goes up to 2^31, so that a digit
+# is far below 2^79.
+BITS = 80
+HALF_DIGIT = 2 ** (BITS - 1)
+QUANTUM_BITS = BITS * QUANTUM
+HALF_DIGITS = sum(HALF_DIGIT << BITS * place for place in range(QUANTUM))
+
+
+def number_of(values: Sequence[int]) -> int:
+    """The number with these digits, the first of them the lowest."""
+    digits = [(HALF_DIGIT + value).to_bytes(BITS // 8, "little") for value in values]
+    halves = HALF_DIGIT.to_bytes(BITS // 8, "little") * len(digits)
+    return int.from_bytes(b"".join(digits), "little") - int.from_bytes(halves, "little")
+
+
+def quantum_of(number: int) -> tuple[list[int], int]:
+    """The lowest digits of a number, so many as a quantum has frames, and the number that is left
+    above them."""
+    number += HALF_DIGITS  # so that none of these digits is negative
+    low = (number & (1 << QUANTUM_BITS) - 1).to_bytes(QUANTUM_BITS // 8, "little")
+    digits = [low[at : at + BITS // 8] for at in range(0, len(low), BITS // 8)]
+    return [int.from_bytes(it, "little") - HALF_DIGIT for it in digits], number >> QUANTUM_BITS
+
+
+class Convolver(Causal[int]):
+    """A convolver, with its response or without one. It keeps what all that it has heard adds to
+    the sums of later frames, as a number."""
+
+    unheard = 0
+
+    def __init__(self, call: Call, buffer: Buffer | None, rate: int) -> None:
+        super().__init__("convolver", call["as"])
+        self.mode = "clamped-max"
+        if not call.get("disableNormalization", False):
+            raise profile("normalization")
+        self.response = number_of(response_of(buffer, rate)) if buffer else 0
+
+    def passed(self, block: Block, history: int) -> tuple[Block, int]:
+        """What it gives of a channel: the sums of the products of the response and what it has
+        heard, each of them rounded once."""
+        sums, history = quantum_of(history + number_of(block) * self.response)
+        return [saturated(rounded_quotient(it, ONE)) for it in sums], history
+
+
+def response_of(buffer: Buffer, rate: int) -> list[int]:
+    """The samples of a buffer that a convolver takes in a context of this rate."""
+    if buffer.channels > 1:
+        raise profile("response-channels")
+    if buffer.rate != rate:
+        raise profile("resampling")
+    if buffer.length > RESPONSE_LIMIT:
+        raise profile("long-response")
+    samples = buffer.samples(0, range(buffer.length))
+    if max(samples) > LOUDEST or min(samples) < -LOUDEST:
+        raise profile("loud-response")
+    return samples

@@ -23,7 +23,11 @@ FIXED: dict[str, tuple[str, ...]] = {
     "merger": ("count", "mode"),
     "shaper": (),
     "filter": (),
+    "convolver": (),
 }
+
+# How many channels the channelCount of each kind of node may ask for that is not free to have 32.
+MOST_CHANNELS = {"convolver": 2}
 
 SOURCES = ("constant", "buffer source")
 

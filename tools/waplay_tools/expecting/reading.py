@@ -17,7 +17,7 @@ LEFT_OUT = dict(
     createOscillator:oscillator createPeriodicWave:periodic-wave createBiquadFilter:biquad
     createStereoPanner:stereo-panner createPanner:panner createDynamicsCompressor:compressor
     createAnalyser:analyser setListener:listener createMediaElementSource:media-element-source
-    createMediaStreamSource:media-stream-source createConvolver:convolver
+    createMediaStreamSource:media-stream-source
     createMediaStreamTrackSource:media-stream-track-source
     createMediaStreamDestination:media-stream-destination
     createScriptProcessor:script-processor createAudioWorkletNode:audio-worklet""".split()
@@ -43,6 +43,11 @@ OPERATIONS: dict[str, list[Field]] = {
         ("oversample", "none 2x 4x", "none"),
     ],
     "createIIRFilter": [("as", "new name"), ("feedforward", "list"), ("feedback", "list")],
+    "createConvolver": [
+        ("as", "new name"),
+        ("buffer", "name", None),
+        ("disableNormalization", "bool", False),
+    ],
     "createBufferSource": [
         ("as", "new name"),
         ("buffer", "name", None),

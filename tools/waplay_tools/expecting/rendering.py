@@ -4,7 +4,7 @@ docs/PROFILE.md."""
 from collections.abc import Callable, Hashable, Iterator
 from typing import Any, TypeVar
 
-from waplay_tools.expecting.causal import Filter, Shaper
+from waplay_tools.expecting.causal import Causal, Shaper
 from waplay_tools.expecting.delay import Delay
 from waplay_tools.expecting.graph import Edge, End, Graph
 from waplay_tools.expecting.nodes import SOURCES, Levels, Node
@@ -71,7 +71,7 @@ class Rendering:
             else:
                 self.controls[target][place].append((source, output))
         muted = [self.nodes[end.node] for end in self.graph.muted]
-        self.muted_filters = [node for node in muted if isinstance(node, Filter)]
+        self.muted_hearers = [node for node in muted if isinstance(node, Causal)]
         # Of each node its outputs, and of each output the blocks of its channels. A node that is
         # muted is silent.
         self.carried: list[list[Blocks]] = [[[SILENCE]] * node.outputs for node in self.nodes]
@@ -115,7 +115,7 @@ class Rendering:
         if isinstance(node, Delay):
             return [node.read(first, levels["delayTime"], end.node in self.graph.in_cycle)]
         heard = self.heard(end.node)
-        if isinstance(node, Filter):
+        if isinstance(node, Causal):
             return [node.filtered(heard[0])]
         return self.made_of((end.node, "outputs"), outputs_of, node, heard, levels)
 
@@ -135,6 +135,6 @@ class Rendering:
         for first in range(begin, end, QUANTUM):
             for it in self.graph.order:
                 self.render(it, first)
-            for node in self.muted_filters:  # which hear nothing then
+            for node in self.muted_hearers:  # which hear nothing then
                 node.filtered([])
             yield self.carried[0][0]

@@ -9,12 +9,13 @@ from collections.abc import Sequence
 from typing import Any
 
 from waplay_tools.expecting.automation import EDITS, LEFT_OUT_EDITS
-from waplay_tools.expecting.causal import Filter, Shaper, check_oversample
+from waplay_tools.expecting.causal import Convolver, Filter, Shaper, check_oversample
 from waplay_tools.expecting.delay import Delay
 from waplay_tools.expecting.graph import Edge
 from waplay_tools.expecting.nodes import (
     ASSET_LIMIT,
     FIXED,
+    MOST_CHANNELS,
     PARAMETERS,
     SOURCES,
     AssetFault,
@@ -145,6 +146,14 @@ class Session:
             self.check_rate(buffer)
         return self.add_node(BufferSource(call, buffer))
 
+    def create_convolver(self, call: Call) -> str:
+        """Makes a convolver, with its response or without one, which cannot be written any more."""
+        buffer = self.buffer_or_none(call.get("buffer"))
+        answer = self.add_node(Convolver(call, buffer, self.rate))
+        if buffer:
+            buffer.is_acquired = True
+        return answer
+
     def create_buffer(self, call: Call) -> str:
         """Makes a silent buffer of a shape that the recommendation asks for."""
         channels, length, rate = (call[key] for key in ("channels", "length", "rate"))
@@ -213,7 +222,8 @@ class Session:
         return "ok"
 
     def copy_to_channel(self, call: Call) -> str:
-        """Writes samples into a buffer that no source was started with, as far as it goes."""
+        """Writes samples into a buffer that no source was started with and no convolver was made
+        with, as far as it goes."""
         buffer, channel, at = self.find_buffer(call["buffer"]), call["channel"], call.get("at", 0)
         if channel >= buffer.channels:
             raise Refused("IndexSizeError")
@@ -326,7 +336,9 @@ class Session:
         """Sets how many channels a node has or how it mixes. Where a kind of node fixes that, only
         the value that is there is accepted."""
         node, attribute = self.nodes[self.find(call["node"])], ATTRIBUTES[call["op"]]
-        if attribute == "count" and not 1 <= call["value"] <= 32:
+        if attribute == "count" and not 1 <= call["value"] <= MOST_CHANNELS.get(node.kind, 32):
+            raise Refused("NotSupportedError")
+        if node.kind == "convolver" and call["value"] == "max":
             raise Refused("NotSupportedError")
         if attribute in FIXED[node.kind] and call["value"] != getattr(node, attribute):
             raise Refused("InvalidStateError")
@@ -390,6 +402,7 @@ class Session:
             ),
             "createWaveShaper": lambda: self.add_node(Shaper(call)),
             "createIIRFilter": lambda: self.add_node(Filter(call)),
+            "createConvolver": lambda: self.create_convolver(call),
             "createBufferSource": lambda: self.create_source(call),
             "createBuffer": lambda: self.create_buffer(call),
             "connect": lambda: self.connect(call),

@@ -76,11 +76,12 @@ SHAPES = [
     (3, "store"),
 ]
 
-# The same of shapes that want delays. The last one takes long to make.
+# The same of shapes that want delays. That of lines takes long to make.
 DELAY_SHAPES = [
     (6000, "delayed"),
     (1500, "crossed"),
     (60, "lines"),
+    (1500, "convolved"),
 ]
 
 # What a member is spoiled with: much of it is of a wrong kind or out of range for most fields.
@@ -136,6 +137,7 @@ NEEDED = {
     "filtered": ["createIIRFilter", *AUTOMATED, "connectParam"],
     "delayed": [*BUFFERS, *AUTOMATED, "connectParam", *CHANNELS],
     "crossed": [*AUTOMATED, "connectParam", *CHANNELS],
+    "convolved": ["createConvolver", *BUFFERS, *AUTOMATED, "connectParam", *CHANNELS],
     "woven": [*CHANNELS],
     "cables": [*CHANNELS],
 }
@@ -145,6 +147,7 @@ WITH_BUFFERS = {
     "played": 1,
     "filtered": 0.8,
     "delayed": 0.8,
+    "convolved": 0.8,
     **dict.fromkeys(("crowd", "tangle", "cables", "store", "lines"), 0),
 }
 

@@ -77,6 +77,10 @@ class Choices:
         """A name, mostly of a wave shaper."""
         return self.name(lambda kind: kind is KINDS["createWaveShaper"])
 
+    def convolver(self) -> str:
+        """A name, mostly of a convolver."""
+        return self.name(lambda kind: kind is KINDS["createConvolver"])
+
     def delay(self) -> str:
         """A name, mostly of a delay."""
         return self.name(lambda kind: kind is KINDS["createDelay"])

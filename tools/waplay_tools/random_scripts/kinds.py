@@ -40,6 +40,7 @@ KINDS = {
     "createChannelMerger": Kind(5, "create_merger", 6, 1, False, None),
     "createWaveShaper": Kind(6, "create_shaper", 1, 1, False, None),
     "createIIRFilter": Kind(6, "create_filter", 1, 1, False, None),
+    "createConvolver": Kind(5, "create_convolver", 1, 1, False, None),
     "createDelay": Kind(12, "create_delay", 1, 1, False, "delayTime"),
 }
 

@@ -2,11 +2,11 @@
 
 from waplay_tools.expecting.reading import OPERATIONS as FIELDS
 from waplay_tools.random_scripts.chances import SPOILED
-from waplay_tools.random_scripts.echoes import Echoes
 from waplay_tools.random_scripts.kinds import KINDS, ONE, Calls, Make, Script, Sound
+from waplay_tools.random_scripts.rooms import Rooms
 
 
-class Limits(Echoes):
+class Limits(Rooms):
     """Shapes of scripts: at the limits of a session, and with faults."""
 
     def lines(self) -> Calls:

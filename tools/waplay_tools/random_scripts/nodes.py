@@ -125,6 +125,23 @@ class Nodes(Values):
         call = self.create("createIIRFilter")
         return {**call, "feedforward": forward, "feedback": back}
 
+    def create_convolver(self) -> Call:
+        """A convolver, mostly with a buffer of one channel or without one. Some are refused for
+        their buffer, and some would normalize it."""
+        responses = [
+            name
+            for name, kind in self.names.items()
+            if isinstance(kind, Sound) and kind.channels == 1
+        ]
+        call = self.create("createConvolver")
+        if responses and self.may(0.85):
+            call["buffer"] = self.rng.choice(responses)
+        elif self.may(0.7):
+            call["buffer"] = self.buffer() if self.may(0.6) else None
+        if self.may(0.98):
+            call["disableNormalization"] = self.may(0.97)
+        return call
+
     def create_delay(self) -> Call:
         """A delay: mostly one of some quanta or a second at most; now and then one that there
         cannot be."""

@@ -87,6 +87,26 @@ class Sounds(Parameters):
             call["at"] = at
         return call
 
+    def create_response(self) -> Calls:
+        """A buffer of one channel that is written for a convolver, in pieces now and then. Some are
+        of another rate, some longer than what is written, and few as long as one may be or longer.
+        """
+        samples, name = self.response(), self.new_name()
+        length = len(samples) + self.rng.choice([0, 0, 0, 0, self.rng.randint(0, 200)])
+        if self.may(0.04):
+            length = 2**14 + self.rng.choice([-1, 0, 0, 1, 1, 2**14])
+        self.names[name] = Sound(0, 0, False, 1, min(length, 1000))
+        shape = {"channels": 1, "length": length, "rate": self.rate}
+        if self.may(0.04):
+            shape["rate"] = self.rng.choice([8000, 44100, 96000])
+        cut = self.rng.randint(0, len(samples)) if self.may(0.2) else 0
+        written = {"op": "copyToChannel", "buffer": name, "channel": 0}
+        calls: Calls = [
+            {"op": "createBuffer", "as": name, **shape},
+            {**written, "samples": samples[cut:], "at": cut},
+        ]
+        return calls + ([{**written, "samples": samples[:cut]}] if cut else [])
+
     def set_buffer(self) -> Call:
         """A call that gives a buffer source a buffer, or takes it away."""
         return self.call(

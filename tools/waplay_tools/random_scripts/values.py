@@ -132,6 +132,28 @@ class Values(Choices):
             return [0] * len(lists[0]), lists[1]
         return lists[0], [0] + lists[1][1:] if wrong < 8 else lists[1]
 
+    def response(self) -> list[int]:
+        """The samples of a response of a convolver. Some die away, some are echoes, some go from
+        end to end of what a response may have, and some are small, for the sake of halves. Now and
+        then one is too loud."""
+        rng, some, most = self.rng, self.rng.randint(0, 19), 2 * ONE
+        length = rng.choice([1, 1, 2, 3, 127, 128, 129, 300, rng.randint(1, 40)])
+        if self.may(0.4):
+            length = rng.randint(1, 300)
+        if some < 7:
+            values = [rng.randint(-ONE, ONE) * (length - at) // length for at in range(length)]
+        elif some < 10:
+            values = [rng.randint(-ONE, ONE) if self.may(0.1) else 0 for _ in range(length)]
+        elif some < 15:
+            ends = [most, -most, most, -most, most - 1, 1 - most, 0, rng.randint(-most, most)]
+            values = [rng.choice(ends) for _ in range(length)]
+        else:
+            small = rng.choice([1, 9, 1000])
+            values = [rng.randint(-small, small) for _ in range(length)]
+        if self.may(0.06):
+            values[rng.randrange(length)] = rng.choice([most + 1, -most - 1, *FIX])
+        return values
+
     def span(self, name: str, time: int) -> int:
         """The duration of a curve from this time on: mostly some frames or up to the time of
         another edit, now and then one, very many, or none."""
