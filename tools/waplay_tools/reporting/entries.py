@@ -34,6 +34,11 @@ CREATIONS: Fields = {
     "createChannelMerger": [_NEW, ("numberOfInputs", "count", 6)],
     "createWaveShaper": [_NEW, ("curve", "list", None), ("oversample", "none 2x 4x", "none")],
     "createIIRFilter": [_NEW, ("feedforward", "list"), ("feedback", "list")],
+    "createConvolver": [
+        _NEW,
+        ("buffer", "name", None),
+        ("disableNormalization", "bool", False),
+    ],
     "createBufferSource": [
         _NEW,
         ("buffer", "name", None),
@@ -54,6 +59,7 @@ NODES = {
     "createChannelMerger": "channel merger",
     "createWaveShaper": "wave shaper",
     "createIIRFilter": "IIR filter",
+    "createConvolver": "convolver",
     "createBufferSource": "buffer source",
 }
 
@@ -137,7 +143,6 @@ LEFT_OUT = {
     "createMediaStreamDestination": "media-stream-destination",
     "createScriptProcessor": "script-processor",
     "createAudioWorkletNode": "audio-worklet",
-    "createConvolver": "convolver",
 }
 
 GROUPS: dict[str, Fields] = {

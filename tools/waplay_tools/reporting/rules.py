@@ -30,7 +30,6 @@ FEATURES = {
     "media-stream-destination": "Destinations that are media streams are not part of the profile.",
     "script-processor": "Nodes that run a page's own code are not part of the profile.",
     "audio-worklet": "Nodes that run a page's own code are not part of the profile.",
-    "convolver": "Convolvers are not part of the profile.",
     "exponential-ramp": (
         "Exponential ramps are not part of the profile; linear ramps and curves are."
     ),
@@ -47,9 +46,20 @@ FEATURES = {
     "detune": "Detuning is not part of the profile: no call reads or changes it.",
     "loop-change": "The loop of a source can't be changed once the source was started.",
     "late-buffer": "The buffer of a source can't be set once the source was started.",
-    "buffer-acquired": "A buffer can't be written once a source that has it was started.",
+    "buffer-acquired": (
+        "A buffer can't be written once a source that has it was started or a convolver was made"
+        " with it."
+    ),
     "destination-output": "The destination has no output that could be connected or disconnected.",
     "long-delay": "A delay may be at most 16 seconds long: a `maxDelayTime` of 268435456.",
+    "normalization": (
+        "The response of a convolver is taken as it is: `disableNormalization` has to be true."
+    ),
+    "response-channels": "The response of a convolver has one channel.",
+    "long-response": "The response of a convolver may have at most 16,384 frames.",
+    "loud-response": (
+        "A sample of a convolver's response is from -33554432 to 33554432, which is from -2 to 2."
+    ),
     "asset-size": "A file may have at most 67,108,864 bytes.",
     "node-limit": "A session may have at most 1,024 nodes, the destination among them.",
     "connection-limit": "A session may have at most 8,192 connections.",
@@ -114,11 +124,18 @@ _OF_OPERATION: dict[tuple[str, str | None], str] = {
         "IndexSizeError",
     ): "`output` is the number of an output of `from`, counted from 0: it is not there.",
     ("disconnectParam", "InvalidAccessError"): "There is no connection that the call means.",
-    ("setChannelCount", "NotSupportedError"): "A channelCount is from 1 to 32.",
+    (
+        "setChannelCount",
+        "NotSupportedError",
+    ): "A channelCount is from 1 to 32, and that of a convolver 1 or 2.",
     (
         "setChannelCount",
         "InvalidStateError",
     ): "The channelCount of this node is fixed, and the value is another one.",
+    (
+        "setChannelCountMode",
+        "NotSupportedError",
+    ): "The channelCountMode of a convolver is `clamped-max` or `explicit`.",
     (
         "setChannelCountMode",
         "InvalidStateError",
@@ -201,6 +218,7 @@ _PARAMETER = "`node` has to stand for a node that has the parameter `param`"
 
 # What the names of an operation have to stand for; else it is a TypeError.
 _NAMES = {
+    "createConvolver": "`buffer` has to stand for a buffer",
     "createBufferSource": "`buffer` has to stand for a buffer",
     "connect": "`from` and `to` have to stand for nodes",
     "connectParam": (

@@ -15,6 +15,9 @@ DOES = {
     "createChannelMerger": "A node with an input for each channel.",
     "createWaveShaper": "A node that bends each sample by a curve.",
     "createIIRFilter": "A filter with these coefficients.",
+    "createConvolver": (
+        "A node that convolves with a buffer. Its disableNormalization can only be true."
+    ),
     "createBufferSource": (
         "A source that plays a buffer. Its loop is in frames of the buffer, and its rate is whole."
     ),
