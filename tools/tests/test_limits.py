@@ -21,6 +21,9 @@ NUMBERS = {
     "connections": 8192,
     "samples in all buffers": 134217728,
     "frames in all delays": 4194304,
+    "frames of a response": 16384,
+    "least sample of a response": -33554432,
+    "most sample of a response": 33554432,
     "bytes of an asset": 67108864,
     "channels times length of a context": 67108864,
 }

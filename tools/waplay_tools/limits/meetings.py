@@ -114,6 +114,28 @@ def delay_frames(number: int) -> Members:
     )
 
 
+def response(samples: list[int], **shape: int) -> Members:
+    """A convolver whose response is a buffer of this shape, with these samples."""
+    whole = {"channels": 1, "length": 1, "rate": RATE, **shape}
+    return script(
+        [
+            {"op": "createBuffer", "as": "b", **whole},
+            {"op": "copyToChannel", "buffer": "b", "channel": 0, "samples": samples},
+            {"op": "createConvolver", "as": "v", "buffer": "b", "disableNormalization": True},
+        ]
+    )
+
+
+def response_shape(member: str) -> Callable[[int], Members]:
+    """A convolver whose response has the number in its shape."""
+    return lambda number: response([], **{member: number})
+
+
+def response_sample(number: int) -> Members:
+    """A convolver whose response has this sample alone."""
+    return response([number])
+
+
 def asset_bytes(number: int) -> Members:
     """An asset of so many zero bytes, which are no WAV file."""
     decode = {"op": "decodeAudioData", "as": "b", "path": "zeros"}

@@ -87,6 +87,7 @@ CONSTANT = {"op": "createConstantSource", "as": "c"}
 SHAPER = {"op": "createWaveShaper", "as": "w"}
 BUFFER = {"op": "createBuffer", "as": "b", "channels": 1, "length": 1, "rate": 8000}
 FILTER = {"op": "createIIRFilter", "as": "i", "feedforward": [1], "feedback": [1]}
+CONVOLVER = {"op": "createConvolver", "as": "v", "disableNormalization": True}
 START = {"op": "start", "node": "c"}
 OF_GAIN = {"node": "g", "param": "gain"}
 CURVE = {"op": "setValueCurveAtTime", **OF_GAIN, "values": [0, 0], "time": 0, "duration": 1}
@@ -295,6 +296,36 @@ OBJECTS = [
         calls(GAIN, last={"op": "setChannelCount", "node": "g"}, field="value"),
         "ok",
         THROWS + "NotSupportedError",
+    ),
+    *both(
+        "channelCount of a convolver",
+        1,
+        2,
+        calls(CONVOLVER, last={"op": "setChannelCount", "node": "v"}, field="value"),
+        "ok",
+        THROWS + "NotSupportedError",
+    ),
+    Limit(
+        "channels of a response",
+        1,
+        meetings.response_shape("channels"),
+        "ok",
+        THROWS + PROFILE + "response-channels",
+    ),
+    Limit(
+        "frames of a response",
+        2**14,
+        meetings.response_shape("length"),
+        "ok",
+        THROWS + PROFILE + "long-response",
+    ),
+    *both(
+        "sample of a response",
+        -(2**25),
+        2**25,
+        meetings.response_sample,
+        "ok",
+        THROWS + PROFILE + "loud-response",
     ),
     *both(
         "channels of a buffer",
