@@ -235,6 +235,27 @@ def choir() -> list[list[int]]:
     return [mixed(*waves)]
 
 
+def pulse() -> list[list[int]]:
+    """What a voice sets out from: a push of air that grows, and stops at once. The loop around it
+    makes the note."""
+    return [[30000 * frame * frame // 2304 for frame in range(48)] + [15000, 5000] + [0] * 110]
+
+
+# The first echoes of a room: when they come, in frames, and how high they are.
+ECHOES = ((177, 15000), (263, -11000), (418, 10000), (599, -8000), (761, 7000), (1034, -6000))
+
+
+def room() -> list[list[int]]:
+    """A second of a room, as it answers a clap: some walls one by one, then all of them at once,
+    duller than they were: of each number the mean with the one before it."""
+    values = noise(15601, FULL)
+    dull = [(value + before) // 2 for before, value in zip(values, values[1:])]
+    answer = [0] * 400 + struck(dull, 1500, 9000)
+    for frame, height in ECHOES:
+        answer[frame] += height
+    return [answer]
+
+
 ASSETS = {
     "drum_loop.wav": Asset(8000, 8, drum_loop),
     "bell.wav": Asset(8000, 16, small_bell),
@@ -253,6 +274,8 @@ ASSETS = {
     "bell_4.wav": Asset(44100, 16, bell(587)),
     "marimba.wav": Asset(48000, 16, marimba),
     "choir.wav": Asset(48000, 16, choir),
+    "pulse.wav": Asset(16000, 16, pulse),
+    "room.wav": Asset(16000, 16, room),
 }
 
 

@@ -100,7 +100,7 @@ class Sounds(Parameters):
         if self.may(0.04):
             shape["rate"] = self.rng.choice([8000, 44100, 96000])
         cut = self.rng.randint(0, len(samples)) if self.may(0.2) else 0
-        written = {"op": "copyToChannel", "buffer": name, "channel": 0}
+        written: Call = {"op": "copyToChannel", "buffer": name, "channel": 0}
         calls: Calls = [
             {"op": "createBuffer", "as": name, **shape},
             {**written, "samples": samples[cut:], "at": cut},
