@@ -103,7 +103,7 @@ const FEATURES = {
   'biquad': 'BiquadFilterNode',
   'stereo-panner': 'StereoPannerNode', 'panner': 'PannerNode', 'listener': 'parameters of the listener',
   'compressor': 'DynamicsCompressorNode', 'analyser': 'AnalyserNode',
-  'convolver': 'ConvolverNode', 'script-processor': 'ScriptProcessorNode', 'audio-worklet': 'AudioWorkletNode',
+  'normalization': 'ConvolverNode', 'script-processor': 'ScriptProcessorNode', 'audio-worklet': 'AudioWorkletNode',
   'media-element-source': 'MediaElementAudioSourceNode', 'media-stream-source': 'MediaStreamAudioSourceNode',
   'media-stream-track-source': 'MediaStreamTrackAudioSourceNode',
   'media-stream-destination': 'MediaStreamAudioDestinationNode',

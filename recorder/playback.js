@@ -83,6 +83,11 @@ const PLAYED = {
   },
   createIIRFilter(player, call) { player.createFilter(call); },
   createBiquadFilter(player, call) { player.createFilter(call); },
+  createConvolver(player, call) {
+    if (call.disableNormalization) // else waplay refuses it
+      player.bind(call, new ConvolverNode(player.context, {
+        buffer: call.buffer ? player.named.get(call.buffer) : null, disableNormalization: true}));
+  },
   createBufferSource(player, call) {
     player.bind(call, new AudioBufferSourceNode(player.context, {
       buffer: call.buffer ? player.named.get(call.buffer) : null, loop: call.loop ?? false,

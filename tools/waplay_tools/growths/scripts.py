@@ -73,6 +73,7 @@ FILTER: Call = {
     "feedforward": [ONE],
     "feedback": [ONE, -ONE // 2],
 }
+ROOM: Call = {"op": "createConvolver", "as": "v", "buffer": "b", "disableNormalization": True}
 BENT: Call = {"op": "createWaveShaper", "as": "w", "curve": [-ONE, 0, ONE]}
 
 RUNS = [
@@ -90,6 +91,7 @@ RUNS = [
     ),
     Run("feedback through one delay", script(384, *IMPULSE, *joined("s", "destination"), *ECHO)),
     Run("an asset that is decoded and played", script(128, *DECODED)),
+    Run("a convolver", script(384, *IMPULSE, ROOM, *joined("s", "v", "destination"), START)),
     Run(
         "a delay in a cycle, a filter, a shaper, a timeline and buffers",
         script(

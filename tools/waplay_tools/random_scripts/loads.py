@@ -94,13 +94,13 @@ def stereo_mergers_into_six_channels() -> Script:
     return script_with(6, 480000, calls)
 
 
-def stereo_loops() -> Script:
-    """32 sources that play the same stereo buffer in loops of several lengths."""
+def stereo_loops(count: int = 32, frames: int = 480000) -> Script:
+    """32 sources, or so many, that play the same stereo buffer in loops of several lengths."""
     calls = [{"op": "createBuffer", "as": "b", "channels": 2, "length": 4800, "rate": 48000}]
     for channel, step in enumerate((700, -900)):
         samples = [step * (i % 960 - 480) for i in range(4800)]
         calls.append({"op": "copyToChannel", "buffer": "b", "channel": channel, "samples": samples})
-    for i in range(32):
+    for i in range(count):
         calls.append(
             {
                 "op": "createBufferSource",
@@ -115,19 +115,20 @@ def stereo_loops() -> Script:
             {"op": "start", "node": f"s{i}", "offset": 100 * i},
             joined(f"s{i}", "destination"),
         ]
-    return script_with(2, 480000, calls)
+    return script_with(2, frames, calls)
 
 
-def loops_through(length: int, creation: Call) -> Script:
+def loops_through(
+    length: int, creation: Call, count: int = 32, frames: int = 480000
+) -> Script:
     """The same loops, each through so many nodes of this creation behind one another."""
-    calls = [
-        call for call in stereo_loops()["calls"] if call["op"] not in ("connect", "startRendering")
-    ]
-    for i in range(32):
+    loops = stereo_loops(count, frames)["calls"]
+    calls = [call for call in loops if call["op"] not in ("connect", "startRendering")]
+    for i in range(count):
         row = [f"n{i}-{k}" for k in range(length)]
         calls += [{**creation, "as": name} for name in row]
         calls += [joined(*pair) for pair in zip([f"s{i}", *row], [*row, "destination"])]
-    return script_with(2, 480000, calls)
+    return script_with(2, frames, calls)
 
 
 def loops_through_shapers() -> Script:
@@ -162,6 +163,30 @@ def loops_through_long_filters() -> Script:
             "feedback": back,
         },
     )
+
+
+def loops_through_rooms(count: int, length: int) -> Script:
+    """So many of the loops, each through a convolver with a response of this length, which dies
+    away, for 48,000 frames."""
+    samples = [(-1) ** k * ONE * (length - k) // (8 * length) for k in range(length)]
+    response = {"channels": 1, "length": length, "rate": 48000}
+    room = {"op": "createConvolver", "buffer": "room", "disableNormalization": True}
+    script = loops_through(1, room, count, 48000)
+    made: Calls = [
+        {"op": "createBuffer", "as": "room", **response},
+        {"op": "copyToChannel", "buffer": "room", "channel": 0, "samples": samples},
+    ]
+    return {**script, "calls": made + script["calls"]}
+
+
+def loop_through_the_longest_room() -> Script:
+    """One of the loops through a response of as many samples as there may be."""
+    return loops_through_rooms(1, 2**14)
+
+
+def loops_through_small_rooms() -> Script:
+    """All 32 loops through responses of 300 samples."""
+    return loops_through_rooms(32, 300)
 
 
 def largest_asset() -> Script:
@@ -309,4 +334,6 @@ LOADS = {
     "o": loops_through_shapers,  # g, each loop through 6 shapers with a curve of 129 points
     "p": loops_through_filters,  # g, each loop through 6 filters of order 2
     "q": loops_through_long_filters,  # g, each loop through a filter of order 19
+    "r": loop_through_the_longest_room,  # a loop of g through 16,384 taps, 48,000 frames
+    "s": loops_through_small_rooms,  # g, each loop through a convolver of 300 taps, 48,000 frames
 }

@@ -195,6 +195,24 @@ def delays_of_32_channels() -> str:
     return text_of([*calls, START], length=2 * 2**18)
 
 
+def longest_responses() -> str:
+    """As many convolvers as there may be, of the longest and loudest response, which hear two
+    channels."""
+    response: Call = {"op": "createBuffer", "as": "h", "channels": 1, "length": 2**14, "rate": RATE}
+    calls: list[Call] = [response, {**response, "as": "b", "channels": 2, "length": 1}]
+    loudest = {"op": "copyToChannel", "channel": 0}
+    calls.append({**loudest, "buffer": "h", "samples": [2**25] * 2**14})
+    calls.append({**loudest, "buffer": "b", "samples": [2**31 - 1]})
+    calls.append({"op": "createBufferSource", "as": "s", "buffer": "b", "loop": True})
+    calls.append({"op": "start", "node": "s"})
+    for number in range(1022):
+        name = f"v{number}"
+        room = {"op": "createConvolver", "as": name, "buffer": "h", "disableNormalization": True}
+        calls += [room, {"op": "connect", "from": "s", "to": name}]
+        calls.append({"op": "connect", "from": name, "to": "destination"})
+    return text_of([*calls, START], length=128)
+
+
 def sources_that_end() -> str:
     """As many sources as there may be, in the longest session; the last frame ends them."""
     calls: list[Call] = []
@@ -291,6 +309,7 @@ ROOM = [
     Worst("10 decodings of a 64 MiB asset", lambda: decodes(10), assets=long_asset(RATE)),
     Worst("the largest buffers", largest_buffers),
     Worst("the largest delays, of 32 channels", delays_of_32_channels),
+    Worst("a quantum of 1,022 convolvers of the longest response", longest_responses),
     Worst("the largest rendering", lambda: text_of([START], channels=2, length=2**25)),
     Worst("1,023 sources in the longest session, checked", sources_that_end, CHECKED),
     Worst("200,000 suspensions in falling order of time", scheduled, CHECKED),
