@@ -118,9 +118,7 @@ def stereo_loops(count: int = 32, frames: int = 480000) -> Script:
     return script_with(2, frames, calls)
 
 
-def loops_through(
-    length: int, creation: Call, count: int = 32, frames: int = 480000
-) -> Script:
+def loops_through(length: int, creation: Call, count: int = 32, frames: int = 480000) -> Script:
     """The same loops, each through so many nodes of this creation behind one another."""
     loops = stereo_loops(count, frames)["calls"]
     calls = [call for call in loops if call["op"] not in ("connect", "startRendering")]

@@ -128,16 +128,15 @@ class Nodes(Values):
     def create_convolver(self) -> Call:
         """A convolver, mostly with a buffer of one channel or without one. Some are refused for
         their buffer, and some would normalize it."""
-        responses = [
-            name
-            for name, kind in self.names.items()
-            if isinstance(kind, Sound) and kind.channels == 1
-        ]
+        sounds = {name: kind for name, kind in self.names.items() if isinstance(kind, Sound)}
+        responses = [name for name, kind in sounds.items() if kind.channels == 1]
         call = self.create("createConvolver")
         if responses and self.may(0.85):
             call["buffer"] = self.rng.choice(responses)
-        elif self.may(0.7):
-            call["buffer"] = self.buffer() if self.may(0.6) else None
+        elif self.may(0.6 if sounds else 0.05):
+            call["buffer"] = self.buffer()
+        elif self.may(0.5):
+            call["buffer"] = None
         if self.may(0.98):
             call["disableNormalization"] = self.may(0.97)
         return call

@@ -36,9 +36,7 @@ class Rooms(Echoes):
     def convolved(self) -> Calls:
         """Sources that are mostly short or move, and convolvers behind one another with a few other
         nodes between. Their responses are written before, and some are written late."""
-        calls = [
-            call for _ in range(self.rng.randint(1, 3)) for call in self.create_response()
-        ]
+        calls = [call for _ in range(self.rng.randint(1, 3)) for call in self.create_response()]
         begun = self.kept_quiet([self.create_source() for _ in range(self.rng.randint(1, 3))])
         sources = [call["as"] for call in begun]
         for _ in range(self.rng.randint(1, 4)):
