@@ -90,6 +90,13 @@ create_iir_filter =
     row field.Feedforward kind.Fixes Needed ∷
     row field.Feedback kind.Fixes Needed ∷ []
 
+-- `createConvolver`
+abbrev pub create_convolver : List Row
+create_convolver =
+    row field.As kind.NewName Needed ∷
+    row field.Buffer kind.Name Null ∷
+    row field.DisableNormalization kind.Flag (Flag false) ∷ []
+
 -- `createBufferSource`
 abbrev pub create_buffer_source : List Row
 create_buffer_source =
@@ -322,7 +329,6 @@ left_out_word left_out.CreateMediaStreamTrackSource = codes "createMediaStreamTr
 left_out_word left_out.CreateMediaStreamDestination = codes "createMediaStreamDestination"
 left_out_word left_out.CreateScriptProcessor = codes "createScriptProcessor"
 left_out_word left_out.CreateAudioWorkletNode = codes "createAudioWorkletNode"
-left_out_word left_out.CreateConvolver = codes "createConvolver"
 
 -- the feature for which it is refused
 abbrev pub left_out_feature : LeftOutName → Feature
@@ -340,7 +346,6 @@ left_out_feature left_out.CreateMediaStreamTrackSource = feature.MediaStreamTrac
 left_out_feature left_out.CreateMediaStreamDestination = feature.MediaStreamDestination
 left_out_feature left_out.CreateScriptProcessor = feature.ScriptProcessor
 left_out_feature left_out.CreateAudioWorkletNode = feature.AudioWorklet
-left_out_feature left_out.CreateConvolver = feature.Convolver
 
 -- the `op` of an operation on a parameter
 abbrev pub param_op_word : ParamOpName → List ℕ
@@ -364,6 +369,7 @@ op_word op.CreateChannelSplitter = codes "createChannelSplitter"
 op_word op.CreateChannelMerger = codes "createChannelMerger"
 op_word op.CreateWaveShaper = codes "createWaveShaper"
 op_word op.CreateIIRFilter = codes "createIIRFilter"
+op_word op.CreateConvolver = codes "createConvolver"
 op_word op.CreateBufferSource = codes "createBufferSource"
 op_word op.CreateBuffer = codes "createBuffer"
 op_word op.Connect = codes "connect"
@@ -401,6 +407,7 @@ operations =
     op.CreateChannelMerger ∷
     op.CreateWaveShaper ∷
     op.CreateIIRFilter ∷
+    op.CreateConvolver ∷
     op.CreateBufferSource ∷
     op.CreateBuffer ∷
     op.Connect ∷
@@ -448,8 +455,7 @@ operations =
     op.LeftOut left_out.CreateMediaStreamTrackSource ∷
     op.LeftOut left_out.CreateMediaStreamDestination ∷
     op.LeftOut left_out.CreateScriptProcessor ∷
-    op.LeftOut left_out.CreateAudioWorkletNode ∷
-    op.LeftOut left_out.CreateConvolver ∷ []
+    op.LeftOut left_out.CreateAudioWorkletNode ∷ []
 
 -- the first of these operations that the text names
 abbrev pub first_named : List ℕ → List OpName → Option OpName
@@ -481,6 +487,7 @@ fields_of op.CreateChannelSplitter = create_channel_splitter
 fields_of op.CreateChannelMerger = create_channel_merger
 fields_of op.CreateWaveShaper = create_wave_shaper
 fields_of op.CreateIIRFilter = create_iir_filter
+fields_of op.CreateConvolver = create_convolver
 fields_of op.CreateBufferSource = create_buffer_source
 fields_of op.CreateBuffer = create_buffer
 fields_of op.Connect = connect

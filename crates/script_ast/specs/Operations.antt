@@ -13,6 +13,7 @@ abbrev pub IsInRange : Op → Type 0
 IsInRange (op.Create name kind) = IsNewName name × IsCreatable kind × IsOf32Bits kind
 IsInRange (op.CreateDelay name max_delay_time delay_time) = IsNewName name × IsFix max_delay_time × IsFix delay_time
 IsInRange (op.CreateWaveShaper name curve oversample) = IsNewName name × AreFixesIfSome curve
+IsInRange (op.CreateConvolver name buffer disable_normalization) = IsNewName name
 IsInRange (op.CreateBufferSource name buffer looping loop_start loop_end playback_rate) = IsNewName name × IsTime loop_start × IsTime loop_end × IsFix playback_rate
 IsInRange (op.CreateBuffer name channels frames rate) = IsNewName name × IsCount channels × IsCount frames × IsCount rate
 IsInRange (op.LeftOut feature) = Unit {0}
@@ -54,6 +55,7 @@ abbrev pub interface_of : Op → Interface
 interface_of (op.Create name kind) = interface.Creation
 interface_of (op.CreateDelay name max_delay_time delay_time) = interface.Creation
 interface_of (op.CreateWaveShaper name curve oversample) = interface.Shaper
+interface_of (op.CreateConvolver name buffer disable_normalization) = interface.Buffer
 interface_of (op.CreateBufferSource name buffer looping loop_start loop_end playback_rate) = interface.Buffer
 interface_of (op.CreateBuffer name channels frames rate) = interface.Buffer
 interface_of (op.LeftOut feature) = interface.LeftOut
@@ -95,6 +97,7 @@ abbrev pub new_name : Op → Option (List ℕ)
 new_name (op.Create name kind) = Some name
 new_name (op.CreateDelay name max_delay_time delay_time) = Some name
 new_name (op.CreateWaveShaper name curve oversample) = Some name
+new_name (op.CreateConvolver name buffer disable_normalization) = Some name
 new_name (op.CreateBufferSource name buffer looping loop_start loop_end playback_rate) = Some name
 new_name (op.CreateBuffer name channels frames rate) = Some name
 new_name (op.DecodeAudioData name path) = Some name

@@ -109,6 +109,7 @@ pub enum OpName {
     CreateChannelMerger,
     CreateWaveShaper,
     CreateIIRFilter,
+    CreateConvolver,
     CreateBufferSource,
     CreateBuffer,
     Connect,
@@ -146,6 +147,7 @@ pub const OP_NAMES: [OpName; 56] = [
     OpName::CreateChannelMerger,
     OpName::CreateWaveShaper,
     OpName::CreateIIRFilter,
+    OpName::CreateConvolver,
     OpName::CreateBufferSource,
     OpName::CreateBuffer,
     OpName::Connect,
@@ -194,7 +196,6 @@ pub const OP_NAMES: [OpName; 56] = [
     OpName::LeftOut(LeftOutName::CreateMediaStreamDestination),
     OpName::LeftOut(LeftOutName::CreateScriptProcessor),
     OpName::LeftOut(LeftOutName::CreateAudioWorkletNode),
-    OpName::LeftOut(LeftOutName::CreateConvolver),
 ];
 
 // The fields of each operation, in the order in which they are read; `then` comes last.
@@ -235,6 +236,12 @@ pub const CREATE_IIR_FILTER: [Row; 3] = [
     row!(As, NewName, Needed),
     row!(Feedforward, Fixes, Needed),
     row!(Feedback, Fixes, Needed),
+];
+
+pub const CREATE_CONVOLVER: [Row; 3] = [
+    row!(As, NewName, Needed),
+    row!(Buffer, Name, Null),
+    row!(DisableNormalization, Flag, Flag(false)),
 ];
 
 pub const CREATE_BUFFER_SOURCE: [Row; 6] = [
@@ -394,6 +401,7 @@ impl OpName {
             OpName::CreateChannelMerger => "createChannelMerger",
             OpName::CreateWaveShaper => "createWaveShaper",
             OpName::CreateIIRFilter => "createIIRFilter",
+            OpName::CreateConvolver => "createConvolver",
             OpName::CreateBufferSource => "createBufferSource",
             OpName::CreateBuffer => "createBuffer",
             OpName::Connect => "connect",
@@ -449,6 +457,7 @@ impl OpName {
             OpName::CreateChannelMerger => &CREATE_CHANNEL_MERGER,
             OpName::CreateWaveShaper => &CREATE_WAVE_SHAPER,
             OpName::CreateIIRFilter => &CREATE_IIR_FILTER,
+            OpName::CreateConvolver => &CREATE_CONVOLVER,
             OpName::CreateBufferSource => &CREATE_BUFFER_SOURCE,
             OpName::CreateBuffer => &CREATE_BUFFER,
             OpName::Connect => &CONNECT,

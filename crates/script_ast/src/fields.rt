@@ -28,6 +28,7 @@ pub enum Field {
     Feedforward,
     Feedback,
     Buffer,
+    DisableNormalization,
     Loop,
     LoopStart,
     LoopEnd,
@@ -50,7 +51,7 @@ pub enum Field {
 }
 
 // The names of the members, in the order of the variants.
-const WORDS: [&str; 41] = [
+const WORDS: [&str; 42] = [
     "version",
     "context",
     "channels",
@@ -73,6 +74,7 @@ const WORDS: [&str; 41] = [
     "feedforward",
     "feedback",
     "buffer",
+    "disableNormalization",
     "loop",
     "loopStart",
     "loopEnd",

@@ -21,7 +21,6 @@ pub enum LeftOutName {
     CreateMediaStreamDestination,
     CreateScriptProcessor,
     CreateAudioWorkletNode,
-    CreateConvolver,
 }
 
 impl LeftOutName {
@@ -46,7 +45,6 @@ impl LeftOutName {
             LeftOutName::CreateMediaStreamDestination => "createMediaStreamDestination",
             LeftOutName::CreateScriptProcessor => "createScriptProcessor",
             LeftOutName::CreateAudioWorkletNode => "createAudioWorkletNode",
-            LeftOutName::CreateConvolver => "createConvolver",
         }
     }
 
@@ -69,7 +67,6 @@ impl LeftOutName {
             LeftOutName::CreateMediaStreamDestination => Feature::MediaStreamDestination,
             LeftOutName::CreateScriptProcessor => Feature::ScriptProcessor,
             LeftOutName::CreateAudioWorkletNode => Feature::AudioWorklet,
-            LeftOutName::CreateConvolver => Feature::Convolver,
         }
     }
 }

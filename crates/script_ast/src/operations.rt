@@ -50,6 +50,12 @@ pub enum Op {
         curve: Option<Samples>,
         oversample: Oversample,
     },
+    /// The ConvolverNode Interface.
+    CreateConvolver {
+        name: Name,
+        buffer: Option<Name>,
+        disable_normalization: bool,
+    },
     /// The AudioBufferSourceNode Interface.
     CreateBufferSource {
         name: Name,
@@ -252,7 +258,7 @@ pub enum Interface {
     Node,
     /// A source (AudioScheduledSourceNode, AudioBufferSourceNode).
     Source,
-    /// A buffer, or what plays one (AudioBuffer, BaseAudioContext).
+    /// A buffer, or what is created with one (AudioBuffer, BaseAudioContext).
     Buffer,
     /// A wave shaper (WaveShaperNode).
     Shaper,
@@ -286,8 +292,10 @@ impl Op {
             | Op::SetLoopEnd { .. }
             | Op::Start { .. }
             | Op::Stop { .. } => Interface::Source,
-            Op::CreateBufferSource { .. } | Op::CreateBuffer { .. } | Op::CopyToChannel { .. } =>
-                Interface::Buffer,
+            Op::CreateConvolver { .. }
+            | Op::CreateBufferSource { .. }
+            | Op::CreateBuffer { .. }
+            | Op::CopyToChannel { .. } => Interface::Buffer,
             Op::CreateWaveShaper { .. } | Op::SetCurve { .. } | Op::SetOversample { .. } =>
                 Interface::Shaper,
             Op::SetValue { .. }
@@ -317,6 +325,7 @@ impl Op {
             Op::Create { name, .. }
             | Op::CreateDelay { name, .. }
             | Op::CreateWaveShaper { name, .. }
+            | Op::CreateConvolver { name, .. }
             | Op::CreateBufferSource { name, .. }
             | Op::CreateBuffer { name, .. }
             | Op::DecodeAudioData { name, .. } => Some(name),

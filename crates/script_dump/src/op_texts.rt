@@ -42,6 +42,17 @@ fn creation_text(alloc: Global, op: &Op) -> Result<String, AllocError> {
             length,
             rate,
         } => format!(in alloc; "createBuffer {} {channels} {length} {rate}", text(name)),
+        Op::CreateConvolver {
+            name,
+            buffer,
+            disable_normalization,
+        } => {
+            let buffer = text_or_none(buffer);
+            format!(in alloc;
+                "createConvolver {} {buffer} {disable_normalization}",
+                text(name)
+            )
+        }
         _ => connection_text(alloc, op),
     }
 }
@@ -60,9 +71,13 @@ fn kind_text(alloc: Global, name: &str, kind: &Kind) -> Result<String, AllocErro
             let back = list_text(alloc, back)?;
             format!(in alloc; "createIIRFilter {name} {forward} {back}")
         }
-        Kind::Destination | Kind::Buffer { .. } | Kind::Delay { .. } | Kind::Shaper { .. } => {
-            format!(in alloc; "create {name}")
+        Kind::Causal {
+            equation: Equation::Convolution { .. },
         }
+        | Kind::Destination
+        | Kind::Buffer { .. }
+        | Kind::Delay { .. }
+        | Kind::Shaper { .. } => format!(in alloc; "create {name}"),
     }
 }
 

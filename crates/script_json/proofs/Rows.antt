@@ -1,5 +1,5 @@
 -- Texts that are written out, and what reading them gives.
-use Rattle.std.specs.Prelude.{◌≡◌, codes, Ok, Err, Some, None, false, pos, neg_ℤ, refl, [], ◌∷◌}
+use Rattle.std.specs.Prelude.{◌≡◌, codes, Ok, Err, Some, None, true, false, pos, neg_ℤ, refl, [], ◌∷◌}
 use Rattle.serde_json.proofs.OnLiterals.{serde_json_on_literals}
 use Rattle.serde_json.specs.Read.{read}
 use Rattle.causal_core.specs.declared.equation.Equation.TheVariants.{Filter}
@@ -103,6 +103,23 @@ buffer_source : script_or_fault (read (codes "{\"version\":1,\"context\":{\"chan
     ≡ Ok (record { context = record { channels = 1; length = 1; rate = 1 }; calls = record { ordinal = 1; holder = 0; op = op.CreateBufferSource (codes "s") None false (pos 0) (pos 0) (pos 16777216) } ∷ [] })
 unfolding serde_json_on_literals context_in main_list calls_of head_faults script_faults script_in placed call_faults call_of op_named is_new_name number_in flag_in text_in text_or_null_in
 buffer_source = refl
+
+-- a convolver without a buffer, whose response is normalized
+convolver : script_or_fault (read (codes "{\"version\":1,\"context\":{\"channels\":1,\"length\":1,\"rate\":1},\"calls\":[{\"op\":\"createConvolver\",\"as\":\"v\"}]}"))
+    ≡ Ok (record { context = record { channels = 1; length = 1; rate = 1 }; calls = record { ordinal = 1; holder = 0; op = op.CreateConvolver (codes "v") None false } ∷ [] })
+unfolding serde_json_on_literals context_in main_list calls_of head_faults script_faults script_in placed call_faults call_of op_named is_new_name number_in flag_in text_in text_or_null_in
+convolver = refl
+
+-- one with a buffer, whose response is not
+convolver_with : script_or_fault (read (codes "{\"version\":1,\"context\":{\"channels\":1,\"length\":1,\"rate\":1},\"calls\":[{\"op\":\"createConvolver\",\"disableNormalization\":true,\"buffer\":\"b\",\"as\":\"v\"}]}"))
+    ≡ Ok (record { context = record { channels = 1; length = 1; rate = 1 }; calls = record { ordinal = 1; holder = 0; op = op.CreateConvolver (codes "v") (Some (codes "b")) true } ∷ [] })
+unfolding serde_json_on_literals context_in main_list calls_of head_faults script_faults script_in placed call_faults call_of op_named is_new_name number_in flag_in text_in text_or_null_in
+convolver_with = refl
+
+-- null stands for no buffer, and not for a truth value
+normalization_is_null : script_or_fault (read (codes "{\"version\":1,\"context\":{\"channels\":1,\"length\":1,\"rate\":1},\"calls\":[{\"op\":\"createConvolver\",\"as\":\"v\",\"buffer\":null,\"disableNormalization\":null}]}")) ≡ Err (WrongKind 1 field.DisableNormalization)
+unfolding serde_json_on_literals context_in main_list calls_of head_faults script_faults placed call_faults op_named is_new_name
+normalization_is_null = refl
 
 -- null takes a buffer away, and stands for no buffer that is left out
 buffer_taken : script_or_fault (read (codes "{\"version\":1,\"context\":{\"channels\":1,\"length\":1,\"rate\":1},\"calls\":[{\"op\":\"setBuffer\",\"node\":\"s\",\"buffer\":null}]}"))

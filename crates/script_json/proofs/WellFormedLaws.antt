@@ -27,7 +27,7 @@ use Rattle.script_ast.specs.declared.entries.Row.{Row}
 use Rattle.script_ast.specs.declared.fields.Field.{Field}
 use Rattle.script_ast.specs.declared.fields.Field.TheVariants as field
 use Rattle.script_ast.specs.declared.entries.OpName.{OpName}
-use Rattle.script_ast.specs.declared.entries.OpName.TheVariants.{CreateConstantSource, CreateGain, CreateDelay, CreateChannelSplitter, CreateChannelMerger, CreateWaveShaper, CreateIIRFilter, CreateBufferSource, CreateBuffer, Connect, ConnectParam, Disconnect, DisconnectParam, SetChannelCount, SetChannelCountMode, SetChannelInterpretation, SetCurve, SetOversample, SetBuffer, SetLoop, SetLoopStart, SetLoopEnd, CopyToChannel, Start, Stop, Param, Suspend, StartRendering, Resume, DecodeAudioData, ReadState, ReadTime, LeftOut}
+use Rattle.script_ast.specs.declared.entries.OpName.TheVariants.{CreateConstantSource, CreateGain, CreateDelay, CreateChannelSplitter, CreateChannelMerger, CreateWaveShaper, CreateIIRFilter, CreateConvolver, CreateBufferSource, CreateBuffer, Connect, ConnectParam, Disconnect, DisconnectParam, SetChannelCount, SetChannelCountMode, SetChannelInterpretation, SetCurve, SetOversample, SetBuffer, SetLoop, SetLoopStart, SetLoopEnd, CopyToChannel, Start, Stop, Param, Suspend, StartRendering, Resume, DecodeAudioData, ReadState, ReadTime, LeftOut}
 use Rattle.script_ast.specs.declared.param_ops.ParamOpName.{ParamOpName}
 use Rattle.script_ast.specs.declared.param_ops.ParamOpName.TheVariants as param
 use Rattle.script_json.proofs.CallSteps.{both_none, length-calls, outcome_ok}
@@ -177,6 +177,7 @@ op_in-range clock n d CreateChannelSplitter h = (text_in-new_name clock n d (bot
 op_in-range clock n d CreateChannelMerger h = (text_in-new_name clock n d (both_none _ _ (both_none _ _ h).0).0, (refl, refl), count_in-range _ _ d)
 op_in-range clock n d CreateWaveShaper h = (text_in-new_name clock n d (both_none _ _ (both_none _ _ h).0).0, fixes_or_null_in-range _ d)
 op_in-range clock n d CreateIIRFilter h = (text_in-new_name clock n d (both_none _ _ (both_none _ _ h).0).0, (refl, refl), (fixes_in-range field.Feedforward d, fixes_in-range field.Feedback d))
+op_in-range clock n d CreateConvolver h = text_in-new_name clock n d (both_none _ _ (both_none _ _ h).0).0
 op_in-range clock n d CreateBufferSource h = (text_in-new_name clock n d (both_none _ _ (both_none _ _ h).0).0, time_in-range clock _ _ d, time_in-range clock _ _ d, fix_in-range _ _ d)
 op_in-range clock n d CreateBuffer h = (text_in-new_name clock n d (both_none _ _ (both_none _ _ h).0).0, count_in-range _ _ d, count_in-range _ _ d, count_in-range _ _ d)
 op_in-range clock n d Connect h = (count_in-range _ _ d, count_in-range _ _ d)
@@ -232,6 +233,7 @@ holds_calls-op_in clock CreateChannelSplitter d = refl
 holds_calls-op_in clock CreateChannelMerger d = refl
 holds_calls-op_in clock CreateWaveShaper d = refl
 holds_calls-op_in clock CreateIIRFilter d = refl
+holds_calls-op_in clock CreateConvolver d = refl
 holds_calls-op_in clock CreateBufferSource d = refl
 holds_calls-op_in clock CreateBuffer d = refl
 holds_calls-op_in clock Connect d = refl

@@ -11,7 +11,7 @@ use Rattle.script_ast.specs.declared.call_list.Call.{Call}
 use Rattle.script_ast.specs.declared.clocks.Clock.{Clock}
 use Rattle.script_ast.specs.declared.fields.Field.TheVariants as field
 use Rattle.script_ast.specs.declared.entries.OpName.{OpName}
-use Rattle.script_ast.specs.declared.entries.OpName.TheVariants.{CreateConstantSource, CreateGain, CreateDelay, CreateChannelSplitter, CreateChannelMerger, CreateWaveShaper, CreateIIRFilter, CreateBufferSource, CreateBuffer, Connect, ConnectParam, Disconnect, DisconnectParam, SetChannelCount, SetChannelCountMode, SetChannelInterpretation, SetCurve, SetOversample, SetBuffer, SetLoop, SetLoopStart, SetLoopEnd, CopyToChannel, Start, Stop, Param, Suspend, StartRendering, Resume, DecodeAudioData, ReadState, ReadTime, LeftOut}
+use Rattle.script_ast.specs.declared.entries.OpName.TheVariants.{CreateConstantSource, CreateGain, CreateDelay, CreateChannelSplitter, CreateChannelMerger, CreateWaveShaper, CreateIIRFilter, CreateConvolver, CreateBufferSource, CreateBuffer, Connect, ConnectParam, Disconnect, DisconnectParam, SetChannelCount, SetChannelCountMode, SetChannelInterpretation, SetCurve, SetOversample, SetBuffer, SetLoop, SetLoopStart, SetLoopEnd, CopyToChannel, Start, Stop, Param, Suspend, StartRendering, Resume, DecodeAudioData, ReadState, ReadTime, LeftOut}
 use Rattle.script_ast.specs.declared.operations.Op.{Op}
 use Rattle.script_ast.specs.declared.operations.Op.TheVariants as op
 use Rattle.script_ast.specs.declared.param_ops.ParamOpName.{ParamOpName}
@@ -110,6 +110,7 @@ op_in clock CreateChannelSplitter d = op.Create (text_in field.As d) (node.Split
 op_in clock CreateChannelMerger d = op.Create (text_in field.As d) (node.Merger (count_in entry.create_channel_merger field.NumberOfInputs d))
 op_in clock CreateWaveShaper d = op.CreateWaveShaper (text_in field.As d) (fixes_or_null_in field.Curve d) (oversample_in entry.create_wave_shaper field.Oversample d)
 op_in clock CreateIIRFilter d = op.Create (text_in field.As d) (node.Causal (Filter (fixes_in field.Feedforward d) (fixes_in field.Feedback d)))
+op_in clock CreateConvolver d = op.CreateConvolver (text_in field.As d) (text_or_null_in field.Buffer d) (flag_in entry.create_convolver field.DisableNormalization d)
 op_in clock CreateBufferSource d = op.CreateBufferSource (text_in field.As d) (text_or_null_in field.Buffer d) (flag_in entry.create_buffer_source field.Loop d) (time_in clock entry.create_buffer_source field.LoopStart d) (time_in clock entry.create_buffer_source field.LoopEnd d) (fix_in entry.create_buffer_source field.PlaybackRate d)
 op_in clock CreateBuffer d = op.CreateBuffer (text_in field.As d) (count_in entry.create_buffer field.Channels d) (count_in entry.create_buffer field.Length d) (count_in entry.create_buffer field.Rate d)
 op_in clock Connect d = op.Connect (text_in field.From d) (count_in entry.connect field.Output d) (text_in field.To d) (count_in entry.connect field.Input d)

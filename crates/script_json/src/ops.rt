@@ -27,6 +27,7 @@ pub fn build(alloc: Global, clock: Clock, name: OpName, call: &Value) -> Result<
         OpName::CreateChannelMerger => create_channel_merger(alloc, call),
         OpName::CreateWaveShaper => create_wave_shaper(alloc, call),
         OpName::CreateIIRFilter => create_iir_filter(alloc, call),
+        OpName::CreateConvolver => create_convolver(alloc, call),
         OpName::CreateBufferSource => create_buffer_source(alloc, clock, call),
         OpName::CreateBuffer => create_buffer(alloc, call),
         OpName::Connect => connect(alloc, call),
@@ -129,6 +130,20 @@ fn create_iir_filter(alloc: Global, call: &Value) -> Result<Op, NoMemory>
     Ok(Op::Create {
         name,
         kind: Kind::Causal { equation },
+    })
+}
+
+fn create_convolver(alloc: Global, call: &Value) -> Result<Op, NoMemory>
+    ensures { IfOk result (λ op. op ≡ op_in Clock.Frames OpName.CreateConvolver (view call.now)) }
+{
+    Ok(Op::CreateConvolver {
+        name: text(alloc, call, Field::As)?,
+        buffer: text_or_null(alloc, call, Field::Buffer)?,
+        disable_normalization: flag(
+            call,
+            &entries::CREATE_CONVOLVER,
+            Field::DisableNormalization,
+        ),
     })
 }
 

@@ -82,6 +82,20 @@ fn a_delay_has_the_fields_of_the_format(rt: HostRuntime) {
 }
 
 #[test]
+fn a_convolver_has_the_fields_of_the_format(rt: HostRuntime) {
+    let want = [
+        row(Field::As, Kind::NewName, Fallback::Needed),
+        row(Field::Buffer, Kind::Name, Fallback::Null),
+        row(
+            Field::DisableNormalization,
+            Kind::Flag,
+            Fallback::Flag(false),
+        ),
+    ];
+    assert!(rt; OpName::CreateConvolver.fields() == want.as_slice());
+}
+
+#[test]
 fn a_curve_of_a_parameter_has_the_fields_of_the_format(rt: HostRuntime) {
     let want = [
         row(Field::Node, Kind::Name, Fallback::Needed),
