@@ -42,8 +42,9 @@ One thing each
     1 param_cursor    places in them
     2 sched_source    starts and stops
     3 causal_core     causal equations
-    4 shaper_iir      their states
-    5 delay_line      a ring of frames
+    4 shaper_iir      filters, shapers
+    5 convolve        convolvers
+    6 delay_line      a ring of frames
 Channels
     0 channel_mix     up- and down-mix
     1 lane_kern       loops over samples
