@@ -37,6 +37,8 @@ use Rattle.meaning.specs.Worlds.{HasCapacity}
 use Rattle.meaning.specs.Changes.{creates, refusal, IsNamed}
 use Rattle.control_side.specs.declared.decide.Decided.{Decided}
 use Rattle.control_side.specs.declared.decide.Decided.TheVariants as comes_to
+use Rattle.control_side.specs.Convolvers.{normalization_refusal}
+use Rattle.control_side.specs.Deciding.{by_buffer, with_buffer}
 use Rattle.control_side.specs.Machine.{Machine, IsAccepted}
 use Rattle.control_side.specs.Params.{param_at, name_refusal, lead_refusal, unless_refused, on_param, edits_param, leads, edge_to_param, form_of_param}
 use Rattle.control_side.specs.Shapers.{oversample_refusal, is_shaper, sets_oversample}
@@ -102,9 +104,16 @@ module _ (m : Machine) (o : Op) where
   buffer_comes None e own = tt
   buffer_comes (Some b) e own = edits_come (e b) (own b refl)
 
+  by_buffer_comes : (buffer : Option BufId) (what : BufId → Decided) → ((b : BufId) → buffer ≡ Some b → Comes m o (what b)) → Comes m o (by_buffer buffer what)
+  by_buffer_comes None what may = tt
+  by_buffer_comes (Some b) what may = may b refl
+
+  by_given_comes : (name : Option (List ℕ)) (what : Option BufId → Decided) → ((b : Option BufId) → (IsSteady m → IsBufferOf m.world.store b) → Comes m o (what b)) → Comes m o (with_buffer m name what)
+  by_given_comes None what may = may None (λ steady. tt)
+  by_given_comes (Some name) what may = by_buffer_comes (buffer_named m name) (λ b. what (Some b)) (λ b is. may (Some b) (λ steady. buffer_there m steady name b is))
+
   with_buffer_comes : (name : Option (List ℕ)) (e : Option BufId → Edit) → ((b : Option BufId) → (IsSteady m → IsBufferOf m.world.store b) → IsOwn (e b)) → Comes m o (edits_with_buffer m name e)
-  with_buffer_comes None e own = edits_come (e None) (own None (λ steady. tt))
-  with_buffer_comes (Some name) e own = buffer_comes (buffer_named m name) (λ b. e (Some b)) (λ b is. own (Some b) (λ steady. buffer_there m steady name b is))
+  with_buffer_comes name e own = by_given_comes name (λ b. edits m (e b)) (λ b there. edits_come (e b) (own b there))
 
   sets_buffer_comes : new_name o ≡ None → (node : Option NodeId) (name : Option (List ℕ)) → Comes m o (sets_buffer m node name)
   sets_buffer_comes none None name = tt
@@ -209,6 +218,10 @@ comes m (op.SetLoopStart node value) =
 comes m (op.SetLoopEnd node value) =
     node_comes m (op.SetLoopEnd node value) (node_named m node) (λ n. edit.Source n (source.SetLoop (part.End value)))
     (λ a is. ((λ steady in_range. tt), refl))
+comes m (op.CreateConvolver name buffer disable_normalization) =
+    let o = op.CreateConvolver name buffer disable_normalization in
+    by_given_comes m o buffer (λ b. unless_refused (normalization_refusal disable_normalization) (edits m (edit.CreateConvolver b)))
+    (λ b there. unless_refused_comes m o (normalization_refusal disable_normalization) (edits m (edit.CreateConvolver b)) (λ fine. edits_come m o (edit.CreateConvolver b) ((λ steady in_range. there steady), refl)))
 comes m (op.CreateBufferSource name buffer looping loop_start loop_end playback_rate) =
     with_buffer_comes m (op.CreateBufferSource name buffer looping loop_start loop_end playback_rate) buffer (λ source. edit.CreateBufferSource (rate_of playback_rate) source (record { on = looping; first = loop_start; end = loop_end }))
     (λ b there. ((λ steady in_range. there steady), refl))
@@ -274,6 +287,7 @@ pub is_new : (o : Op) (name : List ℕ) → IsInRange o → new_name o ≡ Some 
 is_new (op.Create new kind) name in_range is = subst (λ (x : Option (List ℕ)). IfSome x IsNewName) is in_range.0
 is_new (op.CreateDelay new longest time) name in_range is = subst (λ (x : Option (List ℕ)). IfSome x IsNewName) is in_range.0
 is_new (op.CreateWaveShaper new curve oversample) name in_range is = subst (λ (x : Option (List ℕ)). IfSome x IsNewName) is in_range.0
+is_new (op.CreateConvolver new buffer disable_normalization) name in_range is = subst (λ (x : Option (List ℕ)). IfSome x IsNewName) is in_range
 is_new (op.CreateBufferSource new buffer looping loop_start loop_end rate) name in_range is = subst (λ (x : Option (List ℕ)). IfSome x IsNewName) is in_range.0
 is_new (op.CreateBuffer new channels frames rate) name in_range is = subst (λ (x : Option (List ℕ)). IfSome x IsNewName) is in_range.0
 is_new (op.DecodeAudioData new path) name in_range is = subst (λ (x : Option (List ℕ)). IfSome x IsNewName) is in_range.0

@@ -45,6 +45,7 @@ module _ (machine : Machine) (call : Call) where
   edit_spec : (w : World) (now : ℕ) (e : Edit) → (edited w now e).spec ≡ w.spec
   edit_spec w now (edit.Create kind) = refl
   edit_spec w now (edit.CreateBufferSource rate buffer points) = refl
+  edit_spec w now (edit.CreateConvolver buffer) = refl
   edit_spec w now (edit.Connect edge) = refl
   edit_spec w now (edit.Disconnect from form) = refl
   edit_spec w now (edit.Source node e) = refl

@@ -8,6 +8,7 @@ use Rattle.name_book.specs.Book.{BookView, bound, first_named, first_name_of}
 use Rattle.name_book.specs.declared.book.Object.{Object}
 use Rattle.name_book.specs.declared.book.Object.TheVariants.{Node, Buffer}
 use Rattle.buffer_store.specs.Buffers.{silence, recorded}
+use Rattle.buffer_store.specs.declared.buffers.Buffer.{Buffer as AudioBuffer}
 use Rattle.node_table.specs.Nodes.{node_of, node_with_curve}
 use Rattle.node_table.proofs.Setting.{length-changed}
 use Rattle.node_table.specs.declared.kinds.Kind.{Kind}
@@ -18,14 +19,15 @@ use Rattle.meaning.specs.declared.change.Edit.{Edit}
 use Rattle.meaning.specs.declared.change.Edit.TheVariants as edit
 use Rattle.meaning.specs.declared.world.World.{World}
 use Rattle.meaning.specs.declared.scheds.Play.{Play}
+use Rattle.meaning.specs.Convolvers.{convolver_of}
 use Rattle.meaning.specs.World.{plain, find_play, frames_in}
 use Rattle.meaning.specs.Validity.{IsValid, play_nodes}
-use Rattle.meaning.specs.Plays.{new_source, play_edited}
+use Rattle.meaning.specs.Plays.{new_source, frozen_in, play_edited}
 use Rattle.meaning.specs.Sources.{with_store, buffers_edited}
 use Rattle.meaning.specs.Changes.{creates, created, edited, attribute_set, new_play, plays_of}
 use Rattle.meaning.proofs.Valid.{changed_nodes}
 use Rattle.meaning.proofs.Creating.{IsOwn}
-use Rattle.meaning.proofs.Sourcing.{new_play_is, new_source_is, edited_id, acquired_keeps}
+use Rattle.meaning.proofs.Sourcing.{new_play_is, new_source_is, edited_id, frozen_keeps, acquired_keeps}
 use Rattle.meaning.proofs.Buffering.{buffers_stay}
 use Rattle.meaning.proofs.Changing.{changed_grows}
 use Rattle.control_msgs.specs.Messages.{ended_marked}
@@ -61,6 +63,7 @@ steady_world m w spec nodes buffers plays valid steady = record {
 pub steady_edited : (m : Machine) (e : Edit) → creates e ≡ false → IsAccepted m e → IsSteady m → IsSteady (with_edit m e None)
 steady_edited m (edit.Create kind) none accepted steady = absurd cc
 steady_edited m (edit.CreateBufferSource rate buffer points) none accepted steady = absurd cc
+steady_edited m (edit.CreateConvolver buffer) none accepted steady = absurd cc
 steady_edited m (edit.Connect edge) none accepted steady = steady_world m _ refl refl (omega arith) refl (edited_valid m (edit.Connect edge) accepted steady) steady
 steady_edited m (edit.Disconnect from form) none accepted steady = steady_world m _ refl refl (omega arith) refl (edited_valid m (edit.Disconnect from form) accepted steady) steady
 steady_edited m (edit.Source node e) none accepted steady =
@@ -93,23 +96,24 @@ new_named names name node (Some p) own =
     (subst (λ i. IsSome (first_name_of (first_named names (Node (record { 0 = node })) name) i)) (sym (own p refl)) (named_new names node name)) (λ k d l. absurd (omega arith))
 new_named names name node None own = λ k d l. absurd (omega arith)
 
--- with its schedule, if it is a source
-steady_created : (m : Machine) (name : List ℕ) (kind : Kind) (play : Option Play) → IsOwn (length m.world.nodes) play → IsValid (created m.world kind play m.context.time) → IsSteady m
+-- with its schedule, if it is a source, and with buffers that are acquired, of which none goes
+steady_created : (m : Machine) (name : List ℕ) (kind : Kind) (play : Option Play) (store : List AudioBuffer) → length m.world.store ≤ length store → IsOwn (length m.world.nodes) play
+    → IsValid (with_store (created m.world kind play m.context.time) store) → IsSteady m
     → IsSteady (record m {
-      world = created m.world kind play m.context.time;
+      world = with_store (created m.world kind play m.context.time) store;
       bindings = bound m.bindings name (Node (record { 0 = length m.world.nodes }));
       first_names = first_named m.first_names (Node (record { 0 = length m.world.nodes })) name;
     })
-steady_created m name kind play own valid steady =
+steady_created m name kind play store buffers own valid steady =
     let count = length m.world.nodes in
     let long = length-append m.world.nodes (node_of kind m.context.time ∷ []) in
-    let next : World = created m.world kind play m.context.time in
+    let next : World = with_store (created m.world kind play m.context.time) store in
     let first_names = first_named m.first_names (Node (record { 0 = count })) name in
     record {
       valid = valid;
       spec = steady.spec;
       time = steady.time;
-      bound = All-bound (IsThere next) m.bindings name (Node (record { 0 = count })) (λ k d l. there_still m.world next (omega (arith, long)) (omega arith) _ (steady.bound k d l)) (omega (arith, long));
+      bound = All-bound (IsThere next) m.bindings name (Node (record { 0 = count })) (λ k d l. there_still m.world next (omega (arith, long)) buffers _ (steady.bound k d l)) (omega (arith, long));
       named = rw (map-append (λ (p : Play). p.id.0) m.world.scheds.items (plays_of play))
           (All-append (λ i. IsSome (first_name_of first_names i)) _ _ (named_still m.first_names (Node (record { 0 = count })) name _ steady.named) (new_named m.first_names name count play own));
     }
@@ -129,10 +133,13 @@ steady_buffer m name e more accepted steady =
 -- an edit that creates what is given a name
 pub steady_named : (m : Machine) (e : Edit) (name : List ℕ) → creates e ≡ true → IsAccepted m e → IsSteady m → IsSteady (with_edit m e (Some name))
 steady_named m (edit.Create kind) name new accepted steady =
-    steady_created m name kind (new_play (length m.world.nodes) kind) (new_play_is m.world kind).own (edited_valid m (edit.Create kind) accepted steady) steady
+    steady_created m name kind (new_play (length m.world.nodes) kind) m.world.store (omega arith) (new_play_is m.world kind).own (edited_valid m (edit.Create kind) accepted steady) steady
 steady_named m (edit.CreateBufferSource rate buffer points) name new accepted steady =
-    steady_created m name (BufferKind rate) (Some (new_source (length m.world.nodes) rate buffer points)) (new_source_is m.world rate buffer points accepted.named).own
+    steady_created m name (BufferKind rate) (Some (new_source (length m.world.nodes) rate buffer points)) m.world.store (omega arith) (new_source_is m.world rate buffer points accepted.named).own
     (edited_valid m (edit.CreateBufferSource rate buffer points) accepted steady) steady
+steady_named m (edit.CreateConvolver buffer) name new accepted steady =
+    steady_created m name (convolver_of m.world.store buffer) None (frozen_in m.world.store buffer) (frozen_keeps m.world.store buffer).long (λ p is. absurd cc)
+    (edited_valid m (edit.CreateConvolver buffer) accepted steady) steady
 steady_named m (edit.Connect edge) name new accepted steady = absurd cc
 steady_named m (edit.Disconnect from form) name new accepted steady = absurd cc
 steady_named m (edit.Source node e) name new accepted steady = absurd cc

@@ -65,15 +65,23 @@ abbrev pub edits_nodes : Machine → Option NodeId → Option NodeId → (NodeId
 edits_nodes machine None to change = refused WrongType
 edits_nodes machine (Some from) to change = edits_node machine to (change from)
 
--- it edits what a name stands for, which is to be a buffer
-abbrev pub edits_buffer : Machine → Option BufId → (BufId → Edit) → Decided
-edits_buffer machine None change = refused WrongType
-edits_buffer machine (Some buffer) change = edits machine (change buffer)
+-- it goes by what a name stands for, which is to be a buffer
+abbrev pub by_buffer : Option BufId → (BufId → Decided) → Decided
+by_buffer None what = refused WrongType
+by_buffer (Some buffer) what = what buffer
 
--- and where a name is given, that is to be one
+-- it edits that buffer
+abbrev pub edits_buffer : Machine → Option BufId → (BufId → Edit) → Decided
+edits_buffer machine buffer change = by_buffer buffer (λ found. edits machine (change found))
+
+-- it goes by a buffer, or by none: where a name is given, that is to stand for one
+abbrev pub with_buffer : Machine → Option (List ℕ) → (Option BufId → Decided) → Decided
+with_buffer machine None what = what None
+with_buffer machine (Some name) what = by_buffer (buffer_named machine name) (λ buffer. what (Some buffer))
+
+-- it edits the world with it
 abbrev pub edits_with_buffer : Machine → Option (List ℕ) → (Option BufId → Edit) → Decided
-edits_with_buffer machine None change = edits machine (change None)
-edits_with_buffer machine (Some name) change = edits_buffer machine (buffer_named machine name) (λ buffer. change (Some buffer))
+edits_with_buffer machine name change = with_buffer machine name (λ buffer. edits machine (change buffer))
 
 -- the buffer of a source is set
 abbrev pub sets_buffer : Machine → Option NodeId → Option (List ℕ) → Decided

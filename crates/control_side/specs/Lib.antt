@@ -1,5 +1,6 @@
 pub mod Assets
 pub mod Contexts
+pub mod Convolvers
 pub mod Deciding
 pub mod Machine
 pub mod Params

@@ -39,6 +39,7 @@ use Rattle.meaning.specs.Changes.{Accepts, changed, edited, creates}
 use Rattle.control_side.specs.declared.decide.Decided.{Decided}
 use Rattle.control_side.specs.declared.decide.Decided.TheVariants as comes_to
 use Rattle.control_side.specs.Assets.{decodes}
+use Rattle.control_side.specs.Convolvers.{creates_convolver}
 use Rattle.control_side.specs.Machine.{Machine, IsAccepted}
 use Rattle.control_side.specs.Params.{param_at, on_param, edits_param, leads, edge_to_param, form_of_param}
 use Rattle.control_side.specs.Shapers.{creates_shaper, sets_oversample}
@@ -95,7 +96,8 @@ decided machine (op.SetBuffer node buffer) = sets_buffer machine (node_named mac
 decided machine (op.SetLoop node value) = edits_node machine (node_named machine node) (λ n. edit.Source n (source.SetLoop (part.On value)))
 decided machine (op.SetLoopStart node value) = edits_node machine (node_named machine node) (λ n. edit.Source n (source.SetLoop (part.First value)))
 decided machine (op.SetLoopEnd node value) = edits_node machine (node_named machine node) (λ n. edit.Source n (source.SetLoop (part.End value)))
--- on buffers, and what plays them (AudioBuffer)
+-- on buffers, and what is created with one (AudioBuffer)
+decided machine (op.CreateConvolver name buffer disable_normalization) = creates_convolver machine buffer disable_normalization
 decided machine (op.CreateBufferSource name buffer looping loop_start loop_end playback_rate) =
     edits_with_buffer machine buffer (λ source. edit.CreateBufferSource (rate_of playback_rate) source (record { on = looping; first = loop_start; end = loop_end }))
 decided machine (op.CreateBuffer name channels frames rate) = edits machine (edit.Buffers (buffer_edit.Create channels frames rate))

@@ -1,7 +1,7 @@
 ghost use Rattle.std.specs.Prelude.{◌≡◌, Option, IfOk};
 ghost use Rattle.script_ast.specs.Operations.{interface_of};
 ghost use Rattle.meaning.specs.Sources.{IsBufferOf};
-ghost use Rattle.control_side.specs.Deciding.{by_found};
+ghost use Rattle.control_side.specs.Deciding.{by_found, with_buffer};
 ghost use Rattle.control_side.specs.Step as spec;
 
 use crate::control::Control;
@@ -11,7 +11,7 @@ use sched_source::Loop;
 use script_ast::{Interface, Op};
 use wa_base::{BufId, Exc, Fix, Name, NoMemory, ONE, Samples};
 
-// What the operations on buffers come to, and the creation of a source that plays one (the AudioBuffer
+// What the operations on buffers come to, and the creation of a node with one (the AudioBuffer
 // interface).
 impl Control {
     #[tactic(auto, unfolding(crate::specs::Step::decided))]
@@ -20,6 +20,11 @@ impl Control {
         ensures { IfOk result (λ decided. decided ≡ spec.decided self.now op.now) }
     {
         match op {
+            Op::CreateConvolver {
+                buffer,
+                disable_normalization,
+                ..
+            } => Ok(self.create_convolver(buffer, *disable_normalization)),
             Op::CreateBufferSource {
                 buffer,
                 looping,
@@ -66,7 +71,7 @@ impl Control {
 
     // The buffer for which a name is given, if one is, or why there is none.
     pub(crate) fn given_buffer(&self, name: &Option<Name>) -> Result<Option<BufId>, Exc>
-        ensures decided { (change : Option BufId → Edit) → spec.edits_with_buffer self.now name.now change ≡ by_found result (λ buffer. spec.edits self.now (change buffer)) }
+        ensures decided { (what : Option BufId → Decided) → with_buffer self.now name.now what ≡ by_found result what }
         ensures there { IfOk result (IsBufferOf self.now.world.store) }
     {
         let Some(name) = name else {

@@ -6,6 +6,7 @@ mod assets;
 mod buffers;
 mod contexts;
 mod control;
+mod convolvers;
 mod decide;
 mod ends;
 mod laws;
