@@ -108,19 +108,26 @@ fn loud_frames(alloc: Global, frame: Fix) -> Result<Vec<Fix>, NoMemory>
     Ok(list)
 }
 
+// Whether a convolver of one channel puts out the plain sums of this response and input.
+fn is_exact(alloc: Global, response: &[Fix], input: &[Fix]) -> Result<bool, NoMemory>
+    requires { length input.now ≡ 2176 }
+{
+    if response_refusal(response).is_some() {
+        return Ok(false);
+    }
+    let mut convolver = Convolver::new(alloc, response)?;
+    convolver.grow(1)?;
+    let mut y = vec![in alloc; 0; 2_176]?;
+    Ok(hears(&mut convolver, response, input, 0, &mut y))
+}
+
 // Whether the longest and loudest response, which is negated from its 1,025th sample on, is heard exactly
 // on the loudest input: sums go to 2^66, and back through 0.
 fn is_loudest_exact(alloc: Global, frame: Fix) -> Result<bool, NoMemory> {
     let mut response = vec![in alloc; TWO; 16_384]?;
     response[1_024..].fill(-TWO);
-    if response_refusal(&response).is_some() {
-        return Ok(false);
-    }
-    let mut convolver = Convolver::new(alloc, &response)?;
-    convolver.grow(1)?;
     let input = loud_frames(alloc, frame)?;
-    let mut y = vec![in alloc; 0; 2_176]?;
-    Ok(hears(&mut convolver, &response, &input, 0, &mut y))
+    is_exact(alloc, &response, &input)
 }
 
 #[test]
