@@ -119,6 +119,6 @@ unfolding stepped after studio
 bound_anew = (refl, refl)
 
 -- ---- what the profile leaves out is refused for its feature, with its fields unread
-left_out : Answers studio (op.LeftOut feature.Oscillator gives profile feature.Oscillator ∷ op.LeftOut feature.Listener gives profile feature.Listener ∷ op.LeftOut feature.Convolver gives profile feature.Convolver ∷ [])
+left_out : Answers studio (op.LeftOut feature.Oscillator gives profile feature.Oscillator ∷ op.LeftOut feature.Listener gives profile feature.Listener ∷ op.LeftOut feature.AudioWorklet gives profile feature.AudioWorklet ∷ [])
 unfolding stepped after studio
 left_out = refl

@@ -47,6 +47,6 @@ left_out_words : map (λ operation. option_map feature_word (option_and_then lef
     ∷ codes "createMediaStreamDestination" ∷ codes "createScriptProcessor" ∷ codes "createAudioWorkletNode" ∷ codes "createConvolver" ∷ codes "createGain" ∷ [])
     ≡ Some (codes "oscillator") ∷ Some (codes "periodic-wave") ∷ Some (codes "biquad") ∷ Some (codes "stereo-panner") ∷ Some (codes "panner") ∷ Some (codes "compressor")
     ∷ Some (codes "analyser") ∷ Some (codes "listener") ∷ Some (codes "media-element-source") ∷ Some (codes "media-stream-source") ∷ Some (codes "media-stream-track-source")
-    ∷ Some (codes "media-stream-destination") ∷ Some (codes "script-processor") ∷ Some (codes "audio-worklet") ∷ Some (codes "convolver") ∷ None ∷ []
+    ∷ Some (codes "media-stream-destination") ∷ Some (codes "script-processor") ∷ Some (codes "audio-worklet") ∷ None ∷ None ∷ []
 unfolding op_named
 left_out_words = refl

@@ -1,5 +1,6 @@
 pub mod Machines
 mod CreationRows
+mod ConvolverRows
 mod ConnectionRows
 mod AttributeRows
 mod SourceRows

@@ -13,7 +13,7 @@ use Rattle.meaning.specs.declared.world.World.{World}
 use Rattle.meaning.specs.Counts.{count_rule, count_at, count}
 use Rattle.meaning.specs.Values.{input_value, computed_value, equation, value_at, value}
 use Rattle.meaning.specs.Rendered.{sample}
-use Rattle.definition_rows.proofs.Machines.{ℕ, ℤ, pos, ◌≡◌, List, [], ◌∷◌, ◌++◌, map, codes, None, Some, refl, Op, first_machine, stepped, after, one, context, dest, c, w}
+use Rattle.definition_rows.proofs.Machines.{ℕ, ℤ, pos, ◌≡◌, List, [], ◌∷◌, ◌++◌, map, codes, None, Some, true, refl, Op, first_machine, stepped, after, one, context, dest, c, w, b}
 
 -- a constant 1 into a node n, and that to the destination
 abbrev heard : Op → List Op
@@ -35,6 +35,14 @@ played creation = map (λ frame. sample 2 (world (heard creation) ∷ world (hea
 filter_heard : played (op.Create (codes "n") (kind.Causal (Filter (one ∷ []) (one ∷ negsuc 8388607 ∷ [])))) ≡ one ∷ pos 25165824 ∷ pos 0 ∷ pos 0 ∷ pos 19922944 ∷ pos 26738688 ∷ []
 unfolding stepped after at_height before at_moment state reaches form mix intrinsic_at ends in_cycle arrow height muted count_rule count_at count input_value computed_value equation value_at value
 filter_heard = refl
+
+-- a response of 1 and then 1/2: y[n] = x[n] + x[n - 1] / 2, where what was muted is silence to it
+abbrev echoed : List Op
+echoed = op.CreateBuffer b 1 2 48000 ∷ op.CopyToChannel b 0 (one ∷ pos 8388608 ∷ []) 0 ∷ heard (op.CreateConvolver (codes "n") (Some b) true)
+
+convolver_heard : map (λ frame. sample 2 (world echoed ∷ world (echoed ++ ring) ∷ world echoed ∷ []) frame 0) (0 ∷ 1 ∷ 2 ∷ 3 ∷ 4 ∷ 5 ∷ []) ≡ one ∷ pos 25165824 ∷ pos 0 ∷ pos 0 ∷ one ∷ pos 25165824 ∷ []
+unfolding stepped after at_height before at_moment state reaches form mix intrinsic_at ends in_cycle arrow height muted count_rule count_at count input_value computed_value equation value_at value
+convolver_heard = refl
 
 -- a curve from 1/4 over 1/2 to 3/4 gives 1/2 for silence, but a muted shaper is silent itself
 abbrev shaper : List ℕ → Op
