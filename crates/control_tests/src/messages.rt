@@ -12,7 +12,9 @@ use sched_source::Sched;
 use std::alloc::Global;
 use std::marker::Model;
 use std::test::Fail;
-use wa_base::{ContextSpec, Exc, Fix, NoMemory, NodeId, ParamId, ParamName, Refusal};
+use wa_base::{
+    BufId, ContextSpec, Exc, Feature, Fix, NoMemory, NodeId, ParamId, ParamName, Refusal,
+};
 
 // A function pays for each of its ends at which worlds are let go. So the two sides are made in one
 // function, lent to the others, and given to `drop` before any error goes up.
@@ -187,20 +189,30 @@ fn first_step(sides: &mut Sides, step: u32) -> Result<(), Refusal> {
     }
 }
 
+// A convolver is created, whose response is a buffer.
+fn convolve(sides: &mut Sides, time: u32, buffer: u32) -> Result<(), Refusal> {
+    if buffer >= sides.control.store.len() {
+        return Err(Refusal::Exc(Exc::NotFound));
+    }
+    let buffer = Some(BufId(buffer));
+    sides.edit(time, Edit::CreateConvolver { buffer })
+}
+
 // The second quantum, and what comes after it.
 fn second_step(sides: &mut Sides, step: u32) -> Result<(), Refusal> {
     match step {
         0 => Ok(sides.turn(128)?),
         1 => disconnect(sides, 256, 1),
         2 => add(sides, 256, Kind::Gain { gain: 6 }),
-        _ => {
+        3 => {
             let edit = BufferEdit::Create {
-                channels: 2,
+                channels: 1,
                 frames: 3,
                 rate: 48_000,
             };
             sides.edit(256, Edit::Buffers { edit })
         }
+        _ => convolve(sides, 256, 0),
     }
 }
 
@@ -215,7 +227,7 @@ fn first_steps(sides: &mut Sides) -> Result<(), Refusal> {
 }
 
 fn second_steps(sides: &mut Sides) -> Result<(), Refusal> {
-    for step in 0..4 {
+    for step in 0..5 {
         if second_step(sides, step) == Err(Refusal::NoMemory) {
             second_step(sides, step)?;
         }
@@ -255,6 +267,14 @@ fn is_joined(world: &World, from: u32, to: u32) -> bool {
     world.graph.disconnect_refusal(NodeId(from), form).is_none()
 }
 
+// Why a buffer cannot be written, where it is there.
+fn write_refusal(world: &World, buffer: u32) -> Option<Exc> {
+    if buffer >= world.store.len() {
+        return None;
+    }
+    world.store.write_refusal(BufId(buffer), 0)
+}
+
 // The numbers of nodes, of parameters, of sources and of buffers.
 fn sizes(world: &World) -> (u32, usize, usize, u32) {
     let lists = (world.params.len(), world.scheds.len());
@@ -277,16 +297,17 @@ fn is_first(world: &World) -> bool
         && has_ended(world, 1) == Some(false)
 }
 
-// And after the second one, at whose first frame the ramp is half way up.
+// And after the second one, at whose first frame the ramp is half way up. The convolver acquired the buffer.
 fn is_second(world: &World) -> bool
     requires { IsValid world.now }
 {
-    sizes(world) == (4, 3, 1, 1)
+    sizes(world) == (5, 3, 1, 1)
         && !is_joined(world, 1, 2)
         && is_joined(world, 2, 0)
         && current(world, 1, ParamName::Offset) == Some(8_388_608)
         && current(world, 3, ParamName::Gain) == Some(6)
         && has_ended(world, 1) == Some(true)
+        && write_refusal(world, 0) == Some(Exc::NotSupported(Some(Feature::BufferAcquired)))
 }
 
 // Whether both graphs had as many edits.
