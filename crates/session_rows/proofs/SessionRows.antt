@@ -1,10 +1,12 @@
 -- Whole sessions (docs/PROFILE.md, "A session"): their lines, their end and the number of their quanta.
-use Rattle.std.specs.Prelude.{ℕ, ℤ, pos, ◌≡◌, List, [], ◌∷◌, map, length, codes, Option, None, Some, refl}
+use Rattle.std.specs.Prelude.{ℕ, ℤ, pos, ◌≡◌, List, [], ◌∷◌, map, length, codes, true, Option, None, Some, refl}
 use Rattle.wa_base.specs.Contexts.{is_supported}
 use Rattle.wa_base.specs.declared.contexts.ContextSpec.{ContextSpec}
 use Rattle.wa_base.specs.declared.contexts.State.TheVariants.{Suspended, Running, Closed}
 use Rattle.wa_base.specs.declared.exceptions.Exc.TheVariants.{NotSupported, InvalidState, NotFound}
+use Rattle.wa_base.specs.declared.features.Feature.TheVariants.{BufferAcquired}
 use Rattle.ctx_state.specs.Context.{after_turn as context_after}
+use Rattle.buffer_store.specs.Buffers.{with_written}
 use Rattle.param_events.specs.Edits.{time_refusal, in_curve, event_refusal}
 use Rattle.param_events.specs.Values.{value_at}
 use Rattle.name_book.specs.Book.{destination}
@@ -13,7 +15,7 @@ use Rattle.script_ast.specs.declared.call_list.Call.{Call}
 use Rattle.script_ast.specs.declared.operations.Op.{Op}
 use Rattle.script_ast.specs.declared.operations.Op.TheVariants as op
 use Rattle.transcript.specs.declared.lines.Answer.{Answer}
-use Rattle.transcript.specs.declared.lines.Answer.TheVariants.{Ok, Pending, Resolved as ResolvedNow, Rejected, Value, State, Time}
+use Rattle.transcript.specs.declared.lines.Answer.TheVariants.{Ok, Throw, Pending, Resolved as ResolvedNow, Rejected, Value, State, Time}
 use Rattle.transcript.specs.declared.lines.EndWord.{EndWord}
 use Rattle.transcript.specs.declared.lines.EndWord.TheVariants.{Completed, Stalled, Idle, Refused}
 use Rattle.transcript.specs.declared.lines.Line.{Line}
@@ -35,7 +37,7 @@ held holder ordinal operation = record { ordinal = ordinal; holder = holder; op 
 
 -- a session over a folder without a file
 unfoldable played : ContextSpec → List Call → Played
-unfolding is_supported context_after time_refusal in_curve event_refusal value_at destination param_named decided session_of
+unfolding is_supported context_after time_refusal in_curve event_refusal value_at with_written destination param_named decided session_of
 played context calls = session_of (λ moment path. None) (record { context = context; calls = calls })
 
 -- it has these lines, this end and so many quanta
@@ -126,6 +128,14 @@ ramp_read : Tells (played (spec 1 384) (
     ∷ line.Resolved 8 ∷ says 9 (Value (pos 128)) ∷ says 10 Ok ∷ says 11 (Value (pos 5)) ∷ []) (Stalled 256) 2
 unfolding played
 ramp_read = (refl, refl, refl)
+
+-- a convolver that is created at a suspension acquires its buffer there
+acquired : Tells (played (spec 1 256) (
+    main 1 (op.CreateBuffer c 1 2 48000) ∷ main 2 (suspend 128) ∷ held 2 3 (op.CreateConvolver (codes "v") (Some c) true) ∷ held 2 4 (op.CopyToChannel c 0 [] 0) ∷ held 2 5 op.Resume ∷ main 6 (op.CopyToChannel c 0 [] 0)
+    ∷ main 7 op.StartRendering ∷ []))
+    (says 1 Ok ∷ says 2 Pending ∷ says 6 Ok ∷ says 7 Pending ∷ line.Resolved 2 ∷ says 3 Ok ∷ says 4 (Throw (NotSupported (Some BufferAcquired))) ∷ says 5 ResolvedNow ∷ line.Resolved 7 ∷ line.Complete 256 ∷ []) Completed 2
+unfolding played
+acquired = (refl, refl, refl)
 
 -- a file that is not there, in the main list and at a suspension
 no_file : Tells (played (spec 1 256) (main 1 (op.DecodeAudioData c c) ∷ main 2 (suspend 128) ∷ held 2 3 (op.DecodeAudioData c c) ∷ main 4 op.StartRendering ∷ []))
