@@ -5,11 +5,8 @@ use Rattle.wa_base.specs.declared.graph_names.Mode.TheVariants.{Max, ClampedMax,
 use Rattle.causal_core.specs.declared.equation.Equation.TheVariants.{Convolution}
 use Rattle.node_table.specs.Nodes.{kind_at, attrs_at}
 use Rattle.node_table.specs.declared.kinds.Kind.TheVariants as kind
-use Rattle.meaning.specs.declared.change.Edit.TheVariants as edit
 use Rattle.script_ast.specs.declared.operations.Op.TheVariants as op
 use Rattle.transcript.specs.declared.lines.Answer.TheVariants.{Ok}
-use Rattle.control_side.specs.Deciding.{refused, unless}
-use Rattle.control_side.specs.Step.{decided}
 use Rattle.definition_rows.proofs.Machines.{ℕ, ℤ, pos, neg_ℤ, ◌≡◌, List, [], ◌∷◌, map, codes, Option, None, Some, true, false, refl, NotSupported, IndexSize, WrongType, Op, Machine, stepped, after, ◌gives◌, Answers, throw, profile, one, studio, crowded, c, s, b, o, x, nobody}
 
 -- ---- createConvolver: a buffer, then no normalization, then a mono buffer, then the context's rate, then at most 16,384 samples, then none above 2.0, then room
@@ -61,23 +58,6 @@ loudest : Answers (with_samples (pos 33554432 ∷ neg_ℤ (pos 33554432) ∷ [])
     × Answers (with_samples (pos 0 ∷ neg_ℤ (pos 33554433) ∷ [])) (plain (Some b) gives profile feature.LoudResponse ∷ [])
 unfolding stepped after studio
 loudest = (refl, refl, refl)
-
--- A response has at most 16,384 samples. What is accepted is not done here, since its samples would be written out.
-abbrev long : ℕ → ℕ → Machine
-long frames rate = after studio (op.CreateBuffer (codes "long") 1 frames rate ∷ [])
-
-abbrev loud_end : List Op
-loud_end = op.CopyToChannel (codes "long") 0 (pos 33554433 ∷ []) 16383 ∷ []
-
-longest : (decided (long 16384 48000) (plain (Some (codes "long"))) ≡ unless None (edit.CreateConvolver (Some (record { 0 = 2 }))))
-    × (decided (long 16385 48000) (plain (Some (codes "long"))) ≡ refused (NotSupported (Some feature.LongResponse)))
-    × (decided (long 16385 44100) (plain (Some (codes "long"))) ≡ refused (NotSupported (Some feature.Resampling)))
-    × (decided (long 16385 48000) (normalized (Some (codes "long"))) ≡ refused (NotSupported (Some feature.Normalization)))
-    × (decided (crowded (long 16385 48000) 1024) (plain (Some (codes "long"))) ≡ refused (NotSupported (Some feature.LongResponse)))
-    × (decided (after (long 16385 48000) loud_end) (plain (Some (codes "long"))) ≡ refused (NotSupported (Some feature.LongResponse)))
-    × (decided (after (long 16384 48000) loud_end) (plain (Some (codes "long"))) ≡ refused (NotSupported (Some feature.LoudResponse)))
-unfolding decided stepped after studio
-longest = (refl, refl, refl, refl, refl, refl, refl)
 
 -- ---- what is there afterwards: the samples that the buffer had, or none, and attributes of its own
 abbrev convolved : Option (List ℕ) → Machine
