@@ -148,7 +148,7 @@ class Takes(unittest.TestCase):
         page = self.page()
         self.assertEqual(len(page.of("section", **{"class": "context"})), 2)
         self.assertEqual([it["href"] for it in page.of("a")], ["#part-1", "#part-2"])
-        self.assertIn("Context 2: Nothing reaches the destination", page.text())
+        self.assertIn("Context 2: Silent: each of 256 samples of waplay is 0.", page.text())
         ids = [it["id"] for _, it in page.elements if "id" in it]
         self.assertEqual(len(ids), len(set(ids)))
 
@@ -230,6 +230,11 @@ class Tops(unittest.TestCase):
         self.assertNotIn(wanted, texts(content_of(fixtures.script(CONSTANT))))
         unstarted = fixtures.script(CONSTANT[:2] + CONSTANT[3:])
         self.assertIn(wanted, texts(content_of(unstarted)))
+
+    def test_silence_stands_before_the_refusals_that_lead_to_it(self):
+        refused = [{"op": "createOscillator", "as": "c"}, *CONSTANT[1:]]
+        told = [text.split(":")[0] for _, text in texts(content_of(fixtures.script(refused)))]
+        self.assertEqual(told, ["Silent", "Nothing reaches the destination", "Refused"])
 
     def test_clipping(self):
         loud = [{**CONSTANT[0], "offset": 2**25}, *CONSTANT[1:]]

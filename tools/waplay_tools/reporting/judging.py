@@ -25,7 +25,8 @@ class Finding:
 
 def findings(content: Content) -> list[Finding]:
     """All that is to be said at once, worst first."""
-    found = [*_of_session(content), *_of_sounds(content), *_of_recording(content)]
+    found = [*_of_end(content.session), *_of_silence(content), *_of_refusals(content.session),
+             *_of_sounds(content), *_of_recording(content)]
     return sorted(found, key=lambda it: GRADES.index(it.grade))
 
 
@@ -34,15 +35,32 @@ def worst(found: list[Finding]) -> str:
     return min((it.grade for it in found), key=GRADES.index, default="good")
 
 
-def _of_session(content: Content) -> Iterator[Finding]:
-    """What became of the calls."""
-    session = content.session
-    if session.end().word != "completed":
+def _of_end(session: Session) -> Iterator[Finding]:
+    """How the session ended."""
+    if not _is_complete(session):
         yield Finding("bad", following.summary(session))
-        return
-    causes = refusals.causes_of(session)
-    if not causes:
+    elif not refusals.causes_of(session):
         yield Finding("good", following.summary(session))
+
+
+def _is_complete(session: Session) -> bool:
+    return session.end().word == "completed"
+
+
+def _of_silence(content: Content) -> Iterator[Finding]:
+    """That nothing is heard, and why."""
+    for file in (content.sound, content.other):
+        if file is not None and file.sound.is_silent():
+            samples = grouped(sum(map(len, file.sound.channels)))
+            yield Finding("bad", f"Silent: each of {samples} samples of {file.label} is 0.")
+    if _is_complete(content.session) and not reaches_destination(content.session):
+        yield Finding("bad", "Nothing reaches the destination: no source that was started is"
+                             " connected with it.")
+
+
+def _of_refusals(session: Session) -> Iterator[Finding]:
+    """Which calls were refused in a session that came to its end."""
+    causes = refusals.causes_of(session) if _is_complete(session) else []
     for cause in causes[:8]:
         call = cause.row.call
         text = f"Refused: {call.op if call else ''} ({cause.answer()}), "
@@ -53,9 +71,6 @@ def _of_session(content: Content) -> Iterator[Finding]:
     if len(causes) > 8:
         more = counted(len(causes) - 8, "more cause of refusals", "more causes of refusals")
         yield Finding("doubtful", f"There {'is' if len(causes) == 9 else 'are'} {more}.")
-    if not reaches_destination(session):
-        yield Finding("bad", "Nothing reaches the destination: no source that was started is"
-                             " connected with it.")
 
 
 def reaches_destination(session: Session) -> bool:
@@ -101,12 +116,9 @@ def _of_sounds(content: Content) -> Iterator[Finding]:
 
 def _of_file(file: File) -> Iterator[Finding]:
     """What is to be said of one sound."""
-    sound, samples = file.sound, sum(map(len, file.sound.channels))
     name = file.label[0].upper() + file.label[1:]
-    if sound.is_silent():
-        yield Finding("bad", f"Silent: each of {grouped(samples)} samples of {file.label} is 0.")
-    elif clipped := sound.clipped():
-        how = "outside -1 to 1" if sound.is_float else "at the end of their range"
+    if clipped := file.sound.clipped():
+        how = "outside -1 to 1" if file.sound.is_float else "at the end of their range"
         told = counted(clipped, "sample is", "samples are")
         yield Finding("doubtful", f"{name}: {told} {how.replace('-', chr(0x2212))}, so it clips.")
 

@@ -28,7 +28,7 @@ MARKS = {
     "suspended": (1, "M0,-6L6,0L0,6L-6,0Z", "suspended and resumed"),
     "stalled": (1, "M-5,-5L5,5M5,-5L-5,5", "suspended and not resumed"),
     "first": (2, "M-6,5L0,-6L6,5Z", "the first difference beyond the tolerance"),
-    "greatest": (2, "M-6,-5L0,6L6,-5Z", "the greatest difference"),
+    "greatest": (3, "M-6,-5L0,6L6,-5Z", "the greatest difference"),
 }
 
 
