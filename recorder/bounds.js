@@ -34,11 +34,11 @@ function nodesOf(calls) {
 }
 
 // Of each filter the loudest that it can be inside, where its input is 1 at most, is given by `gainOf(name)`, and of
-// each buffer its peak by `peakOf(name)`.
+// each buffer its peak by `peakOf(name)` and the sum of its samples, all above 0, by `sumOf(name)`.
 export class Bounds {
-  constructor(main, gainOf, peakOf) {
+  constructor(main, gainOf, peakOf, sumOf = () => Infinity) {
     this.nodes = nodesOf(every(main));
-    Object.assign(this, {gainOf, peakOf, known: new Map()});
+    Object.assign(this, {gainOf, peakOf, sumOf, known: new Map()});
   }
 
   sum(names) {
@@ -65,6 +65,7 @@ export class Bounds {
       case 'createConstantSource': return value;
       case 'createGain': return input === 0 ? 0 : input * value;
       case 'createBufferSource': return Math.max(0, ...node.buffers.map(this.peakOf));
+      case 'createConvolver': return input === 0 || !node.buffers.length ? 0 : input * this.sumOf(node.buffers[0]);
       case 'createWaveShaper': return node.curve ? Math.max(largest(node.curve), input) : input;
       case 'createIIRFilter':
       case 'createBiquadFilter': return input === 0 ? 0 : input * this.gainOf(name);

@@ -4,6 +4,7 @@
 // dropped, also what feeds only their parameters; what they lead to stays as it is. A loop with a refused node is
 // frozen whole, since a loop in Chromium is a quantum longer, and nothing of it may be played twice.
 
+import {plansOfConvolvers} from './convolvers.js';
 import {steadyBiquad} from './filter_rows.js';
 import {BUFFER_LIMIT} from './limits.js';
 import {LOSS_KINDS} from './losses.js';
@@ -37,6 +38,7 @@ class Refusals {
     for (const loss of recording.losses)
       if (loss.call && OF_CALLS.has(loss.kind) && !recording.outcomes.has(loss.call)) this.ofCalls.set(nodeOfLoss(loss), loss.kind);
     this.panners = new Map(recording.panners.map(entry => [entry, planOfPanner(entry, graph, widths)]));
+    this.convolvers = plansOfConvolvers(recording);
     this.graph = graph;
   }
 
@@ -48,6 +50,7 @@ class Refusals {
     if (entry.kind === 'AnalyserNode' || entry.kind === 'destination') return null;
     if (entry.kind === 'BiquadFilterNode') return steadyBiquad(entry, this.graph) ? null : 'its parameters move';
     if (this.panners.has(entry)) return this.panners.get(entry) ? null : whyOfPanner(entry);
+    if (this.convolvers.has(entry)) return this.convolvers.get(entry) ? null : 'its response is too long';
     if (this.recording.refusedNames.has(entry.name)) return 'a script has no such node';
     return found && LOSS_KINDS[found].says;
   }
@@ -70,7 +73,7 @@ export function loopsOf(graph) {
   return loops;
 }
 
-// What is to become of the nodes: {reasons, loops, panners, frozen, dropped, heard}. `reasons` has why a node cannot be as
+// What is to become of the nodes: {reasons, loops, panners, convolvers, frozen, dropped, heard}. `reasons` has why a node cannot be as
 // it is, by its name; `frozen` has the names of those that are heard, and `dropped` of what is not needed any more. Where
 // `voices` are taps, what they hear is not live.
 export function planOf(recording, graph, widths, voices = []) {
@@ -91,9 +94,10 @@ export function planOf(recording, graph, widths, voices = []) {
   const heard = graph.upstream(['destination'], name => !reasons.has(name), edge => !cut.has(edge));
   const frozen = new Set([...heard].filter(name => reasons.has(name)));
   const dropped = new Set([...graph.upstream([...reasons.keys(), ...singing])].filter(name => !heard.has(name)));
-  const panners = new Map([...refusals.panners].filter(([entry, plan]) => plan && !reasons.has(entry.name) && !dropped.has(entry.name)));
+  const isLeft = ([entry, plan]) => plan && !reasons.has(entry.name) && !dropped.has(entry.name);
+  const panners = new Map([...refusals.panners].filter(isLeft)), convolvers = new Map([...refusals.convolvers].filter(isLeft));
   const live = voices.filter(({to}) => heard.has(to) && !reasons.has(to)); // voices in what is frozen itself need no taps
-  return {reasons, loops, panners, frozen, dropped, heard, singing, voices: live};
+  return {reasons, loops, panners, convolvers, frozen, dropped, heard, singing, voices: live};
 }
 
 // How many channels of an output are kept: as many as there may be where it sounds.
@@ -232,7 +236,7 @@ function rewrite(recording, {frozen, dropped}, outputs) {
       list.splice(list.indexOf(call) + 1, 0, {...call, from: nameOfOutput(call.from, output)});
     if (call.output) Object.assign(call, {from: nameOfOutput(call.from, call.output), output: 0});
   });
-  for (const list of ['sources', 'filters', 'analysers', 'panners'])
+  for (const list of ['sources', 'filters', 'analysers', 'panners', 'convolvers'])
     recording[list] = recording[list].filter(({name}) => !isGone(name));
   for (const name of dropped) recording.refusedNames.delete(name);
 }

@@ -2,6 +2,7 @@
 // their place, and for copies of them.
 
 import {bufferOf, contentOf} from './buffers.js';
+import {takeResponse} from './convolvers.js';
 import {journal} from './journal.js';
 import {valueTaken} from './parameters.js';
 import {entryOfNode} from './recording.js';
@@ -27,7 +28,7 @@ function attributeSet(node, name, value, exception) {
 export function responseSet(entry, buffer) {
   if (!entry) return;
   const channels = isGiven(buffer) ? contentOf(buffer).map(samples => Float32Array.from(samples)) : null;
-  if (channels) entry.responses = [...(entry.responses || []), channels.length];
+  takeResponse(entry, channels);
   journal(entry, copy => { copy.buffer = channels && bufferOf(channels, buffer.sampleRate); });
 }
 

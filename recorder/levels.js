@@ -138,6 +138,9 @@ function peakOfSamples(samples) {
   return most / ONE;
 }
 
+const sumOfSamples = samples => (samples || []).reduce((most, channel) =>
+  Math.max(most, channel.reduce((sum, sample) => sum + Math.abs(sample), 0)), 0) / ONE;
+
 // What is 4 channels or more is mixed down louder than its channels are.
 const isWide = call => call.channels > 2 || (call.op === 'createChannelMerger' && (call.numberOfInputs === undefined || call.numberOfInputs > 2));
 
@@ -154,7 +157,8 @@ export async function levelsOf(recording, rows, enough) {
   };
   let wide = false;
   recording.eachCall(call => { wide = wide || isWide(call); });
-  const bounds = new Bounds(recording.main, gainOf, name => peaks.get(name) || 0);
+  const contents = new Map(recording.versions.map(({name, samples}) => [name, samples]));
+  const bounds = new Bounds(recording.main, gainOf, name => peaks.get(name) || 0, name => sumOfSamples(contents.get(name)));
   const levels = new Map([...rows.keys()].map(name => [name, {level: wide ? Infinity : bounds.at(name), isTooLoud: false}]));
   const wanted = new Set([...levels].filter(([, {level}]) => !(level <= enough)).map(([name]) => name));
   if (wanted.size) for (const [name, level] of await measured(recording, rows, wanted)) levels.set(name, level);

@@ -71,6 +71,7 @@ export const LOSS_KINDS = {
   'loop-as-browser': {grade: 'lowered', says: 'loops that Chromium has a quantum longer; a delay of a quantum stands where it does'},
   'media-decoded': {grade: 'lowered', says: 'media elements; their files are decoded, and played on the clock of the audio'},
   'lowered-panner': {grade: 'lowered', says: 'panners; gains by the standard\'s formulas'},
+  'lowered-convolver': {grade: 'lowered', says: 'convolvers; scaled, one for each channel and each part of a long response'},
   'lowered-analyser': {grade: 'lowered', says: 'analysers; gains of 1, as they pass their input on'},
 
   // What a script cannot say.
@@ -82,6 +83,7 @@ export const LOSS_KINDS = {
   'call-while-rendering': {grade: 'refused', says: 'calls made while rendering runs, outside a suspension; no frame is known for them'},
   'second-curve': {grade: 'refused',
     says: 'another curve of a WaveShaperNode after its first one; browsers take it, waplay does not'},
+  'late-response': {grade: 'refused', says: 'the response of a convolver, set at a later time than that of its creation'},
   'context-rate': {grade: 'refused', says: 'a rate that is no whole number'},
   'context-limit': {grade: 'refused',
     says: 'a context that waplay refuses: 1 to 32 channels, 8,000 to 96,000 frames a second, quanta of 128 frames'},
@@ -103,7 +105,9 @@ const FEATURES = {
   'biquad': 'BiquadFilterNode',
   'stereo-panner': 'StereoPannerNode', 'panner': 'PannerNode', 'listener': 'parameters of the listener',
   'compressor': 'DynamicsCompressorNode', 'analyser': 'AnalyserNode',
-  'normalization': 'ConvolverNode', 'script-processor': 'ScriptProcessorNode', 'audio-worklet': 'AudioWorkletNode',
+  'normalization': 'a convolver that normalizes its response', 'response-channels': 'a response of 2 or 4 channels',
+  'long-response': 'a response of more than 16,384 frames', 'loud-response': 'a response with samples beyond 2',
+  'script-processor': 'ScriptProcessorNode', 'audio-worklet': 'AudioWorkletNode',
   'media-element-source': 'MediaElementAudioSourceNode', 'media-stream-source': 'MediaStreamAudioSourceNode',
   'media-stream-track-source': 'MediaStreamTrackAudioSourceNode',
   'media-stream-destination': 'MediaStreamAudioDestinationNode',

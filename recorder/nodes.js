@@ -65,6 +65,9 @@ const CREATION = {
     const section = putCoefficients(recording, call, options.feedforward || [], options.feedback || []);
     recording.rows.push({sections: [section], lead: 1, trailing: 1});
   },
+  ConvolverNode(recording, call, options) {
+    if (!isGiven(options.buffer)) call.disableNormalization = true; // it is silent, so nothing is scaled
+  },
   AudioBufferSourceNode(recording, call, options) {
     if (isGiven(options.loop)) call.loop = Boolean(options.loop);
     if (isGiven(options.loopStart)) call.loopStart = frameOf(recording, +options.loopStart, call, 'nearest');
@@ -136,6 +139,7 @@ function registerNode(recording, node, entry) {
   if (entry.kind === 'OscillatorNode' || entry.kind === 'AudioBufferSourceNode') recording.sources.push(entry);
   if (entry.kind === 'BiquadFilterNode' || entry.kind === 'IIRFilterNode') recording.filters.push(entry);
   if (entry.kind === 'AnalyserNode') recording.analysers.push(entry);
+  if (entry.kind === 'ConvolverNode') recording.convolvers.push(Object.assign(entry, {responses: []}));
   if (entry.kind === 'StereoPannerNode' || entry.kind === 'PannerNode') recording.panners.push(entry);
 }
 

@@ -39,6 +39,7 @@ export class Recording {
     this.work = 0;             // grows while this is finished
     this.analysers = [];
     this.panners = [];
+    this.convolvers = [];      // entries of those that are not written yet, see convolvers.js
     this.entries = new Map();  // name -> the entry of a node
     this.listener = null;      // the entry of the listener
     this.frozen = [];          // {name, kind, why} of nodes that are frozen, see freezing.js

@@ -10,6 +10,7 @@ export class Replacements {
   constructor(recording) {
     this.recording = recording;
     this.byName = new Map(); // name -> {entry, calls, head}
+    this.byCall = new Map(); // call -> calls
   }
 
   // Lets calls come in the place of the one that creates a node, and takes away all calls on it. What led into the
@@ -18,9 +19,14 @@ export class Replacements {
     this.byName.set(entry.name, {entry, calls, head});
   }
 
-  // Whether a panner refused an attribute, which what comes in its place would take.
+  // Lets calls come in the place of one that is no creation.
+  putAt(call, calls) {
+    this.byCall.set(call, calls);
+  }
+
+  // Whether a node refused an attribute, which what comes in its place would take.
   refuses(call) {
-    return this.recording.outcomes.has(call) && this.byName.get(call.node).entry.kind.endsWith('PannerNode');
+    return this.recording.outcomes.has(call) && /(Panner|Convolver)Node$/.test(this.byName.get(call.node).entry.kind);
   }
 
   headOf(name) {
@@ -30,6 +36,7 @@ export class Replacements {
 
   // The calls for one call of the script.
   callsFor(call) {
+    if (this.byCall.has(call)) return this.byCall.get(call);
     const made = this.byName.get(call.as);
     if (made && made.entry.creation === call) return made.calls;
     if (this.byName.has(call.node) && (isCallOn(call) || this.refuses(call))) return [];

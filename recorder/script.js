@@ -2,6 +2,7 @@
 
 import {bakeSources} from './baking.js';
 import {equalSamples, isSilent} from './buffers.js';
+import {lowerConvolvers, writeConvolvers} from './convolvers.js';
 import {freeze, planOf} from './freezing.js';
 import {Graph} from './graph.js';
 import {ASSET_LIMIT, BUFFER_LIMIT, SCRIPT_LIMIT, loseOfContext, loseOfSizes} from './limits.js';
@@ -68,6 +69,7 @@ async function lower(recording) {
   await bakeSources(recording, nodes);
   lowerAnalysers(recording, nodes);
   lowerPanners(recording, plan.panners, nodes);
+  lowerConvolvers(recording, plan.convolvers, nodes);
   recording.removeCalls(call => call.op === 'setListener'); // panners alone hear of it
   nodes.apply();
   const isLeft = recording.sources.some(source => source.creation.op === 'createOscillator');
@@ -88,6 +90,7 @@ export async function finish(recording) {
     faults.push(String(fault && fault.stack || fault));
     recording.lose('recorder-fault');
   });
+  writeConvolvers(recording);
   if (depthOf(recording.main) > 40) flattenSuspensions(recording);
   if (recording.isRealTime) dropIdleSuspensions(recording);
   loseOfFilters(recording);

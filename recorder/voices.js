@@ -4,6 +4,7 @@
 // A voice is what a few sources and the nodes behind them make, one of which ends. What many of them lead to is the trunk
 // of the piece, and stays live.
 
+import {weightOfConvolver} from './convolvers.js';
 import {endOfSource} from './endings.js';
 import {BUFFER_LIMIT, CONNECTION_LIMIT, NODE_LIMIT, SCRIPT_LIMIT} from './limits.js';
 import {framePlace} from './values.js';
@@ -13,7 +14,9 @@ const ROOM = 0.9;        // how much of a limit may be used by what is estimated
 const MANY = null;       // more sources than a voice has
 
 // The nodes that a node of the page becomes, at most.
-function weightOf({kind, creation}) {
+function weightOf(entry) {
+  const {kind, creation} = entry;
+  if (kind === 'ConvolverNode') return weightOfConvolver(entry);
   if (kind === 'BiquadFilterNode') return 3;
   if (kind === 'IIRFilterNode') return 2 + Math.ceil(Math.max(creation.feedforward.length, creation.feedback.length) / 2);
   return kind === 'StereoPannerNode' || kind === 'PannerNode' ? 5 : 1;
