@@ -8,7 +8,7 @@ import {ONE, loseOfList, nearestFixed, nearestFixedList} from './values.js';
 
 const MARK = 'response';      // what stands in a list where a response is set, until the script is written
 const QUANTUM = 128;
-const MOST_WORK = 2 ** 36;    // products of samples that all convolvers of a script may take
+const MOST_WORK = 2 ** 37;    // products of samples that the parts of responses may take
 const MOST_DELAYED = 2 ** 21; // frames in all delays between the parts of responses
 
 // A page set the buffer of a convolver: its channels, or null.
@@ -113,10 +113,10 @@ export function plansOfConvolvers(recording) {
   const plans = new Map();
   let work = 0, delayed = 0;
   for (const entry of recording.convolvers) {
-    const costs = entry.responses.map(response => costOf(response, recording));
+    const form = formOf(entry), costs = form === 'parted' ? entry.responses.map(response => costOf(response, recording)) : [];
     const its = key => costs.reduce((sum, cost) => sum + cost[key], 0);
     const isFine = work + its('work') <= MOST_WORK && delayed + its('delayed') <= MOST_DELAYED;
-    plans.set(entry, isFine ? formOf(entry) : null);
+    plans.set(entry, isFine ? form : null);
     if (!isFine) continue;
     work += its('work');
     delayed += its('delayed');

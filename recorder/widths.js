@@ -8,7 +8,7 @@ const PASSING = new Set(['GainNode', 'DelayNode', 'BiquadFilterNode', 'IIRFilter
 const ONE = new Set([1]), TWO = new Set([2]);
 
 // What a convolver puts out: as many channels as it hears, where its response has one.
-function convolved({responses}, input) {
+function convolved({responses = []}, input) {
   const isMono = responses.every(({channels}) => !channels || channels.length === 1);
   return isMono ? new Set([...input].map(width => Math.min(width, 2))) : TWO;
 }
