@@ -108,16 +108,23 @@ export function weightOfConvolver(entry) {
   }, 2);
 }
 
-// The plans of all convolvers: the form of each, or null where its responses are too long.
-export function plansOfConvolvers(recording) {
+// Whether both channels of a response of one channel go on with one history each. In browsers a channel that is not there
+// stands still.
+const isSteady = ({name, node, responses}, widths) => widths.input({name, node}).size < 2 ||
+  responses.every(({channels}) => !channels || channels.length > 1);
+
+// The plans of all convolvers: {form}, or {why} where one cannot be written.
+export function plansOfConvolvers(recording, widths) {
   const plans = new Map();
   let work = 0, delayed = 0;
   for (const entry of recording.convolvers) {
     const form = formOf(entry), costs = form === 'parted' ? entry.responses.map(response => costOf(response, recording)) : [];
     const its = key => costs.reduce((sum, cost) => sum + cost[key], 0);
     const isFine = work + its('work') <= MOST_WORK && delayed + its('delayed') <= MOST_DELAYED;
-    plans.set(entry, isFine ? form : null);
-    if (!isFine) continue;
+    if (!isSteady(entry, widths)) plans.set(entry, {why: 'it hears one channel and two'});
+    else if (!isFine) plans.set(entry, {why: 'its response is too long'});
+    else plans.set(entry, {form});
+    if (!plans.get(entry).form) continue;
     work += its('work');
     delayed += its('delayed');
   }
@@ -217,7 +224,7 @@ function partConvolver(entry, replacements) {
 
 // Writes the convolvers that have a plan.
 export function lowerConvolvers(recording, plans, replacements) {
-  for (const [entry, form] of plans) {
+  for (const [entry, {form}] of plans) {
     const response = responseOfBirth(entry);
     if (form === 'parted') partConvolver(entry, replacements);
     else if (response) putResponse(entry, samplesOf(response, recording.rate));

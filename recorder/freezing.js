@@ -38,7 +38,7 @@ class Refusals {
     for (const loss of recording.losses)
       if (loss.call && OF_CALLS.has(loss.kind) && !recording.outcomes.has(loss.call)) this.ofCalls.set(nodeOfLoss(loss), loss.kind);
     this.panners = new Map(recording.panners.map(entry => [entry, planOfPanner(entry, graph, widths)]));
-    this.convolvers = plansOfConvolvers(recording);
+    this.convolvers = plansOfConvolvers(recording, widths);
     this.graph = graph;
   }
 
@@ -50,7 +50,7 @@ class Refusals {
     if (entry.kind === 'AnalyserNode' || entry.kind === 'destination') return null;
     if (entry.kind === 'BiquadFilterNode') return steadyBiquad(entry, this.graph) ? null : 'its parameters move';
     if (this.panners.has(entry)) return this.panners.get(entry) ? null : whyOfPanner(entry);
-    if (this.convolvers.has(entry)) return this.convolvers.get(entry) ? null : 'its response is too long';
+    if (this.convolvers.has(entry)) return this.convolvers.get(entry).why || null;
     if (this.recording.refusedNames.has(entry.name)) return 'a script has no such node';
     return found && LOSS_KINDS[found].says;
   }
@@ -94,7 +94,7 @@ export function planOf(recording, graph, widths, voices = []) {
   const heard = graph.upstream(['destination'], name => !reasons.has(name), edge => !cut.has(edge));
   const frozen = new Set([...heard].filter(name => reasons.has(name)));
   const dropped = new Set([...graph.upstream([...reasons.keys(), ...singing])].filter(name => !heard.has(name)));
-  const isLeft = ([entry, plan]) => plan && !reasons.has(entry.name) && !dropped.has(entry.name);
+  const isLeft = ([entry, plan]) => plan && !plan.why && !reasons.has(entry.name) && !dropped.has(entry.name);
   const panners = new Map([...refusals.panners].filter(isLeft)), convolvers = new Map([...refusals.convolvers].filter(isLeft));
   const live = voices.filter(({to}) => heard.has(to) && !reasons.has(to)); // voices in what is frozen itself need no taps
   return {reasons, loops, panners, convolvers, frozen, dropped, heard, singing, voices: live};

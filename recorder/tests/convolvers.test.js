@@ -8,6 +8,7 @@ import {Recording} from '../recording.js';
 import {Replacements} from '../replacing.js';
 import {ONE} from '../values.js';
 
+const MONO = {input: () => new Set([1])}, BOTH = {input: () => new Set([1, 2])};
 const floats = (...samples) => Float32Array.from(samples);
 
 // A recording with a convolver between a source and the destination.
@@ -23,7 +24,7 @@ function recorded({length = 1000, rate = 48000, normalize = false} = {}) {
 // Writes it, and gives the calls of the main list.
 function written({recording}) {
   const replacements = new Replacements(recording);
-  lowerConvolvers(recording, plansOfConvolvers(recording), replacements);
+  lowerConvolvers(recording, plansOfConvolvers(recording, MONO), replacements);
   replacements.apply();
   writeConvolvers(recording);
   return recording.main;
@@ -92,7 +93,7 @@ test('a convolver without a response is silent, and none is refused for its norm
   const it = recorded({normalize: true});
   assert.deepEqual(written(it)[0], {op: 'createConvolver', as: 'convolver1', disableNormalization: true});
   takeResponse(it.entry, null);
-  assert.equal(plansOfConvolvers({...it.recording, convolvers: [it.entry]}).get(it.entry), 'kept');
+  assert.deepEqual(plansOfConvolvers({...it.recording, convolvers: [it.entry]}, BOTH).get(it.entry), {form: 'kept'});
 });
 
 test('a normalized response is scaled', () => {
@@ -187,9 +188,17 @@ test('without rewriting, what waplay refuses is told by its word', () => {
 test('what would take too long is not written', () => {
   const it = recorded({length: 2 ** 22});
   takeResponse(it.entry, [new Float32Array(2 ** 15), new Float32Array(2 ** 15)]);
-  assert.equal(plansOfConvolvers(it.recording).get(it.entry), null);
+  assert.deepEqual(plansOfConvolvers(it.recording, MONO).get(it.entry), {why: 'its response is too long'});
   assert.ok(weightOfConvolver(it.entry) > 8);
   it.entry.responses = [];
   takeResponse(it.entry, [new Float32Array(2 ** 14)]);
-  assert.equal(plansOfConvolvers(it.recording).get(it.entry), 'kept');
+  assert.deepEqual(plansOfConvolvers(it.recording, MONO).get(it.entry), {form: 'kept'});
+});
+
+test('a response of one channel is not written where one channel is heard and two are', () => {
+  for (const [channels, wanted] of [[1, {why: 'it hears one channel and two'}], [2, {form: 'parted'}]]) {
+    const it = recorded();
+    takeResponse(it.entry, Array(channels).fill(floats(1)));
+    assert.deepEqual(plansOfConvolvers(it.recording, BOTH).get(it.entry), wanted);
+  }
 });

@@ -367,6 +367,7 @@ class Departures(unittest.TestCase):
         anew = "Chromium begins the history of an IIR filter anew where its channels change"
         unplayed = ("a buffer source that does not play yet has the channels of its buffer in "
                     "Chromium")
+        still = "a channel of a convolver stands still in Chromium while its input has not got it"
         behind = {"op": "createIIRFilter", "as": "m"}
         for calls, wanted in [
             ([delay], [fewer]),
@@ -377,6 +378,9 @@ class Departures(unittest.TestCase):
             ([gain, self.EXPLICIT, self.DISCRETE, *self.HUM], [unplayed]),
             ([self.node("createChannelSplitter")], [unplayed]),
             ([self.node("createIIRFilter")], [anew]),
+            ([self.node("createConvolver")], [still]),
+            ([self.node("createConvolver"), *self.HUM], [still]),
+            ([self.node("createConvolver"), self.EXPLICIT], []),
             # A filter behind a gain that always has two channels. Where it is taken away from it
             # at times, the filter has one.
             ([gain, self.EXPLICIT, behind], []),

@@ -11,7 +11,8 @@ from typing import Any
 Call = dict[str, Any]
 
 EVEN = {1, 2}  # what is mono comes back as it was from these, where mixing is as speakers
-PASSING = ("createGain", "createDelay", "createWaveShaper", "createIIRFilter", "createBiquadFilter")
+PASSING = ("createGain", "createDelay", "createWaveShaper", "createIIRFilter", "createConvolver",
+           "createBiquadFilter")
 
 
 @dataclasses.dataclass
@@ -49,6 +50,8 @@ def made_of(call: Call) -> Node:
             return Node(call, {call.get("numberOfOutputs", 6)}, {"explicit"}, {"discrete"})
         case "createChannelMerger":
             return Node(call, {1}, {"explicit"}, {"speakers"})
+        case "createConvolver":
+            return Node(call, {2}, {"clamped-max"}, {"speakers"})
     return Node(call, {2}, {"max"}, {"speakers"}, buffer=call.get("buffer"))
 
 

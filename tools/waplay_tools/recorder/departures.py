@@ -83,6 +83,8 @@ def channel_departures(script: dict[str, Any], of_path: dict[str, int]) -> Itera
         yield "a delay whose input comes to have fewer channels mixes down in Chromium"
     if "createIIRFilter" in changing:
         yield "Chromium begins the history of an IIR filter anew where its channels change"
+    if "createConvolver" in changing:
+        yield "a channel of a convolver stands still in Chromium while its input has not got it"
     if not channels.tell_silence(script["context"].get("channels", 1)):
         return
     nodes = channels.nodes.items()
@@ -94,7 +96,8 @@ def channel_departures(script: dict[str, Any], of_path: dict[str, int]) -> Itera
         yield "a buffer source that does not play yet has the channels of its buffer in Chromium"
 
 
-IDLE_NODE = "a source, a delay or a filter stands still in Chromium while it is not heard"
+IDLE_NODE = ("a source, a delay, a filter or a convolver stands still in Chromium while it is not "
+             "heard")
 IDLE_TIMELINE = ("a timeline stands still in Chromium while its node plays or hears nothing, or is "
                  "not heard")
 

@@ -111,7 +111,7 @@ def reached(begin: Iterable[str], ways: Ways) -> set[str]:
 
 
 # Nodes whose output hangs on how far they have come.
-GOING_ON = ("createBufferSource", "createDelay", "createIIRFilter")
+GOING_ON = ("createBufferSource", "createDelay", "createIIRFilter", "createConvolver")
 
 
 class Spans:
@@ -152,8 +152,8 @@ def has_idle_timeline(calls: list[Call], spans: Spans) -> bool:
 
 
 def has_idle_node(calls: list[Call], spans: Spans) -> bool:
-    """Whether a source, a delay or a filter plays or hears something while it is not heard, and is
-    heard later."""
+    """Whether a source, a delay, a filter or a convolver plays or hears something while it is not
+    heard, and is heard later."""
     going = {call["as"] for call, _ in dated(calls) if call["op"] in GOING_ON}
     idle: set[str] = set()  # those that stood still
     if not going or spans.is_too_much:
