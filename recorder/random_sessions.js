@@ -117,7 +117,7 @@ export class RandomSession {
       orientationX: this.draw(2), coneInnerAngle: 90, coneOuterAngle: 270, coneOuterGain: 0.5});
   }
 
-  // Nodes that are frozen in any case.
+  // Nodes that a script has not, or not as they are.
   refused() {
     const {context} = this;
     return this.one([
