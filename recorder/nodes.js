@@ -24,13 +24,10 @@ const NAME_PREFIXES = {
   MediaStreamAudioDestinationNode: 'media', ScriptProcessorNode: 'processor', AudioWorkletNode: 'worklet',
 };
 
-// What waplay refuses of a convolver as it is written here: without a response, which may come later, and normalized.
-const REFUSED_AS_WRITTEN = {ConvolverNode: 'normalization'};
-
-// Of each interface its operation, that prefix, and the feature word where waplay leaves it out or refuses it so.
+// Of each interface its operation, that prefix, and the feature word where waplay leaves it out.
 export const NODE_KINDS = Object.fromEntries(Object.entries(NAME_PREFIXES).map(([kind, prefix]) => {
   const op = creationOf(kind);
-  return [kind, {op, prefix, feature: featureOf(op) || REFUSED_AS_WRITTEN[kind] || null}];
+  return [kind, {op, prefix, feature: featureOf(op)}];
 }));
 
 const MODES = wordsOf('setChannelCountMode');
