@@ -91,7 +91,7 @@ RUNS = [
     ),
     Run("feedback through one delay", script(384, *IMPULSE, *joined("s", "destination"), *ECHO)),
     Run("an asset that is decoded and played", script(128, *DECODED)),
-    Run("a convolver", script(384, *IMPULSE, ROOM, *joined("s", "v", "destination"), START)),
+    Run("a convolver", script(384, *IMPULSE, ROOM, *joined("s", "v", "destination"))),
     Run(
         "a delay in a cycle, a filter, a shaper, a timeline and buffers",
         script(
