@@ -44,10 +44,10 @@ One thing each
     3 causal_core     causal equations
     4 shaper_iir      filters, shapers
     5 convolve        convolvers
-    6 delay_line      a ring of frames
-Channels
-    0 channel_mix     up- and down-mix
-    1 lane_kern       loops over samples
+Samples
+    0 delay_line      a ring of frames
+    1 channel_mix     up- and down-mix
+    2 lane_kern       loops over them
 The ground
     0 wa_base         numbers, words
     1 law_base        laws, no audio
