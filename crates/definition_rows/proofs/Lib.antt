@@ -10,4 +10,5 @@ mod DecodeRows
 mod TurnRows
 mod SoundRows
 mod OrderRows
+mod MomentRows
 mod FieldRows
