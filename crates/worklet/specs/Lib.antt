@@ -1,0 +1,5 @@
+pub mod Accepted
+pub mod Arrivals
+pub mod Errors
+pub mod Instructions
+pub mod Machine
