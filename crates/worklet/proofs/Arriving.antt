@@ -1,9 +1,9 @@
 -- What earlier places leave to a place.
 use Rattle.std.proofs.Common.{ℕ, zero, suc, ◌≡◌, ◌+◌, ◌-◌, ◌<◌, ◌≤◌, List, Option, Some, None, sym, subst, refl, ◌∙◌, arith, below_more}
 use Rattle.worklet.specs.declared.code.Instr.{Instr}
-use Rattle.worklet.specs.Arrivals.{Arrives, Agrees, IsReachedBelow}
+use Rattle.worklet.specs.Arrivals.{Arrives, Agrees}
 use Rattle.worklet.specs.Errors.{AreFine, HasHeight, IsUneven}
-use Rattle.worklet.specs.Instructions.{MayPass, GoesOn, IsReached, instr_at, left}
+use Rattle.worklet.specs.Instructions.{MayPass, GoesOn, instr_at, left}
 
 -- a place goes on at a later one just where it may pass over what lies between
 pub goes_from : (code : List Instr) (i place : ℕ) → i < place → MayPass (instr_at code i) (place - i - 1) → GoesOn code i place
@@ -22,21 +22,20 @@ pub arrives_past : (code : List Instr) (heights : List ℕ) (place i : ℕ) (fou
 arrives_past code heights place i None before past = λ w. below_more (λ k. GoesOn code k place → ⊥) i (λ k l goes. before (k, l, goes)) past w.0 w.1 w.2
 arrives_past code heights place i (Some height) before past =
     let w = before.0 in
-    let lt = w.1 in
-    (
-        (w.0, omega (arith, lt), w.2),
-        λ k l. below_more (λ j. GoesOn code j place → left code heights j ≡ height) i before.1 (λ goes. absurd (past goes)) k l,
+    let lt = w.1 in (
+      (w.0, omega (arith, lt), w.2),
+      λ k l. below_more (λ j. GoesOn code j place → left code heights j ≡ height) i before.1 (λ goes. absurd (past goes)) k l,
     )
 
 pub arrives_more : (code : List Instr) (heights : List ℕ) (place i : ℕ) (found : Option ℕ) (height : ℕ) → Arrives code heights place i found
     → GoesOn code i place → Agrees found height → left code heights i ≡ height → Arrives code heights place (i + 1) (Some height)
 arrives_more code heights place i None height before goes agree is = (
-    (i, omega arith, goes),
-    λ k l. below_more (λ j. GoesOn code j place → left code heights j ≡ height) i (λ j lt g. absurd (before (j, lt, g))) (λ g. is) k l,
+  (i, omega arith, goes),
+  λ k l. below_more (λ j. GoesOn code j place → left code heights j ≡ height) i (λ j lt g. absurd (before (j, lt, g))) (λ g. is) k l,
 )
 arrives_more code heights place i (Some other) height before goes agree is = (
-    (i, omega arith, goes),
-    λ k l. below_more (λ j. GoesOn code j place → left code heights j ≡ height) i (λ j lt g. before.1 j lt g ∙ agree) (λ g. is) k l,
+  (i, omega arith, goes),
+  λ k l. below_more (λ j. GoesOn code j place → left code heights j ≡ height) i (λ j lt g. before.1 j lt g ∙ agree) (λ g. is) k l,
 )
 
 pub uneven_here : (code : List Instr) (heights : List ℕ) (place i : ℕ) (found : Option ℕ) (height : ℕ) → Arrives code heights place i found

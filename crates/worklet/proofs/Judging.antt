@@ -1,13 +1,12 @@
 -- Places that are judged one after the other.
 use Rattle.std.proofs.Common.{ℕ, ◌≡◌, ◌+◌, ◌-◌, ◌<◌, ◌≤◌, List, [], ◌∷◌, ◌++◌, length, ap, sym, subst, refl, ◌∙◌, arith, below_more, length-append}
-use Rattle.std.specs.Prelude.{◌↔◌, IsTrue, nat_le, slice_index}
-use Rattle.std.proofs.lemmas.Bool.{leb-true, le-leb}
+use Rattle.std.specs.Prelude.{slice_index}
 use Rattle.std.proofs.lemmas.List.{get_or_append_left}
 use Rattle.std.proofs.Math.Seq.{get_or-append_seam}
 use Rattle.worklet.specs.declared.code.Instr.{Instr}
-use Rattle.worklet.specs.Accepted.{AreHeights, IsAccepted}
-use Rattle.worklet.specs.Errors.{AreFine, FailsAt, HasHeight, IsFine, IsLong, StaysInside}
-use Rattle.worklet.specs.Instructions.{MayPass, GoesOn, IsReached, instr_at, left, pops, pushes}
+use Rattle.worklet.specs.Accepted.{IsAccepted}
+use Rattle.worklet.specs.Errors.{AreFine, FailsAt, HasHeight, IsFine, StaysInside}
+use Rattle.worklet.specs.Instructions.{MayPass, instr_at, pops, pushes}
 
 -- a place stays inside just where the furthest place is inside
 pub inside_from : (code : List Instr) (place far : ℕ) → ((n : ℕ) → MayPass (instr_at code place) n → n ≤ far) → place + 1 + far ≤ length code → StaysInside code place
@@ -73,10 +72,10 @@ accepted_at_end code height judged one =
     let same : (i : ℕ) → i < length code → slice_index all i ≡ slice_index judged.heights i = λ i l. pushed_before judged.heights height i (omega arith) in
     let here = pushed_here judged.heights height (length code) count in
     let have : (j : ℕ) → j < length code + 1 → HasHeight code all j (slice_index all j) =
-        λ j l. below_more (λ k. HasHeight code all k (slice_index all k)) (length code)
-        (λ k lt. has_same code judged.heights all k (slice_index judged.heights k) (slice_index all k) (λ i m. same i (omega arith)) (same k lt) (before.height k lt))
-        (has_same code judged.heights all (length code) height (slice_index all (length code)) same here has)
-        j l in
+    λ j l. below_more (λ k. HasHeight code all k (slice_index all k)) (length code)
+    (λ k lt. has_same code judged.heights all k (slice_index judged.heights k) (slice_index all k) (λ i m. same i (omega arith)) (same k lt) (before.height k lt))
+    (has_same code judged.heights all (length code) height (slice_index all (length code)) same here has)
+    j l in
     let fine : (i : ℕ) → i < length code → IsFine code i (slice_index all i) = λ i l. subst (λ (h : ℕ). IsFine code i h) (sym (same i l)) (before.fine i l) in
     record {
       some = judged.long.some;

@@ -1,12 +1,11 @@
 -- A program with an error is not accepted.
-use Rattle.std.proofs.Common.{ℕ, zero, suc, ◌≡◌, ◌+◌, ◌-◌, ◌<◌, ◌≤◌, List, length, ap, sym, subst, refl, ◌∙◌, arith, below_more}
+use Rattle.std.proofs.Common.{ℕ, zero, suc, ◌≡◌, ◌+◌, ◌-◌, ◌<◌, ◌≤◌, List, length, ap, sym, refl, ◌∙◌, arith, below_more}
 use Rattle.std.specs.Prelude.{slice_index}
 use Rattle.worklet.specs.declared.code.Instr.{Instr}
-use Rattle.worklet.specs.declared.errors.ProgErr.{ProgErr}
 use Rattle.worklet.specs.declared.errors.ProgErr.TheVariants.{BadLength, Unreached, Uneven, BadCell, BadDivisor, BadJump, Underflow, TooDeep, BadEnd, NoMemory}
 use Rattle.worklet.specs.Accepted.{AreHeights, IsAccepted}
-use Rattle.worklet.specs.Errors.{AreFine, FailsAt, HasHeight, IsError, IsLong, ErrorLaw}
-use Rattle.worklet.specs.Instructions.{pops, pushes, GoesOn, IsReached, instr_at, left}
+use Rattle.worklet.specs.Errors.{AreFine, FailsAt, HasHeight, ErrorLaw}
+use Rattle.worklet.specs.Instructions.{pops, pushes, GoesOn, instr_at, left}
 
 -- two lists of heights agree below a place
 abbrev Agree : (heights others : List ℕ) (place : ℕ) → Type 0
@@ -49,7 +48,7 @@ not_accepted code (Uneven place) error accepted =
     let same = agrees code place _ error accepted in
     let below : (k : ℕ) → k < place → k < length code = λ k l. let there = error.there in omega arith in
     let at : (k : ℕ) → k < place → GoesOn code k place → left code error.heights k ≡ slice_index accepted.heights place =
-        λ k l goes. same_left code error.heights accepted.heights k (same k l) ∙ sym (accepted.fit.follows k place (below k l) goes) in
+    λ k l goes. same_left code error.heights accepted.heights k (same k l) ∙ sym (accepted.fit.follows k place (below k l) goes) in
     fault.6 (at fault.0 fault.2 fault.4 ∙ sym (at fault.1 fault.3 fault.5))
 not_accepted code (BadCell place) error accepted = error.1.fault.2 (accepted.fit.cells place error.0)
 not_accepted code (BadDivisor place) error accepted = error.1.fault.2.1 (accepted.fit.divisors place error.0)

@@ -7,14 +7,11 @@ ghost use Rattle.worklet.specs.declared.errors.ProgErr.TheVariants.{NoMemory as 
 use crate::code::{Code, Instr};
 use crate::errors::ProgErr;
 use crate::program::Program;
-use crate::rules::{has_cell, has_divisor, left, may_pass, pops, pushes, stays_inside};
+use crate::rules::{DEPTH, has_cell, has_divisor, left, may_pass, pops, pushes, stays_inside};
 use std::alloc::Global;
 
 /// The most instructions of a program.
 const MAX_LENGTH: usize = 256;
-
-/// The most values on the stack.
-const MAX_HEIGHT: usize = 32;
 
 /// The program of a code, which is accepted or has an error, as `ProgErr` says; the error is that of
 /// the first place that has one. The code is copied.
@@ -122,7 +119,7 @@ fn judge(code: &[Instr], place: usize, height: usize) -> Result<(), ProgErr>
     if height < pops(instr) {
         return Err(ProgErr::Underflow(place));
     }
-    if height - pops(instr) + pushes(instr) > MAX_HEIGHT {
+    if height - pops(instr) + pushes(instr) > DEPTH {
         return Err(ProgErr::TooDeep(place));
     }
     Ok(())

@@ -8,6 +8,9 @@ use crate::code::Instr;
 /// The number of cells of a channel.
 pub(crate) const CELLS: usize = 16;
 
+/// The most values on the stack.
+pub(crate) const DEPTH: usize = 32;
+
 // How many values an instruction takes from the stack.
 pub(crate) fn pops(instr: Instr) -> usize
     ensures value { result ≡ instructions.pops instr }

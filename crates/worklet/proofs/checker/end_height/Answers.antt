@@ -10,7 +10,7 @@ loop-place-preserved c =
     let place = c.loop-place.place in
     let height = c.in_ok-height.height in
     let has : HasHeight code c.loop-place.heights.items place height =
-        subst (λ (v : List ℕ). HasHeight code v place height) c.deref.ensures.value c.in_ok-height.ensures.height in
+    subst (λ (v : List ℕ). HasHeight code v place height) c.deref.ensures.value c.in_ok-height.ensures.height in
     subst (λ (v : List ℕ). AreFine code v (place + 1)) (sym c.in_ok-push.ensures.items)
     (fine_more code c.loop-place.heights.items place height c.loop-place.invariant has c.in_ok-judge.ensures.fine)
 

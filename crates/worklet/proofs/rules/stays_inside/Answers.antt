@@ -4,8 +4,7 @@ use Rattle.worklet.proofs.rules.stays_inside.Goals as goal
 
 pub returns : goal.returns
 returns c =
-    let far = c.most_passed.ensures in
-    (
-        λ holds. inside_from c.args.code.now c.args.place c.most_passed.result far.most (leb-true _ _ holds),
-        λ inside. le-leb _ _ (inside_back c.args.code.now c.args.place c.most_passed.result far.some inside),
+    let far = c.most_passed.ensures in (
+      λ holds. inside_from c.args.code.now c.args.place c.most_passed.result far.most (leb-true _ _ holds),
+      λ inside. le-leb _ _ (inside_back c.args.code.now c.args.place c.most_passed.result far.some inside),
     )
