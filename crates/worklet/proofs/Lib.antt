@@ -1,6 +1,8 @@
 pub mod Arriving
+pub mod Hearing
 pub mod Judging
 pub mod Refusals
 mod Rows
 pub mod Running
+pub mod States
 pub mod Traps

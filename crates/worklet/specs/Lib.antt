@@ -3,3 +3,5 @@ pub mod Arrivals
 pub mod Errors
 pub mod Instructions
 pub mod Machine
+pub mod Processor
+pub mod ProcessorInside
