@@ -1,4 +1,5 @@
 pub mod Arriving
+mod ErrorRows
 pub mod Hearing
 pub mod Judging
 pub mod Refusals
