@@ -103,9 +103,11 @@ export function planOf(recording, graph, widths, voices = []) {
 // How many channels of an output are kept: as many as there may be where it sounds.
 export const widthOf = (widths, name, output) => Math.max(1, ...widths.of(name, output));
 
-// Whether it is heard what number of channels a node has: where it is mixed as discrete, or to others than 1 and 2.
-function isWidthHeard(graph, name) {
+// Whether it is heard which of some numbers of channels a node has: where it is mixed as discrete, or from or to others
+// than 1 and 2.
+function isWidthHeard(graph, name, found) {
   const isEven = width => width === 1 || width === 2;
+  if (![...found].every(isEven)) return true;
   return [...graph.downstream([name])].filter(each => each !== name).some(each => {
     const {kind, node} = graph.entries.get(each);
     return node.channelInterpretation === 'discrete' || kind === 'ChannelMergerNode' || !isEven(node.channelCount);
@@ -119,7 +121,7 @@ function tapsOf(graph, widths, {frozen, dropped}) {
     const isLive = edge => !frozen.has(edge.to) && !dropped.has(edge.to);
     const outputs = new Set(graph.leaving(name).filter(isLive).map(edge => edge.output));
     for (const output of outputs) {
-      const isMixed = widths.of(name, output).size > 1 && isWidthHeard(graph, name);
+      const found = widths.of(name, output), isMixed = found.size > 1 && isWidthHeard(graph, name, found);
       taps.push({name, output, width: widthOf(widths, name, output), isMixed});
     }
   }
