@@ -9,6 +9,7 @@ fn begin(alloc: Global) -> Result<Nodes, Refusal> {
         channels: 2,
         length: 128,
         rate: 48_000,
+        quantum: 128,
     };
     if !context.is_supported() {
         return Err(Refusal::Exc(Exc::NotSupported(None)));

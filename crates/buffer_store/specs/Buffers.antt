@@ -4,7 +4,7 @@ use Rattle.std.specs.List.{sum_by}
 use Rattle.wa_base.specs.declared.exceptions.Exc.{Exc}
 use Rattle.wa_base.specs.declared.exceptions.Exc.TheVariants.{NotSupported, IndexSize}
 use Rattle.wa_base.specs.declared.features.Feature.TheVariants.{BufferLimit, BufferAcquired}
-use Rattle.wav_io.specs.declared.wav.Wav.{Wav}
+use Rattle.buffer_store.specs.declared.wav.Wav.{Wav}
 use Rattle.buffer_store.specs.declared.buffers.Buffer.{Buffer}
 use Rattle.buffer_store.specs.declared.buffers.Shape.{Shape}
 

@@ -1,14 +1,14 @@
 ghost use Rattle.std.specs.Prelude.{◌≡◌, ◌↔◌, ◌<◌, ◌≤◌, ◌+◌, ◌*◌, ◌∷◌, ◌++◌, [], Some, None, length, slice_get, IfOk, IsErrOf, OnOk, OnErr};
 ghost use Rattle.std.specs.Result.{result_err};
-ghost use Rattle.wav_io.specs.WavGrammar.{IsRecording};
+ghost use Rattle.buffer_store.specs.Recordings.{IsRecording};
 ghost use Rattle.buffer_store.specs.Buffers as spec;
 
 use crate::buffers::{Buffer, Shape};
+use crate::wav::Wav;
 use std::alloc::Global;
 use std::marker::Model;
 use std::mem;
 use wa_base::{BufId, Exc, Feature, Fix, NoMemory, Refusal, Samples};
-use wav_io::Wav;
 
 const MAX_CHANNELS: u32 = 32;
 

@@ -1,8 +1,5 @@
-pub mod CountRows
-pub mod Forms
-pub mod Laws
 pub mod Mixed
-pub mod Rows
+pub mod OutputForms
 pub mod Shifts
 pub mod Sums
 pub mod Weighing

@@ -2,8 +2,8 @@
 use Rattle.std.proofs.Common.{◌≡◌, ◌<◌, ◌+◌, ◌*◌, ◌/◌, ◌%◌, ℕ, ℤ, List, ap₂}
 use Rattle.std.proofs.lemmas.Nat.{div-mul-add, mod-mul-add}
 use Rattle.wa_base.specs.declared.graph_names.Interp.{Interp}
-use Rattle.channel_mix.specs.Blocks.{frame_at}
-use Rattle.channel_mix.specs.Mixing.{mix}
+use Rattle.mix_rules.specs.Blocks.{frame_at}
+use Rattle.mix_rules.specs.Mixing.{mix}
 
 -- the sample that stands at place i: that of channel i / frames at frame i % frames
 abbrev pub mixed_at : Interp → ℕ → ℕ → ℕ → List ℤ → ℕ → ℤ

@@ -8,7 +8,8 @@ use Rattle.std.proofs.lemmas.Int.{ints}
 use Rattle.std.proofs.lemmas.List.{places, get_or_past}
 use Rattle.std.proofs.lemmas.List.Elements.{All-get_or, All-from_get_or}
 use Rattle.lane_kern.specs.Blocks.{IsWithin}
-use Rattle.channel_mix.specs.Blocks.{Adds}
+use Rattle.lane_kern.proofs.Written.{written_before, written_here, written_after}
+use Rattle.channel_mix.specs.Adding.{Adds}
 
 -- the sums below i have grown, and the others are as they were
 pub record AddsBelow (values : ℕ → ℤ) (i : ℕ) (old new : List ℤ) : Type 0 where
@@ -36,15 +37,6 @@ adds_more values i old new v long lt room so_far is small =
     }
 
 -- ---- n sums at once, from i on
-
-pub written_before : (i m : ℕ) (xs ys : List ℤ) (k : ℕ) → k < i → i ≤ length xs → get_or (put_mid i m xs ys) k (pos 0) ≡ get_or xs k (pos 0)
-written_before i m xs ys k h there = search (rules, places)
-
-pub written_here : (i m : ℕ) (xs ys : List ℤ) (k : ℕ) → k < length ys → i ≤ length xs → get_or (put_mid i m xs ys) (i + k) (pos 0) ≡ get_or ys k (pos 0)
-written_here i m xs ys k h there = search (rules, places)
-
-pub written_after : (i m : ℕ) (xs ys : List ℤ) (k : ℕ) → length ys ≡ m → i + m ≤ k → i ≤ length xs → get_or (put_mid i m xs ys) k (pos 0) ≡ get_or xs k (pos 0)
-written_after i m xs ys k same h there = search (rules, places)
 
 pub part_at : (i m : ℕ) (xs : List ℤ) (k : ℕ) → k < m → get_or (take m (drop i xs)) k (pos 0) ≡ get_or xs (i + k) (pos 0)
 part_at i m xs k h = search (rules, places)

@@ -1,4 +1,2 @@
-pub mod Blocks
-pub mod Counts
-pub mod Mixing
+pub mod Adding
 pub mod Outputs

@@ -2,7 +2,7 @@
 use Rattle.std.specs.Prelude.{ℕ, suc, max, ◌≡◌, ℤ, pos, ◌+ℤ◌, ◌*ℤ◌, nat_le, IsTrue, List, [], ◌∷◌, map, Option, Some}
 use Rattle.std.specs.List.{list_all}
 use Rattle.wa_base.specs.Numbers.{rnd}
-use Rattle.channel_mix.specs.Mixing.{Form, ◌⊕◌, ◌⊙◌, ◌⊘◌, channel, only, silence, one, root_half, half}
+use Rattle.mix_rules.specs.Mixing.{Form, ◌⊕◌, ◌⊙◌, ◌⊘◌, channel, only, silence, one, root_half, half}
 use Rattle.channel_mix.specs.declared.outputs.Output.{Output}
 use Rattle.channel_mix.specs.declared.outputs.Output.TheVariants.{Silence, Channel, HalfOfTwo, QuarterOfFour, AllSpeakers, SideSpeakers, FrontSpeakers}
 

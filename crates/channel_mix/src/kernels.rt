@@ -1,8 +1,8 @@
 ghost use Rattle.std.specs.Prelude.{◌≡◌, ◌≤◌, ◌+◌, ◌*◌, ◌^◌, ◌+ℤ◌, pos, length, take, drop, All};
 ghost use Rattle.wa_base.specs.Numbers.{rnd};
 ghost use Rattle.lane_kern.specs.Blocks.{at, IsWithin};
-ghost use Rattle.channel_mix.specs.Blocks.{Adds};
-ghost use Rattle.channel_mix.specs.Mixing.{one};
+ghost use Rattle.channel_mix.specs.Adding.{Adds};
+ghost use Rattle.mix_rules.specs.Mixing.{one};
 ghost use Rattle.channel_mix.specs.Outputs.{all_speakers, side_speakers, front_speakers};
 
 use lane_kern::add_into;

@@ -1,11 +1,9 @@
-//! Up-mixing and down-mixing: how many channels an input has, and what each of them gets of a
-//! connection with another number of channels.
+//! Up-mixing and down-mixing: what a block of one number of channels adds to sums of another.
 #![tactic(auto)]
 
-mod counts;
 mod kernels;
 mod mixing;
 mod outputs;
 
-pub use counts::count;
+pub use mix_rules::count;
 pub use mixing::mix_add;

@@ -1,7 +1,8 @@
 ghost use Rattle.std.specs.Prelude.{◌≡◌, ◌<◌, ◌≤◌, ◌-◌, ◌+◌, ◌*◌, ◌^◌, ◌+ℤ◌, ℕ, length, All};
 ghost use Rattle.lane_kern.specs.Blocks.{IsWithin};
-ghost use Rattle.channel_mix.specs.Blocks.{sample, frame_at, Adds};
-ghost use Rattle.channel_mix.specs.Mixing.{mix};
+ghost use Rattle.mix_rules.specs.Blocks.{sample, frame_at};
+ghost use Rattle.channel_mix.specs.Adding.{Adds};
+ghost use Rattle.mix_rules.specs.Mixing.{mix};
 ghost use Rattle.channel_mix.specs.Outputs.{value_of, needed};
 
 use crate::kernels::{

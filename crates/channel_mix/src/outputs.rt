@@ -1,5 +1,5 @@
 ghost use Rattle.std.specs.Prelude.{◌≡◌, ◌<◌, ◌≤◌, ℕ, MatchOption};
-ghost use Rattle.channel_mix.specs.Mixing.{form, table, layout, kept};
+ghost use Rattle.mix_rules.specs.Mixing.{form, table, layout, kept};
 ghost use Rattle.channel_mix.specs.Outputs.{form_of, needed, IsRow};
 
 use wa_base::Interp;
@@ -104,7 +104,7 @@ fn by_speakers(from: usize, to: usize) -> Option<&'static [Output]>
 
 impl Output {
     /// The output channel with this index, where `from` channels are mixed to `to`.
-    #[tactic(auto, unfolding(crate::specs::Mixing::form))]
+    #[tactic(auto, unfolding(mix_rules::specs::Mixing::form))]
     pub(crate) fn new(interp: Interp, from: usize, to: usize, channel: usize) -> Output
         requires { channel < to }
         ensures form { form_of from result ≡ form interp from to channel }

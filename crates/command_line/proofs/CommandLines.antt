@@ -5,7 +5,7 @@ use Rattle.wa_base.specs.declared.graph_names.Tie.{Tie}
 use Rattle.wa_base.specs.declared.graph_names.Tie.TheVariants.{Up, Down}
 use Rattle.command_line.specs.Words.{Reading, reading}
 use Rattle.command_line.specs.declared.reading.Mode.{Mode}
-use Rattle.command_line.specs.declared.reading.Mode.TheVariants.{Render, Check}
+use Rattle.command_line.specs.declared.reading.Mode.TheVariants.{Render, Check, Migrate}
 
 -- OUT, the bits of a sample, which node goes first, what is done with the script, and the number of a script that is generated
 abbrev asks : List ℕ → ℕ → Tie → Mode → Option ℕ → Option Reading
@@ -85,6 +85,11 @@ behind_out = refl
 checked : reading (codes "--mode" ∷ codes "check" ∷ codes "o" ∷ []) ≡ asks (codes "o") 24 Up Check None
 unfolding clap_on_literals
 checked = refl
+
+-- --mode migrate o
+migrated : reading (codes "--mode" ∷ codes "migrate" ∷ codes "o" ∷ []) ≡ asks (codes "o") 24 Up Migrate None
+unfolding clap_on_literals
+migrated = refl
 
 -- --gen=7 o --mode=check --bits 16 --order=down
 all_options : reading (codes "--gen=7" ∷ codes "o" ∷ codes "--mode=check" ∷ codes "--bits" ∷ codes "16" ∷ codes "--order=down" ∷ []) ≡ asks (codes "o") 16 Down Check (Some 7)
@@ -166,8 +171,8 @@ other_case : reading (codes "--order" ∷ codes "Up" ∷ codes "o" ∷ []) ≡ N
 unfolding clap_on_literals
 other_case = refl
 
--- --mode migrate o
-other_mode : reading (codes "--mode" ∷ codes "migrate" ∷ codes "o" ∷ []) ≡ None
+-- --mode convert o
+other_mode : reading (codes "--mode" ∷ codes "convert" ∷ codes "o" ∷ []) ≡ None
 unfolding clap_on_literals
 other_mode = refl
 

@@ -6,7 +6,7 @@ use Rattle.wa_base.specs.declared.graph_names.Tie.{Tie}
 use Rattle.wa_base.specs.declared.graph_names.Tie.TheVariants.{Up, Down}
 use Rattle.command_line.specs.Texts.{Text}
 use Rattle.command_line.specs.declared.reading.Mode.{Mode}
-use Rattle.command_line.specs.declared.reading.Mode.TheVariants.{Render, Check}
+use Rattle.command_line.specs.declared.reading.Mode.TheVariants.{Render, Check, Migrate}
 
 -- the bits of a sample
 abbrev pub bits_in : Text → Option ℕ
@@ -18,7 +18,7 @@ order_in text = if bytes_eq text (codes "up") then Some Up else if bytes_eq text
 
 -- what is done with the script
 abbrev pub mode_in : Text → Option Mode
-mode_in text = if bytes_eq text (codes "render") then Some Render else if bytes_eq text (codes "check") then Some Check else None
+mode_in text = if bytes_eq text (codes "render") then Some Render else if bytes_eq text (codes "check") then Some Check else if bytes_eq text (codes "migrate") then Some Migrate else None
 
 -- whether a text is 1 to 4 decimal digits
 abbrev pub is_number : Text → Bool

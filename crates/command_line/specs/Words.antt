@@ -7,11 +7,11 @@ use Rattle.command_line.specs.Texts.{Text, Given}
 use Rattle.command_line.specs.Values.{bits_in, order_in, mode_in, number_in, out_in, value_or}
 use Rattle.command_line.specs.WordByWord.{texts_by_word}
 use Rattle.command_line.specs.declared.reading.Mode.{Mode}
-use Rattle.command_line.specs.declared.reading.Mode.TheVariants.{Render, Check}
+use Rattle.command_line.specs.declared.reading.Mode.TheVariants.{Render, Check, Migrate}
 
 -- the answer to words without a reading
 abbrev pub usage : List ℕ
-usage = codes "words: waplay [--bits 16|24] [--order up|down] [--mode render|check] [--gen N] OUT\n"
+usage = codes "words: waplay [--bits 16|24] [--order up|down] [--mode render|check|migrate] [--gen N] OUT\n"
 
 -- what words ask for: the path OUT, the bits of a sample in the file, which of two nodes goes first, what is done with the script, and the number of a script that is generated
 pub record Reading : Type 0 where
@@ -25,6 +25,13 @@ pub record Reading : Type 0 where
 abbrev pub renders : Mode → Bool
 renders Render = true
 renders Check = false
+renders Migrate = false
+
+-- whether the script is written, as one of version 2
+abbrev pub migrates : Mode → Bool
+migrates Render = false
+migrates Check = false
+migrates Migrate = true
 
 -- a script is generated where a number is given, and else none is
 abbrev pub generated_in : Text → Option (Option ℕ)

@@ -10,7 +10,7 @@ use wa_base::{NoMemory, Tie};
 
 /// What a command line without a reading is answered with.
 pub const USAGE: &[u8] =
-    b"words: waplay [--bits 16|24] [--order up|down] [--mode render|check] [--gen N] OUT\n";
+    b"words: waplay [--bits 16|24] [--order up|down] [--mode render|check|migrate] [--gen N] OUT\n";
 
 /// What is done with a script.
 #[derive(Clone, Copy, PartialEq, Eq)]
@@ -19,6 +19,8 @@ pub enum Mode {
     Render,
     /// The session runs without samples, and no file is written.
     Check,
+    /// The session runs without samples, and the script is written as one of version 2.
+    Migrate,
 }
 
 impl Mode {
@@ -28,7 +30,17 @@ impl Mode {
     {
         match self {
             Mode::Render => true,
-            Mode::Check => false,
+            Mode::Check | Mode::Migrate => false,
+        }
+    }
+
+    /// Whether the script is written, with its times in seconds.
+    pub fn migrates(self) -> bool
+        ensures { result ≡ words_spec.migrates self }
+    {
+        match self {
+            Mode::Migrate => true,
+            Mode::Render | Mode::Check => false,
         }
     }
 }
@@ -36,7 +48,7 @@ impl Mode {
 /// What the words of a command line ask for.
 #[derive(Drop)]
 pub struct Reading<'a> {
-    /// The path of the WAV file.
+    /// The path of the file that is written: the WAV file or the script.
     pub out: &'a str,
     /// The bits of a sample in the file, 16 or 24.
     pub bits: u32,

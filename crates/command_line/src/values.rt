@@ -37,6 +37,7 @@ pub fn mode_of(given: Option<&str>) -> Option<Mode>
     match given {
         Some("render") | None => Some(Mode::Render),
         Some("check") => Some(Mode::Check),
+        Some("migrate") => Some(Mode::Migrate),
         Some(_) => None,
     }
 }

@@ -21,7 +21,8 @@ use Rattle.name_book.specs.declared.book.Object.{Object}
 use Rattle.name_book.specs.declared.book.Object.TheVariants as object
 use Rattle.node_table.specs.Kinds.{is_delay_kind}
 use Rattle.node_table.specs.declared.kinds.Kind.{Kind}
-use Rattle.node_table.specs.declared.kinds.Kind.TheVariants.{Delay, Shaper}
+use Rattle.node_table.specs.declared.equation.Equation.TheVariants.{Processor}
+use Rattle.node_table.specs.declared.kinds.Kind.TheVariants.{Causal, Delay, Shaper}
 use Rattle.conn_graph.specs.Edges.{form_node}
 use Rattle.meaning.specs.declared.automation.ParamEdit.{ParamEdit}
 use Rattle.meaning.specs.declared.automation.ParamEdit.TheVariants as line
@@ -41,6 +42,7 @@ use Rattle.control_side.specs.Convolvers.{normalization_refusal}
 use Rattle.control_side.specs.Deciding.{by_buffer, with_buffer}
 use Rattle.control_side.specs.Machine.{Machine, IsAccepted}
 use Rattle.control_side.specs.Params.{param_at, name_refusal, lead_refusal, unless_refused, on_param, edits_param, leads, edge_to_param, form_of_param}
+use Rattle.control_side.specs.Processors.{program_refusal}
 use Rattle.control_side.specs.Shapers.{oversample_refusal, is_shaper, sets_oversample}
 use Rattle.control_side.specs.Steady.{IsSteady}
 use Rattle.control_side.specs.Step.{node_bound, node_named, buffer_bound, buffer_named, refused, unless, edits, edits_node, edits_nodes, edits_buffer, edits_with_buffer, sets_buffer, rate_of, delay_of, edge_of, form_to, form_from, promises, decided, is_start, is_resume, IsFor}
@@ -234,6 +236,9 @@ comes m (op.CopyToChannel buffer channel samples first) =
 comes m (op.CreateWaveShaper name curve oversample) =
     let e : Edit = edit.Create (Shaper curve (is_some curve)) in
     unless_refused_comes m (op.CreateWaveShaper name curve oversample) (oversample_refusal oversample) (edits m e) (λ fine. edits_come m (op.CreateWaveShaper name curve oversample) e ((λ steady in_range. (refl, tt)), refl))
+comes m (op.CreateProcessor name code) =
+    let e : Edit = edit.Create (Causal (Processor code)) in
+    unless_refused_comes m (op.CreateProcessor name code) (program_refusal code) (edits m e) (λ fine. edits_come m (op.CreateProcessor name code) e ((λ steady in_range. (refl, tt)), refl))
 comes m (op.SetCurve node curve) = node_comes m (op.SetCurve node curve) (node_named m node) (λ n. edit.SetCurve n curve) (λ a is. ((λ steady in_range. node_there m steady node a is), refl))
 comes m (op.SetOversample node value) = oversample_comes m (op.SetOversample node value) (node_named m node) value
 comes m (op.SetValue node param value) = edits_param_comes m (op.SetValue node param value) refl node param (line.SetNow value)
@@ -269,7 +274,7 @@ comes m (op.Suspend time) =
 comes m op.Resume = promise_comes m op.Resume (resume_refusal m.context) comes_to.Resume (λ fine. (refl, fine))
 comes m op.ReadState = tt
 comes m op.ReadTime = tt
-comes m (op.LeftOut left_out) = tt
+comes m (op.LeftOut name) = tt
 comes m (op.DecodeAudioData name path) = tt
 
 comes_for : (m : Machine) → IsSteady m → (o : Op) → IsInRange o → (d : Decided) → Comes m o d → IsFor m o d
@@ -287,7 +292,8 @@ pub is_new : (o : Op) (name : List ℕ) → IsInRange o → new_name o ≡ Some 
 is_new (op.Create new kind) name in_range is = subst (λ (x : Option (List ℕ)). IfSome x IsNewName) is in_range.0
 is_new (op.CreateDelay new longest time) name in_range is = subst (λ (x : Option (List ℕ)). IfSome x IsNewName) is in_range.0
 is_new (op.CreateWaveShaper new curve oversample) name in_range is = subst (λ (x : Option (List ℕ)). IfSome x IsNewName) is in_range.0
-is_new (op.CreateConvolver new buffer disable_normalization) name in_range is = subst (λ (x : Option (List ℕ)). IfSome x IsNewName) is in_range
+is_new (op.CreateConvolver new buffer disable_normalization) name in_range is = subst (λ (x : Option (List ℕ)). IfSome x IsNewName) is in_range.0
+is_new (op.CreateProcessor new code) name in_range is = subst (λ (x : Option (List ℕ)). IfSome x IsNewName) is in_range.0
 is_new (op.CreateBufferSource new buffer looping loop_start loop_end rate) name in_range is = subst (λ (x : Option (List ℕ)). IfSome x IsNewName) is in_range.0
 is_new (op.CreateBuffer new channels frames rate) name in_range is = subst (λ (x : Option (List ℕ)). IfSome x IsNewName) is in_range.0
 is_new (op.DecodeAudioData new path) name in_range is = subst (λ (x : Option (List ℕ)). IfSome x IsNewName) is in_range.0

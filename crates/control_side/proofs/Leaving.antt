@@ -6,7 +6,7 @@ use Rattle.wa_base.specs.declared.exceptions.Exc.{Exc}
 use Rattle.wa_base.specs.declared.exceptions.Exc.TheVariants.{NotSupported}
 use Rattle.wa_base.specs.declared.features.Feature.TheVariants.{Resampling, AssetSize}
 use Rattle.wav_io.specs.WavGrammar.{wav_of}
-use Rattle.wav_io.specs.declared.wav.Wav.{Wav}
+use Rattle.buffer_store.specs.declared.wav.Wav.{Wav}
 use Rattle.wav_io.specs.declared.wav.WavErr.{WavErr}
 use Rattle.script_ast.specs.Operations.{new_name}
 use Rattle.script_ast.specs.declared.call_list.Call.{Call}

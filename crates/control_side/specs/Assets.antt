@@ -8,7 +8,7 @@ use Rattle.io_edge.specs.declared.files.Fetched.{Fetched}
 use Rattle.io_edge.specs.declared.files.Fetched.TheVariants.{Bytes, Missing, TooLong}
 use Rattle.transcript.specs.declared.lines.Answer.TheVariants.{Rejected}
 use Rattle.wav_io.specs.WavGrammar.{wav_of}
-use Rattle.wav_io.specs.declared.wav.Wav.{Wav}
+use Rattle.buffer_store.specs.declared.wav.Wav.{Wav}
 use Rattle.wav_io.specs.declared.wav.WavErr.{WavErr}
 use Rattle.meaning.specs.declared.buffers.BufferEdit.TheVariants.{Adopt}
 use Rattle.meaning.specs.declared.change.Edit.{Edit}

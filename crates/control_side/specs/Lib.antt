@@ -4,6 +4,7 @@ pub mod Convolvers
 pub mod Deciding
 pub mod Machine
 pub mod Params
+pub mod Processors
 pub mod Shapers
 pub mod Steady
 pub mod Step

@@ -9,6 +9,7 @@ use Rattle.wa_base.specs.declared.features.Feature.TheVariants as feature
 use Rattle.wa_base.specs.declared.graph_names.NodeId.{NodeId}
 use Rattle.io_edge.specs.Paths.{Paths}
 use Rattle.ctx_state.specs.Context.{ContextView, start_refusal, with_start, resume_refusal, resumed, suspend_refusal, suspend_frame, may_suspend, with_suspension}
+use Rattle.script_ast.specs.Entries.{left_out_feature}
 use Rattle.script_ast.specs.Operations.{new_name}
 use Rattle.script_ast.specs.declared.call_list.Call.{Call}
 use Rattle.script_ast.specs.declared.operations.Op.{Op}
@@ -42,6 +43,7 @@ use Rattle.control_side.specs.Assets.{decodes}
 use Rattle.control_side.specs.Convolvers.{creates_convolver}
 use Rattle.control_side.specs.Machine.{Machine, IsAccepted}
 use Rattle.control_side.specs.Params.{param_at, on_param, edits_param, leads, edge_to_param, form_of_param}
+use Rattle.control_side.specs.Processors.{creates_processor}
 use Rattle.control_side.specs.Shapers.{creates_shaper, sets_oversample}
 pub use Rattle.control_side.specs.Deciding.{node_bound, node_named, buffer_bound, buffer_named, refused, unless, edits, edits_node, edits_nodes, edits_buffer, edits_with_buffer, sets_buffer}
 
@@ -107,6 +109,8 @@ decided machine (op.CopyToChannel buffer channel samples first) =
 decided machine (op.CreateWaveShaper name curve oversample) = creates_shaper machine curve oversample
 decided machine (op.SetCurve node curve) = edits_node machine (node_named machine node) (λ n. edit.SetCurve n curve)
 decided machine (op.SetOversample node value) = sets_oversample machine (node_named machine node) value
+-- processors (AudioWorkletNode)
+decided machine (op.CreateProcessor name code) = creates_processor machine code
 -- on the timelines of parameters (AudioParam)
 decided machine (op.SetValue node param value) = edits_param machine node param (line.SetNow value)
 decided machine (op.SetValueAtTime node param value time) = edits_param machine node param (line.Set value time)
@@ -133,7 +137,7 @@ decided machine op.Resume = promises (resume_refusal machine.context) comes_to.R
 decided machine op.ReadState = comes_to.Answer (answer.State machine.context.state)
 decided machine op.ReadTime = comes_to.Answer (answer.Time machine.context.time)
 -- what the profile leaves out
-decided machine (op.LeftOut left_out) = refused (NotSupported (Some left_out))
+decided machine (op.LeftOut name) = refused (NotSupported (Some (left_out_feature name)))
 -- where the folder holds nothing
 decided machine (op.DecodeAudioData name path) = decodes machine None
 

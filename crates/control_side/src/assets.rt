@@ -2,7 +2,8 @@ ghost use Rattle.std.specs.Prelude.{◌≡◌, ◌≤◌, ◌<◌, IsTrue, IfOk,
 ghost use Rattle.io_edge.specs.Faults.{Rose};
 ghost use Rattle.io_edge.specs.Fetch.{IsWithin};
 ghost use Rattle.io_edge.specs.Paths.{Paths, SamePaths};
-ghost use Rattle.wav_io.specs.WavGrammar.{IsRecording, rate_of, wav_of};
+ghost use Rattle.buffer_store.specs.Recordings.{IsRecording};
+ghost use Rattle.wav_io.specs.WavGrammar.{rate_of, wav_of};
 ghost use Rattle.control_side.specs.Assets as spec;
 ghost use Rattle.control_side.specs.Assets.{IsHeld, IsFit};
 

@@ -64,6 +64,7 @@ impl Control {
             Interface::Source => Ok(self.decide_on_source(op)),
             Interface::Buffer => self.decide_on_buffer(op),
             Interface::Shaper => self.decide_on_shaper(op),
+            Interface::Processor => self.decide_on_processor(op),
             Interface::Timeline => self.decide_on_timeline(op),
             Interface::Param => Ok(self.decide_on_param(op)),
             Interface::Context => Ok(self.decide_on_context(op)),
@@ -79,7 +80,7 @@ impl Control {
         ensures { result ≡ spec.decided self.now op.now }
     {
         match op {
-            Op::LeftOut { feature } => refused(Exc::NotSupported(Some(*feature))),
+            Op::LeftOut { name } => refused(Exc::NotSupported(Some(name.feature()))),
             _ => unreachable!(),
         }
     }

@@ -12,6 +12,7 @@ mod ends;
 mod laws;
 mod nodes;
 mod params;
+mod processors;
 mod shapers;
 mod sources;
 mod stop;

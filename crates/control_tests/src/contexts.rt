@@ -11,6 +11,7 @@ fn spec_of(length: u64) -> ContextSpec {
         channels: 1,
         length,
         rate: 48_000,
+        quantum: 128,
     }
 }
 

@@ -23,6 +23,7 @@ const CONTEXT: ContextSpec = ContextSpec {
     channels: 2,
     length: 512,
     rate: 48_000,
+    quantum: 128,
 };
 
 // A world, the messages of its changes, and a world that hears them.

@@ -3,8 +3,8 @@ use Rattle.std.proofs.Common.{ℕ, ℤ, pos, zero, suc, ◌≡◌, ◌+◌, ◌-
 use Rattle.std.specs.Prelude.{min}
 use Rattle.std.proofs.lemmas.Int.{ints}
 use Rattle.std.proofs.lemmas.List.{get_or-take, length-take, take_min}
-use Rattle.causal_core.specs.Filters.{dot}
-use Rattle.causal_core.proofs.Sums.{dot_same}
+use Rattle.node_table.specs.Filters.{dot}
+use Rattle.node_table.proofs.Sums.{dot_same}
 
 -- one more product
 dot_step : (i : ℕ) (cs xs : List ℤ) → i < length cs → i < length xs → dot (take (suc i) cs) xs ≡ dot (take i cs) xs +ℤ get_or cs i (pos 0) *ℤ get_or xs i (pos 0)

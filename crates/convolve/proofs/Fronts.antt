@@ -3,10 +3,10 @@ use Rattle.std.proofs.Common.{ℕ, ℤ, pos, zero, suc, ◌≡◌, ◌+◌, ◌-
 use Rattle.std.specs.List.{CopiedTo}
 use Rattle.std.proofs.lemmas.Bool.{cases_lt}
 use Rattle.std.proofs.lemmas.List.{get_or-take, get_or-drop, length-take, length-drop, take-take, drop-set, get_or-replicate, get_or_past, length-replicate, same_lists, drop-replicate, take-replicate}
-use Rattle.causal_core.specs.Frames.{item}
-use Rattle.causal_core.proofs.Sums.{dot_same, dot_zero}
+use Rattle.node_table.specs.Frames.{item}
+use Rattle.node_table.proofs.Sums.{dot_same, dot_zero}
 use Rattle.wa_base.specs.Numbers.{rnd, sat}
-use Rattle.causal_core.specs.Convolutions.{convolution}
+use Rattle.node_table.specs.Convolutions.{convolution}
 use Rattle.convolve.specs.Lines.{Recalls, in_front, silence, IsQuiet}
 
 pub frames_long : (xs : List ℤ) (start kept : ℕ) → start + kept ≤ length xs → length (take kept (drop start xs)) ≡ kept

@@ -4,8 +4,8 @@ use borrow.Rule.Slice.PartMut.{put_mid}
 use Rattle.std.proofs.lemmas.Bool.{cases_lt}
 use Rattle.std.proofs.lemmas.List.{places, get_or_past}
 use Rattle.std.proofs.lemmas.Nat.{mul-le}
-use Rattle.causal_core.specs.Frames.{item, heard}
-use Rattle.causal_core.specs.Convolutions.{convolution}
+use Rattle.node_table.specs.Frames.{item, heard}
+use Rattle.node_table.specs.Convolutions.{convolution}
 use Rattle.convolve.specs.Lines.{Recalls, HasHeard, in_front, silence}
 use Rattle.convolve.proofs.Fronts.{length_front, recalls_more, recalled_output, silent_recalls}
 

@@ -1,6 +1,6 @@
 -- Worked convolutions, as the definition computes them.
 use Rattle.std.proofs.Common.{pos, negsuc, ◌≡◌, [], ◌∷◌, refl, map}
-use Rattle.causal_core.specs.Convolutions.{convolution}
+use Rattle.node_table.specs.Convolutions.{convolution}
 
 -- 1.0, nothing, and then a half, on a constant of 0.25: in frames 0 and 1 the constant, and from frame 2 on a half of it more
 constant : map (convolution (pos 16777216 ∷ pos 0 ∷ pos 8388608 ∷ []))

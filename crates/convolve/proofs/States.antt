@@ -2,8 +2,8 @@
 use Rattle.std.proofs.Common.{◌≡◌, ◌<◌, ◌+◌, ◌-◌, ◌*◌, ℕ, zero, suc, ℤ, pos, List, [], ◌∷◌, ◌++◌, length, replicate, get_or, ap, subst, sym, refl, ◌∙◌, arith, inl, inr}
 use Rattle.std.proofs.lemmas.Bool.{cases_lt}
 use Rattle.std.proofs.lemmas.List.{get_or_append_left, get_or-append_right, get_or-replicate, length-append, length-replicate}
-use Rattle.causal_core.specs.Frames.{item, heard}
-use Rattle.causal_core.specs.Convolutions.{convolution}
+use Rattle.node_table.specs.Frames.{item, heard}
+use Rattle.node_table.specs.Convolutions.{convolution}
 use Rattle.convolve.specs.Convolver.{ConvolverView, ConvolverStands}
 use Rattle.convolve.specs.Lines.{Recalls, AreLong, silence}
 use Rattle.convolve.proofs.Hearing.{HaveHeard, block_stands}

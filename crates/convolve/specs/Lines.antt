@@ -1,6 +1,6 @@
 -- What a convolver keeps of a channel: its newest frames, the newest of all first.
 use Rattle.std.specs.Prelude.{ℕ, ◌≡◌, ◌<◌, ℤ, pos, List, ◌∷◌, length, take, replicate, slice_index_or}
-use Rattle.causal_core.specs.Frames.{item, heard}
+use Rattle.node_table.specs.Frames.{item, heard}
 
 -- these are the newest frames of all that were heard, where one before birth is 0
 abbrev pub Recalls : (kept frames : List ℤ) → Type 0

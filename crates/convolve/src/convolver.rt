@@ -1,12 +1,12 @@
 ghost use Rattle.std.specs.Prelude.{◌≡◌, ◌<◌, ◌≤◌, ◌+◌, ◌*◌, ◌++◌, [], ℕ, ℤ, List, None, length, replicate, max, slice_index_or, IfOk, OnOk, OnErr};
-ghost use Rattle.causal_core.specs.Frames.{item, heard};
-ghost use Rattle.causal_core.specs.Convolutions.{convolution, response_refusal};
+ghost use Rattle.node_table.specs.Frames.{item, heard};
+ghost use Rattle.node_table.specs.Convolutions.{convolution, response_refusal};
 ghost use Rattle.convolve.specs.Responses.{IsResponse};
 ghost use Rattle.convolve.specs.Convolver.{ConvolverStands, kept_of};
 ghost use Rattle.convolve.specs.Lines.{Recalls, HasHeard, AreLong, silence};
 
 use crate::lines::Line;
-use causal_core::Causal;
+use node_table::Causal;
 use std::alloc::Global;
 use std::marker::Model;
 use wa_base::{Fix, NoMemory, Samples};
@@ -58,7 +58,7 @@ impl Convolver {
 
 impl Causal for Convolver {
     ghost use Rattle.std.specs.Prelude.{length};
-    ghost use Rattle.causal_core.specs.Convolutions.{convolution};
+    ghost use Rattle.node_table.specs.Convolutions.{convolution};
 
     ghost stands = { ConvolverStands };
 

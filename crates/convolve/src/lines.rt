@@ -1,5 +1,5 @@
 ghost use Rattle.std.specs.Prelude.{◌≡◌, ◌≤◌, ◌<◌, ◌+◌, ℤ, List, length, take, drop, IfOk};
-ghost use Rattle.causal_core.specs.Convolutions.{convolution};
+ghost use Rattle.node_table.specs.Convolutions.{convolution};
 ghost use Rattle.convolve.specs.Responses.{IsResponse};
 ghost use Rattle.convolve.specs.Lines.{in_front, silence, IsQuiet};
 

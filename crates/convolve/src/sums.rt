@@ -1,8 +1,8 @@
 ghost use Rattle.std.specs.Prelude.{◌≡◌, ◌≤◌, ◌+◌, ◌^◌, ◌+ℤ◌, ◌*ℤ◌, length, unsigned_abs, All};
 ghost use Rattle.wa_base.specs.Numbers.{sat as saturated};
-ghost use Rattle.causal_core.specs.Filters as filters;
+ghost use Rattle.node_table.specs.Filters as filters;
 ghost use Rattle.lane_kern.specs.Blocks.{IsWithin};
-ghost use Rattle.causal_core.specs.Convolutions.{convolution};
+ghost use Rattle.node_table.specs.Convolutions.{convolution};
 ghost use Rattle.convolve.specs.Responses.{IsResponse};
 
 use wa_base::{Fix, ONE, rnd_div};

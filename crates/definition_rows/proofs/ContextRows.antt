@@ -6,17 +6,18 @@ use Rattle.script_ast.specs.declared.operations.Op.TheVariants as op
 use Rattle.transcript.specs.declared.lines.Answer.TheVariants.{Pending, Resolved, Rejected, State, Time}
 use Rattle.definition_rows.proofs.Machines.{ℕ, pos, neg_ℤ, ◌≡◌, [], ◌∷◌, map, true, false, refl, InvalidState, Answer, Machine, first_machine, stepped, after, ◌gives◌, Answers, context, at_frame}
 
--- ---- 1 to 32 channels, 1 to 33,554,432 frames, 8,000 to 96,000 frames a second, and at most 67,108,864 samples
+-- ---- 1 to 32 channels, 1 to 33,554,432 frames, 8,000 to 96,000 frames a second, at most 67,108,864 samples, and quanta of 128 frames
 abbrev spec : ℕ → ℕ → ℕ → ContextSpec
-spec channels length rate = record { channels = channels; length = length; rate = rate }
+spec channels length rate = record { channels = channels; length = length; rate = rate; quantum = 128 }
 
 -- 67,108,864 is 2 times 33,554,432 and 32 times 2,097,152; 67,108,865 is 5 times 13,421,773
 contexts : (map (λ n. is_supported (spec n 1 48000)) (0 ∷ 1 ∷ 32 ∷ 33 ∷ []) ≡ false ∷ true ∷ true ∷ false ∷ [])
     × (map (λ n. is_supported (spec 1 n 48000)) (0 ∷ 1 ∷ 33554432 ∷ 33554433 ∷ []) ≡ false ∷ true ∷ true ∷ false ∷ [])
     × (map (λ n. is_supported (spec 1 1 n)) (7999 ∷ 8000 ∷ 96000 ∷ 96001 ∷ []) ≡ false ∷ true ∷ true ∷ false ∷ [])
     × (map is_supported (spec 2 33554432 48000 ∷ spec 32 2097152 48000 ∷ spec 5 13421773 48000 ∷ spec 5 13421772 48000 ∷ spec 32 2097153 48000 ∷ []) ≡ true ∷ true ∷ false ∷ true ∷ false ∷ [])
+    × (map (λ n. is_supported (record { channels = 1; length = 1; rate = 48000; quantum = n })) (0 ∷ 1 ∷ 64 ∷ 127 ∷ 128 ∷ 129 ∷ 256 ∷ []) ≡ false ∷ false ∷ false ∷ false ∷ true ∷ false ∷ false ∷ [])
 unfolding is_supported
-contexts = (refl, refl, refl, refl)
+contexts = (refl, refl, refl, refl, refl)
 
 -- ---- before the start, while it renders, at a suspension and at the end; the length is 1,024
 abbrev rejected : Answer

@@ -2,12 +2,12 @@
 use Rattle.wa_base.specs.declared.features.Feature.TheVariants as feature
 use Rattle.wa_base.specs.declared.graph_names.Interp.TheVariants.{Speakers, Discrete}
 use Rattle.wa_base.specs.declared.graph_names.Mode.TheVariants.{Max, ClampedMax, Explicit}
-use Rattle.causal_core.specs.declared.equation.Equation.TheVariants.{Convolution}
+use Rattle.node_table.specs.declared.equation.Equation.TheVariants.{Convolution}
 use Rattle.node_table.specs.Nodes.{kind_at, attrs_at}
 use Rattle.node_table.specs.declared.kinds.Kind.TheVariants as kind
 use Rattle.script_ast.specs.declared.operations.Op.TheVariants as op
 use Rattle.transcript.specs.declared.lines.Answer.TheVariants.{Ok}
-use Rattle.definition_rows.proofs.Machines.{ℕ, ℤ, pos, neg_ℤ, ◌≡◌, List, [], ◌∷◌, map, codes, Option, None, Some, true, false, refl, NotSupported, IndexSize, WrongType, Op, Machine, stepped, after, ◌gives◌, Answers, throw, profile, one, studio, crowded, c, s, b, o, x, nobody}
+use Rattle.definition_rows.proofs.Machines.{ℕ, ℤ, pos, neg_ℤ, ◌≡◌, List, [], ◌∷◌, map, codes, Option, None, Some, true, false, refl, NotSupported, IndexSize, WrongType, Op, Machine, stepped, after, ◌gives◌, Answers, throw, profile, studio, crowded, c, s, b, o, x, nobody}
 
 -- ---- createConvolver: a buffer, then no normalization, then a mono buffer, then the context's rate, then at most 16,384 samples, then none above 2.0, then room
 abbrev plain : Option (List ℕ) → Op

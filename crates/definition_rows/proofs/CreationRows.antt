@@ -1,10 +1,11 @@
 -- Nodes and buffers that are created (BaseAudioContext): what is refused, in which order, and what is there afterwards.
 use Rattle.wa_base.specs.declared.features.Feature.TheVariants as feature
-use Rattle.causal_core.specs.declared.equation.Equation.TheVariants.{Filter}
+use Rattle.node_table.specs.declared.equation.Equation.TheVariants.{Filter}
 use Rattle.node_table.specs.Nodes.{kind_at}
 use Rattle.node_table.specs.declared.kinds.Kind.TheVariants as kind
 use Rattle.meaning.specs.declared.buffers.BufferEdit.TheVariants as buffer_edit
 use Rattle.meaning.specs.declared.change.Edit.TheVariants as edit
+use Rattle.script_ast.specs.declared.left_out.LeftOutName.TheVariants as unbuilt
 use Rattle.script_ast.specs.declared.operations.Op.TheVariants as op
 use Rattle.script_ast.specs.declared.operations.Oversample.TheVariants.{Off, Two, Four}
 use Rattle.transcript.specs.declared.lines.Answer.TheVariants.{Ok}
@@ -119,6 +120,6 @@ unfolding stepped after studio
 bound_anew = (refl, refl)
 
 -- ---- what the profile leaves out is refused for its feature, with its fields unread
-left_out : Answers studio (op.LeftOut feature.Oscillator gives profile feature.Oscillator ∷ op.LeftOut feature.Listener gives profile feature.Listener ∷ op.LeftOut feature.AudioWorklet gives profile feature.AudioWorklet ∷ [])
+left_out : Answers studio (op.LeftOut unbuilt.CreateOscillator gives profile feature.Oscillator ∷ op.LeftOut unbuilt.CreatePanner gives profile feature.Panner ∷ op.LeftOut unbuilt.CreateAudioWorkletNode gives profile feature.AudioWorklet ∷ [])
 unfolding stepped after studio
 left_out = refl

@@ -2,7 +2,7 @@
 use Rattle.std.specs.Prelude.{take, length, Result, Ok, Err}
 use Rattle.wa_base.specs.declared.features.Feature.TheVariants as feature
 use Rattle.wav_io.specs.WavGrammar.{is_riff, kind_named, chunk_at, chunks_from, is_extended, is_pcm, is_width, has_shape, is_short, format_in, value_of, wav_in, wav_of}
-use Rattle.wav_io.specs.declared.wav.Wav.{Wav}
+use Rattle.buffer_store.specs.declared.wav.Wav.{Wav}
 use Rattle.wav_io.specs.declared.wav.WavErr.{WavErr}
 use Rattle.wav_io.specs.declared.wav.WavErr.TheVariants.{NotRiff, NoFormat, UnknownTag, BadBits, BadShape, NoData, DataFirst}
 use Rattle.buffer_store.specs.declared.buffers.Buffer.{Buffer}

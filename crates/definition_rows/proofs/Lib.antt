@@ -1,6 +1,7 @@
 pub mod Machines
 mod CreationRows
 mod ConvolverRows
+mod ProcessorRows
 mod ConnectionRows
 mod AttributeRows
 mod SourceRows

@@ -109,7 +109,7 @@ one = pos 16777216
 
 -- one channel of eight quanta at so many frames a second
 abbrev pub context : ℕ → ContextSpec
-context rate = record { channels = 1; length = 1024; rate = rate }
+context rate = record { channels = 1; length = 1024; rate = rate; quantum = 128 }
 
 -- Behind the destination a constant source c, a gain g, a buffer source s without a buffer, a delay d, a shaper w without a curve, a splitter p with
 -- three outputs and a merger m with three inputs; and two mono buffers of four frames, b at the context's rate and o at another.

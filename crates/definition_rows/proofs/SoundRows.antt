@@ -2,9 +2,9 @@
 use Rattle.std.specs.Prelude.{negsuc}
 use Rattle.law_base.specs.Heights.{at_height, before, at_moment, state}
 use Rattle.law_base.specs.Reaching.{reaches}
-use Rattle.channel_mix.specs.Mixing.{form, mix}
+use Rattle.mix_rules.specs.Mixing.{form, mix}
 use Rattle.param_events.specs.Values.{value_at as intrinsic_at}
-use Rattle.causal_core.specs.declared.equation.Equation.TheVariants.{Filter}
+use Rattle.node_table.specs.declared.equation.Equation.TheVariants.{Filter}
 use Rattle.conn_graph.specs.Ends.{ends, in_cycle, arrow, height, muted}
 use Rattle.node_table.specs.declared.kinds.Kind.TheVariants as kind
 use Rattle.script_ast.specs.declared.operations.Op.TheVariants as op

@@ -1,7 +1,7 @@
 -- A delay keeps what every writer wrote that agrees with its own.
 use Rattle.std.proofs.Common.{ℕ, ◌≡◌, ◌+◌, ◌-◌, ◌*◌, ◌/◌, ◌<◌, ◌≤◌, Option, sym, ◌∙◌, ap, arith, subst}
 use Rattle.std.proofs.Math.Nat.{div-mul-le_self}
-use Rattle.channel_mix.specs.Counts.{greatest}
+use Rattle.mix_rules.specs.Counts.{greatest}
 use Rattle.delay_line.specs.Delays.{Writer}
 use Rattle.delay_line.specs.Lines.{IsKept as IsLineKept}
 use Rattle.meaning.proofs.Seeing.{same_since}

@@ -8,9 +8,9 @@ use Rattle.std.proofs.lemmas.Bool.Decides.{nat_tests}
 use Rattle.std.proofs.lemmas.Nat.{div-mul-add}
 use Rattle.std.proofs.Math.Nat.{lt-div-mul-add, div-mul-le_self}
 use Rattle.wa_base.specs.declared.graph_names.Interp.{Interp}
-use Rattle.channel_mix.specs.Blocks.{sample}
-use Rattle.channel_mix.specs.Counts.{greatest}
-use Rattle.channel_mix.specs.Mixing.{mix}
+use Rattle.mix_rules.specs.Blocks.{sample}
+use Rattle.mix_rules.specs.Counts.{greatest}
+use Rattle.mix_rules.specs.Mixing.{mix}
 use Rattle.delay_line.specs.Delays.{Writer, delayed}
 use Rattle.delay_line.specs.Lines.{Line, count_at, Keeps, IsNext}
 use Rattle.meaning.specs.Lists.{since}

@@ -1,9 +1,9 @@
 -- What the delay of a node keeps of what its writer wrote.
 use Rattle.std.specs.Prelude.{ℕ, ℤ, pos, ◌≡◌, ◌↔◌, ◌<◌, ◌≤◌, ◌+◌, ◌-◌, ◌*◌, ◌/◌, ◌⊎◌, ◌&&◌, Bool, nat_lt, nat_le, if◌then◌else◌, length, List, [], All, Option, None, Some}
 use Rattle.wa_base.specs.declared.graph_names.Interp.{Interp}
-use Rattle.channel_mix.specs.Blocks.{sample}
-use Rattle.channel_mix.specs.Counts.{greatest}
-use Rattle.channel_mix.specs.Mixing.{mix}
+use Rattle.mix_rules.specs.Blocks.{sample}
+use Rattle.mix_rules.specs.Counts.{greatest}
+use Rattle.mix_rules.specs.Mixing.{mix}
 use Rattle.delay_line.specs.Delays.{Writer}
 use Rattle.delay_line.specs.Lines.{Line, Keeps}
 use Rattle.delay_line.specs.Spans.{delay_at}

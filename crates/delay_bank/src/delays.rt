@@ -1,5 +1,5 @@
 ghost use Rattle.std.specs.Prelude.{◌≡◌, ◌<◌, ◌≤◌, ◌+◌, ◌*◌, ◌/◌, ◌^◌, ℕ, Some, None, [], IfSome, max, take, length, slice_index_or, IfOk, OnOk};
-ghost use Rattle.channel_mix.specs.Blocks.{sample};
+ghost use Rattle.mix_rules.specs.Blocks.{sample};
 ghost use Rattle.delay_line.specs.Delays.{Writer};
 ghost use Rattle.delay_line.specs.Spans.{delay_at as frames_back};
 ghost use Rattle.meaning.specs.Validity.{IsValid};

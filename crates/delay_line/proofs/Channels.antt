@@ -4,8 +4,8 @@ use Rattle.std.proofs.lemmas.List.{get_or-take, get_or-drop}
 use Rattle.std.proofs.lemmas.Nat.{mul-le}
 use borrow.Rule.Slice.PartMut.{put_mid}
 use Rattle.lane_kern.specs.Blocks.{at}
-use Rattle.channel_mix.specs.Blocks.{sample}
-use Rattle.channel_mix.proofs.Sums.{written_before, written_here, written_after}
+use Rattle.mix_rules.specs.Blocks.{sample}
+use Rattle.lane_kern.proofs.Written.{written_before, written_here, written_after}
 use Rattle.delay_line.specs.Spans.{delay_at}
 use Rattle.delay_line.proofs.Ends.{order}
 

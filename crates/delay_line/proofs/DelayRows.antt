@@ -3,7 +3,7 @@ use Rattle.std.proofs.Common.{ℕ, ℤ, pos, sym, ◌≡◌, ◌+◌, ◌*◌, L
 use Rattle.std.specs.List.{range_with_len}
 use Rattle.wa_base.specs.declared.graph_names.Interp.{Interp}
 use Rattle.wa_base.specs.declared.graph_names.Interp.TheVariants.{Speakers, Discrete}
-use Rattle.channel_mix.specs.Mixing.{form, mix}
+use Rattle.mix_rules.specs.Mixing.{form, mix}
 use Rattle.delay_line.specs.Delays.{Writer, delayed}
 use Rattle.delay_line.specs.Spans.{heard_count, IsReached}
 use Rattle.delay_line.specs.Lines.{Line, IsKept, Keeps, IsNext, count_at, frame_at}

@@ -4,7 +4,7 @@ use Rattle.std.proofs.Math.Nat.{div-mul-le_self}
 use Rattle.std.proofs.lemmas.Bool.{lt-ltb, le-ltb}
 use Rattle.std.proofs.lemmas.Nat.{le-div}
 use Rattle.wa_base.specs.declared.graph_names.Interp.{Interp}
-use Rattle.channel_mix.specs.Mixing.{mix}
+use Rattle.mix_rules.specs.Mixing.{mix}
 use Rattle.delay_line.specs.declared.counts.Stretch.{Stretch}
 use Rattle.delay_line.specs.Delays.{Writer, delayed}
 use Rattle.delay_line.specs.Lines.{Line, written, from_end, count_at, frame_at, Keeps}

@@ -1,8 +1,8 @@
 -- What a channel that is mixed up holds.
 use Rattle.std.proofs.Common.{ℕ, ℤ, ◌≡◌, ◌≤◌, refl, ap, sym, ◌∙◌, Option, Some, None, arith}
 use Rattle.wa_base.specs.declared.graph_names.Interp.{Interp}
-use Rattle.channel_mix.specs.Mixing.{Form, form, applied, mix}
-use Rattle.channel_mix.proofs.Forms.{applied_channel}
+use Rattle.mix_rules.specs.Mixing.{Form, form, applied, mix}
+use Rattle.mix_rules.proofs.Forms.{applied_channel}
 use Rattle.delay_line.specs.Sources.{repeated, picked, needed}
 
 applied_repeated : (from : ℕ) (source : Option ℕ) (frame : ℕ → ℤ) → needed source ≤ from → applied (repeated from source) frame ≡ picked frame source

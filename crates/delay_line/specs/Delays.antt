@@ -1,7 +1,7 @@
 -- What the reader of a delay gives of what its writer wrote.
 use Rattle.std.specs.Prelude.{ℕ, ◌-◌, ◌/◌, nat_lt, if◌then◌else◌, ℤ, pos}
 use Rattle.wa_base.specs.declared.graph_names.Interp.{Interp}
-use Rattle.channel_mix.specs.Mixing.{mix}
+use Rattle.mix_rules.specs.Mixing.{mix}
 
 -- What was written since the delay's birth, which is at frame 0: with how many channels each block, and channel c of frame g.
 pub record Writer : Type 0 where

@@ -1,6 +1,6 @@
 -- What a delay line keeps of what its writer wrote.
 use Rattle.std.specs.Prelude.{ℕ, ◌+◌, ◌-◌, ◌*◌, ◌/◌, ◌<◌, ◌≤◌, ◌≡◌, nat_lt, if◌then◌else◌, ℤ, pos, List, [], length, slice_index_or}
-use Rattle.channel_mix.specs.Blocks.{sample}
+use Rattle.mix_rules.specs.Blocks.{sample}
 use Rattle.delay_line.specs.Delays.{Writer}
 
 -- The longest delay and the length of a block, in frames; how many blocks were written; and what is kept of them, the oldest first: with how many channels each block was written, and the frames of each channel that there is room for.

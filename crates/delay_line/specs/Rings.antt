@@ -1,6 +1,6 @@
 -- The rings of a line, one for each channel.
 use Rattle.std.specs.Prelude.{ℕ, ◌+◌, ◌-◌, ◌<◌, ◌≡◌, ℤ, pos, List}
-use Rattle.channel_mix.specs.Blocks.{sample}
+use Rattle.mix_rules.specs.Blocks.{sample}
 use Rattle.circular_buffer.specs.Buffer.{Buffer}
 use Rattle.delay_line.specs.Lines.{from_end}
 

@@ -1,7 +1,7 @@
 -- Mixing up: each channel repeats a channel of the frame, or is silent.
 use Rattle.std.specs.Prelude.{ℕ, suc, ◌≡◌, nat_le, IsTrue, ℤ, pos, List, map, Option, Some, None}
 use Rattle.std.specs.List.{list_all}
-use Rattle.channel_mix.specs.Mixing.{Form, channel, only, silence}
+use Rattle.mix_rules.specs.Mixing.{Form, channel, only, silence}
 
 -- the linear form of a channel that repeats the channel with this index, or is silent
 abbrev pub repeated : ℕ → Option ℕ → Form

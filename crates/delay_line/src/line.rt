@@ -1,6 +1,6 @@
 ghost use Rattle.std.specs.Prelude.{◌≡◌, ◌↔◌, ◌<◌, ◌≤◌, ◌+◌, ◌-◌, ◌*◌, ◌^◌, [], ℕ, length, max, All, IfOk, OnOk, OnErr, Some};
 ghost use Rattle.lane_kern.specs.Blocks.{at};
-ghost use Rattle.channel_mix.specs.Blocks.{sample};
+ghost use Rattle.mix_rules.specs.Blocks.{sample};
 ghost use Rattle.delay_line.specs.Delays.{Writer, delayed};
 ghost use Rattle.delay_line.specs.Lines as lines;
 ghost use Rattle.delay_line.specs.Lines.{Keeps, IsNext, IsKept, frame_at};

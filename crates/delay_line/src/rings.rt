@@ -1,6 +1,6 @@
 ghost use Rattle.std.specs.Prelude.{◌≡◌, ◌<◌, ◌≤◌, ◌+◌, ◌-◌, ◌*◌, ◌^◌, ◌++◌, [], ℕ, ℤ, pos, true, length, replicate, max, slice_index_or, OnOk, OnErr};
 ghost use Rattle.lane_kern.specs.Blocks.{at};
-ghost use Rattle.channel_mix.specs.Blocks.{sample};
+ghost use Rattle.mix_rules.specs.Blocks.{sample};
 ghost use Rattle.circular_buffer.specs.Buffer.{Buffer, buffer};
 ghost use Rattle.delay_line.specs.Lines.{from_end};
 ghost use Rattle.delay_line.specs.Rings.{IsExtended};

@@ -1,5 +1,5 @@
 ghost use Rattle.std.specs.Prelude.{◌≡◌, ◌<◌, ◌≤◌, ℕ, ℤ, MatchOption, None};
-ghost use Rattle.channel_mix.specs.Mixing.{form, kept, layout, mix, table};
+ghost use Rattle.mix_rules.specs.Mixing.{form, kept, layout, mix, table};
 ghost use Rattle.delay_line.specs.Sources.{repeated, picked, needed, IsRow};
 
 use wa_base::Interp;
@@ -30,7 +30,7 @@ pub(crate) fn source_of(interp: Interp, from: usize, to: usize, channel: usize) 
 }
 
 // The same by its linear form.
-#[tactic(auto, unfolding(channel_mix::specs::Mixing::form))]
+#[tactic(auto, unfolding(mix_rules::specs::Mixing::form))]
 fn form_source(interp: Interp, from: usize, to: usize, channel: usize) -> Option<usize>
     requires up { from ≤ to }
     requires channel { channel < to }

@@ -2,7 +2,7 @@ ghost use Rattle.std.specs.Prelude.{◌≡◌, ◌≤◌, ◌*◌, length};
 
 use crate::digest::{mixed, with_samples};
 use crate::random::Random;
-use causal_core::{Causal, curve_refusal, filter_refusal};
+use node_table::{Causal, curve_refusal, filter_refusal};
 use shaper_iir::{Iir, Shaper};
 use std::alloc::Global;
 use std::test::Fail;

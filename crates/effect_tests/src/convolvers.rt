@@ -1,8 +1,8 @@
 ghost use Rattle.std.specs.Prelude.{◌≡◌, ◌≤◌, ◌+◌, length, IfOk};
 
 use crate::random::Random;
-use causal_core::{Causal, response_refusal};
 use convolve::Convolver;
+use node_table::{Causal, response_refusal};
 use std::alloc::Global;
 use std::test::Fail;
 use wa_base::{Exc, Feature, Fix, NoMemory};

@@ -1,7 +1,7 @@
 ghost use Rattle.std.specs.Prelude.{◌≡◌, ◌≤◌, None, length};
-ghost use Rattle.causal_core.specs.Filters.{filter_refusal as refusal};
+ghost use Rattle.node_table.specs.Filters.{filter_refusal as refusal};
 
-use causal_core::{Causal, block_law, filter_refusal, silence_law};
+use node_table::{Causal, block_law, filter_refusal, silence_law};
 use shaper_iir::Iir;
 use std::alloc::Global;
 use std::test::Fail;

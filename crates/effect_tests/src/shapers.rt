@@ -1,6 +1,6 @@
 ghost use Rattle.std.specs.Prelude.{◌≡◌, ◌≤◌, length};
 
-use causal_core::{Causal, curve_refusal};
+use node_table::{Causal, curve_refusal};
 use shaper_iir::Shaper;
 use std::alloc::Global;
 use std::test::Fail;

@@ -2,14 +2,14 @@
 use Rattle.std.proofs.Common.{pos, replicate, ℕ, ◌≡◌, slice_index_or, Option, Some, None, inl, inr, refl, ◌∙◌, arith}
 use Rattle.std.proofs.lemmas.Bool.{cases_lt}
 use Rattle.std.proofs.lemmas.List.{get_or_past, get_or-replicate, length-replicate}
-use Rattle.filter_bank.specs.Heard.{FilterView}
+use Rattle.filter_bank.specs.Heard.{HeardView}
 use Rattle.filter_bank.specs.Banks.{IsSameIfThere}
 
-pub same_refl : (f : Option FilterView) → IsSameIfThere f f
+pub same_refl : (f : Option HeardView) → IsSameIfThere f f
 same_refl None = tt
 same_refl (Some f) = record { birth = refl; time = refl; outputs = λ frames. refl; stands_on = λ c xs is. is; stood = λ c xs is. is }
 
-pub same_after : (f g h : Option FilterView) → IsSameIfThere f g → IsSameIfThere g h → IsSameIfThere f h
+pub same_after : (f g h : Option HeardView) → IsSameIfThere f g → IsSameIfThere g h → IsSameIfThere f h
 same_after None None None a b = tt
 same_after None None (Some h) a b = absurd b
 same_after None (Some g) h a b = absurd a

@@ -1,6 +1,6 @@
 -- The frames heard since a birth, and a block more.
 use Rattle.std.proofs.Common.{ℕ, zero, suc, ℤ, ◌≡◌, ◌+◌, ◌-◌, ◌<◌, ◌≤◌, List, ◌∷◌, sym, ◌∙◌, ap, ap₂, arith}
-use Rattle.causal_core.specs.Frames.{item, heard}
+use Rattle.node_table.specs.Frames.{item, heard}
 use Rattle.meaning.specs.Lists.{since}
 
 heard_since : (at : ℕ → ℤ) (x : List ℤ) (start birth k n : ℕ) → ((i : ℕ) → i < n → at (birth + (k + i)) ≡ item x (start + i)) → heard x start n (since at birth k) ≡ since at birth (k + n)

@@ -1,9 +1,9 @@
 //! What the nodes that hear their input from their creation on remember of it, each by its equation.
 #![tactic(auto)]
 
-mod filter;
-mod filters;
+mod causal_node;
+mod causal_nodes;
 mod state;
 
-pub use filters::Filters;
+pub use causal_nodes::CausalNodes;
 pub use state::State;

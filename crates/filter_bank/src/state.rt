@@ -1,13 +1,14 @@
 ghost use Rattle.std.specs.Prelude.{◌≡◌, ◌≤◌, ◌<◌, ◌+◌, ◌*◌, ℕ, ℤ, List, None, [], max, length, IfOk, OnOk, OnErr};
-ghost use Rattle.causal_core.specs.Equations.{equation_refusal, equation_value};
-ghost use Rattle.causal_core.specs.Frames.{item, heard};
+ghost use Rattle.node_table.specs.Equations.{equation_refusal, equation_value};
+ghost use Rattle.node_table.specs.Frames.{item, heard};
 ghost use Rattle.filter_bank.specs.States as spec;
 
-use causal_core::{Causal, Equation};
 use convolve::Convolver;
+use node_table::{Causal, Equation};
 use shaper_iir::Iir;
 use std::alloc::Global;
 use wa_base::{Fix, NoMemory};
+use worklet::Processor;
 
 /// What a node remembers of all that its input took in, by its equation.
 #[derive(Drop)]
@@ -16,6 +17,8 @@ pub enum State {
     Filter(Iir),
     /// What a convolver remembers (ConvolverNode).
     Convolution(Convolver),
+    /// What a processor remembers, this profile's answer to AudioWorkletNode.
+    Processor(Processor),
 }
 
 impl State {
@@ -31,6 +34,9 @@ impl State {
             Equation::Convolution { response } => {
                 State::Convolution(Convolver::new(alloc, response.as_slice())?)
             }
+            Equation::Processor { program } => {
+                State::Processor(Processor::new(alloc, program.copy()?))
+            }
         })
     }
 
@@ -41,6 +47,7 @@ impl State {
         match self {
             State::Filter(filter) => filter.channels(),
             State::Convolution(convolver) => convolver.channels(),
+            State::Processor(processor) => processor.channels(),
         }
     }
 }
@@ -62,6 +69,7 @@ impl Causal for State {
         match self {
             State::Filter(filter) => filter.grow(channels),
             State::Convolution(convolver) => convolver.grow(channels),
+            State::Processor(processor) => processor.grow(channels),
         }
     }
 
@@ -69,6 +77,7 @@ impl Causal for State {
         match self {
             State::Filter(filter) => filter.step(x, y),
             State::Convolution(convolver) => convolver.step(x, y),
+            State::Processor(processor) => processor.step(x, y),
         }
     }
 
@@ -76,6 +85,7 @@ impl Causal for State {
         match self {
             State::Filter(filter) => filter.block(x, y, frames),
             State::Convolution(convolver) => convolver.block(x, y, frames),
+            State::Processor(processor) => processor.block(x, y, frames),
         }
     }
 }

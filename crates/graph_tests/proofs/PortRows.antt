@@ -10,7 +10,7 @@ use Rattle.wa_base.specs.declared.graph_names.ParamName.TheVariants as param
 use Rattle.wa_base.specs.declared.graph_names.Rate.TheVariants.{A}
 use Rattle.law_base.specs.Heights.{at_height, before, at_moment, state}
 use Rattle.law_base.specs.Reaching.{reaches}
-use Rattle.channel_mix.specs.Mixing.{form, mix}
+use Rattle.mix_rules.specs.Mixing.{form, mix}
 use Rattle.param_events.specs.Values.{value_at as intrinsic_at}
 use Rattle.sched_source.specs.Schedule.{constant as unstarted}
 use Rattle.node_table.specs.Nodes.{destination_of, node_of, with_interp}
@@ -30,7 +30,7 @@ use Rattle.meaning.specs.Values.{input_value, computed_value, equation, value_at
 use Rattle.meaning.specs.Rendered.{rows}
 
 context : ℕ → ContextSpec
-context channels = record { channels = channels; length = 1; rate = 48000 }
+context channels = record { channels = channels; length = 1; rate = 48000; quantum = 128 }
 
 -- a destination of so many channels with an interpretation, and then the nodes; the first so many nodes are sources that start at once
 world : ℕ → Interp → List Node → List Edge → List Param → List Play → World
@@ -130,7 +130,7 @@ through_mode mode = world 2 Speakers (constant (pos 2) ∷ constant (pos 4) ∷ 
     (join 1 0 3 0 ∷ join 2 0 3 1 ∷ join 3 0 4 0 ∷ join 4 0 0 0 ∷ [])
     (line 1 param.Offset (pos 2) ∷ line 2 param.Offset (pos 4) ∷ line 4 param.Gain (pos 16777216) ∷ []) (started 1 ∷ started 2 ∷ [])
 
-changed_mode : rows 2 (through_mode Max ∷ through_mode ClampedMax ∷ []) (record { channels = 2; length = 3; rate = 48000 })
+changed_mode : rows 2 (through_mode Max ∷ through_mode ClampedMax ∷ []) (record { channels = 2; length = 3; rate = 48000; quantum = 128 })
     ≡ (pos 2 ∷ pos 4 ∷ []) ∷ (pos 2 ∷ pos 4 ∷ []) ∷ (pos 3 ∷ pos 3 ∷ []) ∷ []
 unfolding context world join constant splitter merger through line started at_height before at_moment state reaches form mix intrinsic_at ends in_cycle arrow height muted count_rule count_at count input_value computed_value equation value_at value rows through_mode
 changed_mode = refl

@@ -7,7 +7,7 @@ use Rattle.wa_base.specs.declared.graph_names.ParamName.TheVariants as param
 use Rattle.wa_base.specs.declared.graph_names.Rate.TheVariants.{A}
 use Rattle.law_base.specs.Heights.{at_height, before, at_moment, state}
 use Rattle.law_base.specs.Reaching.{reaches}
-use Rattle.channel_mix.specs.Mixing.{form, mix}
+use Rattle.mix_rules.specs.Mixing.{form, mix}
 use Rattle.param_events.specs.Timeline.{IsTimeline}
 use Rattle.param_events.specs.Values.{value_at as intrinsic_at}
 use Rattle.param_events.specs.declared.events.Event.TheVariants.{Set, Ramp, Curve}
@@ -50,7 +50,7 @@ events_are_in_order kept = let late : 5 ≤ 4 = kept.ordered.2.0 in omega arith
 -- ---- worlds
 
 context : ContextSpec
-context = record { channels = 1; length = 4; rate = 48000 }
+context = record { channels = 1; length = 4; rate = 48000; quantum = 128 }
 
 -- the destination, and then the nodes
 world : List Node → List Edge → List Param → List Play → World

@@ -5,10 +5,9 @@ ghost use Rattle.meaning.specs.declared.change.Edit.TheVariants as edits;
 ghost use Rattle.meaning.specs.Validity.{IsValid};
 ghost use Rattle.meaning.specs.World.{plain};
 
-use causal_core::Equation;
 use conn_graph::{Edge, Target};
 use meaning::{Change, Edit, SourceEdit, World};
-use node_table::Kind;
+use node_table::{Equation, Kind};
 use std::alloc::Global;
 use wa_base::{ContextSpec, Exc, Fix, NoMemory, NodeId, Refusal, Samples};
 
@@ -18,6 +17,7 @@ const CONTEXT: ContextSpec = ContextSpec {
     channels: 2,
     length: 1_024,
     rate: 48_000,
+    quantum: 128,
 };
 
 // The world of the context before its first call.

@@ -2,7 +2,7 @@ ghost use Rattle.std.specs.Prelude.{◌≡◌, ◌≤◌, length, OnOk};
 ghost use Rattle.meaning.specs.Validity.{IsValid};
 
 use crate::building::{add, add_filter, begin};
-use filter_bank::Filters;
+use filter_bank::CausalNodes;
 use meaning::World;
 use node_table::Kind;
 use std::alloc::Global;
@@ -45,19 +45,19 @@ fn add_late(alloc: Global, world: &mut World) -> Result<(), Refusal>
 }
 
 // Begins a quantum in which node 1 has so many channels, and each other node one.
-fn begin_quantum(bank: &mut Filters, world: &World, channels: u32) -> Result<(), NoMemory>
+fn begin_quantum(bank: &mut CausalNodes, world: &World, channels: u32) -> Result<(), NoMemory>
     requires valid { IsValid world.now }
     requires channels { channels ≤ 2 }
-    ensures { OnOk result (length world.now.nodes ≤ length bank.new.filters) }
+    ensures { OnOk result (length world.now.nodes ≤ length bank.new.nodes) }
 {
     bank.follow(world)?;
     bank.grow(&[1, 1, 1, channels, 1, 1, 1, 1])
 }
 
 // The outputs of a node's filter for a quantum, of as many channels as it has room for.
-fn hear(bank: &mut Filters, world: &World, node: u32, x: &Quantum) -> Quantum
-    requires { length world.now.nodes ≤ length bank.old.filters }
-    ensures { length bank.new.filters ≡ length bank.old.filters }
+fn hear(bank: &mut CausalNodes, world: &World, node: u32, x: &Quantum) -> Quantum
+    requires { length world.now.nodes ≤ length bank.old.nodes }
+    ensures { length bank.new.nodes ≡ length bank.old.nodes }
 {
     let mut y = SILENCE;
     let values = bank.room(NodeId(node)) * 128;
@@ -82,7 +82,7 @@ fn go_round(y: &Quantum, first: usize, second: Option<usize>) -> bool {
 }
 
 // The rooms of nodes 1, 2, 3, and of one that is not there.
-fn rooms(bank: &Filters) -> (usize, usize, usize, usize) {
+fn rooms(bank: &CausalNodes) -> (usize, usize, usize, usize) {
     (
         bank.room(NodeId(1)),
         bank.room(NodeId(2)),
@@ -92,7 +92,7 @@ fn rooms(bank: &Filters) -> (usize, usize, usize, usize) {
 }
 
 // Frames 0 to 127. The first filter hears an impulse in its first frame.
-fn first_quantum(bank: &mut Filters, world: &World) -> Result<bool, NoMemory>
+fn first_quantum(bank: &mut CausalNodes, world: &World) -> Result<bool, NoMemory>
     requires { IsValid world.now }
 {
     bank.follow(world)?;
@@ -105,7 +105,7 @@ fn first_quantum(bank: &mut Filters, world: &World) -> Result<bool, NoMemory>
 
 // Frames 128 to 255. The first filter gets a second channel, which hears an impulse, and the late one, which is
 // born, hears an impulse in the last frame.
-fn second_quantum(bank: &mut Filters, world: &World) -> Result<bool, NoMemory>
+fn second_quantum(bank: &mut CausalNodes, world: &World) -> Result<bool, NoMemory>
     requires { IsValid world.now }
 {
     begin_quantum(bank, world, 2)?;
@@ -117,7 +117,7 @@ fn second_quantum(bank: &mut Filters, world: &World) -> Result<bool, NoMemory>
 
 // Frames 256 to 383. The second channel is away, so it hears silence. The late filter puts out what it heard at
 // frame 255, and hears an impulse two frames before the next quantum.
-fn third_quantum(bank: &mut Filters, world: &World) -> Result<bool, NoMemory>
+fn third_quantum(bank: &mut CausalNodes, world: &World) -> Result<bool, NoMemory>
     requires { IsValid world.now }
 {
     begin_quantum(bank, world, 1)?;
@@ -129,7 +129,7 @@ fn third_quantum(bank: &mut Filters, world: &World) -> Result<bool, NoMemory>
 
 // Frames 384 to 511, in which both filters are muted, and frames 512 to 639. The second channel comes back with
 // its history, and what the late filter would have put out at frame 384 is over.
-fn last_quanta(bank: &mut Filters, world: &World) -> Result<bool, NoMemory>
+fn last_quanta(bank: &mut CausalNodes, world: &World) -> Result<bool, NoMemory>
     requires { IsValid world.now }
 {
     begin_quantum(bank, world, 2)?;
@@ -142,7 +142,7 @@ fn last_quanta(bank: &mut Filters, world: &World) -> Result<bool, NoMemory>
     Ok(go_round(&y, 512, Some(384)) && late == SILENCE)
 }
 
-fn quanta(alloc: Global, bank: &mut Filters, world: &mut World) -> Result<[bool; 4], Refusal>
+fn quanta(alloc: Global, bank: &mut CausalNodes, world: &mut World) -> Result<[bool; 4], Refusal>
     requires { IsValid world.old }
 {
     add_first(alloc, world)?;
@@ -159,7 +159,7 @@ fn quanta(alloc: Global, bank: &mut Filters, world: &mut World) -> Result<[bool;
 fn hear_all(alloc: Global, world: &mut World) -> Result<[bool; 4], Refusal>
     requires { IsValid world.old }
 {
-    let mut bank = Filters::new(alloc)?;
+    let mut bank = CausalNodes::new(alloc)?;
     let are_met = quanta(alloc, &mut bank, world);
     drop(bank);
     are_met

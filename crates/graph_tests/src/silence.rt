@@ -16,6 +16,7 @@ const SPEC: ContextSpec = ContextSpec {
     channels: 2,
     length: 256,
     rate: 48_000,
+    quantum: 128,
 };
 
 pub(crate) fn render<L: Ledger>(

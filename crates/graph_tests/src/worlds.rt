@@ -18,6 +18,7 @@ const CONTEXT: ContextSpec = ContextSpec {
     channels: 6,
     length: 128,
     rate: 48_000,
+    quantum: 128,
 };
 
 fn id(node: u32, name: ParamName) -> ParamId

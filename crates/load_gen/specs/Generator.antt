@@ -40,7 +40,7 @@ calls seed =
 
 -- two channels, ten seconds at 48,000 Hz
 abbrev pub context : ContextSpec
-context = record { channels = 2; length = 480000; rate = 48000 }
+context = record { channels = 2; length = 480000; rate = 48000; quantum = 128 }
 
 -- the script of a number
 abbrev pub script : ℕ → Script

@@ -37,6 +37,7 @@ pub fn script(alloc: Global, number: u32) -> Result<Script, NoMemory>
             channels: 2,
             length: 480_000,
             rate: 48_000,
+            quantum: 128,
         },
         calls,
     })

@@ -7,7 +7,7 @@ use Rattle.std.proofs.lemmas.Int.{ints}
 use Rattle.wa_base.specs.Numbers.{rnd}
 use Rattle.wa_base.specs.declared.graph_names.ParamName.TheVariants as param
 use Rattle.law_base.specs.Members.{IsIn}
-use Rattle.channel_mix.specs.Counts.{greatest}
+use Rattle.mix_rules.specs.Counts.{greatest}
 use Rattle.param_events.proofs.Rounding.{rnd_order}
 use Rattle.node_table.specs.Delays.{frames_of, delay_capacity}
 use Rattle.node_table.specs.Kinds.{row, is_delay_kind, capacity_of}

@@ -4,7 +4,7 @@ use Rattle.wa_base.specs.declared.contexts.ContextSpec.{ContextSpec}
 use Rattle.law_base.specs.Heights.{at_height, before, at_moment, state}
 use Rattle.law_base.specs.Reaching.{reaches}
 use Rattle.buffer_store.specs.declared.buffers.Buffer.{Buffer as AudioBuffer}
-use Rattle.channel_mix.specs.Mixing.{form, mix}
+use Rattle.mix_rules.specs.Mixing.{form, mix}
 use Rattle.sched_source.specs.Playback.{has_points, loop_start, loop_end, position}
 use Rattle.sched_source.specs.Schedule.{buffer, plays_in, started}
 use Rattle.node_table.specs.declared.kinds.Kind.TheVariants.{Buffer}
@@ -21,7 +21,7 @@ use Rattle.meaning.specs.Values.{input_value, computed_value, equation, value_at
 use Rattle.meaning.specs.Rendered.{sample}
 
 context : ContextSpec
-context = record { channels = 2; length = 6; rate = 48000 }
+context = record { channels = 2; length = 6; rate = 48000; quantum = 128 }
 
 -- two channels of three frames
 stereo : AudioBuffer

@@ -9,8 +9,8 @@ use Rattle.std.proofs.Math.Nat.{mul-le-mul_right}
 use Rattle.wa_base.specs.declared.exceptions.Exc.TheVariants.{NotSupported}
 use Rattle.wa_base.specs.declared.features.Feature.TheVariants.{BufferLimit}
 use Rattle.law_base.proofs.Tests.{and_parts}
-use Rattle.wav_io.specs.WavGrammar.{IsRecording}
-use Rattle.wav_io.specs.declared.wav.Wav.{Wav}
+use Rattle.buffer_store.specs.Recordings.{IsRecording}
+use Rattle.buffer_store.specs.declared.wav.Wav.{Wav}
 use Rattle.buffer_store.specs.declared.buffers.Buffer.{Buffer as AudioBuffer}
 use Rattle.buffer_store.specs.declared.buffers.Shape.{Shape}
 use Rattle.buffer_store.specs.Buffers.{silence, recorded, with_written, is_supported, limit_refusal, creation_refusal, total_of, shape_at, IsBuffer, AreBuffers}

@@ -10,7 +10,7 @@ use Rattle.law_base.proofs.Reaching.{direct, further, up_to}
 use mathlib.Core.Path.{fun_ext}
 use Rattle.law_base.proofs.HeightLaws.{settled}
 use Rattle.law_base.proofs.SchemeLaws.{before_is, before_none, moment-zero, moment-suc}
-use Rattle.channel_mix.specs.Counts.{greatest}
+use Rattle.mix_rules.specs.Counts.{greatest}
 use Rattle.node_table.specs.Kinds.{row, is_delay_kind}
 use Rattle.node_table.specs.declared.kinds.Kind.{Kind}
 use Rattle.node_table.specs.declared.rows.Channels.{Channels}

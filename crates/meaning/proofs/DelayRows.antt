@@ -7,7 +7,7 @@ use Rattle.wa_base.specs.declared.graph_names.ParamName.TheVariants as param
 use Rattle.wa_base.specs.declared.graph_names.Rate.TheVariants.{A}
 use Rattle.law_base.specs.Heights.{at_height, before, at_moment, state}
 use Rattle.law_base.specs.Reaching.{reaches}
-use Rattle.channel_mix.specs.Mixing.{form, mix}
+use Rattle.mix_rules.specs.Mixing.{form, mix}
 use Rattle.param_events.specs.Values.{value_at as intrinsic_at}
 use Rattle.param_events.specs.declared.events.Event.TheVariants.{Set, Ramp}
 use Rattle.node_table.specs.declared.kinds.Kind.TheVariants.{Delay}

@@ -6,8 +6,8 @@ use Rattle.std.proofs.lemmas.Bool.Decides.{nat_tests}
 use Rattle.wa_base.specs.Numbers.{IsFix}
 use Rattle.wa_base.specs.declared.graph_names.Interp.{Interp}
 use Rattle.wa_base.specs.declared.graph_names.Interp.TheVariants.{Speakers, Discrete}
-use Rattle.channel_mix.specs.Mixing.{Form, Layout, layout, channel, only, silence, table, kept, form, applied, mix}
-use Rattle.channel_mix.proofs.Forms.{applied_channel}
+use Rattle.mix_rules.specs.Mixing.{Form, Layout, layout, channel, only, silence, table, kept, form, applied, mix}
+use Rattle.mix_rules.proofs.Forms.{applied_channel}
 
 -- the number of channels of a layout, and 0 where it has no name
 speakers : Layout → ℕ

@@ -11,19 +11,20 @@ use Rattle.wa_base.specs.declared.graph_names.End.{End}
 use Rattle.wa_base.specs.declared.graph_names.ParamId.{ParamId}
 use Rattle.wa_base.specs.declared.graph_names.ParamName.TheVariants as param
 use Rattle.law_base.proofs.SchemeLaws.{moment-zero}
-use Rattle.causal_core.specs.Curves.{on_way, curve_at}
-use Rattle.causal_core.specs.Filters.{dot, quotient, filtered, filter_value}
-use Rattle.causal_core.specs.declared.equation.Equation.{Equation}
-use Rattle.causal_core.specs.declared.equation.Equation.TheVariants.{Filter, Convolution}
-use Rattle.causal_core.specs.Equations.{equation_value}
-use Rattle.causal_core.specs.Frames.{item}
-use Rattle.causal_core.proofs.Shares.{between_fix}
+use Rattle.node_table.specs.Curves.{on_way, curve_at}
+use Rattle.node_table.specs.Filters.{dot, quotient, filtered, filter_value}
+use Rattle.node_table.specs.declared.equation.Equation.{Equation}
+use Rattle.node_table.specs.declared.equation.Equation.TheVariants.{Filter, Convolution, Processor}
+use Rattle.node_table.specs.Equations.{equation_value}
+use Rattle.node_table.specs.Frames.{item}
+use Rattle.node_table.proofs.Programs.{program_fix}
+use Rattle.node_table.proofs.Shares.{between_fix}
 use Rattle.buffer_store.specs.declared.buffers.Buffer.{Buffer}
 use Rattle.buffer_store.specs.Buffers.{channel_of}
 use Rattle.sched_source.specs.declared.content.Content.{Content}
 use Rattle.sched_source.specs.Playback.{position}
 use Rattle.sched_source.specs.Schedule.{plays_at, sample_at}
-use Rattle.channel_mix.specs.Mixing.{mix}
+use Rattle.mix_rules.specs.Mixing.{mix}
 use Rattle.node_table.specs.declared.rows.ParamRow.{ParamRow}
 use Rattle.node_table.specs.declared.rows.Range.{Range}
 use Rattle.node_table.specs.declared.rows.Range.TheVariants.{Any, UpTo}
@@ -33,14 +34,15 @@ use Rattle.node_table.specs.declared.kinds.Kind.{Kind}
 use Rattle.node_table.specs.declared.kinds.Kind.TheVariants as kinds
 use Rattle.node_table.specs.declared.kinds.Kind.TheVariants.{Destination, Constant, Gain, Delay, Splitter, Merger, Shaper, Causal}
 use Rattle.node_table.specs.declared.nodes.Node.{Node}
-use Rattle.conn_graph.specs.Ends.{writer_of, reader_of, height, muted}
+use Rattle.conn_graph.specs.Ends.{writer_of, reader_of, input_end, height, muted}
 use Rattle.meaning.specs.declared.world.World.{World}
 use Rattle.meaning.specs.declared.scheds.Play.{Play}
 use Rattle.meaning.specs.World.{node_at, kind_of, param_id, up_to, in_range, nominal, sounds_at, find_play, samples_in, played_at}
+use Rattle.meaning.specs.Lists.{since}
 use Rattle.meaning.specs.Validity.{IsValid}
 use Rattle.meaning.specs.Counts.{world_in, input_channels, count}
 use Rattle.meaning.specs.Laws.{HasFixes, HasFixPoints}
-use Rattle.meaning.specs.Values.{Frame, Values, no_frame, seen, input_value, frames_heard, computed_value, delay_frames, delayed, value_by_kind, has_channel, equation, value_scheme, world_at, known_at, value_at, value, frame, frames_before, frame_at}
+use Rattle.meaning.specs.Values.{Frame, Values, no_frame, seen, input_value, taken_in, frames_heard, computed_value, delay_frames, delayed, value_by_kind, has_channel, equation, value_scheme, world_at, known_at, value_at, value, frame, frames_before, frame_at}
 use Rattle.meaning.proofs.Asking.{asked_count, delay_long}
 use Rattle.meaning.proofs.Joined.{joined_in}
 use Rattle.meaning.proofs.MixedUp.{mix_fix}
@@ -136,7 +138,7 @@ played_fix : (w : World) (node c f : ℕ) → HasFixes w → IsFix (played_at w 
 played_fix w node c f fixes = found_fix _ (find_play w.scheds.items node) (λ p.
     either_fix (plays_at p.sched f) _ (pos 0) (sample_fix p.sched.content p.sched.start (samples_in w.store p.buffer c) f (samples_fix w.store p.buffer c fixes.samples)) zero_fix)
 
--- ---- the outputs of filters
+-- ---- the outputs of causal nodes
 
 quotient_fix : (sum divisor : ℤ) → IsFix (quotient sum divisor)
 quotient_fix sum (pos d) = sat_fix _
@@ -146,9 +148,22 @@ filter_fix : (forward back frames : List ℤ) → IsFix (filter_value forward ba
 filter_fix forward back [] = zero_fix
 filter_fix forward back (x ∷ xs) = quotient_fix (dot forward (x ∷ xs) -ℤ dot (drop 1 back) (filtered forward back xs)) (item back 0)
 
-causal_fix : (equation : Equation) (frames : List ℤ) → IsFix (equation_value equation frames)
-causal_fix (Filter forward back) frames = filter_fix forward back frames
-causal_fix (Convolution response) frames = sat_fix _
+-- what a node has heard
+since_fix : (at : ℕ → ℤ) (birth n : ℕ) → ((g : ℕ) → IsFix (at g)) → AreFixesAt (since at birth n)
+since_fix at birth zero each i = zero_fix
+since_fix at birth (suc n) each zero = each (birth + n)
+since_fix at birth (suc n) each (suc i) = since_fix at birth n each i
+
+taken_fix : (x : Frame) (n c : ℕ) → IsFix (taken_in x n c)
+taken_fix x n c = either_fix (muted x.world.graph.value (input_end x.world.graph.value n)) (pos 0) _ zero_fix (input_fix x n 0 c)
+
+heard_fix : (f : ℕ) (past : ℕ → Frame) (here : Frame) (n c : ℕ) → AreFixesAt (frames_heard f past here n c)
+heard_fix f past here n c = since_fix _ _ _ (λ g. taken_fix (seen f past here g) n c)
+
+causal_fix : (equation : Equation) (frames : List ℤ) → HasFixPoints (Causal equation) → AreFixesAt frames → IsFix (equation_value equation frames)
+causal_fix (Filter forward back) frames points heard = filter_fix forward back frames
+causal_fix (Convolution response) frames points heard = sat_fix _
+causal_fix (Processor program) frames points heard = program_fix program frames points heard
 
 -- ---- each end
 
@@ -192,7 +207,7 @@ kind_fix q f past here fixes (Delay longest time capacity) points e fine asks o 
     by_end false reader = delayed_fix q f past here e.node.0 c (asks refl reader)
 kind_fix q f past here fixes (Splitter ports) points e fine asks o c = input_fix here e.node.0 0 o
 kind_fix q f past here fixes (Merger ports) points e fine asks o c = input_fix here e.node.0 c 0
-kind_fix q f past here fixes (Causal equation) points e fine asks o c = causal_fix equation (frames_heard f past here e.node.0 c)
+kind_fix q f past here fixes (Causal equation) points e fine asks o c = causal_fix equation (frames_heard f past here e.node.0 c) points (heard_fix f past here e.node.0 c)
 kind_fix q f past here fixes (Shaper None was_set) points e fine asks o c = input_fix here e.node.0 0 c
 kind_fix q f past here fixes (Shaper (Some curve) was_set) points e fine asks o c = curve_fix curve (input_value here e.node.0 0 c +ℤ pos 16777216) (all_at curve points)
 

@@ -10,7 +10,7 @@ use Rattle.wa_base.specs.declared.graph_names.Rate.{Rate}
 use Rattle.wa_base.specs.declared.graph_names.Rate.TheVariants.{A, K}
 use Rattle.law_base.specs.Heights.{at_height, before, at_moment, state}
 use Rattle.law_base.specs.Reaching.{reaches}
-use Rattle.channel_mix.specs.Mixing.{form, mix}
+use Rattle.mix_rules.specs.Mixing.{form, mix}
 use Rattle.param_events.specs.Values.{value_at as intrinsic_at}
 use Rattle.sched_source.specs.Schedule.{constant as unstarted}
 use Rattle.param_events.specs.declared.events.Event.TheVariants.{Set, Ramp}
@@ -33,7 +33,7 @@ use Rattle.meaning.specs.Rendered.{sample, rows}
 -- ---- how the worlds are written
 
 unfoldable pub context : ℕ → ContextSpec
-context channels = record { channels = channels; length = 4; rate = 48000 }
+context channels = record { channels = channels; length = 4; rate = 48000; quantum = 128 }
 
 unfoldable pub constant : ℤ → Node
 constant offset = node_of (Constant offset) 0

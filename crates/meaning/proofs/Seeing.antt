@@ -12,10 +12,10 @@ use Rattle.wa_base.specs.declared.graph_names.ParamName.{ParamName}
 use Rattle.wa_base.specs.declared.graph_names.ParamName.TheVariants as param
 use Rattle.law_base.specs.Members.{IsIn}
 use Rattle.law_base.proofs.Members.{same_map}
-use Rattle.channel_mix.specs.Counts.{input_count}
-use Rattle.channel_mix.specs.Mixing.{mix, fan_in}
-use Rattle.causal_core.specs.Curves.{shaper_value}
-use Rattle.causal_core.specs.Equations.{equation_value}
+use Rattle.mix_rules.specs.Counts.{input_count}
+use Rattle.mix_rules.specs.Mixing.{mix, fan_in}
+use Rattle.node_table.specs.Curves.{shaper_value}
+use Rattle.node_table.specs.Equations.{equation_value}
 use Rattle.node_table.specs.Delays.{frames_of}
 use Rattle.node_table.specs.Kinds.{is_delay_kind, outputs, remembers}
 use Rattle.node_table.specs.declared.kinds.Kind.{Kind}

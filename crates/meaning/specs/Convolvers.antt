@@ -5,7 +5,7 @@ use Rattle.wa_base.specs.declared.exceptions.Exc.{Exc}
 use Rattle.wa_base.specs.declared.exceptions.Exc.TheVariants.{NotSupported}
 use Rattle.wa_base.specs.declared.features.Feature.TheVariants.{ResponseChannels}
 use Rattle.wa_base.specs.declared.graph_names.BufId.{BufId}
-use Rattle.causal_core.specs.declared.equation.Equation.TheVariants.{Convolution}
+use Rattle.node_table.specs.declared.equation.Equation.TheVariants.{Convolution}
 use Rattle.buffer_store.specs.declared.buffers.Buffer.{Buffer as AudioBuffer}
 use Rattle.node_table.specs.Nodes.{creation_refusal}
 use Rattle.node_table.specs.declared.kinds.Kind.{Kind}

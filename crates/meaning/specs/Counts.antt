@@ -2,7 +2,7 @@
 use Rattle.std.specs.Prelude.{ℕ, ◌+◌, ◌-◌, ◌*◌, ◌/◌, ◌==◌, ◌&&◌, not, List, map, slice_index_or, nat_lt, if◌then◌else◌}
 use Rattle.wa_base.specs.declared.graph_names.End.{End}
 use Rattle.law_base.specs.Heights.{Scheme, at_moment}
-use Rattle.channel_mix.specs.Counts.{greatest, input_count}
+use Rattle.mix_rules.specs.Counts.{greatest, input_count}
 use Rattle.node_table.specs.declared.kinds.Kind.{Kind}
 use Rattle.node_table.specs.declared.rows.Channels.{Channels}
 use Rattle.node_table.specs.declared.rows.Channels.TheVariants.{Always, OfInput, OfBuffer}

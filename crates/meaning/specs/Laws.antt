@@ -5,9 +5,11 @@ use Rattle.wa_base.specs.declared.graph_names.End.{End}
 use Rattle.wa_base.specs.declared.graph_names.ParamId.{ParamId}
 use Rattle.law_base.specs.Members.{IsIn}
 use Rattle.buffer_store.specs.declared.buffers.Buffer.{Buffer}
+use Rattle.node_table.specs.Instructions.{HasFixValue}
 use Rattle.node_table.specs.Kinds.{is_delay_kind, capacity_of}
+use Rattle.node_table.specs.declared.equation.Equation.TheVariants.{Processor}
 use Rattle.node_table.specs.declared.kinds.Kind.{Kind}
-use Rattle.node_table.specs.declared.kinds.Kind.TheVariants.{Shaper}
+use Rattle.node_table.specs.declared.kinds.Kind.TheVariants.{Shaper, Causal}
 use Rattle.conn_graph.specs.Ends.{writer_of, reader_of, ends, in_cycle, height, muted}
 use Rattle.conn_graph.specs.Orders.{IsLegalOrder}
 use Rattle.meaning.specs.declared.world.World.{World}
@@ -45,17 +47,18 @@ FixpointLaw = (q : ℕ) → 0 < q → q ≤ 1024 → (tape : List World) → All
     (equation q f (frames_before q tape f) (frame q tape f) e ≡ value q tape f e)
     × (count_rule q (world_at q tape f) (f / q) (counts_before q tape (f / q)) (count q tape (f / q)) e ≡ count q tape (f / q) e)
 
--- the points of the curve that a node has, if it has one, are Fixes
+-- the points of the curve that a node has, if it has one, are Fixes, and so is what its program pushes
 abbrev pub HasFixPoints : Kind → Type 0
 HasFixPoints (Shaper (Some curve) was_set) = All IsFix curve
+HasFixPoints (Causal (Processor program)) = All HasFixValue program
 HasFixPoints other = Unit {0}
 
--- the samples of its buffers are Fixes, and the points of its curves
+-- the samples of its buffers are Fixes, the points of its curves, and what its programs push
 pub record HasFixes (w : World) : Type 0 where
   pub samples : All (λ (b : Buffer). All IsFix b.samples) w.store
   pub points : (i : ℕ) → HasFixPoints (kind_of w i)
 
--- Every value is a Fix, where the samples of the buffers and the points of the curves are.
+-- Every value is a Fix, where the samples of the buffers, the points of the curves and what programs push are.
 abbrev pub RangeLaw : Type 0
 RangeLaw = (q : ℕ) → 0 < q → q ≤ 1024 → (tape : List World) → All IsValid tape → All HasFixes tape → (f : ℕ) (e : End) (o c : ℕ) → IsFix (value q tape f e o c)
 

@@ -5,7 +5,7 @@ use Rattle.wa_base.specs.declared.exceptions.Exc.{Exc}
 use Rattle.wa_base.specs.declared.exceptions.Exc.TheVariants.{NotSupported, InvalidState, WrongType}
 use Rattle.wa_base.specs.declared.features.Feature.TheVariants.{LateBuffer, Resampling}
 use Rattle.wa_base.specs.declared.graph_names.BufId.{BufId}
-use Rattle.wav_io.specs.WavGrammar.{IsRecording}
+use Rattle.buffer_store.specs.Recordings.{IsRecording}
 use Rattle.buffer_store.specs.declared.buffers.Buffer.{Buffer as AudioBuffer}
 use Rattle.buffer_store.specs.Buffers.{silence, recorded, with_written, changed_at, adoption_refusal, refusal_at, write_refusal}
 use Rattle.buffer_store.specs.Buffers as buffers

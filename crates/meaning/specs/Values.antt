@@ -7,9 +7,9 @@ use Rattle.wa_base.specs.declared.graph_names.Interp.TheVariants.{Speakers}
 use Rattle.wa_base.specs.declared.graph_names.ParamId.{ParamId}
 use Rattle.wa_base.specs.declared.graph_names.ParamName.TheVariants as param
 use Rattle.law_base.specs.Heights.{Scheme, at_moment}
-use Rattle.causal_core.specs.Curves.{shaper_value}
-use Rattle.causal_core.specs.Equations.{equation_value}
-use Rattle.channel_mix.specs.Mixing.{mix, fan_in}
+use Rattle.node_table.specs.Curves.{shaper_value}
+use Rattle.node_table.specs.Equations.{equation_value}
+use Rattle.mix_rules.specs.Mixing.{mix, fan_in}
 use Rattle.node_table.specs.Delays.{frames_of}
 use Rattle.node_table.specs.Kinds.{outputs}
 use Rattle.node_table.specs.declared.kinds.Kind.{Kind}

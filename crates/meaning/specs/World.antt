@@ -59,7 +59,7 @@ sounding w = record (plain w) { params = listed (map unread w.params.items) }
 -- The world without nodes. It stands for the quanta past the end of a tape, and what is said of other worlds begins with it.
 abbrev pub no_world : World
 no_world = record {
-  spec = record { channels = 1; length = 1; rate = 8000 };
+  spec = record { channels = 1; length = 1; rate = 8000; quantum = 128 };
   nodes = [];
   graph = bare no_connections;
   params = listed [];

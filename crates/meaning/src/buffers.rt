@@ -1,12 +1,12 @@
 ghost use Rattle.std.specs.Prelude.{◌≡◌, ◌∷◌, ◌++◌, [], None, IsOk, IsErr, IfOk, OnOk, OnErr};
-ghost use Rattle.wav_io.specs.WavGrammar.{IsRecording};
+ghost use Rattle.buffer_store.specs.Recordings.{IsRecording};
 ghost use Rattle.buffer_store.specs.Buffers.{adoption_refusal, recorded};
 ghost use Rattle.meaning.specs.Sources as spec;
 ghost use Rattle.meaning.specs.World.{plain};
 
 use crate::world::World;
+use buffer_store::Wav;
 use wa_base::{BufId, Exc, NoMemory, Refusal, Samples};
-use wav_io::Wav;
 
 /// What a control call edits in the buffers.
 #[derive(Drop)]

@@ -1,6 +1,6 @@
 ghost use Rattle.std.specs.Prelude.{◌≡◌, None, IfOk, OnOk, OnErr};
 ghost use Rattle.conn_graph.specs.Walks.{CountsEdits};
-ghost use Rattle.causal_core.specs.Convolutions.{response_refusal as refusal_of};
+ghost use Rattle.node_table.specs.Convolutions.{response_refusal as refusal_of};
 ghost use Rattle.meaning.specs.Changes.{convolver_created};
 ghost use Rattle.meaning.specs.Convolvers as spec;
 ghost use Rattle.meaning.specs.Sources.{IsBufferOf};
@@ -8,8 +8,7 @@ ghost use Rattle.meaning.specs.Validity.{IsValid};
 ghost use Rattle.meaning.specs.World.{plain, samples_in};
 
 use crate::world::World;
-use causal_core::{Equation, response_refusal};
-use node_table::Kind;
+use node_table::{Equation, Kind, response_refusal};
 use wa_base::{BufId, Exc, Feature, NoMemory, Samples};
 
 // A convolver hears by a buffer, of which it keeps a copy (ConvolverNode).

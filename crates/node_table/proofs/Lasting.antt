@@ -1,6 +1,6 @@
 -- What stays as long as a node is there.
 use Rattle.std.proofs.Common.{◌≡◌, ℕ, ℤ, Bool, true, false, Option, None, List, ◌⊎◌, inl, inr, refl, sym, ◌∙◌, ap, subst}
-use Rattle.causal_core.specs.declared.equation.Equation.{Equation}
+use Rattle.node_table.specs.declared.equation.Equation.{Equation}
 use Rattle.node_table.specs.declared.kinds.Kind.{Kind}
 use Rattle.node_table.specs.declared.kinds.Kind.TheVariants.{Delay, Shaper, Causal}
 use Rattle.node_table.specs.Kinds.{is_delay_kind, lasting, with_curve}

@@ -9,7 +9,7 @@ use Rattle.std.proofs.lemmas.List.Elements.{All-append, All-cons, All-nil}
 use Rattle.wa_base.specs.declared.exceptions.Exc.{Exc}
 use Rattle.wa_base.specs.declared.exceptions.Exc.TheVariants.{NotSupported, IndexSize, InvalidState}
 use Rattle.wa_base.specs.declared.features.Feature.TheVariants.{NodeLimit, DelayLimit, PlaybackRate, LongDelay}
-use Rattle.causal_core.specs.Curves.{IsCurve, curve_refusal}
+use Rattle.node_table.specs.Curves.{IsCurve, curve_refusal}
 use Rattle.node_table.specs.declared.kinds.Kind.{Kind}
 use Rattle.node_table.specs.declared.kinds.Kind.TheVariants.{Constant, Buffer, Delay, Splitter, Merger}
 use Rattle.node_table.specs.declared.nodes.Node.{Node}

@@ -2,7 +2,7 @@
 use Rattle.std.proofs.Common.{◌≡◌, ℤ, Bool, true, false, length, Option, Some, None, List, inl, inr, refl, sym, subst}
 use Rattle.std.specs.Prelude.{if◌then◌else◌, nat_lt}
 use Rattle.wa_base.specs.declared.exceptions.Exc.TheVariants.{InvalidState}
-use Rattle.causal_core.specs.Curves as curves
+use Rattle.node_table.specs.Curves as curves
 use Rattle.node_table.specs.declared.kinds.Kind.{Kind}
 use Rattle.node_table.specs.declared.kinds.Kind.TheVariants.{Shaper}
 use Rattle.node_table.specs.declared.nodes.Attrs.{Attrs}

@@ -1,13 +1,14 @@
 -- What nodes of each kind have, and what they are created with, as the definitions compute it.
 use Rattle.std.specs.Prelude.{neg_ℤ, is_some, option_map}
-use Rattle.std.proofs.Common.{ℤ, pos, ◌≡◌, List, [], ◌∷◌, None, Some, map, true, false, refl}
+use Rattle.std.proofs.Common.{ℤ, pos, ◌≡◌, List, [], ◌∷◌, ◌++◌, None, Some, map, true, false, refl}
 use Rattle.wa_base.specs.declared.contexts.ContextSpec.{ContextSpec}
 use Rattle.wa_base.specs.declared.exceptions.Exc.TheVariants.{NotSupported, InvalidState, IndexSize, WrongType}
 use Rattle.wa_base.specs.declared.features.Feature.TheVariants.{PlaybackRate, LongDelay, DelayLimit, LoudResponse}
 use Rattle.wa_base.specs.declared.graph_names.Interp.TheVariants.{Speakers, Discrete}
 use Rattle.wa_base.specs.declared.graph_names.Mode.TheVariants.{Max, ClampedMax, Explicit}
 use Rattle.wa_base.specs.declared.graph_names.ParamName.TheVariants as param
-use Rattle.causal_core.specs.declared.equation.Equation.TheVariants.{Filter, Convolution}
+use Rattle.node_table.specs.declared.code.Instr.TheVariants.{Input, Load, Store, Add, Div, Dup}
+use Rattle.node_table.specs.declared.equation.Equation.TheVariants.{Filter, Convolution, Processor}
 use Rattle.node_table.specs.declared.kinds.Kind.{Kind}
 use Rattle.node_table.specs.declared.kinds.Kind.TheVariants.{Destination, Constant, Buffer, Gain, Delay, Splitter, Merger, Shaper, Causal}
 use Rattle.node_table.specs.Kinds.{row, is_destination, inputs, outputs, is_delay_kind, param_name, lasting, remembers, with_curve, set_curve_refusal}
@@ -42,7 +43,7 @@ values-kinds = refl
 
 -- the attributes of the destination of a context with six channels, and of a node that is created at frame 1,280
 abbrev context : ContextSpec
-context = record { channels = 6; length = 4; rate = 48000 }
+context = record { channels = 6; length = 4; rate = 48000; quantum = 128 }
 
 attrs-destination : attrs_at (destination_of context ∷ []) 0 ≡ Some (record { count = 6; mode = Explicit; interp = Speakers; birth = 0 })
 attrs-destination = refl
@@ -147,7 +148,37 @@ refused-responses : map (λ sample. creation_refusal (destination_of context ∷
     ≡ None ∷ None ∷ Some (NotSupported (Some LoudResponse)) ∷ Some (NotSupported (Some LoudResponse)) ∷ []
 refused-responses = refl
 
--- filters alone remember all that they took in
+-- ---- processors
+
+-- half of the sum of the input and the last output
+abbrev average : Kind
+average = Causal (Processor (Load 0 ∷ Input ∷ Add ∷ Div 2 ∷ Dup ∷ Store 0 ∷ []))
+
+-- a processor has one input and one output, no parameter, and takes in one or two channels at its creation
+ports-processor : map inputs (average ∷ []) ++ map outputs (average ∷ []) ≡ 1 ∷ 1 ∷ []
+ports-processor = refl
+
+name-processor : param_name average ≡ None
+name-processor = refl
+
+attrs-processor : (node_of average 128).attrs ≡ record { count = 2; mode = Max; interp = Speakers; birth = 128 }
+attrs-processor = refl
+
+-- it may have up to 32 channels, and any mode
+processor-counts : map (λ count. count_refusal count (node_of average 0)) (0 ∷ 1 ∷ 32 ∷ 33 ∷ []) ≡ Some (NotSupported None) ∷ None ∷ None ∷ Some (NotSupported None) ∷ []
+processor-counts = refl
+
+processor-modes : map (λ mode. mode_refusal mode (node_of average 0)) (Max ∷ ClampedMax ∷ Explicit ∷ []) ≡ None ∷ None ∷ None ∷ []
+processor-modes = refl
+
+-- it is never refused by what it is created with, and remembers all that it took in
+created-processor : creation_refusal (destination_of context ∷ []) average ≡ None
+created-processor = refl
+
+remembering-processor : remembers average ≡ true
+remembering-processor = refl
+
+-- of those kinds filters alone remember all that they took in
 remembering : map remembers kinds ≡ false ∷ false ∷ false ∷ false ∷ false ∷ false ∷ false ∷ false ∷ true ∷ []
 remembering = refl
 

@@ -10,8 +10,8 @@ use Rattle.wa_base.specs.declared.graph_names.Mode.{Mode}
 use Rattle.wa_base.specs.declared.graph_names.Mode.TheVariants.{Max, ClampedMax, Explicit}
 use Rattle.wa_base.specs.declared.graph_names.ParamName.{ParamName}
 use Rattle.wa_base.specs.declared.graph_names.ParamName.TheVariants as param
-use Rattle.causal_core.specs.Curves as curves
-use Rattle.causal_core.specs.Equations.{equation_refusal, is_at_most_stereo, HasFixCoefficients}
+use Rattle.node_table.specs.Curves as curves
+use Rattle.node_table.specs.Equations.{equation_refusal, is_at_most_stereo, HasFixValues}
 use Rattle.node_table.specs.declared.kinds.Kind.{Kind}
 use Rattle.node_table.specs.declared.kinds.Kind.TheVariants.{Destination, Constant, Buffer, Gain, Delay, Splitter, Merger, Shaper, Causal}
 use Rattle.node_table.specs.declared.rows.Row.{Row}
@@ -72,7 +72,7 @@ IsOf32Bits (Delay longest time capacity) = IsFix longest × IsFix time
 IsOf32Bits (Splitter ports) = ports ≤ 4294967295
 IsOf32Bits (Merger ports) = ports ≤ 4294967295
 IsOf32Bits (Shaper curve was_set) = IfSome curve (λ points. All IsFix points)
-IsOf32Bits (Causal equation) = HasFixCoefficients equation
+IsOf32Bits (Causal equation) = HasFixValues equation
 
 -- a script creates it by its numbers alone: it is not the destination, and what it keeps does not hang on the context
 abbrev pub IsCreatable : Kind → Type 0

@@ -1,4 +1,12 @@
+pub mod Accepted
+pub mod Convolutions
+pub mod Curves
 pub mod Delays
+pub mod Equations
+pub mod Filters
+pub mod Frames
+pub mod Instructions
 pub mod Kinds
+pub mod Machine
 pub mod Nodes
 pub mod Rows

@@ -2,8 +2,9 @@ ghost use Rattle.std.specs.Prelude.{◌≡◌, IfOk, option_copied};
 ghost use Rattle.node_table.specs.Kinds as spec;
 ghost use Rattle.node_table.specs.Rows as rows;
 
+use crate::equation::Equation;
+use crate::refusals::curve_refusal;
 use crate::rows::{Channels, Fixed, Keeps, ParamRow, Plays, Range, Row};
-use causal_core::{Equation, curve_refusal};
 use wa_base::{Exc, Feature, Fix, Interp, Mode, NoMemory, ParamName, Samples};
 
 /// What a node is, with what it was created with.

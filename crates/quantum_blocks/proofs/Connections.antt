@@ -5,7 +5,7 @@ use Rattle.std.proofs.lemmas.List.{get_or-set_same, get_or-set_other}
 use Rattle.std.proofs.lemmas.Int.{ints}
 use Rattle.std.proofs.Math.Seq.{drop-cons}
 use Rattle.wa_base.specs.declared.graph_names.End.{End}
-use Rattle.channel_mix.specs.Mixing.{total}
+use Rattle.mix_rules.specs.Mixing.{total}
 use Rattle.conn_graph.specs.declared.edges.Edge.{Edge}
 use Rattle.conn_graph.specs.declared.edges.Target.{Target}
 use Rattle.quantum_blocks.specs.Blocks.{BlockView, no_block, slot, block_of, lanes_of, Writes}

@@ -7,7 +7,7 @@ use Rattle.std.proofs.lemmas.List.{get_or-take, get_or-drop, length-drop, length
 use Rattle.std.proofs.lemmas.Int.{ints}
 use Rattle.std.proofs.lemmas.Bool.Decides.{nat_tests}
 use Rattle.lane_kern.specs.Blocks.{IsWithin}
-use Rattle.channel_mix.specs.Blocks.{sample, frame_at}
+use Rattle.mix_rules.specs.Blocks.{sample, frame_at}
 use Rattle.quantum_blocks.specs.Blocks.{BlockView, quantum, lane_of, lanes_from, lane_at, at, shown, carried}
 use Rattle.quantum_blocks.specs.Sums.{moving_sums}
 use Rattle.quantum_blocks.proofs.Made.{front_of}

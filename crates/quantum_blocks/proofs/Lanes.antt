@@ -3,8 +3,8 @@ use Rattle.std.proofs.Common.{ℕ, ℤ, pos, ◌≡◌, ◌+◌, ◌-◌, ◌*�
 use borrow.Rule.Slice.PartMut.{put_mid}
 use Rattle.std.proofs.lemmas.Bool.{cases_lt}
 use Rattle.std.proofs.lemmas.List.{places, length-drop, length-take-le, get_or-take, get_or-set_same, get_or-set_other, get_or_append_left}
-use Rattle.channel_mix.specs.Blocks.{sample}
-use Rattle.channel_mix.proofs.Sums.{written_before, written_here, written_after}
+use Rattle.mix_rules.specs.Blocks.{sample}
+use Rattle.lane_kern.proofs.Written.{written_before, written_here, written_after}
 use Rattle.quantum_blocks.specs.Blocks.{quantum, lanes_from, lane_at}
 use Rattle.quantum_blocks.proofs.Holding.{steady_at, moving_at}
 

@@ -1,6 +1,6 @@
 -- How a block holds its values.
 use Rattle.std.specs.Prelude.{ℕ, ℤ, pos, ◌*◌, ◌≡◌, ◌<◌, List, length, slice_index_or}
-use Rattle.channel_mix.specs.Blocks.{sample, frame_at}
+use Rattle.mix_rules.specs.Blocks.{sample, frame_at}
 use Rattle.quantum_blocks.specs.declared.held.Held.{Held}
 use Rattle.quantum_blocks.specs.declared.held.Held.TheVariants.{Steady, Moving}
 use Rattle.quantum_blocks.specs.Blocks.{BlockView, quantum, at, shown}

@@ -1,10 +1,10 @@
 ghost use Rattle.std.specs.Prelude.{◌≡◌, ◌≤◌, ◌<◌, ◌*◌, ◌+◌, ◌/◌, ◌^◌, ◌+ℤ◌, ◌∷◌, [], ℕ, ℤ, pos, Some, length, slice_index_or, OnOk, IfOk, IfSome, FitsSigned, if◌then◌else◌};
 ghost use Rattle.std.specs.Int.{w32};
 ghost use Rattle.wa_base.specs.Numbers.{sat as saturated, scale as scaled};
-ghost use Rattle.causal_core.specs.Curves.{IsCurve, shaper_value};
+ghost use Rattle.node_table.specs.Curves.{IsCurve, shaper_value};
 ghost use Rattle.sched_source.specs.Schedule.{is_between, played};
 ghost use Rattle.meaning.specs.World.{channels_in, samples_in, up_to as clamped};
-ghost use Rattle.channel_mix.specs.Blocks.{sample};
+ghost use Rattle.mix_rules.specs.Blocks.{sample};
 ghost use Rattle.quantum_blocks.specs.Blocks.{quantum, at, shown, carried, room_of};
 ghost use Rattle.quantum_blocks.specs.Sums.{sum_at};
 ghost use Rattle.quantum_blocks.specs.Held.{IsHeld, IsCarried, IsWidened};

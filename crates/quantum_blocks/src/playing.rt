@@ -1,6 +1,6 @@
 ghost use Rattle.std.specs.Prelude.{◌≡◌, ◌≤◌, ◌<◌, ◌+◌, ◌*◌, ◌^◌, ℕ, length, pos, Some, slice_index_or};
 ghost use Rattle.sched_source.specs.Schedule.{played};
-ghost use Rattle.channel_mix.specs.Blocks.{sample};
+ghost use Rattle.mix_rules.specs.Blocks.{sample};
 ghost use Rattle.meaning.specs.Validity.{IsValid};
 ghost use Rattle.meaning.specs.World.{channels_in, samples_in};
 ghost use Rattle.quantum_blocks.specs.Blocks.{quantum};

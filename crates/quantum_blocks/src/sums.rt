@@ -1,7 +1,7 @@
 ghost use Rattle.std.specs.Prelude.{◌≡◌, ◌≤◌, ◌<◌, ◌+◌, ◌*◌, ◌+ℤ◌, ℕ, pos, length, slice_index_or, map, filter, if◌then◌else◌, take, IfOk, IfSome};
-ghost use Rattle.channel_mix.specs.Blocks.{sample, frame_at};
+ghost use Rattle.mix_rules.specs.Blocks.{sample, frame_at};
 ghost use Rattle.wa_base.specs.Numbers.{sat as saturated};
-ghost use Rattle.channel_mix.specs.Mixing.{mix, total};
+ghost use Rattle.mix_rules.specs.Mixing.{mix, total};
 ghost use Rattle.meaning.specs.declared.world.World.{World as world};
 ghost use Rattle.meaning.specs.Values.{part};
 ghost use Rattle.quantum_blocks.specs.Blocks.{quantum, frame_of};

@@ -4,7 +4,7 @@ use Rattle.std.specs.Prelude.{if◌then◌else◌}
 use Rattle.std.proofs.Math.Seq.{drop-cons}
 use Rattle.wa_base.specs.declared.graph_names.Mode.{Mode}
 use Rattle.wa_base.specs.declared.graph_names.Mode.TheVariants.{Max, ClampedMax, Explicit}
-use Rattle.channel_mix.specs.Counts.{greatest, input_count}
+use Rattle.mix_rules.specs.Counts.{greatest, input_count}
 use Rattle.conn_graph.specs.declared.edges.Edge.{Edge}
 use Rattle.conn_graph.specs.declared.edges.Target.{Target}
 use Rattle.quantum_blocks.specs.Connections.{leads_to}

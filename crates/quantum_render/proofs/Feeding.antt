@@ -3,7 +3,7 @@ use Rattle.std.proofs.Common.{ℕ, ℤ, pos, ◌≡◌, ◌+◌, ◌-◌, ◌/�
 use Rattle.std.specs.Prelude.{if◌then◌else◌, nat_lt, ◌==◌}
 use Rattle.std.proofs.lemmas.Bool.Decides.{nat_tests}
 use Rattle.wa_base.specs.declared.graph_names.End.{End}
-use Rattle.channel_mix.specs.Mixing.{mix}
+use Rattle.mix_rules.specs.Mixing.{mix}
 use Rattle.delay_line.specs.Spans.{delay_at as frames_back}
 use Rattle.node_table.specs.declared.kinds.Kind.TheVariants.{Delay}
 use Rattle.conn_graph.specs.Ends.{writer_of, reader_of, in_cycle}

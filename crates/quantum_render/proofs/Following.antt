@@ -15,15 +15,15 @@ kept_delays : (old new : DelayBank) (k : ℕ) → take k new.delays ≡ take k o
 kept_delays old new k same n low = sym (get_or-take k new.delays n None low) ∙ ap (λ xs. slice_index_or xs n None) same ∙ get_or-take k old.delays n None low
 
 -- so many nodes had a quantum behind them, and what they remember stays
-pub stands_like : (r r' : RendererView) → r'.quanta ≡ r.quanta → (k l : ℕ) → r.memory.filters.known ≡ k → r'.memory.filters.known ≡ k → take k r'.memory.filters.filters ≡ take k r.memory.filters.filters
+pub stands_like : (r r' : RendererView) → r'.quanta ≡ r.quanta → (k l : ℕ) → r.memory.causal.known ≡ k → r'.memory.causal.known ≡ k → take k r'.memory.causal.nodes ≡ take k r.memory.causal.nodes
     → r.memory.delays.known ≡ l → r'.memory.delays.known ≡ l → take l r'.memory.delays.delays ≡ take l r.memory.delays.delays → (tape : List World) → StandsFor r tape → StandsFor r' tape
-stands_like r r' quanta k l old_filters new_filters filters old_delays new_delays delays tape stands = record {
+stands_like r r' quanta k l old_causal new_causal causal old_delays new_delays delays tape stands = record {
   quanta = quanta ∙ stands.quanta;
-  nodes = (new_filters ∙ sym old_filters ∙ stands.nodes.0, new_delays ∙ sym old_delays ∙ stands.nodes.1);
-  filters = λ n equation low is.
-      subst (λ q. IsHeard (slice_index_or r'.memory.filters.filters n None) equation (node_at (last_world tape) n).attrs.birth (128 * q) ((past 128 tape).heard n)) (sym quanta)
+  nodes = (new_causal ∙ sym old_causal ∙ stands.nodes.0, new_delays ∙ sym old_delays ∙ stands.nodes.1);
+  causal = λ n equation low is.
+      subst (λ q. IsHeard (slice_index_or r'.memory.causal.nodes n None) equation (node_at (last_world tape) n).attrs.birth (128 * q) ((past 128 tape).heard n)) (sym quanta)
       (subst (λ o. IsHeard o equation (node_at (last_world tape) n).attrs.birth (128 * r.quanta) ((past 128 tape).heard n))
-      (sym (kept_heard r.memory.filters r'.memory.filters k filters n (subst (λ m. n < m) (sym stands.nodes.0 ∙ old_filters) low))) (stands.filters n equation low is));
+      (sym (kept_heard r.memory.causal r'.memory.causal k causal n (subst (λ m. n < m) (sym stands.nodes.0 ∙ old_causal) low))) (stands.causal n equation low is));
   delays = λ n longest time capacity low is.
       subst (λ q. IsKept (delay_at r'.memory.delays n) capacity (node_at (last_world tape) n).attrs.birth (128 * q) (past_writer (past 128 tape) n)) (sym quanta)
       (subst (λ o. IsKept o capacity (node_at (last_world tape) n).attrs.birth (128 * r.quanta) (past_writer (past 128 tape) n))

@@ -6,8 +6,8 @@ use Rattle.std.proofs.Math.IntN.{+ℤ_idr}
 use Rattle.std.proofs.lemmas.Bool.Decides.{nat_tests}
 use Rattle.wa_base.specs.Numbers.{sat}
 use Rattle.wa_base.specs.declared.graph_names.Interp.{Interp}
-use Rattle.channel_mix.specs.Mixing.{mix, total}
-use Rattle.channel_mix.proofs.Laws.{mix_same}
+use Rattle.mix_rules.specs.Mixing.{mix, total}
+use Rattle.mix_rules.proofs.Laws.{mix_same}
 use Rattle.conn_graph.specs.declared.edges.Edge.{Edge}
 use Rattle.conn_graph.specs.declared.edges.Target.TheVariants.{Input}
 use Rattle.conn_graph.specs.Ends.{reader_of}

@@ -10,7 +10,7 @@ use Rattle.std.specs.List.{list_any}
 use Rattle.wa_base.specs.Numbers.{sat, IsFix}
 use Rattle.wa_base.specs.declared.graph_names.Interp.TheVariants.{Speakers}
 use Rattle.wa_base.specs.declared.graph_names.ParamId.{ParamId}
-use Rattle.channel_mix.specs.Mixing.{total}
+use Rattle.mix_rules.specs.Mixing.{total}
 use Rattle.conn_graph.specs.declared.edges.Edge.{Edge}
 use Rattle.conn_graph.specs.declared.edges.Target.{Target}
 use Rattle.conn_graph.specs.declared.edges.Target.TheVariants.{Param}

@@ -16,7 +16,7 @@ pub mod RowCounts
 pub mod Listening
 pub mod Fed
 pub mod Feeding
-pub mod Filtering
+pub mod CausalLaws
 pub mod Remembering
 pub mod Kept
 pub mod Following

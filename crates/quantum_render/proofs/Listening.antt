@@ -1,11 +1,11 @@
--- What filters have heard, and of whom.
+-- What causal nodes have heard, and of whom.
 use Rattle.std.proofs.Common.{ℕ, ℤ, ◌≡◌, ◌+◌, ◌-◌, ◌*◌, ◌<◌, ◌≤◌, length, List, [], ◌∷◌, ◌++◌, Bool, true, false, ◌||◌, Option, Some, None, inl, inr, refl, sym, ◌∙◌, ap, arith, subst}
 use Rattle.std.specs.Prelude.{if◌then◌else◌, nat_lt}
 use Rattle.std.proofs.lemmas.Bool.Decides.{nat_tests}
 use Rattle.wa_base.specs.declared.graph_names.End.{End}
 use Rattle.law_base.specs.Members.{IsIn}
 use Rattle.filter_bank.specs.States.{stands}
-use Rattle.causal_core.specs.declared.equation.Equation.{Equation}
+use Rattle.node_table.specs.declared.equation.Equation.{Equation}
 use Rattle.node_table.specs.Kinds.{is_delay_kind}
 use Rattle.node_table.specs.declared.kinds.Kind.{Kind}
 use Rattle.node_table.specs.declared.kinds.Kind.TheVariants.{Causal}
@@ -19,26 +19,26 @@ use Rattle.meaning.specs.Values.{taken_in, frame}
 use Rattle.meaning.specs.Blocks.{drafted, with_drafts}
 use Rattle.meaning.proofs.QuantumLaws.{AreRight, HasCounts, HasSources, taken_right, taken_muted}
 use Rattle.meaning.proofs.Seeing.{plain_end, plain_reader, same_since}
-use Rattle.filter_bank.specs.Heard.{FilterView, IsHeard, IsRested}
-use Rattle.filter_bank.specs.Banks.{BankView, filter_at, IsRestedIfThere}
+use Rattle.filter_bank.specs.Heard.{HeardView, IsHeard, IsRested}
+use Rattle.filter_bank.specs.Banks.{BankView, heard_at, IsRestedIfThere}
 use Rattle.quantum_blocks.specs.Blocks.{BlockView, counts_in, drafts_of}
 use Rattle.quantum_render.specs.Sites.{SiteView}
 use Rattle.quantum_render.specs.declared.memory.Memory.{Memory}
 use Rattle.quantum_render.specs.Renders.{Renders, RendersWith}
 
--- a filter has heard whatever agrees with what it has heard
-pub heard_like : (found : Option FilterView) (equation : Equation) (birth now : ℕ) (at at' : ℕ → ℕ → ℤ) → ((g c : ℕ) → birth ≤ g → g < now → at g c ≡ at' g c)
+-- a causal node has heard whatever agrees with what it has heard
+pub heard_like : (found : Option HeardView) (equation : Equation) (birth now : ℕ) (at at' : ℕ → ℕ → ℤ) → ((g c : ℕ) → birth ≤ g → g < now → at g c ≡ at' g c)
     → IsHeard found equation birth now at → IsHeard found equation birth now at'
 heard_like found equation birth now at at' same is = record {
-  filter = is.filter;
+  causal = is.causal;
   there = is.there;
   outputs = is.outputs;
   birth = is.birth;
   time = is.time;
-  heard = λ c. subst (stands is.filter.state c) (same_since (λ g. at g c) (λ g. at' g c) is.filter.birth (is.filter.time - is.filter.birth) (λ g low high. same g c (subst (λ b. b ≤ g) is.birth low) (within g low high))) (is.heard c);
+  heard = λ c. subst (stands is.causal.state c) (same_since (λ g. at g c) (λ g. at' g c) is.causal.birth (is.causal.time - is.causal.birth) (λ g low high. same g c (subst (λ b. b ≤ g) is.birth low) (within g low high))) (is.heard c);
 }
   where
-    within : (g : ℕ) → is.filter.birth ≤ g → g < is.filter.birth + (is.filter.time - is.filter.birth) → g < now
+    within : (g : ℕ) → is.causal.birth ≤ g → g < is.causal.birth + (is.causal.time - is.causal.birth) → g < now
     within g low high = let t = is.time in omega arith
 
 -- whether an end is among those that are done
@@ -84,14 +84,14 @@ other_among done x e apart = by_test (same_end e x) refl
 abbrev pub is_done : List End → ℕ → Bool
 is_done done n = is_among done (reader_of n)
 
--- up to which frame the filter of a node has heard its input, by the ends that are done
+-- up to which frame a causal node has heard its input, by the ends that are done
 abbrev pub heard_until : List End → ℕ → ℕ → ℕ
 heard_until done first n = if is_done done n then first + 128 else first
 
--- each filter of a world has heard its input, as far as the ends are done
+-- each causal node of a world has heard its input, as far as the ends are done
 abbrev pub AreHeardBy : BankView → World → List World → ℕ → List End → Type 0
 AreHeardBy bank w tape first done = (n : ℕ) (equation : Equation) → n < length w.nodes → kind_of w n ≡ Causal equation
-    → IsHeard (filter_at bank n) equation (node_at w n).attrs.birth (heard_until done first n) (λ g c. taken_in (frame 128 (tape ++ w ∷ []) g) n c)
+    → IsHeard (heard_at bank n) equation (node_at w n).attrs.birth (heard_until done first n) (λ g c. taken_in (frame 128 (tape ++ w ∷ []) g) n c)
 
 -- what a kind that remembers nothing renders, it renders whatever is remembered
 pub with_memory : (s : SiteView) (memory : Memory) (blocks : List BlockView) (block : BlockView) (kind : Kind) → Renders s blocks block kind → RendersWith s memory blocks block kind
@@ -140,9 +140,9 @@ other_done x done n apart = other_among done x (reader_of n) (λ e. apart (ap (�
 
 -- ---- after the last end
 
--- the filter of a muted node hears silence, and the others have heard the quantum
+-- a causal node that is muted hears silence, and the others have heard the quantum
 pub rested_heard : (w : World) → IsJoined (sounding w) → (tape : List World) (first : ℕ) → first ≡ 128 * length tape → (done : List End) → IsLegalAfter w.graph.value done [] → (n : ℕ) → IsIn (reader_of n) (ends w.graph.value)
-    → (equation : Equation) → is_delay_kind (kind_of w n) ≡ false → (birth : ℕ) (old new : Option FilterView) → IsHeard old equation birth (heard_until done first n) (λ g c. taken_in (frame 128 (tape ++ w ∷ []) g) n c)
+    → (equation : Equation) → is_delay_kind (kind_of w n) ≡ false → (birth : ℕ) (old new : Option HeardView) → IsHeard old equation birth (heard_until done first n) (λ g c. taken_in (frame 128 (tape ++ w ∷ []) g) n c)
     → IsRestedIfThere first old new → IsHeard new equation birth (first + 128) (λ g c. taken_in (frame 128 (tape ++ w ∷ []) g) n c)
 rested_heard w joined tape first begins done legal n in_n equation no_delay birth old new is rested = by_test (is_done done n) refl is
   where
@@ -154,8 +154,8 @@ rested_heard w joined tape first begins done legal n in_n equation no_delay birt
         by_mute true m = m
         by_mute false m = let yes : is_done done n ≡ true = in_among done (reader_of n) (legal (reader_of n) in_n m) in absurd (let no = sym t ∙ yes in cc)
 
-    -- a filter that was there has rested
-    there : (f : FilterView) (old new : Option FilterView) → old ≡ Some f → IsRestedIfThere first old new → (g : FilterView) × (new ≡ Some g) × IsRested first f g
+    -- a causal node that was there has rested
+    there : (f : HeardView) (old new : Option HeardView) → old ≡ Some f → IsRestedIfThere first old new → (g : HeardView) × (new ≡ Some g) × IsRested first f g
     there f None new at rested = absurd (let e = at in cc)
     there f (Some x) None at rested = absurd rested
     there f (Some x) (Some g) at rested = (g, refl, subst (λ y. IsRested first y g) (let e : x ≡ f = cc in e) rested)
@@ -163,14 +163,14 @@ rested_heard w joined tape first begins done legal n in_n equation no_delay birt
     by_test : (b : Bool) → is_done done n ≡ b → IsHeard old equation birth (if b then first + 128 else first) (λ g c. taken_in (frame 128 (tape ++ w ∷ []) g) n c)
         → IsHeard new equation birth (first + 128) (λ g c. taken_in (frame 128 (tape ++ w ∷ []) g) n c)
     by_test true t is =
-        let after = there is.filter old new is.there rested in
-        let kept : after.0 ≡ is.filter = after.2.kept (λ e. let time = is.time in absurd (omega arith)) in
+        let after = there is.causal old new is.there rested in
+        let kept : after.0 ≡ is.causal = after.2.kept (λ e. let time = is.time in absurd (omega arith)) in
         subst (λ o. IsHeard o equation birth (first + 128) (λ g c. taken_in (frame 128 (tape ++ w ∷ []) g) n c)) (is.there ∙ sym (after.1 ∙ ap (λ x. Some x) kept)) is
     by_test false t is =
-        let after = there is.filter old new is.there rested in
+        let after = there is.causal old new is.there rested in
         let made = after.2.heard is.time (λ g c. taken_in (frame 128 (tape ++ w ∷ []) g) n c) is.heard (λ c k now. ap (λ f. taken_in (frame 128 (tape ++ w ∷ []) (f + k)) n c) begins ∙ taken_muted 128 (omega arith) w joined tape n (quiet t) k now c) in
         record {
-          filter = made.filter;
+          causal = made.causal;
           there = after.1 ∙ made.there;
           outputs = λ frames. made.outputs frames ∙ is.outputs frames;
           birth = made.birth ∙ is.birth;

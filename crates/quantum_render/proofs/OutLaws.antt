@@ -3,7 +3,7 @@ use Rattle.std.proofs.Common.{ℕ, ℤ, pos, ◌≡◌, ◌+◌, ◌*◌, ◌<�
 use Rattle.std.specs.Prelude.{if◌then◌else◌, nat_lt}
 use Rattle.wa_base.specs.declared.graph_names.End.{End}
 use Rattle.law_base.specs.Members.{IsIn}
-use Rattle.channel_mix.specs.Blocks.{sample as channel_sample}
+use Rattle.mix_rules.specs.Blocks.{sample as channel_sample}
 use Rattle.node_table.specs.Kinds.{outputs}
 use Rattle.conn_graph.specs.Ends.{reader_of, ends}
 use Rattle.conn_graph.proofs.EndLaws.{has_end}

@@ -7,7 +7,7 @@ use Rattle.std.proofs.lemmas.Bool.Decides.{nat_tests}
 use Rattle.std.proofs.lemmas.List.{length-map}
 use Rattle.wa_base.specs.declared.graph_names.End.{End}
 use Rattle.law_base.specs.Members.{IsIn}
-use Rattle.causal_core.specs.declared.equation.Equation.{Equation}
+use Rattle.node_table.specs.declared.equation.Equation.{Equation}
 use Rattle.node_table.specs.Kinds.{outputs, is_delay_kind}
 use Rattle.node_table.specs.declared.kinds.Kind.TheVariants.{Causal}
 use Rattle.conn_graph.specs.declared.edges.Edge.{Edge}
@@ -30,7 +30,7 @@ use Rattle.quantum_render.specs.Plans.{IsPlan, AreCounted}
 use Rattle.automation.specs.Levels.{LevelView}
 use Rattle.quantum_render.specs.Sites.{SiteView}
 use Rattle.filter_bank.specs.Heard.{IsHeard}
-use Rattle.filter_bank.specs.Banks.{filter_at, IsRestedIfThere}
+use Rattle.filter_bank.specs.Banks.{heard_at, IsRestedIfThere}
 use Rattle.delay_bank.specs.Kept.{DelayView, IsKept}
 use Rattle.quantum_render.specs.declared.memory.Memory.{Memory}
 use Rattle.quantum_render.specs.Renders.{RendersWith, Listens, Stores, IsRendered, IsReadyFor, HasCount, past_of}
@@ -64,16 +64,16 @@ has_count w joined counts tape counted x in_x unmuted =
 abbrev pub OfTapes : World → List ℕ → ℕ → Memory → (List World → Type 0) → Type 0
 OfTapes w counts first old P = (tape : List World) → first ≡ 128 * length tape → AreCounted 128 w counts tape → IsTimely w → IsMemory old w tape first → P tape
 
--- after so many ends of an order the known ends have their values, and their filters and delays have heard and kept the quantum
+-- after so many ends of an order the known ends have their values, and their causal nodes and delays have heard and kept the quantum
 pub record Passing (w : World) (order : List End) (i : ℕ) (counts : List ℕ) (first : ℕ) (old memory : Memory) (blocks : List BlockView) : Type 0 where
   pub done : List End
   pub legal : IsLegalAfter w.graph.value done (drop i order)
   pub fit : AreFit w counts blocks
   pub rooms : HasRooms memory w counts
-  pub filters : length memory.filters.filters ≡ length old.filters.filters
+  pub causal : length memory.causal.nodes ≡ length old.causal.nodes
   pub delays : length memory.delays.delays ≡ length old.delays.delays
   pub right : OfTapes w counts first old (λ tape. AreRight 128 (tape ++ w ∷ []) (length tape) w (drafts_of blocks counts) done)
-  pub heard : OfTapes w counts first old (λ tape. AreHeardBy memory.filters w tape first done)
+  pub heard : OfTapes w counts first old (λ tape. AreHeardBy memory.causal w tape first done)
   pub kept : OfTapes w counts first old (λ tape. AreKeptBy memory.delays w tape first done)
 
 pub passing_begins : (w : World) → IsJoined (sounding w) → (order mute : List End) (sources : List (List Edge)) → IsPlan w order mute sources → (counts : List ℕ) (first : ℕ) (memory : Memory) → HasRooms memory w counts → (blocks : List BlockView)
@@ -83,7 +83,7 @@ passing_begins w joined order mute sources plan counts first memory rooms blocks
   legal = plan.legal;
   fit = fit;
   rooms = rooms;
-  filters = refl;
+  causal = refl;
   delays = refl;
   right = λ tape begins counted timely ready m l d in_d known. elim known [
     | inr none ↦ absurd none
@@ -127,7 +127,7 @@ module _ (w : World) (valid : IsValid w) (order : List End) (i : ℕ) (counts : 
     legal = c.legal;
     fit = still_fit w counts blocks met out.lanes c.fit;
     rooms = c.rooms;
-    filters = c.filters;
+    causal = c.causal;
     delays = c.delays;
     right = λ tape begins counted timely ready m l d in_d known.
         ap (λ b. λ o. carried b (counts_in counts d) o m) (out.others d (apart d known)) ∙ c.right tape begins counted timely ready m l d in_d known;
@@ -153,7 +153,7 @@ module _ (w : World) (valid : IsValid w) (order : List End) (i : ℕ) (counts : 
       ready_now = record {
         unmuted = next.1;
         heard = λ equation is.
-            subst (λ b. IsHeard (filter_at memory.filters x.node.0) equation (node_at w x.node.0).attrs.birth (if b then first + 128 else first) (λ g k. taken_in (frame 128 longer g) x.node.0 k))
+            subst (λ b. IsHeard (heard_at memory.causal x.node.0) equation (node_at w x.node.0).attrs.birth (if b then first + 128 else first) (λ g k. taken_in (frame 128 longer g) x.node.0 k))
             (not_done w (joined w valid) tape blocks counts counted c.done (c.right tape begins counted timely ready) x next.0 next.3 (plain_end (sounding w) (joined w valid) x next.0 (no_delay equation is)) (no_delay equation is) next.2)
             (c.heard tape begins counted timely ready x.node.0 equation there is);
         fed = λ longest time capacity is. is_fed w valid tape first begins counts counted timely blocks c.done (c.right tape begins counted timely ready) memory.delays (c.kept tape begins counted timely ready)
@@ -168,25 +168,25 @@ module _ (w : World) (valid : IsValid w) (order : List End) (i : ℕ) (counts : 
           ≡ value_by_kind 128 (f + m) (with_drafts (frame 128 longer) f (sounding w) (counts_in counts) (drafts_of blocks counts)) (frame_of (sounding w) blocks counts m) (kind_of w x.node.0) x o k) begins
           (renders.values (length tape) (counts_before 128 (tape ++ w ∷ []) (length tape)) begins (has_count w (joined w valid) counts tape counted x next.0 next.1) (frame 128 longer) ready_now))
 
-      -- its node's filter has heard the quantum
+      -- its node has heard the quantum
       own_heard : (equation : Equation) → kind_of w x.node.0 ≡ Causal equation
-          → IsHeard (filter_at memory'.filters x.node.0) equation (node_at w x.node.0).attrs.birth (first + 128) (λ g k. taken_in (frame 128 longer g) x.node.0 k)
+          → IsHeard (heard_at memory'.causal x.node.0) equation (node_at w x.node.0).attrs.birth (first + 128) (λ g k. taken_in (frame 128 longer g) x.node.0 k)
       own_heard equation is =
           heard_like _ equation _ (first + 128) (λ g k. taken_in (past_of (site_of edges levels) blocks (frame 128 longer) g) x.node.0 k) _
           (λ g k low high. subst (λ f. g < f + 128 → taken_in (with_drafts (frame 128 longer) f (sounding w) (counts_in counts) (drafts_of blocks counts) g) x.node.0 k ≡ taken_in (frame 128 longer g) x.node.0 k) (sym begins)
           (λ high. takes_in w (joined w valid) tape blocks counts counted c.done (c.right tape begins counted timely ready) x next.0 next.3 (plain_end (sounding w) (joined w valid) x next.0 (no_delay equation is)) g k high) high)
           (listens.own equation is (length tape) (counts_before 128 (tape ++ w ∷ []) (length tape)) begins (subst (λ kind. HasCount (site_of edges levels) (length tape) (counts_before 128 (tape ++ w ∷ []) (length tape)) kind) is (has_count w (joined w valid) counts tape counted x next.0 next.1)) (frame 128 longer) ready_now)
 
-      heard_now : AreHeardBy memory'.filters w tape first (x ∷ c.done)
+      heard_now : AreHeardBy memory'.causal w tape first (x ∷ c.done)
       heard_now n equation low is = elim (this_or_other n x.node.0) [
         | inl here ↦
             let own : kind_of w x.node.0 ≡ Causal equation = subst (λ k. kind_of w k ≡ Causal equation) here is in
-            subst (λ k. IsHeard (filter_at memory'.filters k) equation (node_at w k).attrs.birth (heard_until (x ∷ c.done) first k) (λ g r. taken_in (frame 128 longer g) k r)) (sym here)
-            (subst (λ b. IsHeard (filter_at memory'.filters x.node.0) equation (node_at w x.node.0).attrs.birth (if b then first + 128 else first) (λ g r. taken_in (frame 128 longer g) x.node.0 r))
+            subst (λ k. IsHeard (heard_at memory'.causal k) equation (node_at w k).attrs.birth (heard_until (x ∷ c.done) first k) (λ g r. taken_in (frame 128 longer g) k r)) (sym here)
+            (subst (λ b. IsHeard (heard_at memory'.causal x.node.0) equation (node_at w x.node.0).attrs.birth (if b then first + 128 else first) (λ g r. taken_in (frame 128 longer g) x.node.0 r))
             (sym (now_done w (joined w valid) tape blocks counts counted c.done (c.right tape begins counted timely ready) x next.0 next.3 (plain_end (sounding w) (joined w valid) x next.0 (no_delay equation own)) (no_delay equation own) next.2))
             (own_heard equation own))
         | inr apart ↦
-            subst (λ b. IsHeard (filter_at memory'.filters n) equation (node_at w n).attrs.birth (if b then first + 128 else first) (λ g r. taken_in (frame 128 longer g) n r)) (sym (other_done x c.done n apart))
+            subst (λ b. IsHeard (heard_at memory'.causal n) equation (node_at w n).attrs.birth (if b then first + 128 else first) (λ g r. taken_in (frame 128 longer g) n r)) (sym (other_done x c.done n apart))
             (subst (λ o. IsHeard o equation (node_at w n).attrs.birth (heard_until c.done first n) (λ g r. taken_in (frame 128 longer g) n r)) (sym (listens.others n apart)) (c.heard tape begins counted timely ready n equation low is))
       ]
 
@@ -196,7 +196,7 @@ module _ (w : World) (valid : IsValid w) (order : List End) (i : ℕ) (counts : 
       legal = next.4;
       fit = still_fit w counts blocks blocks' writes.lanes c.fit;
       rooms = rooms;
-      filters = listens.count ∙ c.filters;
+      causal = listens.count ∙ c.causal;
       delays = stores.count ∙ c.delays;
       right = right_now;
       heard = heard_now;
@@ -224,11 +224,11 @@ module _ (w : World) (valid : IsValid w) (order : List End) (i : ℕ) (counts : 
   pub passing_ends : (m : ℕ) (d : End) → m < 128 → IsIn d (ends w.graph.value) → drafts_of blocks counts m d ≡ value 128 (tape ++ w ∷ []) (128 * length tape + m) d
   passing_ends m d now in_d = c.right tape begins counted timely ready m now d in_d (all_known w.graph.value c.done legal_end d in_d)
 
-  -- once those that are muted have rested, all filters have heard the quantum, and all delays keep it
-  pub all_remembered : (memory' : Memory) → ((n : ℕ) → IsRestedIfThere first (filter_at memory.filters n) (filter_at memory'.filters n)) → memory'.delays.delays ≡ memory.delays.delays → IsMemory memory' w tape (first + 128)
+  -- once those that are muted have rested, all causal nodes have heard the quantum, and all delays keep it
+  pub all_remembered : (memory' : Memory) → ((n : ℕ) → IsRestedIfThere first (heard_at memory.causal n) (heard_at memory'.causal n)) → memory'.delays.delays ≡ memory.delays.delays → IsMemory memory' w tape (first + 128)
   all_remembered memory' rested same = record {
     heard = λ n equation low is.
-        rested_heard w (joined w valid) tape first begins c.done legal_end n (has_end w.graph.value n (subst (λ k. n < k) (sym (same_nodes w valid)) low)) equation (ap is_delay_kind is) (node_at w n).attrs.birth (filter_at memory.filters n) (filter_at memory'.filters n)
+        rested_heard w (joined w valid) tape first begins c.done legal_end n (has_end w.graph.value n (subst (λ k. n < k) (sym (same_nodes w valid)) low)) equation (ap is_delay_kind is) (node_at w n).attrs.birth (heard_at memory.causal n) (heard_at memory'.causal n)
         (c.heard tape begins counted timely ready n equation low is) (rested n);
     kept = λ n longest time capacity low is.
         subst (λ (ds : List (Option DelayView)). IsKept (slice_index_or ds n None) capacity (node_at w n).attrs.birth (first + 128) (writer_in (frame 128 (tape ++ w ∷ [])) n)) (sym same)

@@ -2,7 +2,7 @@
 use Rattle.std.proofs.Common.{ℕ, zero, suc, ◌≡◌, ◌<◌, ◌≤◌, length, List, true, false, refl, ◌∙◌, ap, arith}
 use Rattle.wa_base.specs.declared.graph_names.Mode.{Mode}
 use Rattle.wa_base.specs.declared.graph_names.Mode.TheVariants.{Explicit}
-use Rattle.channel_mix.specs.Counts.{input_count}
+use Rattle.mix_rules.specs.Counts.{input_count}
 use Rattle.node_table.specs.Kinds.{row, outputs, is_destination}
 use Rattle.node_table.specs.Nodes.{IsCreated}
 use Rattle.node_table.specs.declared.kinds.Kind.{Kind}

@@ -16,7 +16,7 @@ use Rattle.meaning.specs.Pasts.{last_world, heard, past}
 use Rattle.meaning.proofs.Successors.{past_heard}
 use Rattle.meaning.proofs.TapeLaws.{world_before, world_after, frame_before}
 use Rattle.filter_bank.specs.Heard.{IsHeard}
-use Rattle.filter_bank.specs.Banks.{BankView, filter_at, AreHeard, AreNew}
+use Rattle.filter_bank.specs.Banks.{BankView, heard_at, AreHeard, AreNew}
 use Rattle.quantum_render.specs.Listening.{HasHeard}
 use Rattle.quantum_render.proofs.Listening.{heard_like}
 
@@ -61,20 +61,20 @@ module _ (w : World) (tape : List World) (regular : IsRegular 128 (tape ++ w ∷
       before zero e = inl e
       before (suc k) e = inr (subst (λ (x : World). length x.nodes ≤ n) (sym (world_before tape w (length tape - 1) (omega arith))) high)
 
-  -- what the filters remember of the tape is what they have heard
+  -- what the causal nodes remember of the tape is what they have heard
   pub remembered : (bank : BankView) (time : ℕ) → time ≡ 128 * length tape → bank.known ≡ length (last_world tape).nodes → AreHeard bank (last_world tape) time (past 128 tape).heard → AreNew bank w → HasHeard bank w tape time
   remembered bank time begins known old fresh n equation low is = elim (cases_lt n (length (last_world tape).nodes)) [
     | inl there ↦
         let stays = stays_last n there in
         let kind : kind_of (last_world tape) n ≡ Causal equation = lasting_equation _ equation (sym stays.kind ∙ ap lasting is) in
-        subst (λ b. IsHeard (filter_at bank n) equation b time (λ g c. taken_in (frame 128 longer g) n c)) (sym stays.birth)
+        subst (λ b. IsHeard (heard_at bank n) equation b time (λ g c. taken_in (frame 128 longer g) n c)) (sym stays.birth)
         (heard_like _ equation _ time ((past 128 tape).heard n) _ (λ g c from to.
         past_heard 128 (omega arith) w tape regular n g c (ap remembers is) (subst (λ b. b ≤ g) (sym stays.birth) from) (subst (λ t. g < t) begins to)
         ∙ ap (λ x. taken_in x n c) (sym (frame_before 128 (omega arith) tape w g (subst (λ t. g < t) begins to))))
         (old n equation there kind))
     | inr new ↦
         let birth : (node_at w n).attrs.birth ≡ time = born_now n low new ∙ sym begins in
-        subst (λ t. IsHeard (filter_at bank n) equation (node_at w n).attrs.birth t (λ g c. taken_in (frame 128 longer g) n c)) birth
+        subst (λ t. IsHeard (heard_at bank n) equation (node_at w n).attrs.birth t (λ g c. taken_in (frame 128 longer g) n c)) birth
         (heard_like _ equation _ (node_at w n).attrs.birth (λ g c. pos 0) _ (λ g c from to. absurd (omega arith))
         (fresh n equation (subst (λ k. k ≤ n) (sym known) new) low is))
   ]

@@ -9,7 +9,7 @@ pub record BenchView : Type 0 where
   pub merged : BlockView
   -- for so many values of a widened input there is room
   pub wide : ℕ
-  -- and for so many of what a filter or a delay gives
+  -- and for so many of what a causal node or a delay gives
   pub given : ℕ
   -- how many frames a delay lasts at each frame of the quantum
   pub spans : List ℕ

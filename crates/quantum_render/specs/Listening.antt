@@ -10,7 +10,7 @@ use Rattle.filter_bank.specs.Banks.{BankView, AreHeard, HaveRoom}
 use Rattle.delay_bank.specs.Banks.{BankView as DelayBank, AreKept, HaveRoom as HaveDelayRoom}
 use Rattle.quantum_render.specs.declared.memory.Memory.{Memory}
 
--- the filters of a world after a tape have heard what their inputs took in before a frame
+-- the causal nodes of a world after a tape have heard what their inputs took in before a frame
 abbrev pub HasHeard : BankView → World → List World → ℕ → Type 0
 HasHeard bank w tape now = AreHeard bank w now (λ n g c. taken_in (frame 128 (tape ++ w ∷ []) g) n c)
 
@@ -29,12 +29,12 @@ pub record IsTimely (w : World) : Type 0 where
 
 -- The memory of a world is that of the quanta before a frame.
 pub record IsMemory (memory : Memory) (w : World) (tape : List World) (now : ℕ) : Type 0 where
-  pub heard : HasHeard memory.filters w tape now
+  pub heard : HasHeard memory.causal w tape now
   pub kept : HasKept memory.delays w tape now
 
 -- each node has its place in it, with room for its channels
 pub record HasRooms (memory : Memory) (w : World) (counts : List ℕ) : Type 0 where
-  pub filters : length w.nodes ≤ length memory.filters.filters
+  pub causal : length w.nodes ≤ length memory.causal.nodes
   pub delays : length w.nodes ≤ length memory.delays.delays
-  pub filter_rooms : HaveRoom memory.filters counts
+  pub causal_rooms : HaveRoom memory.causal counts
   pub delay_rooms : HaveDelayRoom memory.delays counts

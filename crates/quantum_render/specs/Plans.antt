@@ -4,7 +4,7 @@ use Rattle.wa_base.specs.declared.graph_names.End.{End}
 use Rattle.wa_base.specs.declared.graph_names.Tie.{Tie}
 use Rattle.law_base.specs.Members.{IsIn}
 use Rattle.conn_graph.specs.declared.edges.Edge.{Edge}
-use Rattle.channel_mix.specs.Counts.{greatest}
+use Rattle.mix_rules.specs.Counts.{greatest}
 use Rattle.node_table.specs.declared.kinds.Kind.TheVariants.{Delay}
 use Rattle.conn_graph.specs.Ends.{writer_of, ends, is_delay, in_cycle, muted as is_muted}
 use Rattle.conn_graph.specs.Graph.{Connections}

@@ -1,6 +1,6 @@
 -- What an end carries in a quantum: the meaning of a frame, over the blocks of the ends before it in an order.
 use Rattle.std.specs.Prelude.{ℕ, ℤ, ◌+◌, ◌-◌, ◌*◌, ◌/◌, ◌≡◌, ◌<◌, ◌≤◌, ◌⊎◌, length, List, true, false}
-use Rattle.causal_core.specs.declared.equation.Equation.{Equation}
+use Rattle.node_table.specs.declared.equation.Equation.{Equation}
 use Rattle.node_table.specs.Kinds.{outputs}
 use Rattle.node_table.specs.declared.kinds.Kind.{Kind}
 use Rattle.node_table.specs.declared.kinds.Kind.TheVariants.{Delay, Causal}
@@ -12,7 +12,7 @@ use Rattle.meaning.specs.Counts.{Counts, count_by_kind}
 use Rattle.meaning.specs.Values.{Frame, taken_in, value_by_kind}
 use Rattle.meaning.specs.Blocks.{with_drafts}
 use Rattle.filter_bank.specs.Heard.{IsHeard}
-use Rattle.filter_bank.specs.Banks.{filter_at}
+use Rattle.filter_bank.specs.Banks.{heard_at}
 use Rattle.delay_bank.specs.Kept.{IsKept}
 use Rattle.delay_bank.specs.Banks.{BankView as DelayBank, delay_at}
 use Rattle.quantum_render.specs.declared.memory.Memory.{Memory}
@@ -56,10 +56,10 @@ pub record IsFed (s : SiteView) (bank : DelayBank) (old : List BlockView) (befor
   pub few : s.end.writer ≡ false → (d k : ℕ) → k < 128 → (in_cycle s.world.graph.value s.end.node.0 ≡ true → 128 ≤ d) → (node_at s.world s.end.node.0).attrs.birth + d ≤ s.first + k
       → (writer_in before s.end.node.0).counts ((s.first + k - d) / 128) ≤ counts_in s.counts (reader_of s.end.node.0)
 
--- The end of a site is not muted, and the filter or the delay of its node, if it has one, has heard or kept the frames before the quantum.
+-- The end of a site is not muted, and its node, if it is causal or a delay, has heard or kept the frames before the quantum.
 pub record IsReadyFor (s : SiteView) (memory : Memory) (old : List BlockView) (before : ℕ → Frame) : Type 0 where
   pub unmuted : muted s.world.graph.value s.end ≡ false
-  pub heard : (equation : Equation) → kind_of s.world s.end.node.0 ≡ Causal equation → IsHeard (filter_at memory.filters s.end.node.0) equation (node_at s.world s.end.node.0).attrs.birth s.first (λ g c. taken_in (before g) s.end.node.0 c)
+  pub heard : (equation : Equation) → kind_of s.world s.end.node.0 ≡ Causal equation → IsHeard (heard_at memory.causal s.end.node.0) equation (node_at s.world s.end.node.0).attrs.birth s.first (λ g c. taken_in (before g) s.end.node.0 c)
   pub fed : (longest time : ℤ) (capacity : ℕ) → kind_of s.world s.end.node.0 ≡ Delay longest time capacity → IsFed s memory.delays old before longest capacity
 
 -- The same, where the memory is that of the frames before the quantum.
@@ -68,13 +68,13 @@ pub record RendersWith (s : SiteView) (memory : Memory) (blocks : List BlockView
   pub values : (j : ℕ) (earlier : ℕ → Counts) → s.first ≡ 128 * j → HasCount s j earlier kind → (before : ℕ → Frame) → IsReadyFor s memory blocks before → (o c m : ℕ) → o < outputs kind → c < counts_in s.counts s.end → m < 128 →
       at block (o * counts_in s.counts s.end + c) m ≡ value_by_kind 128 (s.first + m) (past_of s blocks before) (here_of s blocks m) kind s.end o c
 
--- The filter of a site's node, if it is one, hears the quantum; no other does.
+-- The node of a site, if it is causal, hears the quantum; no other does.
 pub record Listens (s : SiteView) (old : List BlockView) (memory memory' : Memory) : Type 0 where
-  pub known : memory'.filters.known ≡ memory.filters.known
-  pub count : length memory'.filters.filters ≡ length memory.filters.filters
-  pub others : (n : ℕ) → (n ≡ s.end.node.0 → ⊥) → filter_at memory'.filters n ≡ filter_at memory.filters n
+  pub known : memory'.causal.known ≡ memory.causal.known
+  pub count : length memory'.causal.nodes ≡ length memory.causal.nodes
+  pub others : (n : ℕ) → (n ≡ s.end.node.0 → ⊥) → heard_at memory'.causal n ≡ heard_at memory.causal n
   pub own : (equation : Equation) → kind_of s.world s.end.node.0 ≡ Causal equation → (j : ℕ) (earlier : ℕ → Counts) → s.first ≡ 128 * j → HasCount s j earlier (Causal equation) → (before : ℕ → Frame) → IsReadyFor s memory old before →
-      IsHeard (filter_at memory'.filters s.end.node.0) equation (node_at s.world s.end.node.0).attrs.birth (s.first + 128) (λ g c. taken_in (past_of s old before g) s.end.node.0 c)
+      IsHeard (heard_at memory'.causal s.end.node.0) equation (node_at s.world s.end.node.0).attrs.birth (s.first + 128) (λ g c. taken_in (past_of s old before g) s.end.node.0 c)
 
 -- a writer writes in the quantum what its block has
 pub record IsWritten (s : SiteView) (block : BlockView) (writer : Writer) : Type 0 where

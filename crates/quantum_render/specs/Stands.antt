@@ -5,7 +5,7 @@ use Rattle.wa_base.specs.declared.contexts.ContextSpec.{ContextSpec}
 use Rattle.wa_base.specs.declared.graph_names.End.{End}
 use Rattle.wa_base.specs.declared.graph_names.Tie.{Tie}
 use Rattle.conn_graph.specs.declared.edges.Edge.{Edge}
-use Rattle.channel_mix.specs.Blocks.{sample as channel_sample}
+use Rattle.mix_rules.specs.Blocks.{sample as channel_sample}
 use Rattle.meaning.specs.declared.world.World.{World}
 use Rattle.meaning.specs.Rendered.{sample}
 use Rattle.meaning.specs.Worlds.{IsRegular}
@@ -34,7 +34,7 @@ pub record RendererView : Type 0 where
   pub cycles : List Bool
   -- the place in each timeline, and the level of each node's parameter
   pub automation : AutomationView
-  -- what the nodes remember: the filters what they have heard, and the delays what their writers wrote
+  -- what the nodes remember: the causal nodes what they have heard, and the delays what their writers wrote
   pub memory : Memory
   -- the channels of each end in the next quantum
   pub counts : List ℕ
@@ -51,11 +51,11 @@ plan_of r = record { planned = r.planned; tie = r.tie; order = r.order; muted = 
 abbrev pub past_writer : Past → ℕ → Writer
 past_writer p n = record { counts = p.counts n; frames = p.written n }
 
--- What a renderer remembers of a past, with the last world before it: the number of its quanta, that of its nodes, what the filters among them have heard, and what the writers of the delays wrote.
+-- What a renderer remembers of a past, with the last world before it: the number of its quanta, that of its nodes, what the causal nodes among them have heard, and what the writers of the delays wrote.
 pub record Remembers (r : RendererView) (w : World) (p : Past) : Type 0 where
   pub quanta : r.quanta ≡ p.quanta
-  pub nodes : (r.memory.filters.known ≡ length w.nodes) × (r.memory.delays.known ≡ length w.nodes)
-  pub filters : AreHeard r.memory.filters w (quantum_of r.spec * r.quanta) p.heard
+  pub nodes : (r.memory.causal.known ≡ length w.nodes) × (r.memory.delays.known ≡ length w.nodes)
+  pub causal : AreHeard r.memory.causal w (quantum_of r.spec * r.quanta) p.heard
   pub delays : AreKept r.memory.delays w (quantum_of r.spec * r.quanta) (past_writer p)
 
 -- A renderer stands for the tapes whose past it remembers: those of the worlds that it went through.
@@ -69,11 +69,11 @@ Shows r tape = (c m : ℕ) → c < r.spec.channels → m < quantum_of r.spec →
 
 -- ---- after `prepare`, `counts` and `grow` over a world
 
--- each node that filters has its filter, and each delay what it keeps; the new ones have heard and kept nothing
+-- each causal node has what it heard, and each delay what it keeps; the new ones have heard and kept nothing
 pub record HasMemory (r : RendererView) (w : World) : Type 0 where
-  pub filter_count : length r.memory.filters.filters ≡ max r.memory.filters.known (length w.nodes)
+  pub causal_count : length r.memory.causal.nodes ≡ max r.memory.causal.known (length w.nodes)
   pub delay_count : length r.memory.delays.delays ≡ max r.memory.delays.known (length w.nodes)
-  pub fresh_filters : AreNew r.memory.filters w
+  pub fresh_causal : AreNew r.memory.causal w
   pub fresh_delays : AreNewDelays r.memory.delays w
 
 pub record IsPrepared (r : RendererView) (w : World) : Type 0 where
@@ -96,7 +96,7 @@ pub record IsCounted (r : RendererView) (w : World) : Type 0 where
 pub record IsGrown (r : RendererView) (w : World) : Type 0 where
   pub counted : IsCounted r w
   pub blocks : AreFit w r.counts r.blocks
-  pub filter_rooms : HaveRoom r.memory.filters r.counts
+  pub causal_rooms : HaveRoom r.memory.causal r.counts
   pub delay_rooms : HaveDelayRoom r.memory.delays r.counts
 
 -- what holds of every renderer

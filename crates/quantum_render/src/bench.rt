@@ -11,8 +11,8 @@ ghost use Rattle.quantum_blocks.specs.Blocks.{at, room_of, counts_in};
 ghost use Rattle.quantum_blocks.specs.Connections.{leads_to};
 ghost use Rattle.quantum_blocks.specs.Fits.{AreFit};
 ghost use Rattle.quantum_blocks.specs.Held.{IsWidened, AreLanes};
-ghost use Rattle.filter_bank.specs.Heard.{FilterView as a_filter, room_of as filter_room};
-ghost use Rattle.filter_bank.specs.Banks.{filter_at, Hears};
+ghost use Rattle.filter_bank.specs.Heard.{HeardView as a_node, room_of as causal_room};
+ghost use Rattle.filter_bank.specs.Banks.{heard_at, Hears};
 ghost use Rattle.delay_line.specs.Delays.{Writer};
 ghost use Rattle.delay_line.specs.Spans.{delay_at as frames_back};
 ghost use Rattle.delay_bank.specs.Kept.{DelayView as a_delay, room_of as delay_room, HasKept, IsAsked, AreFew, read_back};
@@ -25,7 +25,7 @@ use crate::site::Site;
 use automation::{Level, Values};
 use conn_graph::{Edge, Target};
 use delay_bank::{Delays, Reading};
-use filter_bank::Filters;
+use filter_bank::CausalNodes;
 use node_table::Range;
 use quantum_blocks::{
     Block, CHANNELS, Held, Inlet, QUANTUM, Sums, reader, slot, span_all, span_each,
@@ -36,7 +36,7 @@ use wa_base::{Fix, Interp, NoMemory, NodeId, ParamId, ParamName, Rate};
 
 // What is at hand while an end is rendered, one end after another: what its input carries, the
 // levels of its parameter, what its inputs carry, one lane each, its input with silent lanes behind it,
-// what its filter or its delay gives, how many frames its delay lasts at each frame of the quantum, and
+// what its node or its delay gives, how many frames its delay lasts at each frame of the quantum, and
 // the sums that all are made of.
 #[derive(Drop)]
 pub(crate) struct Bench {
@@ -174,29 +174,29 @@ impl Bench {
         }
     }
 
-    // Makes of an end's block what its node's filter puts out for what is heard. The filter hears that
+    // Makes of an end's block what its causal node puts out for what is heard. The node hears that
     // with silent lanes behind it up to so many.
-    pub(crate) fn filter_heard(
+    pub(crate) fn causal_heard(
         &mut self,
         block: &mut Block,
         lanes: usize,
-        filters: &mut Filters,
+        causal: &mut CausalNodes,
         node: NodeId,
     )
         requires few { lanes ≤ 32 }
         requires within { self.old.heard.lanes ≤ lanes }
         requires own { block.old.lanes ≤ lanes }
-        requires there { node.0 < length filters.old.filters }
-        requires wide { (f : a_filter) → filter_at filters.old node.0 ≡ Some f → lanes ≡ filter_room f }
+        requires there { node.0 < length causal.old.nodes }
+        requires wide { (f : a_node) → heard_at causal.old node.0 ≡ Some f → lanes ≡ causal_room f }
         ensures lanes { block.new.lanes ≡ block.old.lanes }
-        ensures hears { (x : List ℤ) × (y : List ℤ) × IsWidened self.old.heard lanes x × AreLanes block.new y × Hears filters.old filters.new node.0 x y }
+        ensures hears { (x : List ℤ) × (y : List ℤ) × IsWidened self.old.heard lanes x × AreLanes block.new y × Hears causal.old causal.new node.0 x y }
     {
         match self.heard.plain(lanes) {
-            Some(heard) => filter_block(block, heard, filters, node, self.given.as_mut_slice()),
+            Some(heard) => causal_block(block, heard, causal, node, self.given.as_mut_slice()),
             None => {
                 self.heard.copy_out(self.wide.as_mut_slice(), lanes);
                 let wide = &self.wide[..lanes * QUANTUM];
-                filter_block(block, wide, filters, node, self.given.as_mut_slice());
+                causal_block(block, wide, causal, node, self.given.as_mut_slice());
             }
         }
     }
@@ -256,26 +256,26 @@ fn take_level(block: &mut Block, level: &Level)
     }
 }
 
-// A node's filter hears a quantum, lane after lane, and writes what it puts out into the front of
+// A causal node hears a quantum, lane after lane, and writes what it puts out into the front of
 // `given`. A block becomes the first lanes of that, as many as it has.
-fn filter_block(
+fn causal_block(
     block: &mut Block,
     heard: &[Fix],
-    filters: &mut Filters,
+    causal: &mut CausalNodes,
     node: NodeId,
     given: &mut [Fix],
 )
-    requires there { node.0 < length filters.old.filters }
-    requires heard { (f : a_filter) → filter_at filters.old node.0 ≡ Some f → length heard.now ≡ filter_room f * 128 }
+    requires there { node.0 < length causal.old.nodes }
+    requires heard { (f : a_node) → heard_at causal.old node.0 ≡ Some f → length heard.now ≡ causal_room f * 128 }
     requires given { length heard.now ≤ length given.old }
     requires lanes { block.old.lanes * 128 ≤ length heard.now }
     ensures lanes { block.new.lanes ≡ block.old.lanes }
     ensures given { length given.new ≡ length given.old }
-    ensures hears { (y : List ℤ) × AreLanes block.new y × Hears filters.old filters.new node.0 heard.now y }
+    ensures hears { (y : List ℤ) × AreLanes block.new y × Hears causal.old causal.new node.0 heard.now y }
 {
     let lanes = block.lanes();
     let given = &mut given[..heard.len()];
-    filters.hear(node, heard, given);
+    causal.hear(node, heard, given);
     block.copy_moving(&given[..lanes * QUANTUM], lanes);
 }
 

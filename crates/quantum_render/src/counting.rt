@@ -1,5 +1,5 @@
 ghost use Rattle.std.specs.Prelude.{ℤ, ◌≡◌, ◌≤◌, ◌<◌, ◌*◌, ◌^◌, ℕ, List, length, map, filter, slice_index_or, max, if◌then◌else◌, All, true};
-ghost use Rattle.channel_mix.specs.Counts.{greatest as greatest_of};
+ghost use Rattle.mix_rules.specs.Counts.{greatest as greatest_of};
 ghost use Rattle.law_base.specs.Members.{IsIn};
 ghost use Rattle.node_table.specs.declared.rows.Channels.TheVariants.{Always};
 ghost use Rattle.node_table.specs.Kinds.{row as row_of, outputs, is_delay_kind};

@@ -1,6 +1,6 @@
 ghost use Rattle.std.specs.Prelude.{◌≡◌, ◌<◌, ◌≤◌, ◌-◌, ◌^◌, ℕ, ℤ, Bool, List, length, true, false, Some};
-ghost use Rattle.causal_core.specs.Curves.{IsCurve};
-ghost use Rattle.causal_core.specs.declared.equation.Equation.{Equation as an_equation};
+ghost use Rattle.node_table.specs.Curves.{IsCurve};
+ghost use Rattle.node_table.specs.declared.equation.Equation.{Equation as an_equation};
 ghost use Rattle.sched_source.specs.Schedule.{is_between};
 ghost use Rattle.node_table.specs.declared.kinds.Kind.TheVariants.{Destination, Constant, Buffer, Gain, Delay, Splitter, Merger, Shaper, Causal};
 ghost use Rattle.node_table.specs.Kinds.{IsInLimits};
@@ -42,7 +42,7 @@ impl Bench {
     {
         match site.kind() {
             Kind::Delay { .. } => self.render_delay(block, blocks, memory, site),
-            Kind::Causal { .. } => self.render_filter(block, blocks, memory, site),
+            Kind::Causal { .. } => self.render_causal(block, blocks, memory, site),
             kind => self.render_plain(block, blocks, site, kind),
         }
     }
@@ -143,8 +143,8 @@ impl Bench {
         block.shape(&self.heard, curve);
     }
 
-    // Its input, filtered from its birth on.
-    fn render_filter(
+    // What the equation of a causal node makes of its input from its birth on.
+    fn render_causal(
         &mut self,
         block: &mut Block,
         blocks: &[Block],
@@ -158,13 +158,13 @@ impl Bench {
         ensures renders { RendersWith site.now memory.old blocks.now block.new (kind_of site.now.world site.now.end.node.0) }
         ensures listens { Listens site.now blocks.now memory.old memory.new }
         ensures delays { memory.new.delays ≡ memory.old.delays }
-        ensures room { HaveRoom memory.new.filters site.now.counts }
+        ensures room { HaveRoom memory.new.causal site.now.counts }
     {
         let node = site.end.node;
         let channels = site.channels();
         self.take_input(blocks, site, 0, channels);
-        let room = memory.filters.room(node).max(channels);
-        self.filter_heard(block, room, &mut memory.filters, node);
+        let room = memory.causal.room(node).max(channels);
+        self.causal_heard(block, room, &mut memory.causal, node);
     }
 
     // A delay's writer takes its input in, and its reader gives it later.
@@ -181,7 +181,7 @@ impl Bench {
         requires rooms { HasRooms memory.old site.now.world site.now.counts }
         ensures renders { RendersWith site.now memory.old blocks.now block.new (kind_of site.now.world site.now.end.node.0) }
         ensures stores { Stores site.now block.new memory.old.delays memory.new.delays }
-        ensures filters { memory.new.filters ≡ memory.old.filters }
+        ensures causal { memory.new.causal ≡ memory.old.causal }
         ensures room { HaveDelayRoom memory.new.delays site.now.counts }
     {
         if site.end.writer {

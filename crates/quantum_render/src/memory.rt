@@ -1,10 +1,10 @@
 use delay_bank::Delays;
-use filter_bank::Filters;
+use filter_bank::CausalNodes;
 
-// What the nodes of a graph remember: the filters what they have heard, and the delays what their writers
+// What the nodes of a graph remember: the causal nodes what they have heard, and the delays what their writers
 // wrote.
 #[derive(Drop)]
 pub(crate) struct Memory {
-    pub filters: Filters,
+    pub causal: CausalNodes,
     pub delays: Delays,
 }

@@ -16,7 +16,7 @@ use crate::stage::Stage;
 use quantum_blocks::{Block, hush};
 
 // Renders all ends: the muted ones are silent, and the others are rendered along the order, each
-// from the blocks of those before it. A filter that no end of the order has hears silence.
+// from the blocks of those before it. A causal node that no end of the order has hears silence.
 pub(crate) fn render_quantum<'a>(
     blocks: &mut [Block],
     stage: &mut Stage,
@@ -33,7 +33,7 @@ pub(crate) fn render_quantum<'a>(
         drafts_of blocks.new quantum.now.counts m d ≡ value 128 (tape ++ quantum.now.world ∷ []) (128 * length tape + m) d }
     ensures memory { (tape : List a_world) → quantum.now.first ≡ 128 * length tape → AreCounted 128 quantum.now.world quantum.now.counts tape → IsTimely quantum.now.world → IsMemory memory.old quantum.now.world tape quantum.now.first →
         IsMemory memory.new quantum.now.world tape (quantum.now.first + 128) }
-    ensures known { (memory.new.filters.known ≡ length memory.old.filters.filters) × (memory.new.delays.known ≡ length memory.old.delays.delays) }
+    ensures known { (memory.new.causal.known ≡ length memory.old.causal.nodes) × (memory.new.delays.known ≡ length memory.old.delays.delays) }
 {
     let first = quantum.first;
     hush(blocks, plan.muted());
@@ -41,6 +41,6 @@ pub(crate) fn render_quantum<'a>(
         let site = plan.site(quantum, *end);
         stage.render(blocks, memory, &site);
     }
-    memory.filters.rest(first);
+    memory.causal.rest(first);
     memory.delays.end_quantum();
 }

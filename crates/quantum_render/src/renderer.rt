@@ -19,7 +19,7 @@ use crate::site::Quantum;
 use crate::stage::Stage;
 use automation::Automation;
 use delay_bank::Delays;
-use filter_bank::Filters;
+use filter_bank::CausalNodes;
 use meaning::World;
 use quantum_blocks::{Block, CHANNELS, QUANTUM, fit_blocks, reader, slot};
 use std::alloc::Global;
@@ -79,7 +79,7 @@ impl Renderer {
         ensures planned { IfOk result (λ r. r.planned ≡ None) }
     {
         let out = vec![in alloc; 0; CHANNELS * QUANTUM]?;
-        let filters = Filters::new(alloc)?;
+        let causal = CausalNodes::new(alloc)?;
         let stage = Stage::new(alloc)?;
         Ok(Renderer {
             alloc,
@@ -88,7 +88,7 @@ impl Renderer {
             plan: Plan::new(alloc, tie),
             automation: Automation::new(alloc),
             memory: Memory {
-                filters,
+                causal,
                 delays: Delays::new(alloc),
             },
             counts: Vec::new(alloc),
@@ -130,7 +130,7 @@ impl Renderer {
         ensures unedited_cost { IsUnedited self.old.planned world.now.graph → (digits : a_param → ℕ) → ((p : a_param) → IsIn p world.now.params.items → length p.line.events < 2 ^ digits p)
             → steps.new ≤ steps.old + sum_by digits world.now.params.items }
     {
-        self.memory.filters.follow(world)?;
+        self.memory.causal.follow(world)?;
         self.memory.delays.follow(world)?;
         let nodes = world.nodes.len() as usize;
         self.counts.resize(2 * nodes, 1)?;
@@ -182,7 +182,7 @@ impl Renderer {
     {
         let counts = self.counts.as_slice();
         fit_blocks(self.alloc, &mut self.blocks, world, counts)?;
-        self.memory.filters.grow(counts)?;
+        self.memory.causal.grow(counts)?;
         self.memory.delays.grow(counts)
     }
 

@@ -22,6 +22,7 @@ pub(crate) fn begin(alloc: Global, channels: u32, length: u64) -> Result<Session
         channels,
         length,
         rate: 48_000,
+        quantum: 128,
     };
     Session::new(alloc, context, WITH_AUDIO)
 }

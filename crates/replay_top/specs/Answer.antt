@@ -1,8 +1,9 @@
 -- The answer of the program to a command line and a script.
-use Rattle.std.specs.Prelude.{ℕ, List, [], length, nat_lt, Bool, ◌&&◌, if◌then◌else◌, Option, Some, None, Result, Ok, Err}
+use Rattle.std.specs.Prelude.{ℕ, List, [], length, nat_lt, Bool, true, false, ◌&&◌, if◌then◌else◌, Option, Some, None, Result, Ok, Err}
 use Rattle.wa_base.specs.Contexts.{quantum_of}
 use Rattle.wa_base.specs.declared.contexts.ContextSpec.{ContextSpec}
 use Rattle.script_ast.specs.declared.call_list.Script.{Script}
+use Rattle.script_text.specs.Text.{script_text}
 use Rattle.script_fields.specs.declared.faults.ScriptErr.{ScriptErr}
 use Rattle.transcript.specs.Text.{text_of}
 use Rattle.transcript.specs.Summary.{summary_of}
@@ -11,7 +12,7 @@ use Rattle.transcript.specs.declared.loudness.Loudness.{Loudness}
 use Rattle.transcript.specs.declared.lines.EndWord.{EndWord}
 use Rattle.transcript.specs.declared.lines.EndWord.TheVariants.{Completed, Stalled, Idle, Refused}
 use Rattle.wav_io.specs.WavText.{wav_bytes}
-use Rattle.command_line.specs.Words.{Reading, reading_by_word, renders, usage}
+use Rattle.command_line.specs.Words.{Reading, reading_by_word, renders, migrates, usage}
 use Rattle.session.specs.Rendering.{completes}
 use Rattle.session.specs.Rows.{samples_of}
 use Rattle.session.specs.Folders.{Folder}
@@ -29,7 +30,7 @@ pub record File : Type 0 where
   pub path : List ℕ
   pub bytes : List ℕ
 
--- how the run is to end, what the sink is to get, and the WAV file, where there is one
+-- how the run is to end, what the sink is to get, and the file of OUT, where there is one
 pub record Answer : Type 0 where
   pub status : Status
   pub text : List ℕ
@@ -63,11 +64,29 @@ wav_of_tape asked spec tape = file_at_out asked (wav_bytes spec.rate spec.channe
 abbrev pub has_samples : Reading → Played → Bool
 has_samples asked session = renders asked.mode && completes session.end
 
--- where there are samples there is a WAV file
-abbrev pub file_of : Reading → ContextSpec → Played → Option File
-file_of asked spec session = if has_samples asked session then Some (wav_of_tape asked spec session.tape) else None
+-- whether a session ran: its context was not refused
+abbrev pub runs : EndWord → Bool
+runs Completed = true
+runs (Stalled frame) = true
+runs Idle = true
+runs (Refused exception) = false
 
--- and they have a loudness
+-- whether the script is written: that is asked for, and its session ran
+abbrev pub is_migrated : Reading → EndWord → Bool
+is_migrated asked end = migrates asked.mode && runs end
+
+-- the script as one of version 2
+abbrev pub migrated : Reading → Script → File
+migrated asked script = file_at_out asked (script_text script)
+
+-- where there are samples there is a WAV file; where the script is written that is the file
+abbrev pub file_of : Reading → Script → Played → Option File
+file_of asked script session =
+    if has_samples asked session then Some (wav_of_tape asked script.context session.tape)
+    else if is_migrated asked session.end then Some (migrated asked script)
+    else None
+
+-- where there are samples they have a loudness
 abbrev pub loudness_in : Reading → ContextSpec → Played → Option Loudness
 loudness_in asked spec session = if has_samples asked session then Some (loudness_of (samples_of session.tape spec)) else None
 
@@ -78,18 +97,18 @@ text_in asked spec session =
     then text_of session.lines session.end
     else summary_of session.lines (length session.tape) (loudness_in asked spec session) session.end
 
--- the text of a session, and its WAV file
-abbrev pub answer_to_session : Reading → ContextSpec → Played → Answer
-answer_to_session asked spec session = record {
+-- the text of a script's session, and its file
+abbrev pub answer_to_session : Reading → Script → Played → Answer
+answer_to_session asked script session = record {
   status = status_of session.end;
-  text = text_in asked spec session;
-  file = file_of asked spec session;
+  text = text_in asked script.context session;
+  file = file_of asked script session;
 }
 
 -- ---- a script
 
 abbrev pub answer_to_script : Reading → Folder → Result Script ScriptErr → Answer
-answer_to_script asked folder (Ok script) = answer_to_session asked script.context (session_of folder script)
+answer_to_script asked folder (Ok script) = answer_to_session asked script (session_of folder script)
 answer_to_script asked folder (Err fault) = without_file BadScript (fault_line fault)
 
 abbrev pub answer_to_bytes : Reading → Folder → List ℕ → Answer

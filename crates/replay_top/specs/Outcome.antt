@@ -1,5 +1,6 @@
 -- The answer to what a session handed over.
 use Rattle.std.specs.Prelude.{ℕ, List, if◌then◌else◌, option_map, Option, Some, None}
+use Rattle.script_ast.specs.declared.call_list.Script.{Script}
 use Rattle.transcript.specs.declared.lines.EndWord.{EndWord}
 use Rattle.transcript.specs.declared.lines.Line.{Line}
 use Rattle.transcript.specs.declared.loudness.Loudness.{Loudness}
@@ -9,9 +10,10 @@ use Rattle.transcript.specs.Text.{text_of}
 use Rattle.session.specs.Rows.{interleaved}
 use Rattle.session.specs.declared.rendered.Rendered.{Rendered}
 use Rattle.command_line.specs.Words.{Reading}
-use Rattle.replay_top.specs.Answer.{Answer, file_at_out, status_of, without_file}
+use Rattle.replay_top.specs.Answer.{Answer, File, file_at_out, is_migrated, migrated, status_of, without_file}
 use Rattle.replay_top.specs.WavFile.{wav_of}
 use Rattle.replay_top.specs.Words.{reads_source}
+use Rattle.replay_top.specs.declared.status.Status.{Status}
 use Rattle.replay_top.specs.declared.status.Status.TheVariants as status
 
 -- how loud it is what was rendered, where something was
@@ -23,14 +25,19 @@ abbrev pub text_to : Reading → List Line → ℕ → EndWord → Option Render
 text_to asked lines quanta end rendered =
     if reads_source asked then text_of lines end else summary_of lines quanta (loudness_left rendered) end
 
--- the answer with the WAV file of what was rendered
-abbrev pub with_wav : Reading → List ℕ → Rendered → Answer
-with_wav asked text rendered = record {
-  status = status.Rendered;
-  text = text;
-  file = Some (file_at_out asked (wav_of asked.bits rendered.spec (interleaved rendered.spec rendered.samples)));
-}
+-- the answer with this file
+abbrev pub with_file : Status → List ℕ → File → Answer
+with_file status text file = record { status = status; text = text; file = Some file }
 
-abbrev pub answer_to_rendering : Reading → EndWord → List ℕ → Option Rendered → Answer
-answer_to_rendering asked end text None = without_file (status_of end) text
-answer_to_rendering asked end text (Some rendered) = with_wav asked text rendered
+-- the WAV file of what was rendered
+abbrev pub wav_file : Reading → Rendered → File
+wav_file asked rendered = file_at_out asked (wav_of asked.bits rendered.spec (interleaved rendered.spec rendered.samples))
+
+-- the answer where nothing was rendered: the script is written, or no file is
+abbrev pub answer_unrendered : Reading → EndWord → List ℕ → Script → Answer
+answer_unrendered asked end text script =
+    if is_migrated asked end then with_file (status_of end) text (migrated asked script) else without_file (status_of end) text
+
+abbrev pub answer_to_rendering : Reading → EndWord → List ℕ → Script → Option Rendered → Answer
+answer_to_rendering asked end text script None = answer_unrendered asked end text script
+answer_to_rendering asked end text script (Some rendered) = with_file status.Rendered text (wav_file asked rendered)

@@ -1,11 +1,12 @@
 //! The top call of the replayer: from the words of a command line and a script to a transcript and
-//! a WAV file.
+//! a WAV file, or to a script of version 2.
 #![tactic(auto)]
 
 ghost use Rattle.replay_top.specs.Laws.{CompletenessLaw};
 
 mod fault_line;
 mod replay;
+mod script_file;
 mod status;
 mod wav_file;
 

@@ -1,4 +1,4 @@
-ghost use Rattle.std.specs.Prelude.{◌≡◌, ◌≤◌, ℕ, List, map, string_bytes, Ok, IfOk, IfSome};
+ghost use Rattle.std.specs.Prelude.{◌≡◌, ◌≤◌, ℕ, List, map, string_bytes, true, Ok, IfOk, IfSome};
 ghost use Rattle.command_line.specs.Words.{reading_by_word};
 ghost use Rattle.io_edge.specs.Told.{IsToldAs};
 ghost use Rattle.script_ast.specs.WellFormed.{IsWellFormed};
@@ -7,13 +7,14 @@ ghost use Rattle.session.specs.Folders.{Folder, IsFolderOf};
 ghost use Rattle.session.specs.Session.{session_of};
 ghost use Rattle.replay_top.specs.Answer as answers;
 ghost use Rattle.replay_top.specs.FaultLine as faults;
-ghost use Rattle.replay_top.specs.Outcome.{answer_to_rendering, loudness_left, text_to, with_wav};
+ghost use Rattle.replay_top.specs.Outcome.{answer_to_rendering, loudness_left, text_to, wav_file, with_file};
 ghost use Rattle.replay_top.specs.Run.{outside, counts, Ran, Replays, Answers, IsRead, TextEnds};
 ghost use Rattle.replay_top.specs.WavFile.{IsWritable};
 ghost use Rattle.replay_top.specs.Words.{asks_source};
 ghost use Rattle.load_gen.specs.Generator as generator;
 
 use crate::fault_line::fault_line;
+use crate::script_file::write_script;
 use crate::status::Status;
 use crate::wav_file::write_wav;
 use command_line::{Reading, USAGE, reading_of};
@@ -29,7 +30,8 @@ const MAX_SCRIPT: usize = 16_777_216;
 
 /// Replays a session: reads the words of a command line and a script, and the assets that the script
 /// decodes; writes the transcript into the sink and, where the session completes and samples are rendered,
-/// a WAV file at the path that the words name. Where the words give the number of a script that is
+/// a WAV file at the path that the words name, or, where that is asked for and the context is not refused,
+/// the script as one of version 2. Where the words give the number of a script that is
 /// generated, the source is not read, and the sink gets the summary of the session in place of its
 /// transcript.
 ///
@@ -134,7 +136,7 @@ fn replay_script<F: Files, T: Sink>(
     ensures ends { let before = outside (T.written transcript.old) (T.faults transcript.old) (F.tells files.old) (F.paths files.old) (F.write_faults files.old) in
         let after = outside (T.written transcript.new) (T.faults transcript.new) (F.tells files.new) (F.paths files.new) (F.write_faults files.new) in
         (folder : Folder) × IsFolderOf (F.tells files.old) (F.paths files.old) folder
-        × Replays result (answers.answer_to_session reading.now script.now.context (session_of folder script.now)) (answers.Decodes folder (Ok script.now)) (F.read_faults files.old) (F.read_faults files.new) before after }
+        × Replays result (answers.answer_to_session reading.now script.now (session_of folder script.now)) (answers.Decodes folder (Ok script.now)) (F.read_faults files.old) (F.read_faults files.new) before after }
     ensures tells { F.tells files.new ≡ F.tells files.old }
     ensures sink_later { T.faults transcript.old ≤ T.faults transcript.new }
     ensures read_later { F.read_faults files.old ≤ F.read_faults files.new }
@@ -145,24 +147,27 @@ fn replay_script<F: Files, T: Sink>(
         audio: reading.mode.renders(),
     };
     match session::run(alloc, script, options, files) {
-        Ok(outcome) => answer_outcome(alloc, reading, &outcome, files, transcript),
+        Ok(outcome) => answer_outcome(alloc, reading, script, &outcome, files, transcript),
         Err(Stop::AssetFault) => Status::AssetFault,
         Err(Stop::NoMemory) => Status::NoMemory,
     }
 }
 
-// Writes the text of a session and then, where something was rendered, the WAV file.
+// Writes the text of a session and then, where there is one, its file.
 fn answer_outcome<F: Files, T: Sink>(
     alloc: Global,
     reading: &Reading<'_>,
+    script: &Script,
     outcome: &Outcome,
     files: &mut F,
     transcript: &mut T,
 ) -> Status
-    requires { IfSome outcome.now.rendered IsWritable }
+    requires writable { IfSome outcome.now.rendered IsWritable }
+    requires formed { IsWellFormed script.now }
+    requires rate { answers.runs outcome.now.end ≡ true → 1 ≤ script.now.context.rate }
     ensures ends { let before = outside (T.written transcript.old) (T.faults transcript.old) (F.tells files.old) (F.paths files.old) (F.write_faults files.old) in
         let after = outside (T.written transcript.new) (T.faults transcript.new) (F.tells files.new) (F.paths files.new) (F.write_faults files.new) in
-        Answers result (answer_to_rendering reading.now outcome.now.end (text_to reading.now outcome.now.lines.items outcome.now.quanta outcome.now.end outcome.now.rendered) outcome.now.rendered) before after }
+        Answers result (answer_to_rendering reading.now outcome.now.end (text_to reading.now outcome.now.lines.items outcome.now.quanta outcome.now.end outcome.now.rendered) script.now outcome.now.rendered) before after }
     ensures tells { F.tells files.new ≡ F.tells files.old }
     ensures sink_later { T.faults transcript.old ≤ T.faults transcript.new }
     ensures read_later { F.read_faults files.old ≤ F.read_faults files.new }
@@ -173,7 +178,24 @@ fn answer_outcome<F: Files, T: Sink>(
     };
     match &outcome.rendered {
         Some(rendered) => answer_rendered(reading, text.as_slice(), rendered, files, transcript),
+        None if is_migrated(reading, outcome.end) => {
+            let Ok(script) = script_text::text(alloc, script) else {
+                return Status::NoMemory;
+            };
+            let (text, script) = (text.as_slice(), script.as_slice());
+            answer_migrated(reading, text, script, outcome.end, files, transcript)
+        }
         None => answer_text(transcript, text.as_slice(), status_of(outcome.end)),
+    }
+}
+
+// Whether the script is written.
+fn is_migrated(reading: &Reading<'_>, end: EndWord) -> bool
+    ensures { result ≡ answers.is_migrated reading.now end }
+{
+    match end {
+        EndWord::Completed | EndWord::Stalled(_) | EndWord::Idle => reading.mode.migrates(),
+        EndWord::Refused(_) => false,
     }
 }
 
@@ -227,7 +249,7 @@ fn answer_rendered<F: Files, T: Sink>(
     requires { IsWritable rendered.now }
     ensures ends { let before = outside (T.written transcript.old) (T.faults transcript.old) (F.tells files.old) (F.paths files.old) (F.write_faults files.old) in
         let after = outside (T.written transcript.new) (T.faults transcript.new) (F.tells files.new) (F.paths files.new) (F.write_faults files.new) in
-        Answers result (with_wav reading.now text.now rendered.now) before after }
+        Answers result (with_file Status.Rendered text.now (wav_file reading.now rendered.now)) before after }
     ensures tells { F.tells files.new ≡ F.tells files.old }
     ensures sink_later { T.faults transcript.old ≤ T.faults transcript.new }
     ensures read_later { F.read_faults files.old ≤ F.read_faults files.new }
@@ -240,6 +262,35 @@ fn answer_rendered<F: Files, T: Sink>(
     }
     match write_wav(files, reading, rendered) {
         Ok(()) => Status::Rendered,
+        Err(EdgeErr::Failed) => Status::WavFault,
+        Err(EdgeErr::NoMemory) => Status::NoMemory,
+    }
+}
+
+// Writes a transcript and then the text of a script.
+fn answer_migrated<F: Files, T: Sink>(
+    reading: &Reading<'_>,
+    text: &[u8],
+    script: &[u8],
+    end: EndWord,
+    files: &mut F,
+    transcript: &mut T,
+) -> Status
+    ensures ends { let before = outside (T.written transcript.old) (T.faults transcript.old) (F.tells files.old) (F.paths files.old) (F.write_faults files.old) in
+        let after = outside (T.written transcript.new) (T.faults transcript.new) (F.tells files.new) (F.paths files.new) (F.write_faults files.new) in
+        Answers result (with_file (answers.status_of end) text.now (answers.file_at_out reading.now script.now)) before after }
+    ensures tells { F.tells files.new ≡ F.tells files.old }
+    ensures sink_later { T.faults transcript.old ≤ T.faults transcript.new }
+    ensures read_later { F.read_faults files.old ≤ F.read_faults files.new }
+    ensures store_later { F.write_faults files.old ≤ F.write_faults files.new }
+{
+    match write_all(transcript, text) {
+        Ok(()) => {}
+        Err(EdgeErr::Failed) => return Status::TranscriptFault,
+        Err(EdgeErr::NoMemory) => return Status::NoMemory,
+    }
+    match write_script(files, reading.out, script) {
+        Ok(()) => status_of(end),
         Err(EdgeErr::Failed) => Status::WavFault,
         Err(EdgeErr::NoMemory) => Status::NoMemory,
     }

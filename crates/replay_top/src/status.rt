@@ -3,9 +3,11 @@ ghost use Rattle.std.specs.Prelude.{◌≡◌};
 /// How a run ended.
 #[derive(Clone, Copy, PartialEq, Eq)]
 pub enum Status {
-    /// The session completed; its transcript is written and, where samples are rendered, its WAV file.
+    /// The session completed; its transcript is written and, where samples are rendered, its WAV file, or
+    /// its script where that is asked for.
     Rendered,
-    /// The session did not complete; its transcript is written, and no file is touched.
+    /// The session did not complete; its transcript is written, and no file is touched but for the script
+    /// where that is asked for and the context was not refused.
     Unrendered,
     /// The words of the command line have no reading; the usage line is written.
     BadWords,
@@ -19,7 +21,7 @@ pub enum Status {
     AssetFault,
     /// Writing the transcript, the usage line or a fault's line failed; no file is touched.
     TranscriptFault,
-    /// Writing the WAV file failed; the transcript is written.
+    /// Writing the file failed; the transcript is written.
     WavFault,
     /// Memory ran out.
     NoMemory,

@@ -1,4 +1,5 @@
 mod Constants
 mod HolderRows
 pub mod Nesting
+pub mod Texts
 mod WordRows

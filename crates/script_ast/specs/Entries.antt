@@ -31,12 +31,13 @@ script_head =
     row field.Version kind.Version Needed ∷
     row field.Context kind.Object Needed ∷ []
 
--- those of `context`: `channels`, `length`, `rate`
+-- those of `context`: `channels`, `length`, `rate`, `renderQuantum`
 abbrev pub context_fields : List Row
 context_fields =
     row field.Channels kind.Count Needed ∷
     row field.Length kind.Count Needed ∷
-    row field.Rate kind.Count Needed ∷ []
+    row field.Rate kind.Count Needed ∷
+    row field.RenderQuantum kind.Count (Count 128) ∷ []
 
 -- `calls`
 abbrev pub script_tail : List Row
@@ -96,6 +97,12 @@ create_convolver =
     row field.As kind.NewName Needed ∷
     row field.Buffer kind.Name Null ∷
     row field.DisableNormalization kind.Flag (Flag false) ∷ []
+
+-- `createProcessor`
+abbrev pub create_processor : List Row
+create_processor =
+    row field.As kind.NewName Needed ∷
+    row field.Code kind.Code Needed ∷ []
 
 -- `createBufferSource`
 abbrev pub create_buffer_source : List Row
@@ -370,6 +377,7 @@ op_word op.CreateChannelMerger = codes "createChannelMerger"
 op_word op.CreateWaveShaper = codes "createWaveShaper"
 op_word op.CreateIIRFilter = codes "createIIRFilter"
 op_word op.CreateConvolver = codes "createConvolver"
+op_word op.CreateProcessor = codes "createProcessor"
 op_word op.CreateBufferSource = codes "createBufferSource"
 op_word op.CreateBuffer = codes "createBuffer"
 op_word op.Connect = codes "connect"
@@ -408,6 +416,7 @@ operations =
     op.CreateWaveShaper ∷
     op.CreateIIRFilter ∷
     op.CreateConvolver ∷
+    op.CreateProcessor ∷
     op.CreateBufferSource ∷
     op.CreateBuffer ∷
     op.Connect ∷
@@ -488,6 +497,7 @@ fields_of op.CreateChannelMerger = create_channel_merger
 fields_of op.CreateWaveShaper = create_wave_shaper
 fields_of op.CreateIIRFilter = create_iir_filter
 fields_of op.CreateConvolver = create_convolver
+fields_of op.CreateProcessor = create_processor
 fields_of op.CreateBufferSource = create_buffer_source
 fields_of op.CreateBuffer = create_buffer
 fields_of op.Connect = connect
@@ -528,6 +538,7 @@ is_calls kind.Flag = false
 is_calls kind.Fixes = false
 is_calls kind.FixesOrNull = false
 is_calls kind.Path = false
+is_calls kind.Code = false
 is_calls kind.Mode = false
 is_calls kind.Interp = false
 is_calls kind.Rate = false

@@ -1,7 +1,7 @@
 -- The names of the members of a script.
 use Rattle.std.specs.Prelude.{ℕ, List, codes}
 use Rattle.script_ast.specs.declared.fields.Field.{Field}
-use Rattle.script_ast.specs.declared.fields.Field.TheVariants.{Version, Context, Channels, Length, Rate, Calls, Op, Then, Script, Call, As, Offset, Gain, MaxDelayTime, DelayTime, NumberOfOutputs, NumberOfInputs, Curve, Oversample, Feedforward, Feedback, Buffer, DisableNormalization, Loop, LoopStart, LoopEnd, PlaybackRate, From, Output, To, Input, Param, Node, Value, Channel, Samples, At, When, Duration, Time, Values, Path}
+use Rattle.script_ast.specs.declared.fields.Field.TheVariants.{Version, Context, Channels, Length, Rate, RenderQuantum, Calls, Op, Then, Script, Call, As, Offset, Gain, MaxDelayTime, DelayTime, NumberOfOutputs, NumberOfInputs, Curve, Oversample, Feedforward, Feedback, Buffer, DisableNormalization, Code, Loop, LoopStart, LoopEnd, PlaybackRate, From, Output, To, Input, Param, Node, Value, Channel, Samples, At, When, Duration, Time, Values, Path}
 
 -- the name of a member, as a script spells it and as a fault names it
 abbrev pub field_word : Field → List ℕ
@@ -10,6 +10,7 @@ field_word Context = codes "context"
 field_word Channels = codes "channels"
 field_word Length = codes "length"
 field_word Rate = codes "rate"
+field_word RenderQuantum = codes "renderQuantum"
 field_word Calls = codes "calls"
 field_word Op = codes "op"
 field_word Then = codes "then"
@@ -28,6 +29,7 @@ field_word Feedforward = codes "feedforward"
 field_word Feedback = codes "feedback"
 field_word Buffer = codes "buffer"
 field_word DisableNormalization = codes "disableNormalization"
+field_word Code = codes "code"
 field_word Loop = codes "loop"
 field_word LoopStart = codes "loopStart"
 field_word LoopEnd = codes "loopEnd"

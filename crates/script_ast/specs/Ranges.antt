@@ -2,7 +2,10 @@
 use Rattle.std.specs.Prelude.{ℕ, ◌≤◌, ◌==◌, ◌&&◌, ◌||◌, List, All, length, codes, bytes_eq, Bool, not, nat_le, IsTrue, ℤ, pos, neg_ℤ, ◌≤ℤ◌, Option, Some, None, IsSome}
 use Rattle.std.specs.List.{list_all}
 use Rattle.std.specs.Char.{is_ascii_alphanumeric}
+use Rattle.std.specs.Str.{is_utf8}
 use Rattle.wa_base.specs.Numbers.{IsFix}
+use Rattle.node_table.specs.declared.code.Instr.{Instr}
+use Rattle.node_table.specs.declared.code.Instr.TheVariants as instr
 
 -- a number of frames, from -2^40 to 2^40
 abbrev pub IsTime : ℤ → Type 0
@@ -22,6 +25,15 @@ abbrev pub IsCountIfSome : Option ℕ → Type 0
 IsCountIfSome None = Unit {0}
 IsCountIfSome (Some n) = IsCount n
 
+-- the bytes are UTF-8
+abbrev pub IsText : List ℕ → Type 0
+IsText text = IsTrue (is_utf8 text)
+
+-- they are, where there is a text
+abbrev pub IsTextIfSome : Option (List ℕ) → Type 0
+IsTextIfSome None = Unit {0}
+IsTextIfSome (Some text) = IsText text
+
 -- values in units of 2^-24
 abbrev pub AreFixes : List ℤ → Type 0
 AreFixes zs = All IsFix zs
@@ -30,6 +42,16 @@ AreFixes zs = All IsFix zs
 abbrev pub AreFixesIfSome : Option (List ℤ) → Type 0
 AreFixesIfSome None = Unit {0}
 AreFixesIfSome (Some zs) = AreFixes zs
+
+-- the number of an instruction is in units of 2^-24, or one of 31 bits
+abbrev pub IsInstr : Instr → Type 0
+IsInstr (instr.Push v) = IsFix v
+IsInstr (instr.Load k) = k ≤ 2147483647
+IsInstr (instr.Store k) = k ≤ 2147483647
+IsInstr (instr.Div d) = d ≤ 2147483647
+IsInstr (instr.Skip k) = k ≤ 2147483647
+IsInstr (instr.Skipz k) = k ≤ 2147483647
+IsInstr _ = Unit {0}
 
 -- a letter, a digit, `_` or `-`
 abbrev pub is_name_byte : ℕ → Bool

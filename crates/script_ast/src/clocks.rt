@@ -3,4 +3,6 @@
 pub enum Clock {
     /// Whole frames.
     Frames,
+    /// Seconds, at this many frames a second.
+    Seconds { rate: u32 },
 }

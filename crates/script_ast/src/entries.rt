@@ -12,11 +12,11 @@ use crate::param_ops::ParamOpName;
 pub enum Kind {
     /// A whole number from -2^31 to 2^31 - 1.
     Fix,
-    /// A whole number from -2^40 to 2^40.
+    /// A number of frames from -2^40 to 2^40, in the units of a clock.
     Time,
     /// A whole number from 0 to 2^32 - 1.
     Count,
-    /// The whole number 1.
+    /// The whole number 1 or 2.
     Version,
     /// Any string.
     Name,
@@ -32,6 +32,8 @@ pub enum Kind {
     FixesOrNull,
     /// A string of 1 to 255 bytes.
     Path,
+    /// An array of strings, each of them an instruction of a processor program.
+    Code,
     /// The word of a ChannelCountMode.
     Mode,
     /// The word of a ChannelInterpretation.
@@ -91,10 +93,11 @@ pub const SCRIPT_HEAD: [Row; 2] = [
     row!(Context, Object, Needed),
 ];
 
-pub const CONTEXT_FIELDS: [Row; 3] = [
+pub const CONTEXT_FIELDS: [Row; 4] = [
     row!(Channels, Count, Needed),
     row!(Length, Count, Needed),
     row!(Rate, Count, Needed),
+    row!(RenderQuantum, Count, Count(128)),
 ];
 
 pub const SCRIPT_TAIL: [Row; 1] = [row!(Calls, Calls, Needed)];
@@ -110,6 +113,7 @@ pub enum OpName {
     CreateWaveShaper,
     CreateIIRFilter,
     CreateConvolver,
+    CreateProcessor,
     CreateBufferSource,
     CreateBuffer,
     Connect,
@@ -139,7 +143,7 @@ pub enum OpName {
 }
 
 /// Every operation.
-pub const OP_NAMES: [OpName; 56] = [
+pub const OP_NAMES: [OpName; 57] = [
     OpName::CreateConstantSource,
     OpName::CreateGain,
     OpName::CreateDelay,
@@ -148,6 +152,7 @@ pub const OP_NAMES: [OpName; 56] = [
     OpName::CreateWaveShaper,
     OpName::CreateIIRFilter,
     OpName::CreateConvolver,
+    OpName::CreateProcessor,
     OpName::CreateBufferSource,
     OpName::CreateBuffer,
     OpName::Connect,
@@ -243,6 +248,8 @@ pub const CREATE_CONVOLVER: [Row; 3] = [
     row!(Buffer, Name, Null),
     row!(DisableNormalization, Flag, Flag(false)),
 ];
+
+pub const CREATE_PROCESSOR: [Row; 2] = [row!(As, NewName, Needed), row!(Code, Code, Needed)];
 
 pub const CREATE_BUFFER_SOURCE: [Row; 6] = [
     row!(As, NewName, Needed),
@@ -402,6 +409,7 @@ impl OpName {
             OpName::CreateWaveShaper => "createWaveShaper",
             OpName::CreateIIRFilter => "createIIRFilter",
             OpName::CreateConvolver => "createConvolver",
+            OpName::CreateProcessor => "createProcessor",
             OpName::CreateBufferSource => "createBufferSource",
             OpName::CreateBuffer => "createBuffer",
             OpName::Connect => "connect",
@@ -458,6 +466,7 @@ impl OpName {
             OpName::CreateWaveShaper => &CREATE_WAVE_SHAPER,
             OpName::CreateIIRFilter => &CREATE_IIR_FILTER,
             OpName::CreateConvolver => &CREATE_CONVOLVER,
+            OpName::CreateProcessor => &CREATE_PROCESSOR,
             OpName::CreateBufferSource => &CREATE_BUFFER_SOURCE,
             OpName::CreateBuffer => &CREATE_BUFFER,
             OpName::Connect => &CONNECT,

@@ -11,6 +11,7 @@ pub enum Field {
     Channels,
     Length,
     Rate,
+    RenderQuantum,
     Calls,
     Op,
     Then,
@@ -29,6 +30,7 @@ pub enum Field {
     Feedback,
     Buffer,
     DisableNormalization,
+    Code,
     Loop,
     LoopStart,
     LoopEnd,
@@ -51,12 +53,13 @@ pub enum Field {
 }
 
 // The names of the members, in the order of the variants.
-const WORDS: [&str; 42] = [
+const WORDS: [&str; 44] = [
     "version",
     "context",
     "channels",
     "length",
     "rate",
+    "renderQuantum",
     "calls",
     "op",
     "then",
@@ -75,6 +78,7 @@ const WORDS: [&str; 42] = [
     "feedback",
     "buffer",
     "disableNormalization",
+    "code",
     "loop",
     "loopStart",
     "loopEnd",

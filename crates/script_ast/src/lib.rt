@@ -19,4 +19,4 @@ pub use left_out::LeftOutName;
 pub use operations::{Interface, Op, Oversample};
 pub use param_ops::ParamOpName;
 pub use paths::Path;
-pub use words::{interp_named, mode_named, oversample_named, rate_named};
+pub use words::{instr_word, interp_named, mode_named, oversample_named, rate_named};

@@ -2,9 +2,10 @@ ghost use Rattle.std.specs.Prelude.{◌≡◌, option_map};
 ghost use Rattle.script_ast.specs.Operations as spec;
 ghost use Rattle.script_ast.specs.Words.{oversample_word};
 
+use crate::left_out::LeftOutName;
 use crate::paths::Path;
-use node_table::Kind;
-use wa_base::{Feature, Fix, Interp, Mode, Name, Rate, Samples};
+use node_table::{Code, Kind};
+use wa_base::{Fix, Interp, Mode, Name, Rate, Samples};
 
 /// How often a shaper samples its curve (OverSampleType).
 #[derive(Clone, Copy, PartialEq, Eq)]
@@ -56,6 +57,11 @@ pub enum Op {
         buffer: Option<Name>,
         disable_normalization: bool,
     },
+    /// A processor, this profile's answer to the AudioWorkletNode Interface.
+    CreateProcessor {
+        name: Name,
+        code: Code,
+    },
     /// The AudioBufferSourceNode Interface.
     CreateBufferSource {
         name: Name,
@@ -74,7 +80,7 @@ pub enum Op {
     },
     /// An operation that the profile leaves out; none of its fields is read.
     LeftOut {
-        feature: Feature,
+        name: LeftOutName,
     },
     /// The AudioNode Interface, connect to a node.
     Connect {
@@ -262,6 +268,8 @@ pub enum Interface {
     Buffer,
     /// A wave shaper (WaveShaperNode).
     Shaper,
+    /// A processor (AudioWorkletNode).
+    Processor,
     /// The timeline of a parameter (AudioParam).
     Timeline,
     /// A parameter, its connections included (AudioParam, AudioNode).
@@ -296,6 +304,7 @@ impl Op {
             | Op::CreateBufferSource { .. }
             | Op::CreateBuffer { .. }
             | Op::CopyToChannel { .. } => Interface::Buffer,
+            Op::CreateProcessor { .. } => Interface::Processor,
             Op::CreateWaveShaper { .. } | Op::SetCurve { .. } | Op::SetOversample { .. } =>
                 Interface::Shaper,
             Op::SetValue { .. }
@@ -326,6 +335,7 @@ impl Op {
             | Op::CreateDelay { name, .. }
             | Op::CreateWaveShaper { name, .. }
             | Op::CreateConvolver { name, .. }
+            | Op::CreateProcessor { name, .. }
             | Op::CreateBufferSource { name, .. }
             | Op::CreateBuffer { name, .. }
             | Op::DecodeAudioData { name, .. } => Some(name),

@@ -1,7 +1,8 @@
 ghost use Rattle.std.specs.Prelude.{◌≡◌, option_map};
-ghost use Rattle.script_ast.specs.Words.{first_mode, mode_named, first_interp, interp_named, first_rate, rate_named, first_oversample, oversample_named};
+ghost use Rattle.script_ast.specs.Words.{first_mode, mode_named, first_interp, interp_named, first_rate, rate_named, first_oversample, oversample_named, instr_word};
 
 use crate::operations::Oversample;
+use node_table::Instr;
 use wa_base::{Interp, Mode, Rate};
 
 const MODES: [Mode; 3] = [Mode::Max, Mode::ClampedMax, Mode::Explicit];
@@ -42,6 +43,30 @@ pub fn oversample_named(word: &str) -> Option<Oversample>
     ensures { result ≡ oversample_named word.now }
 {
     find_oversample(&OVERSAMPLES, word).copied()
+}
+
+/// The word with which the instruction begins in a script.
+pub fn instr_word(instr: Instr) -> &'static str
+    ensures { result.now ≡ instr_word instr }
+{
+    match instr {
+        Instr::Input => "in",
+        Instr::Push(_) => "push",
+        Instr::Load(_) => "load",
+        Instr::Store(_) => "store",
+        Instr::Add => "add",
+        Instr::Sub => "sub",
+        Instr::Min => "min",
+        Instr::Max => "max",
+        Instr::Mul => "mul",
+        Instr::Neg => "neg",
+        Instr::Div(_) => "div",
+        Instr::Dup => "dup",
+        Instr::Swap => "swap",
+        Instr::Discard => "drop",
+        Instr::Skip(_) => "skip",
+        Instr::Skipz(_) => "skipz",
+    }
 }
 
 // The first of the modes with this word.

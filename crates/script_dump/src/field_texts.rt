@@ -1,4 +1,5 @@
-use script_ast::Oversample;
+use node_table::{Code, Instr};
+use script_ast::{Oversample, instr_word};
 use std::alloc::{AllocError, Global};
 use wa_base::{Fix, Interp, Mode, Name, Rate, Samples};
 
@@ -41,6 +42,41 @@ pub fn list_or_none(alloc: Global, values: &Option<Samples>) -> Result<String, A
     match values {
         Some(values) => list_text(alloc, values),
         None => String::from_str(alloc, "none"),
+    }
+}
+
+/// The instructions of a program, with commas between them.
+pub fn code_text(alloc: Global, code: &Code) -> Result<String, AllocError> {
+    let mut all = String::new(alloc);
+    for instr in code.as_slice() {
+        if !all.is_empty() {
+            all.push_str(", ")?;
+        }
+        let instr = instr_text(alloc, *instr)?;
+        all.push_str(instr.as_str())?;
+    }
+    Ok(all)
+}
+
+fn instr_text(alloc: Global, instr: Instr) -> Result<String, AllocError> {
+    let word = instr_word(instr);
+    match instr {
+        Instr::Push(value) => format!(in alloc; "{word} {value}"),
+        Instr::Load(number)
+        | Instr::Store(number)
+        | Instr::Div(number)
+        | Instr::Skip(number)
+        | Instr::Skipz(number) => format!(in alloc; "{word} {number}"),
+        Instr::Input
+        | Instr::Add
+        | Instr::Sub
+        | Instr::Min
+        | Instr::Max
+        | Instr::Mul
+        | Instr::Neg
+        | Instr::Dup
+        | Instr::Swap
+        | Instr::Discard => String::from_str(alloc, word),
     }
 }
 

@@ -1,10 +1,9 @@
 use crate::field_texts::{
-    count_text, interp_text, list_or_none, list_text, mode_text, oversample_text, text,
+    code_text, count_text, interp_text, list_or_none, list_text, mode_text, oversample_text, text,
     text_or_none,
 };
 use crate::param_texts::param_op_text;
-use causal_core::Equation;
-use node_table::Kind;
+use node_table::{Equation, Kind};
 use script_ast::Op;
 use std::alloc::{AllocError, Global};
 use wa_base::Name;
@@ -23,7 +22,7 @@ pub fn op_text(alloc: Global, op: &Op) -> Result<String, AllocError> {
         }
         Op::ReadState => String::from_str(alloc, "readState"),
         Op::ReadTime => String::from_str(alloc, "readTime"),
-        Op::LeftOut { feature } => format!(in alloc; "left out {}", feature.word()),
+        Op::LeftOut { name } => format!(in alloc; "left out {}", name.feature().word()),
         _ => creation_text(alloc, op),
     }
 }
@@ -53,6 +52,10 @@ fn creation_text(alloc: Global, op: &Op) -> Result<String, AllocError> {
                 text(name)
             )
         }
+        Op::CreateProcessor { name, code } => {
+            let code = code_text(alloc, code)?;
+            format!(in alloc; "createProcessor {} [{code}]", text(name))
+        }
         _ => connection_text(alloc, op),
     }
 }
@@ -72,7 +75,7 @@ fn kind_text(alloc: Global, name: &str, kind: &Kind) -> Result<String, AllocErro
             format!(in alloc; "createIIRFilter {name} {forward} {back}")
         }
         Kind::Causal {
-            equation: Equation::Convolution { .. },
+            equation: Equation::Convolution { .. } | Equation::Processor { .. },
         }
         | Kind::Destination
         | Kind::Buffer { .. }

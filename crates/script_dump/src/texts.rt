@@ -21,8 +21,8 @@ fn script_text(alloc: Global, script: &Script) -> Result<String, AllocError> {
     if calls.is_empty() {
         let context = script.context;
         return format!(in alloc;
-            "context {} {} {}",
-            context.channels, context.length, context.rate
+            "context {} {} {} {}",
+            context.channels, context.length, context.rate, context.quantum
         );
     }
     calls_text(alloc, calls)

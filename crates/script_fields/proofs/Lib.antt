@@ -1,2 +1,6 @@
+mod Digits
 mod ListLaws
 pub mod Outcomes
+mod Programs
+mod Rows
+mod Times

@@ -8,6 +8,7 @@ use Rattle.wa_base.specs.declared.graph_names.Interp.{Interp}
 use Rattle.wa_base.specs.declared.graph_names.Interp.TheVariants.{Speakers}
 use Rattle.wa_base.specs.declared.graph_names.Rate.{Rate}
 use Rattle.wa_base.specs.declared.graph_names.Rate.TheVariants.{A}
+use Rattle.node_table.specs.declared.code.Instr.{Instr}
 use Rattle.script_ast.specs.Fallbacks.{fallback_in}
 use Rattle.script_ast.specs.declared.clocks.Clock.{Clock}
 use Rattle.script_ast.specs.declared.entries.Row.{Row}
@@ -18,6 +19,7 @@ use Rattle.script_ast.specs.Fields.{field_word}
 use Rattle.script_ast.specs.Words.{mode_named, interp_named, rate_named, oversample_named}
 use Rattle.script_ast.specs.declared.operations.Oversample.{Oversample}
 use Rattle.script_ast.specs.declared.operations.Oversample.TheVariants.{Off}
+use Rattle.script_fields.specs.Instructions.{code_of}
 use Rattle.script_fields.specs.Values.{whole, wholes, frames, is_within, cause_of}
 use Rattle.script_fields.specs.declared.faults.ScriptErr.{ScriptErr}
 use Rattle.script_fields.specs.declared.faults.ScriptErr.TheVariants as fault
@@ -171,6 +173,10 @@ fixes_in field d = fixes_of (list_in field d)
 -- the values of a field that may be null; none where it is null or absent
 unfoldable pub fixes_or_null_in : Field → Data → Option (List ℤ)
 fixes_or_null_in field d = option_map fixes_of (option_and_then as_array (member_at field d))
+
+-- the program of a field
+abbrev pub code_in : Field → Data → List Instr
+code_in field d = code_of (list_in field d)
 
 -- the text of a field
 unfoldable pub text_in : Field → Data → List ℕ

@@ -4,11 +4,13 @@ use Rattle.std.specs.List.{list_all}
 use Rattle.serde_json.specs.Data.{Data, Items, no_items, item}
 use Rattle.serde_json.specs.Find.{as_integer, as_number, as_bool, as_null, as_str, as_array, as_object}
 use Rattle.script_ast.specs.declared.clocks.Clock.{Clock}
-use Rattle.script_ast.specs.declared.clocks.Clock.TheVariants.{Frames}
+use Rattle.script_ast.specs.declared.clocks.Clock.TheVariants.{Frames, Seconds}
 use Rattle.script_ast.specs.declared.entries.Kind.{Kind}
 use Rattle.script_ast.specs.declared.entries.Kind.TheVariants as kind
 use Rattle.script_ast.specs.Ranges.{is_new_name, is_path}
 use Rattle.script_ast.specs.Words.{mode_named, interp_named, rate_named, oversample_named}
+use Rattle.script_fields.specs.Instructions.{instrs, code_cause}
+use Rattle.script_fields.specs.Seconds.{frames_of_seconds}
 use Rattle.script_fields.specs.declared.values.Cause.{Cause}
 use Rattle.script_fields.specs.declared.values.Cause.TheVariants.{WrongKind, OutOfRange}
 
@@ -16,9 +18,10 @@ use Rattle.script_fields.specs.declared.values.Cause.TheVariants.{WrongKind, Out
 abbrev pub whole : Data → Option ℤ
 whole d = option_and_then as_integer (as_number d)
 
--- the number of frames that a value stands for on a clock
+-- the number of frames that a value stands for on a clock: a whole number of frames, or a text of seconds
 abbrev pub frames : Clock → Data → Option ℤ
 frames Frames d = whole d
+frames (Seconds rate) d = option_and_then (frames_of_seconds rate) (as_str d)
 
 -- z lies from low to high
 abbrev pub is_within : ℤ → ℤ → ℤ → Bool
@@ -68,7 +71,7 @@ abbrev pub cause_of : Clock → Kind → Data → Option Cause
 cause_of clock kind.Fix d = number_cause (neg_ℤ (pos 2147483648)) (pos 2147483647) (whole d)
 cause_of clock kind.Time d = number_cause (neg_ℤ (pos 1099511627776)) (pos 1099511627776) (frames clock d)
 cause_of clock kind.Count d = number_cause (pos 0) (pos 4294967295) (whole d)
-cause_of clock kind.Version d = number_cause (pos 1) (pos 1) (whole d)
+cause_of clock kind.Version d = number_cause (pos 1) (pos 2) (whole d)
 cause_of clock kind.Name d = kind_cause (is_some (as_str d))
 cause_of clock kind.NameOrNull d = kind_cause (is_some (as_str d) || is_some (as_null d))
 cause_of clock kind.NewName d = text_cause (option_map is_new_name (as_str d))
@@ -76,6 +79,7 @@ cause_of clock kind.Flag d = kind_cause (is_some (as_bool d))
 cause_of clock kind.Fixes d = fixes_cause (option_map wholes (as_array d))
 cause_of clock kind.FixesOrNull d = fixes_or_null_cause d
 cause_of clock kind.Path d = text_cause (option_map is_path (as_str d))
+cause_of clock kind.Code d = code_cause (option_map instrs (as_array d))
 cause_of clock kind.Mode d = word_cause (option_map mode_named (as_str d))
 cause_of clock kind.Interp d = word_cause (option_map interp_named (as_str d))
 cause_of clock kind.Rate d = word_cause (option_map rate_named (as_str d))

@@ -1,14 +1,17 @@
 ghost use Rattle.std.specs.Prelude.{◌≡◌, Some, IfOk, option_map};
 ghost use Rattle.serde_json.specs.View.{view, items_view};
 ghost use Rattle.script_ast.specs.Fallbacks.{fallback_in};
-ghost use Rattle.script_fields.specs.Fields.{member_at, member_faults, field_faults, fields_faults, default_number, default_flag, default_oversample, number_in, fix_in, time_in, time_or_null_in, count_in, flag_in, list_in, fix_of, fixes_of, fixes_in, fixes_or_null_in, count_or_null_in, is_there, lack_faults, is_needed, takes_null, given_number, number_within};
+ghost use Rattle.script_fields.specs.Fields.{member_at, member_faults, field_faults, fields_faults, default_number, default_flag, default_oversample, number_in, fix_in, time_in, time_or_null_in, count_in, flag_in, list_in, fix_of, fixes_of, fixes_in, fixes_or_null_in, code_in, count_or_null_in, is_there, lack_faults, is_needed, takes_null, given_number, number_within};
+ghost use Rattle.script_fields.specs.Instructions.{code_of};
 ghost use Rattle.script_fields.specs.Outcome.{outcome};
 ghost use Rattle.script_fields.specs.Values.{whole, frames};
 
 use crate::faults::ScriptErr;
+use crate::instructions::instr_or_in;
 use crate::values::{
     Cause, MAX_COUNT, MAX_FIX, MAX_TIME, MIN_FIX, MIN_TIME, cause_of, frames, whole,
 };
+use node_table::{Code, Instr};
 use script_ast::{Clock, Fallback, Field, Oversample, Row, fallback_in};
 use serde_json::Value;
 use std::alloc::Global;
@@ -245,6 +248,25 @@ pub fn fixes_or_null(
         }
         None => Ok(None),
     }
+}
+
+/// The program of a field.
+pub fn code(alloc: Global, object: &Value, field: Field) -> Result<Code, NoMemory>
+    ensures { IfOk result (λ code. code ≡ code_in field (view object.now)) }
+{
+    let instrs = instrs_of(alloc, list(object, field))?;
+    Ok(Code::from(instrs))
+}
+
+// The instructions of the items of a list, in memory that is taken once.
+fn instrs_of(alloc: Global, list: &[Value]) -> Result<Vec<Instr>, NoMemory>
+    ensures { IfOk result (λ instrs. instrs.items ≡ code_of (items_view list.now)) }
+{
+    let mut instrs = Vec::with_capacity(alloc, list.len())?;
+    for item in list {
+        instrs.push_reserved(instr_or_in(item));
+    }
+    Ok(instrs)
 }
 
 // The values of the items of a list, in memory that is taken once.

@@ -5,6 +5,8 @@ ghost use Rattle.serde_json.specs.View.{view, items_view};
 ghost use Rattle.script_ast.specs.Ranges.{is_name_byte, has_name_length, has_name_bytes, is_new_name, is_path};
 ghost use Rattle.script_fields.specs.Values.{whole, wholes, is_fix, frames, cause_of, number_cause, fixes_cause, text_cause, word_cause, kind_cause, fixes_or_null_cause};
 
+use crate::instructions::code_cause;
+use crate::seconds::frames_of_seconds;
 use script_ast::{Clock, Kind, interp_named, mode_named, oversample_named, rate_named};
 use serde_json::{Number, Value};
 
@@ -37,12 +39,13 @@ pub fn whole(value: &Value) -> Option<i128>
     value.as_number().and_then(Number::as_i128)
 }
 
-/// The number of frames that a value stands for on a clock.
+/// The number of frames that a value stands for on a clock: a whole number, or a text of seconds.
 pub fn frames(clock: Clock, value: &Value) -> Option<i128>
     ensures { result ≡ frames clock (view value.now) }
 {
     match clock {
         Clock::Frames => whole(value),
+        Clock::Seconds { rate } => frames_of_seconds(rate, value.as_str()?),
     }
 }
 
@@ -54,7 +57,7 @@ pub fn cause_of(clock: Clock, kind: Kind, value: &Value) -> Option<Cause>
         Kind::Fix => number_cause(whole(value), MIN_FIX, MAX_FIX),
         Kind::Time => number_cause(frames(clock, value), MIN_TIME, MAX_TIME),
         Kind::Count => number_cause(whole(value), 0, MAX_COUNT),
-        Kind::Version => number_cause(whole(value), 1, 1),
+        Kind::Version => number_cause(whole(value), 1, 2),
         Kind::Name => kind_cause(value.as_str().is_some()),
         Kind::NameOrNull => kind_cause(value.as_str().is_some() || value.is_null()),
         Kind::NewName => text_cause(value.as_str().map(|name| is_new_name(name))),
@@ -62,6 +65,7 @@ pub fn cause_of(clock: Clock, kind: Kind, value: &Value) -> Option<Cause>
         Kind::Fixes => fixes_cause(value),
         Kind::FixesOrNull => fixes_or_null_cause(value),
         Kind::Path => text_cause(value.as_str().map(|path| is_path(path))),
+        Kind::Code => code_cause(value),
         Kind::Mode => word_cause(value.as_str().map(|word| mode_named(word))),
         Kind::Interp => word_cause(value.as_str().map(|word| interp_named(word))),
         Kind::Rate => word_cause(value.as_str().map(|word| rate_named(word))),

@@ -5,5 +5,6 @@ mod HeadSteps
 mod NestedLaws
 mod PlacedLaws
 mod Rows
+mod TextLaws
 mod Trees
 mod WellFormedLaws

@@ -6,23 +6,19 @@ use Rattle.std.proofs.lemmas.Grind.{flat_map-append}
 use Rattle.std.proofs.lemmas.List.Elements.{filter_map-append}
 use Rattle.serde_json.specs.Data.{Data}
 use Rattle.script_ast.specs.Holders.{holds_calls, AreNested}
-use Rattle.script_ast.specs.Entries.{has_calls}
 use Rattle.script_ast.specs.declared.call_list.Call.{Call}
 use Rattle.script_ast.specs.declared.clocks.Clock.{Clock}
-use Rattle.script_ast.specs.declared.clocks.Clock.TheVariants.{Frames}
 use Rattle.script_ast.specs.declared.call_list.Script.{Script}
 use Rattle.script_ast.specs.declared.entries.OpName.{OpName}
-use Rattle.script_ast.specs.declared.entries.OpName.TheVariants.{CreateConstantSource, CreateGain, CreateDelay, CreateChannelSplitter, CreateChannelMerger, CreateWaveShaper, CreateIIRFilter, CreateConvolver, CreateBufferSource, CreateBuffer, Connect, ConnectParam, Disconnect, DisconnectParam, SetChannelCount, SetChannelCountMode, SetChannelInterpretation, SetCurve, SetOversample, SetBuffer, SetLoop, SetLoopStart, SetLoopEnd, CopyToChannel, Start, Stop, Param, Suspend, StartRendering, Resume, DecodeAudioData, ReadState, ReadTime, LeftOut}
-use Rattle.script_ast.specs.declared.param_ops.ParamOpName.{ParamOpName}
-use Rattle.script_ast.specs.declared.param_ops.ParamOpName.TheVariants as param
 use Rattle.script_ast.proofs.Nesting.{IsBlock, none_block, next_block, block_nested}
 use Rattle.script_json.proofs.WellFormedLaws.{holds_calls-op_in}
 use Rattle.script_json.proofs.CallSteps.{both_none, outcome_ok, is_call}
 use Rattle.script_json.proofs.PlacedLaws.{placed_all}
-use Rattle.script_json.specs.Calls.{Placed, placed, has_then, call_faults, call_of, name_in, op_in, param_op_in}
+use Rattle.script_json.proofs.TextLaws.{HasTexts, main_texts}
+use Rattle.script_json.specs.Calls.{Placed, placed, has_then, call_faults, call_of, name_in, op_in}
 use Rattle.script_fields.specs.Outcome.{outcome}
 use Rattle.script_json.specs.Reading.{placed_at}
-use Rattle.script_json.specs.Script.{main_list, calls_of, head_faults, script_faults, script_in}
+use Rattle.script_json.specs.Script.{clock_of, main_list, calls_of, head_faults, script_faults, script_in}
 
 -- ---- one call
 
@@ -65,9 +61,9 @@ next_read call (Some c) held rest is early none_or inner outer =
 abbrev IsPlacedBlock : Clock → ℕ → ℕ → List Placed → Type 0
 IsPlacedBlock clock n holder calls = flat_map (call_faults clock) calls ≡ [] → IsBlock holder (filter_map (call_of clock) calls)
 
-next_placed : (clock : Clock) (d : Data) (n holder : ℕ) (held rest : List Placed) → holder ≤ n → (held ≡ []) ⊎ (has_then (name_in d) ≡ true)
+next_placed : (clock : Clock) (d : Data) (n holder : ℕ) (held rest : List Placed) → HasTexts d → holder ≤ n → (held ≡ []) ⊎ (has_then (name_in d) ≡ true)
     → IsPlacedBlock clock (n + 1) (n + 1) held → IsPlacedBlock clock (n + 1 + length held) holder rest → IsPlacedBlock clock n holder (placed_at (n + 1) holder d ∷ held ++ rest)
-next_placed clock d n holder held rest early none_or inner outer none =
+next_placed clock d n holder held rest texts early none_or inner outer none =
     let this = both_none (call_faults clock (placed_at (n + 1) holder d)) (flat_map (call_faults clock) (held ++ rest)) none in
     let others = both_none (flat_map (call_faults clock) held) (flat_map (call_faults clock) rest) (rw (flat_map-append (call_faults clock) held rest) at this.1) in
     let later : holder ≤ n + 1 = omega arith in
@@ -80,11 +76,12 @@ next_placed clock d n holder held rest early none_or inner outer none =
     (next_read (placed_at (n + 1) holder d) (call_of clock (placed_at (n + 1) holder d)) (filter_map (call_of clock) held) (filter_map (call_of clock) rest) read later of_calls (inner others.0) (outer others.1))
 
 -- the calls of a script that a value is
-pub read_nested : (d : Data) (script : Script) → outcome (script_faults d) (script_in d) ≡ Ok script → AreNested script.calls
+pub read_nested : (d : Data) (script : Script) → HasTexts d → outcome (script_faults d) (script_in d) ≡ Ok script → AreNested script.calls
 unfolding script_faults script_in calls_of
-read_nested d script read =
+read_nested d script texts read =
+    let clock = clock_of d in
     let e = outcome_ok _ _ _ read in
-    let none = both_none (head_faults d) (flat_map (call_faults Frames) (placed (main_list d) 0 0)) e.0 in
+    let none = both_none (head_faults d) (flat_map (call_faults clock) (placed (main_list d) 0 0)) e.0 in
     let early : 0 ≤ 0 = omega arith in
-    let block = placed_all (IsPlacedBlock Frames) (λ (n holder : ℕ) _. none_block holder) (next_placed Frames) (main_list d) 0 0 early none.1 in
-    rw (← e.1) (block_nested (filter_map (call_of Frames) (placed (main_list d) 0 0)) block)
+    let block = placed_all (IsPlacedBlock clock) (λ (n holder : ℕ) _. none_block holder) (next_placed clock) (main_list d) 0 0 early (main_texts d texts) none.1 in
+    rw (← e.1) (block_nested (filter_map (call_of clock) (placed (main_list d) 0 0)) block)

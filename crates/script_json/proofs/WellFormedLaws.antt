@@ -1,6 +1,6 @@
 -- A script that is read is well-formed.
 use Rattle.std.proofs.Common.{◌≡◌, ◌≤◌, ◌+◌, ◌⊎◌, ℕ, suc, List, [], ◌∷◌, ◌++◌, length, refl, Ok, Option, Some, None, Bool, true, false, arith, ℤ, pos, negsuc, neg_ℤ, T}
-use Rattle.std.specs.Prelude.{◌≤ℤ◌, map, flat_map, filter_map, is_some, option_map, option_and_then, unwrap_or, int_le, nat_abs, ◌&&◌, if◌then◌else◌}
+use Rattle.std.specs.Prelude.{◌≤ℤ◌, All, map, flat_map, filter_map, is_some, option_map, option_and_then, unwrap_or, int_le, nat_abs, ◌&&◌, if◌then◌else◌}
 use Rattle.std.specs.List.{cons_option}
 use Rattle.std.specs.Int.Signed.{le_z_yes}
 use Rattle.std.proofs.lemmas.Grind.{flat_map-append}
@@ -12,13 +12,14 @@ use Rattle.serde_json.specs.Find.{as_object, as_array, as_str}
 use Rattle.wa_base.specs.declared.contexts.ContextSpec.{ContextSpec}
 use Rattle.wa_base.specs.Numbers.{IsFix}
 use Rattle.script_ast.specs.Entries.{has_calls}
-use Rattle.script_ast.specs.Holders.{holds_calls}
+use Rattle.script_ast.specs.Holders.{holds_calls, AreNested}
+use Rattle.node_table.specs.declared.code.Instr.{Instr}
+use Rattle.node_table.specs.declared.code.Instr.TheVariants as instr
 use Rattle.script_ast.specs.Operations.{IsInRange}
-use Rattle.script_ast.specs.Ranges.{IsTime, IsTimeIfSome, IsCount, IsCountIfSome, AreFixes, AreFixesIfSome, IsNewName, IsPath, is_new_name, is_path}
+use Rattle.script_ast.specs.Ranges.{IsTime, IsTimeIfSome, IsCount, IsCountIfSome, AreFixes, AreFixesIfSome, IsNewName, IsPath, IsInstr, is_new_name, is_path}
 use Rattle.script_ast.specs.WellFormed.{IsCallAt, AreCallsAfter, IsWellFormed}
 use Rattle.script_ast.specs.declared.call_list.Call.{Call}
 use Rattle.script_ast.specs.declared.clocks.Clock.{Clock}
-use Rattle.script_ast.specs.declared.clocks.Clock.TheVariants.{Frames}
 use Rattle.script_ast.specs.Entries.{row, context_fields}
 use Rattle.script_ast.specs.Fallbacks.{fallback_in}
 use Rattle.script_ast.specs.declared.entries.Fallback.TheVariants.{Needed}
@@ -27,14 +28,16 @@ use Rattle.script_ast.specs.declared.entries.Row.{Row}
 use Rattle.script_ast.specs.declared.fields.Field.{Field}
 use Rattle.script_ast.specs.declared.fields.Field.TheVariants as field
 use Rattle.script_ast.specs.declared.entries.OpName.{OpName}
-use Rattle.script_ast.specs.declared.entries.OpName.TheVariants.{CreateConstantSource, CreateGain, CreateDelay, CreateChannelSplitter, CreateChannelMerger, CreateWaveShaper, CreateIIRFilter, CreateConvolver, CreateBufferSource, CreateBuffer, Connect, ConnectParam, Disconnect, DisconnectParam, SetChannelCount, SetChannelCountMode, SetChannelInterpretation, SetCurve, SetOversample, SetBuffer, SetLoop, SetLoopStart, SetLoopEnd, CopyToChannel, Start, Stop, Param, Suspend, StartRendering, Resume, DecodeAudioData, ReadState, ReadTime, LeftOut}
+use Rattle.script_ast.specs.declared.entries.OpName.TheVariants.{CreateConstantSource, CreateGain, CreateDelay, CreateChannelSplitter, CreateChannelMerger, CreateWaveShaper, CreateIIRFilter, CreateConvolver, CreateProcessor, CreateBufferSource, CreateBuffer, Connect, ConnectParam, Disconnect, DisconnectParam, SetChannelCount, SetChannelCountMode, SetChannelInterpretation, SetCurve, SetOversample, SetBuffer, SetLoop, SetLoopStart, SetLoopEnd, CopyToChannel, Start, Stop, Param, Suspend, StartRendering, Resume, DecodeAudioData, ReadState, ReadTime, LeftOut}
 use Rattle.script_ast.specs.declared.param_ops.ParamOpName.{ParamOpName}
 use Rattle.script_ast.specs.declared.param_ops.ParamOpName.TheVariants as param
 use Rattle.script_json.proofs.CallSteps.{both_none, length-calls, outcome_ok}
 use Rattle.script_json.proofs.FormLaws.{disconnect_form}
 use Rattle.script_json.proofs.PlacedLaws.{placed_all}
+use Rattle.script_json.proofs.TextLaws.{HasTexts, HaveTexts, text_in-text, text_or_null_in-text}
 use Rattle.script_json.specs.Calls.{Placed, placed, has_then, call_faults, call_of, name_in, name_faults, op_faults, op_in, param_op_in}
-use Rattle.script_fields.specs.Fields.{field_faults, cause_faults, member_faults, member_at, number_in, number_within, given_number, time_or_null_in, count_in, count_or_null_in, fix_of, fixes_of, fixes_in, fixes_or_null_in, list_in, text_in}
+use Rattle.script_fields.specs.Fields.{field_faults, cause_faults, member_faults, member_at, number_in, number_within, given_number, time_or_null_in, count_in, count_or_null_in, fix_of, fixes_of, fixes_in, fixes_or_null_in, code_in, list_in, text_in}
+use Rattle.script_fields.specs.Instructions.{instr_of, is_in_range, instrs, instr_or_in, code_of}
 use Rattle.script_fields.specs.Outcome.{outcome}
 use Rattle.script_json.specs.Reading.{placed_at, calls_read}
 use Rattle.script_json.specs.Script.{context_in, context_of, head_faults}
@@ -157,57 +160,93 @@ pub fixes_or_null_in-range : (field : Field) (d : Data) → AreFixesIfSome (fixe
 unfolding fixes_or_null_in
 fixes_or_null_in-range field d = fixes_given (option_and_then as_array (member_at field d))
 
-param_op_in-range : (clock : Clock) (d : Data) (name : ParamOpName) → IsInRange (param_op_in clock name d)
-param_op_in-range clock d param.SetValue = fix_in-range _ _ d
-param_op_in-range clock d param.SetValueAtTime = (fix_in-range _ _ d, time_in-range clock _ _ d)
-param_op_in-range clock d param.LinearRampToValueAtTime = (fix_in-range _ _ d, time_in-range clock _ _ d)
-param_op_in-range clock d param.SetValueCurveAtTime = (fixes_in-range field.Values d, time_in-range clock _ _ d, time_in-range clock _ _ d)
-param_op_in-range clock d param.CancelScheduledValues = time_in-range clock _ _ d
-param_op_in-range clock d param.CancelAndHoldAtTime = time_in-range clock _ _ d
-param_op_in-range clock d param.SetAutomationRate = tt
-param_op_in-range clock d param.ExponentialRampToValueAtTime = tt
-param_op_in-range clock d param.SetTargetAtTime = tt
-param_op_in-range clock d param.ReadValue = tt
+-- each item of a program is in its range
+instr_ranged : (i : Instr) → is_in_range i ≡ true → IsInstr i
+instr_ranged instr.Input h = tt
+instr_ranged (instr.Push v) h = let e = both_true _ _ h in (int_le-true _ v e.0, int_le-true v _ e.1)
+instr_ranged (instr.Load k) h = leb-true k 2147483647 h
+instr_ranged (instr.Store k) h = leb-true k 2147483647 h
+instr_ranged instr.Add h = tt
+instr_ranged instr.Sub h = tt
+instr_ranged instr.Min h = tt
+instr_ranged instr.Max h = tt
+instr_ranged instr.Mul h = tt
+instr_ranged instr.Neg h = tt
+instr_ranged (instr.Div k) h = leb-true k 2147483647 h
+instr_ranged instr.Dup h = tt
+instr_ranged instr.Swap h = tt
+instr_ranged instr.Discard h = tt
+instr_ranged (instr.Skip k) h = leb-true k 2147483647 h
+instr_ranged (instr.Skipz k) h = leb-true k 2147483647 h
 
-pub op_in-range : (clock : Clock) (n : ℕ) (d : Data) (name : OpName) → op_faults clock n d name ≡ [] → IsInRange (op_in clock name d)
-op_in-range clock n d CreateConstantSource h = (text_in-new_name clock n d (both_none _ _ (both_none _ _ h).0).0, (refl, refl), fix_in-range _ _ d)
-op_in-range clock n d CreateGain h = (text_in-new_name clock n d (both_none _ _ (both_none _ _ h).0).0, (refl, refl), fix_in-range _ _ d)
-op_in-range clock n d CreateDelay h = (text_in-new_name clock n d (both_none _ _ (both_none _ _ h).0).0, fix_in-range _ _ d, fix_in-range _ _ d)
-op_in-range clock n d CreateChannelSplitter h = (text_in-new_name clock n d (both_none _ _ (both_none _ _ h).0).0, (refl, refl), count_in-range _ _ d)
-op_in-range clock n d CreateChannelMerger h = (text_in-new_name clock n d (both_none _ _ (both_none _ _ h).0).0, (refl, refl), count_in-range _ _ d)
-op_in-range clock n d CreateWaveShaper h = (text_in-new_name clock n d (both_none _ _ (both_none _ _ h).0).0, fixes_or_null_in-range _ d)
-op_in-range clock n d CreateIIRFilter h = (text_in-new_name clock n d (both_none _ _ (both_none _ _ h).0).0, (refl, refl), (fixes_in-range field.Feedforward d, fixes_in-range field.Feedback d))
-op_in-range clock n d CreateConvolver h = text_in-new_name clock n d (both_none _ _ (both_none _ _ h).0).0
-op_in-range clock n d CreateBufferSource h = (text_in-new_name clock n d (both_none _ _ (both_none _ _ h).0).0, time_in-range clock _ _ d, time_in-range clock _ _ d, fix_in-range _ _ d)
-op_in-range clock n d CreateBuffer h = (text_in-new_name clock n d (both_none _ _ (both_none _ _ h).0).0, count_in-range _ _ d, count_in-range _ _ d, count_in-range _ _ d)
-op_in-range clock n d Connect h = (count_in-range _ _ d, count_in-range _ _ d)
-op_in-range clock n d ConnectParam h = count_in-range _ _ d
-op_in-range clock n d Disconnect h =
+instr_test : (i : Instr) (b : Bool) → is_in_range i ≡ b → IsInstr (if b then i else instr.Input)
+instr_test i true h = instr_ranged i h
+instr_test i false h = tt
+
+instr_or_in-range : (o : Option Instr) → IsInstr (instr_or_in o)
+instr_or_in-range None = tt
+instr_or_in-range (Some i) = instr_test i (is_in_range i) refl
+
+code_of-range : (ds : Items) → All IsInstr (map instr_or_in (instrs ds))
+code_of-range no_items = All-nil IsInstr
+code_of-range (item d ds) = All-cons IsInstr _ _ (instr_or_in-range (option_and_then instr_of (as_str d))) (code_of-range ds)
+
+code_in-range : (field : Field) (d : Data) → All IsInstr (code_in field d)
+unfolding code_of
+code_in-range field d = code_of-range (list_in field d)
+
+param_op_in-range : (clock : Clock) (d : Data) → HasTexts d → (name : ParamOpName) → IsInRange (param_op_in clock name d)
+param_op_in-range clock d t param.SetValue = (fix_in-range _ _ d, text_in-text _ d t, text_in-text _ d t)
+param_op_in-range clock d t param.SetValueAtTime = (fix_in-range _ _ d, time_in-range clock _ _ d, text_in-text _ d t, text_in-text _ d t)
+param_op_in-range clock d t param.LinearRampToValueAtTime = (fix_in-range _ _ d, time_in-range clock _ _ d, text_in-text _ d t, text_in-text _ d t)
+param_op_in-range clock d t param.SetValueCurveAtTime = (fixes_in-range field.Values d, time_in-range clock _ _ d, time_in-range clock _ _ d, text_in-text _ d t, text_in-text _ d t)
+param_op_in-range clock d t param.CancelScheduledValues = (time_in-range clock _ _ d, text_in-text _ d t, text_in-text _ d t)
+param_op_in-range clock d t param.CancelAndHoldAtTime = (time_in-range clock _ _ d, text_in-text _ d t, text_in-text _ d t)
+param_op_in-range clock d t param.SetAutomationRate = (text_in-text _ d t, text_in-text _ d t)
+param_op_in-range clock d t param.ExponentialRampToValueAtTime = (text_in-text _ d t, text_in-text _ d t)
+param_op_in-range clock d t param.SetTargetAtTime = (text_in-text _ d t, text_in-text _ d t)
+param_op_in-range clock d t param.ReadValue = (text_in-text _ d t, text_in-text _ d t)
+
+pub op_in-range : (clock : Clock) (n : ℕ) (d : Data) → HasTexts d → (name : OpName) → op_faults clock n d name ≡ [] → IsInRange (op_in clock name d)
+op_in-range clock n d t CreateConstantSource h = (text_in-new_name clock n d (both_none _ _ (both_none _ _ h).0).0, (refl, refl), fix_in-range _ _ d, refl)
+op_in-range clock n d t CreateGain h = (text_in-new_name clock n d (both_none _ _ (both_none _ _ h).0).0, (refl, refl), fix_in-range _ _ d, refl)
+op_in-range clock n d t CreateDelay h = (text_in-new_name clock n d (both_none _ _ (both_none _ _ h).0).0, fix_in-range _ _ d, fix_in-range _ _ d)
+op_in-range clock n d t CreateChannelSplitter h = (text_in-new_name clock n d (both_none _ _ (both_none _ _ h).0).0, (refl, refl), count_in-range _ _ d, refl)
+op_in-range clock n d t CreateChannelMerger h = (text_in-new_name clock n d (both_none _ _ (both_none _ _ h).0).0, (refl, refl), count_in-range _ _ d, refl)
+op_in-range clock n d t CreateWaveShaper h = (text_in-new_name clock n d (both_none _ _ (both_none _ _ h).0).0, fixes_or_null_in-range _ d)
+op_in-range clock n d t CreateIIRFilter h = (text_in-new_name clock n d (both_none _ _ (both_none _ _ h).0).0, (refl, refl), (fixes_in-range field.Feedforward d, fixes_in-range field.Feedback d), refl)
+op_in-range clock n d t CreateConvolver h = (text_in-new_name clock n d (both_none _ _ (both_none _ _ h).0).0, text_or_null_in-text _ d t)
+op_in-range clock n d t CreateProcessor h = (text_in-new_name clock n d (both_none _ _ (both_none _ _ h).0).0, code_in-range field.Code d)
+op_in-range clock n d t CreateBufferSource h = (text_in-new_name clock n d (both_none _ _ (both_none _ _ h).0).0, time_in-range clock _ _ d, time_in-range clock _ _ d, fix_in-range _ _ d, text_or_null_in-text _ d t)
+op_in-range clock n d t CreateBuffer h = (text_in-new_name clock n d (both_none _ _ (both_none _ _ h).0).0, count_in-range _ _ d, count_in-range _ _ d, count_in-range _ _ d)
+op_in-range clock n d t Connect h = (count_in-range _ _ d, count_in-range _ _ d, text_in-text _ d t, text_in-text _ d t)
+op_in-range clock n d t ConnectParam h = (count_in-range _ _ d, text_in-text _ d t, text_in-text _ d t, text_in-text _ d t)
+op_in-range clock n d t Disconnect h =
     let e = both_none _ _ h in
-    (count_or_null_in-range _ d, count_or_null_in-range _ d, disconnect_form clock n d e.0 e.1)
-op_in-range clock n d DisconnectParam h = count_or_null_in-range _ d
-op_in-range clock n d SetChannelCount h = count_in-range _ _ d
-op_in-range clock n d SetChannelCountMode h = tt
-op_in-range clock n d SetChannelInterpretation h = tt
-op_in-range clock n d SetCurve h = fixes_or_null_in-range _ d
-op_in-range clock n d SetOversample h = tt
-op_in-range clock n d SetBuffer h = tt
-op_in-range clock n d SetLoop h = tt
-op_in-range clock n d SetLoopStart h = time_in-range clock _ _ d
-op_in-range clock n d SetLoopEnd h = time_in-range clock _ _ d
-op_in-range clock n d CopyToChannel h = (count_in-range _ _ d, fixes_in-range field.Samples d, count_in-range _ _ d)
-op_in-range clock n d Start h = (time_in-range clock _ _ d, time_in-range clock _ _ d, time_or_null_in-range clock _ d)
-op_in-range clock n d Stop h = time_in-range clock _ _ d
-op_in-range clock n d (Param name) h = param_op_in-range clock d name
-op_in-range clock n d Suspend h = time_in-range clock _ _ d
-op_in-range clock n d StartRendering h = tt
-op_in-range clock n d Resume h = tt
-op_in-range clock n d DecodeAudioData h =
+    (count_or_null_in-range _ d, count_or_null_in-range _ d, disconnect_form clock n d e.0 e.1, text_in-text _ d t, text_or_null_in-text _ d t)
+op_in-range clock n d t DisconnectParam h = (count_or_null_in-range _ d, text_in-text _ d t, text_in-text _ d t, text_in-text _ d t)
+op_in-range clock n d t SetChannelCount h = (count_in-range _ _ d, text_in-text _ d t)
+op_in-range clock n d t SetChannelCountMode h = text_in-text _ d t
+op_in-range clock n d t SetChannelInterpretation h = text_in-text _ d t
+op_in-range clock n d t SetCurve h = (fixes_or_null_in-range _ d, text_in-text _ d t)
+op_in-range clock n d t SetOversample h = text_in-text _ d t
+op_in-range clock n d t SetBuffer h = (text_in-text _ d t, text_or_null_in-text _ d t)
+op_in-range clock n d t SetLoop h = text_in-text _ d t
+op_in-range clock n d t SetLoopStart h = (time_in-range clock _ _ d, text_in-text _ d t)
+op_in-range clock n d t SetLoopEnd h = (time_in-range clock _ _ d, text_in-text _ d t)
+op_in-range clock n d t CopyToChannel h = (count_in-range _ _ d, fixes_in-range field.Samples d, count_in-range _ _ d, text_in-text _ d t)
+op_in-range clock n d t Start h = (time_in-range clock _ _ d, time_in-range clock _ _ d, time_or_null_in-range clock _ d, text_in-text _ d t)
+op_in-range clock n d t Stop h = (time_in-range clock _ _ d, text_in-text _ d t)
+op_in-range clock n d t (Param name) h = param_op_in-range clock d t name
+op_in-range clock n d t Suspend h = time_in-range clock _ _ d
+op_in-range clock n d t StartRendering h = tt
+op_in-range clock n d t Resume h = tt
+op_in-range clock n d t DecodeAudioData h =
     let e = both_none _ _ (both_none _ _ h).0 in
-    (text_in-new_name clock n d e.0, text_in-path clock n d (both_none _ _ e.1).0)
-op_in-range clock n d ReadState h = tt
-op_in-range clock n d ReadTime h = tt
-op_in-range clock n d (LeftOut name) h = tt
+    (text_in-new_name clock n d e.0, text_in-path clock n d (both_none _ _ e.1).0, text_in-text _ d t)
+op_in-range clock n d t ReadState h = tt
+op_in-range clock n d t ReadTime h = tt
+op_in-range clock n d t (LeftOut name) h = tt
 
 -- ---- the list that a call holds
 
@@ -234,6 +273,7 @@ holds_calls-op_in clock CreateChannelMerger d = refl
 holds_calls-op_in clock CreateWaveShaper d = refl
 holds_calls-op_in clock CreateIIRFilter d = refl
 holds_calls-op_in clock CreateConvolver d = refl
+holds_calls-op_in clock CreateProcessor d = refl
 holds_calls-op_in clock CreateBufferSource d = refl
 holds_calls-op_in clock CreateBuffer d = refl
 holds_calls-op_in clock Connect d = refl
@@ -268,20 +308,20 @@ abbrev IsGood : Placed → Option Call → Type 0
 IsGood call None = ⊥
 IsGood call (Some c) = IsCallAt call.ordinal c
 
-good_named : (clock : Clock) (call : Placed) (o : Option OpName) → call.holder + 1 ≤ call.ordinal → name_faults clock call.ordinal call.value o ≡ []
+good_named : (clock : Clock) (call : Placed) (o : Option OpName) → HasTexts call.value → call.holder + 1 ≤ call.ordinal → name_faults clock call.ordinal call.value o ≡ []
     → IsGood call (option_map (λ name. record { ordinal = call.ordinal; holder = call.holder; op = op_in clock name call.value }) o)
-good_named clock call None early h = cc
-good_named clock call (Some name) early h = (refl, early, op_in-range clock _ _ name h)
+good_named clock call None texts early h = cc
+good_named clock call (Some name) texts early h = (refl, early, op_in-range clock _ _ texts name h)
 
-good_object : (clock : Clock) (call : Placed) (b : Bool) → call.holder + 1 ≤ call.ordinal
+good_object : (clock : Clock) (call : Placed) (b : Bool) → HasTexts call.value → call.holder + 1 ≤ call.ordinal
     → (if b then name_faults clock call.ordinal call.value (name_in call.value) else WrongKind call.ordinal field.Call ∷ []) ≡ []
     → IsGood call (option_map (λ name. record { ordinal = call.ordinal; holder = call.holder; op = op_in clock name call.value }) (name_in call.value))
-good_object clock call true early h = good_named clock call (name_in call.value) early h
-good_object clock call false early h = cc
+good_object clock call true texts early h = good_named clock call (name_in call.value) texts early h
+good_object clock call false texts early h = cc
 
-good_call : (clock : Clock) (call : Placed) → call.holder + 1 ≤ call.ordinal → call_faults clock call ≡ [] → IsGood call (call_of clock call)
+good_call : (clock : Clock) (call : Placed) → HasTexts call.value → call.holder + 1 ≤ call.ordinal → call_faults clock call ≡ [] → IsGood call (call_of clock call)
 unfolding call_faults call_of
-good_call clock call early h = good_object clock call (is_some (as_object call.value)) early h
+good_call clock call texts early h = good_object clock call (is_some (as_object call.value)) texts early h
 
 AreCallsAfter-append : (n : ℕ) (xs ys : List Call) → AreCallsAfter n xs → AreCallsAfter (n + length xs) ys → AreCallsAfter n (xs ++ ys)
 AreCallsAfter-append n [] ys first second = let e : n + 0 ≡ n = omega arith in rw e at second
@@ -301,29 +341,31 @@ after_good n call (Some c) calls place good rest = (rw place at good, rest)
 abbrev AreGoodAfter : Clock → ℕ → List Placed → Type 0
 AreGoodAfter clock n calls = flat_map (call_faults clock) calls ≡ [] → AreCallsAfter n (filter_map (call_of clock) calls)
 
-item_good : (clock : Clock) (d : Data) (n holder : ℕ) (held rest : List Placed) → holder ≤ n → (held ≡ []) ⊎ (has_then (name_in d) ≡ true) → AreGoodAfter clock (n + 1) held → AreGoodAfter clock (n + 1 + length held) rest
+item_good : (clock : Clock) (d : Data) (n holder : ℕ) (held rest : List Placed) → HasTexts d → holder ≤ n → (held ≡ []) ⊎ (has_then (name_in d) ≡ true) → AreGoodAfter clock (n + 1) held → AreGoodAfter clock (n + 1 + length held) rest
     → AreGoodAfter clock n (placed_at (n + 1) holder d ∷ held ++ rest)
-item_good clock d n holder held rest early none_or held_good rest_good none =
+item_good clock d n holder held rest texts early none_or held_good rest_good none =
     let this = both_none (call_faults clock (placed_at (n + 1) holder d)) (flat_map (call_faults clock) (held ++ rest)) none in
     let others = both_none (flat_map (call_faults clock) held) (flat_map (call_faults clock) rest) (rw (flat_map-append (call_faults clock) held rest) at this.1) in
     let count = length-calls clock held others.0 in
     let both = append_at (n + 1) (length held) (filter_map (call_of clock) held) (filter_map (call_of clock) rest) count (held_good others.0) (rest_good others.1) in
     let near : holder + 1 ≤ n + 1 = omega arith in
-    after_good n (placed_at (n + 1) holder d) (call_of clock (placed_at (n + 1) holder d)) _ refl (good_call clock (placed_at (n + 1) holder d) near this.0)
+    after_good n (placed_at (n + 1) holder d) (call_of clock (placed_at (n + 1) holder d)) _ refl (good_call clock (placed_at (n + 1) holder d) texts near this.0)
     (rw (filter_map-append (call_of clock) held rest) both)
 
-placed_good : (clock : Clock) (ds : Items) (n holder : ℕ) → holder ≤ n → AreGoodAfter clock n (placed ds n holder)
-placed_good clock ds n holder early = placed_all (λ (n holder : ℕ) (calls : List Placed). AreGoodAfter clock n calls) (λ n holder none. tt) (item_good clock) ds n holder early
+placed_good : (clock : Clock) (ds : Items) (n holder : ℕ) → holder ≤ n → HaveTexts ds → AreGoodAfter clock n (placed ds n holder)
+placed_good clock ds n holder early texts = placed_all (λ (n holder : ℕ) (calls : List Placed). AreGoodAfter clock n calls) (λ n holder none. tt) (item_good clock) ds n holder early texts
 
-pub read_well_formed : (d : Data) (context : ContextSpec) (ds : Items) (calls : List Call) → outcome (head_faults d) (context_of (context_in d)) ≡ Ok context
-    → calls_read Frames [] (placed ds 0 0) ≡ Ok calls → IsWellFormed (record { context = context; calls = calls })
+pub read_well_formed : (d : Data) (context : ContextSpec) (clock : Clock) (ds : Items) (calls : List Call) → HaveTexts ds → outcome (head_faults d) (context_of (context_in d)) ≡ Ok context
+    → calls_read clock [] (placed ds 0 0) ≡ Ok calls → AreNested calls → IsWellFormed (record { context = context; calls = calls })
 unfolding calls_read
-read_well_formed d context ds calls head read =
+read_well_formed d context clock ds calls texts head read nested =
     let e = outcome_ok _ _ _ head in
     let f = outcome_ok _ _ _ read in
     record {
       channels = rw (← e.1) (count_in-range context_fields field.Channels (context_in d));
       frames = rw (← e.1) (count_in-range context_fields field.Length (context_in d));
       rate = rw (← e.1) (count_in-range context_fields field.Rate (context_in d));
-      calls = rw (← f.1) (placed_good Frames ds 0 0 (omega arith) f.0);
+      quantum = rw (← e.1) (count_in-range context_fields field.RenderQuantum (context_in d));
+      calls = rw (← f.1) (placed_good clock ds 0 0 (omega arith) texts f.0);
+      nested = nested;
     }

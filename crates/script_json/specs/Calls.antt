@@ -2,21 +2,21 @@
 use Rattle.std.specs.Prelude.{ℕ, ◌+◌, List, [], ◌∷◌, ◌++◌, length, bytes_eq, Bool, false, if◌then◌else◌, Option, Some, None, option_and_then, option_map, is_some}
 use Rattle.serde_json.specs.Data.{Data, null, boolean, number, string, array, object, Items, no_items, item, Members, no_members, member}
 use Rattle.serde_json.specs.Find.{get, as_object, as_str}
-use Rattle.causal_core.specs.declared.equation.Equation.TheVariants.{Filter}
+use Rattle.node_table.specs.declared.equation.Equation.TheVariants.{Filter}
 use Rattle.node_table.specs.declared.kinds.Kind.TheVariants as node
 use Rattle.script_ast.specs.Entries as entry
 use Rattle.script_ast.specs.Fields.{field_word}
-use Rattle.script_ast.specs.Entries.{op_named, fields_of, has_calls, left_out_feature}
+use Rattle.script_ast.specs.Entries.{op_named, fields_of, has_calls}
 use Rattle.script_ast.specs.declared.call_list.Call.{Call}
 use Rattle.script_ast.specs.declared.clocks.Clock.{Clock}
 use Rattle.script_ast.specs.declared.fields.Field.TheVariants as field
 use Rattle.script_ast.specs.declared.entries.OpName.{OpName}
-use Rattle.script_ast.specs.declared.entries.OpName.TheVariants.{CreateConstantSource, CreateGain, CreateDelay, CreateChannelSplitter, CreateChannelMerger, CreateWaveShaper, CreateIIRFilter, CreateConvolver, CreateBufferSource, CreateBuffer, Connect, ConnectParam, Disconnect, DisconnectParam, SetChannelCount, SetChannelCountMode, SetChannelInterpretation, SetCurve, SetOversample, SetBuffer, SetLoop, SetLoopStart, SetLoopEnd, CopyToChannel, Start, Stop, Param, Suspend, StartRendering, Resume, DecodeAudioData, ReadState, ReadTime, LeftOut}
+use Rattle.script_ast.specs.declared.entries.OpName.TheVariants.{CreateConstantSource, CreateGain, CreateDelay, CreateChannelSplitter, CreateChannelMerger, CreateWaveShaper, CreateIIRFilter, CreateConvolver, CreateProcessor, CreateBufferSource, CreateBuffer, Connect, ConnectParam, Disconnect, DisconnectParam, SetChannelCount, SetChannelCountMode, SetChannelInterpretation, SetCurve, SetOversample, SetBuffer, SetLoop, SetLoopStart, SetLoopEnd, CopyToChannel, Start, Stop, Param, Suspend, StartRendering, Resume, DecodeAudioData, ReadState, ReadTime, LeftOut}
 use Rattle.script_ast.specs.declared.operations.Op.{Op}
 use Rattle.script_ast.specs.declared.operations.Op.TheVariants as op
 use Rattle.script_ast.specs.declared.param_ops.ParamOpName.{ParamOpName}
 use Rattle.script_ast.specs.declared.param_ops.ParamOpName.TheVariants as param
-use Rattle.script_fields.specs.Fields.{is_there, fields_faults, lack_faults, text_in, text_or_null_in, fix_in, time_in, time_or_null_in, count_in, count_or_null_in, flag_in, fixes_in, fixes_or_null_in, mode_in, interp_in, rate_in, oversample_in}
+use Rattle.script_fields.specs.Fields.{is_there, fields_faults, lack_faults, text_in, text_or_null_in, fix_in, time_in, time_or_null_in, count_in, count_or_null_in, flag_in, fixes_in, fixes_or_null_in, code_in, mode_in, interp_in, rate_in, oversample_in}
 use Rattle.script_fields.specs.declared.faults.ScriptErr.{ScriptErr}
 use Rattle.script_fields.specs.declared.faults.ScriptErr.TheVariants.{WrongKind, UnknownOp}
 
@@ -111,6 +111,7 @@ op_in clock CreateChannelMerger d = op.Create (text_in field.As d) (node.Merger 
 op_in clock CreateWaveShaper d = op.CreateWaveShaper (text_in field.As d) (fixes_or_null_in field.Curve d) (oversample_in entry.create_wave_shaper field.Oversample d)
 op_in clock CreateIIRFilter d = op.Create (text_in field.As d) (node.Causal (Filter (fixes_in field.Feedforward d) (fixes_in field.Feedback d)))
 op_in clock CreateConvolver d = op.CreateConvolver (text_in field.As d) (text_or_null_in field.Buffer d) (flag_in entry.create_convolver field.DisableNormalization d)
+op_in clock CreateProcessor d = op.CreateProcessor (text_in field.As d) (code_in field.Code d)
 op_in clock CreateBufferSource d = op.CreateBufferSource (text_in field.As d) (text_or_null_in field.Buffer d) (flag_in entry.create_buffer_source field.Loop d) (time_in clock entry.create_buffer_source field.LoopStart d) (time_in clock entry.create_buffer_source field.LoopEnd d) (fix_in entry.create_buffer_source field.PlaybackRate d)
 op_in clock CreateBuffer d = op.CreateBuffer (text_in field.As d) (count_in entry.create_buffer field.Channels d) (count_in entry.create_buffer field.Length d) (count_in entry.create_buffer field.Rate d)
 op_in clock Connect d = op.Connect (text_in field.From d) (count_in entry.connect field.Output d) (text_in field.To d) (count_in entry.connect field.Input d)
@@ -136,7 +137,7 @@ op_in clock Resume d = op.Resume
 op_in clock DecodeAudioData d = op.DecodeAudioData (text_in field.As d) (text_in field.Path d)
 op_in clock ReadState d = op.ReadState
 op_in clock ReadTime d = op.ReadTime
-op_in clock (LeftOut name) d = op.LeftOut (left_out_feature name)
+op_in clock (LeftOut name) d = op.LeftOut name
 
 -- what a call means; none where its operation is unknown
 unfoldable pub call_of : Clock → Placed → Option Call

@@ -4,11 +4,10 @@ ghost use Rattle.script_json.specs.Calls.{op_in};
 
 use crate::param_ops::build_param_op;
 use crate::shaper_ops::{create_wave_shaper, set_curve, set_oversample};
-use causal_core::Equation;
-use node_table::Kind;
+use node_table::{Equation, Kind};
 use script_ast::{Clock, Field, Op, OpName, entries};
 use script_fields::{
-    count, count_or_null, fix, fixes, flag, interp, mode, path, text, text_or_null, time,
+    code, count, count_or_null, fix, fixes, flag, interp, mode, path, text, text_or_null, time,
     time_or_null,
 };
 use serde_json::Value;
@@ -28,6 +27,7 @@ pub fn build(alloc: Global, clock: Clock, name: OpName, call: &Value) -> Result<
         OpName::CreateWaveShaper => create_wave_shaper(alloc, call),
         OpName::CreateIIRFilter => create_iir_filter(alloc, call),
         OpName::CreateConvolver => create_convolver(alloc, call),
+        OpName::CreateProcessor => create_processor(alloc, call),
         OpName::CreateBufferSource => create_buffer_source(alloc, clock, call),
         OpName::CreateBuffer => create_buffer(alloc, call),
         OpName::Connect => connect(alloc, call),
@@ -53,9 +53,7 @@ pub fn build(alloc: Global, clock: Clock, name: OpName, call: &Value) -> Result<
         OpName::DecodeAudioData => decode_audio_data(alloc, call),
         OpName::ReadState => Ok(Op::ReadState),
         OpName::ReadTime => Ok(Op::ReadTime),
-        OpName::LeftOut(name) => Ok(Op::LeftOut {
-            feature: name.feature(),
-        }),
+        OpName::LeftOut(name) => Ok(Op::LeftOut { name }),
     }
 }
 
@@ -144,6 +142,15 @@ fn create_convolver(alloc: Global, call: &Value) -> Result<Op, NoMemory>
             &entries::CREATE_CONVOLVER,
             Field::DisableNormalization,
         ),
+    })
+}
+
+fn create_processor(alloc: Global, call: &Value) -> Result<Op, NoMemory>
+    ensures { IfOk result (λ op. op ≡ op_in Clock.Frames OpName.CreateProcessor (view call.now)) }
+{
+    Ok(Op::CreateProcessor {
+        name: text(alloc, call, Field::As)?,
+        code: code(alloc, call, Field::Code)?,
     })
 }
 

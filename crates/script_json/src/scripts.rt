@@ -4,7 +4,7 @@ ghost use Rattle.serde_json.specs.View.{view, items_view};
 ghost use Rattle.script_ast.specs.Holders.{AreNested};
 ghost use Rattle.script_ast.specs.WellFormed.{IsWellFormed};
 ghost use Rattle.script_fields.specs.Outcome.{outcome};
-ghost use Rattle.script_json.specs.Script.{context_in, context_of, main_list, head_faults, script_faults, script_in, script_of};
+ghost use Rattle.script_json.specs.Script.{context_in, context_of, clock_at, main_list, head_faults, script_faults, script_in, script_of};
 
 use crate::calls::add_calls;
 use crate::tree::parse;
@@ -18,7 +18,7 @@ use wa_base::ContextSpec;
 // How deep the arrays and objects of a JSON text may nest.
 const MAX_DEPTH: u32 = 127;
 
-/// The script that bytes are, or its first fault: first `BadJson`, then the faults of the members
+/// The script of version 1 or 2 that bytes are, or its first fault: first `BadJson`, then the faults of the members
 /// around the calls, then those of each call in order of ordinals. A call's own faults come in the
 /// order of its entry. The context may be one that cannot be rendered: a session refuses it.
 pub fn read(alloc: Global, bytes: &[u8]) -> Result<Script, ScriptErr>
@@ -41,16 +41,21 @@ fn read_script(alloc: Global, value: &Value) -> Result<Script, ScriptErr>
     ensures nested { IfOk result (λ script. AreNested script.calls) }
 {
     let context = read_context(value)?;
+    let clock = clock_at(count(value, &SCRIPT_HEAD, Field::Version), context.rate);
     let mut calls = Calls::new(alloc);
-    add_calls(
-        alloc,
-        Clock::Frames,
-        main_list(value),
-        MAX_DEPTH,
-        0,
-        &mut calls,
-    )?;
+    add_calls(alloc, clock, main_list(value), MAX_DEPTH, 0, &mut calls)?;
     Ok(Script { context, calls })
+}
+
+// What times are counted in.
+fn clock_at(version: u32, rate: u32) -> Clock
+    ensures { result ≡ clock_at version rate }
+{
+    if version == 2 {
+        Clock::Seconds { rate }
+    } else {
+        Clock::Frames
+    }
 }
 
 // The context that a script asks for, or the first fault of what stands around the calls.
@@ -76,6 +81,7 @@ fn context_of(context: &Value) -> ContextSpec
         channels: count(context, &CONTEXT_FIELDS, Field::Channels),
         length: u64::from(count(context, &CONTEXT_FIELDS, Field::Length)),
         rate: count(context, &CONTEXT_FIELDS, Field::Rate),
+        quantum: count(context, &CONTEXT_FIELDS, Field::RenderQuantum),
     }
 }
 

@@ -29,6 +29,7 @@ const CONTEXT: ContextSpec = ContextSpec {
     channels: 2,
     length: 480_000,
     rate: 48_000,
+    quantum: 128,
 };
 
 #[test]

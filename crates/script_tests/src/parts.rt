@@ -22,6 +22,7 @@ fn three_suspensions(alloc: Global) -> Result<Script, NoMemory> {
         channels: 1,
         length: 512,
         rate: 48_000,
+        quantum: 128,
     };
     Ok(Script { context, calls })
 }

@@ -1,4 +1,5 @@
-use script_ast::{Oversample, interp_named, mode_named, oversample_named, rate_named};
+use node_table::Instr;
+use script_ast::{Oversample, instr_word, interp_named, mode_named, oversample_named, rate_named};
 use wa_base::{Interp, Mode, Rate};
 
 #[test]
@@ -53,5 +54,17 @@ fn an_oversampling_has_its_word(rt: HostRuntime) {
     }
     for word in ["2X", "8x", "", "max"] {
         assert!(rt; oversample_named(word).is_none(), "of {word}");
+    }
+}
+
+#[test]
+fn an_instruction_has_its_word(rt: HostRuntime) {
+    for (instr, want) in [
+        (Instr::Input, "in"),
+        (Instr::Push(-5), "push"),
+        (Instr::Discard, "drop"),
+        (Instr::Skipz(3), "skipz"),
+    ] {
+        assert_eq!(rt; instr_word(instr), want);
     }
 }

@@ -26,7 +26,7 @@ use Rattle.control_side.specs.Step.{decided}
 use Rattle.session.specs.Session.{Played, session_of}
 
 abbrev spec : ℕ → ℕ → ContextSpec
-spec channels length = record { channels = channels; length = length; rate = 48000 }
+spec channels length = record { channels = channels; length = length; rate = 48000; quantum = 128 }
 
 -- a call of the main list, and one of the list that a call holds
 abbrev main : ℕ → Op → Call

@@ -3,8 +3,8 @@ use Rattle.std.proofs.Common.{◌≡◌, ◌≤◌, ℕ, ℤ, List, length, Bool
 use Rattle.std.specs.Prelude.{nat_le, ◌&&◌, not, if◌then◌else◌}
 use Rattle.std.proofs.lemmas.Bool.{leb-true}
 use Rattle.wa_base.specs.declared.exceptions.Exc.{Exc}
-use Rattle.causal_core.specs.Filters.{IsFilter, filter_refusal, is_order, all_zero, is_zero}
-use Rattle.causal_core.specs.Frames.{item}
+use Rattle.node_table.specs.Filters.{IsFilter, filter_refusal, is_order, all_zero, is_zero}
+use Rattle.node_table.specs.Frames.{item}
 
 -- where no test refuses, each has passed
 passed : (x y z : Exc) (a b q r : Bool) → (if not (a && b) then Some x else if q then Some y else if r then Some z else None) ≡ None

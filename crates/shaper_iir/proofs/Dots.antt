@@ -1,7 +1,7 @@
 -- Sums of products, item by item.
 use Rattle.std.proofs.Common.{ℕ, ℤ, pos, zero, suc, ◌≡◌, ◌+◌, ◌-◌, ◌<◌, ◌+ℤ◌, ◌*ℤ◌, List, [], ◌∷◌, length, take, drop, get_or, ap, sym, refl, ◌∙◌, arith, add-one}
 use Rattle.std.proofs.lemmas.Int.{ints}
-use Rattle.causal_core.specs.Filters.{dot}
+use Rattle.node_table.specs.Filters.{dot}
 
 dot_step : (i : ℕ) (cs xs : List ℤ) → i < length cs → i < length xs → dot (drop i cs) (drop i xs) ≡ get_or cs i (pos 0) *ℤ get_or xs i (pos 0) +ℤ dot (drop (suc i) cs) (drop (suc i) xs)
 dot_step i [] xs l m = absurd (omega arith)

@@ -3,7 +3,7 @@ use Rattle.std.proofs.Common.{◌≡◌, ◌≢◌, ◌<◌, ◌≤◌, ◌+◌,
 use borrow.Rule.Slice.PartMut.{put_mid}
 use Rattle.std.proofs.lemmas.List.{places}
 use Rattle.std.proofs.lemmas.Nat.{mul-le}
-use Rattle.causal_core.specs.Frames.{item, newest}
+use Rattle.node_table.specs.Frames.{item, newest}
 use Rattle.shaper_iir.specs.declared.histories.History.{History}
 use Rattle.shaper_iir.specs.Histories.{after, next_history, silent}
 

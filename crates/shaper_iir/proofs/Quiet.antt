@@ -1,7 +1,7 @@
 -- Histories of which all is small.
 use Rattle.std.proofs.Common.{◌≡◌, ◌≤◌, ℕ, ℤ, List, subst, sym}
 use Rattle.std.specs.Prelude.{unsigned_abs}
-use Rattle.causal_core.specs.Filters.{next_output}
+use Rattle.node_table.specs.Filters.{next_output}
 use Rattle.shaper_iir.specs.declared.histories.History.{History}
 use Rattle.shaper_iir.specs.Histories.{in_front, next_history}
 use Rattle.shaper_iir.specs.Scales.{IsQuiet}

@@ -1,9 +1,9 @@
 -- Histories recall what was heard.
 use Rattle.std.proofs.Common.{ℕ, ℤ, pos, zero, suc, ◌≡◌, ◌+◌, ◌<◌, ◌≤◌, ◌-ℤ◌, List, [], ◌∷◌, length, drop, ap₂, sym, refl, ◌∙◌, arith}
 use Rattle.std.proofs.lemmas.List.{get_or-take, get_or-replicate}
-use Rattle.causal_core.specs.Filters.{IsFilter, quotient, next_output, filtered, filter_value}
-use Rattle.causal_core.specs.Frames.{item, newest, heard}
-use Rattle.causal_core.proofs.Sums.{dot_same, next_is_zero}
+use Rattle.node_table.specs.Filters.{IsFilter, quotient, next_output, filtered, filter_value}
+use Rattle.node_table.specs.Frames.{item, newest, heard}
+use Rattle.node_table.proofs.Sums.{dot_same, next_is_zero}
 use Rattle.shaper_iir.specs.declared.histories.History.{History}
 use Rattle.shaper_iir.specs.Histories.{Recalls, StandsFor, silent, in_front, next_history, after}
 

@@ -5,8 +5,8 @@ use Rattle.std.specs.Int.Signed.{shr_z, mag_shr}
 use Rattle.std.proofs.Math.Nat.{pow-suc}
 use Rattle.std.specs.Prelude.{if◌then◌else◌, neg_ℤ}
 use Rattle.wa_base.specs.Numbers.{rnd, sat}
-use Rattle.causal_core.specs.Filters.{quotient}
-use Rattle.causal_core.specs.Frames.{item}
+use Rattle.node_table.specs.Filters.{quotient}
+use Rattle.node_table.specs.Frames.{item}
 use Rattle.shaper_iir.specs.declared.scales.Scale.{Scale}
 use Rattle.shaper_iir.specs.Scales.{upright, IsScale}
 

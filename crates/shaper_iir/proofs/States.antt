@@ -3,8 +3,8 @@ use Rattle.std.proofs.Common.{◌≡◌, ◌<◌, ◌≤◌, ◌+◌, ◌*◌, �
 use Rattle.std.proofs.lemmas.Bool.{cases_lt}
 use Rattle.std.proofs.lemmas.List.{get_or_past}
 use Rattle.std.proofs.lemmas.Nat.{mul-le}
-use Rattle.causal_core.specs.Filters.{IsFilter, filter_value}
-use Rattle.causal_core.specs.Frames.{item, newest, heard}
+use Rattle.node_table.specs.Filters.{IsFilter, filter_value}
+use Rattle.node_table.specs.Frames.{item, newest, heard}
 use Rattle.shaper_iir.specs.declared.histories.History.{History}
 use Rattle.shaper_iir.specs.Filter.{Filter, FilterStands}
 use Rattle.shaper_iir.specs.Histories.{StandsFor, after, silent}

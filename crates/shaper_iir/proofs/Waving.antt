@@ -1,7 +1,7 @@
 -- Shapers look at the newest frame alone.
 use Rattle.std.proofs.Common.{◌≡◌, ℤ, List, ap, Option, Some, None}
-use Rattle.causal_core.specs.Curves.{shaped, shaper_value}
-use Rattle.causal_core.specs.Frames.{newest}
+use Rattle.node_table.specs.Curves.{shaped, shaper_value}
+use Rattle.node_table.specs.Frames.{newest}
 
 pub shaper_newest : (curve : Option (List ℤ)) (xs ys : List ℤ) → newest xs ≡ newest ys → shaper_value curve xs ≡ shaper_value curve ys
 shaper_newest None xs ys same = same

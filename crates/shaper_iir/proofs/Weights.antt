@@ -5,7 +5,7 @@ use Rattle.std.proofs.lemmas.Int.{unsigned_abs-mul}
 use Rattle.std.proofs.lemmas.Nat.{mul-le}
 use native.Mathlib.Nat.{add-mul}
 use Rattle.std.proofs.lemmas.List.Sums.{sum_by-cons, sum_by-take-le}
-use Rattle.causal_core.specs.Filters.{dot}
+use Rattle.node_table.specs.Filters.{dot}
 use Rattle.shaper_iir.specs.Histories.{in_front}
 use Rattle.shaper_iir.specs.Scales.{weight, greatest}
 use Rattle.shaper_iir.proofs.Bounds.{abs_sum}

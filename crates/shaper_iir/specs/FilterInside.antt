@@ -1,5 +1,5 @@
 -- What holds of each filter.
-use Rattle.causal_core.specs.Filters.{IsFilter}
+use Rattle.node_table.specs.Filters.{IsFilter}
 use Rattle.shaper_iir.specs.Filter.{Filter}
 use Rattle.shaper_iir.specs.declared.iir.Iir.TheInside.{Inside}
 

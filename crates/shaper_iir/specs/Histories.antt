@@ -1,7 +1,7 @@
 -- What a filter remembers of a channel: the newest inputs and outputs.
 use Rattle.std.specs.Prelude.{ℕ, zero, suc, ◌≡◌, ◌+◌, ◌<◌, ℤ, pos, List, ◌∷◌, take, replicate}
-use Rattle.causal_core.specs.Filters.{next_output, filtered}
-use Rattle.causal_core.specs.Frames.{item}
+use Rattle.node_table.specs.Filters.{next_output, filtered}
+use Rattle.node_table.specs.Frames.{item}
 use Rattle.shaper_iir.specs.declared.histories.History.{History}
 
 -- 20 items that are the newest ones of a list, where an item that is not there is 0

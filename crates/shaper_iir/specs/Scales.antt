@@ -1,7 +1,7 @@
 -- How far sums in 64 bits can go, and what they are divided by.
 use Rattle.std.specs.Prelude.{ℕ, ◌≡◌, ◌+◌, ◌*◌, ◌^◌, ◌≤◌, max, if◌then◌else◌, ℤ, pos, neg_ℤ, List, [], ◌∷◌, drop, Some, unsigned_abs}
 use Rattle.std.specs.List.{sum_by}
-use Rattle.causal_core.specs.Frames.{item}
+use Rattle.node_table.specs.Frames.{item}
 use Rattle.shaper_iir.specs.declared.histories.History.{History}
 use Rattle.shaper_iir.specs.declared.scales.Scale.{Scale}
 

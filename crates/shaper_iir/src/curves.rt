@@ -1,6 +1,6 @@
 ghost use Rattle.std.specs.Prelude.{◌≡◌, ◌<◌, ◌≤◌, ◌-◌, ◌*◌, ◌^◌, ◌-ℤ◌, ◌*ℤ◌, pos, length, unsigned_abs};
 ghost use Rattle.wa_base.specs.Numbers.{rnd};
-ghost use Rattle.causal_core.specs.Curves as curves;
+ghost use Rattle.node_table.specs.Curves as curves;
 
 use wa_base::{Fix, ONE};
 

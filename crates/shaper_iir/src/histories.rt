@@ -1,5 +1,5 @@
 ghost use Rattle.std.specs.Prelude.{◌≡◌, ◌≤◌, true, unsigned_abs};
-ghost use Rattle.causal_core.specs.Filters.{IsFilter, next_output};
+ghost use Rattle.node_table.specs.Filters.{IsFilter, next_output};
 ghost use Rattle.shaper_iir.specs.Histories as histories;
 ghost use Rattle.shaper_iir.specs.Histories.{in_front};
 ghost use Rattle.shaper_iir.specs.Scales.{IsQuiet, IsScale, IsSmall};

@@ -1,13 +1,13 @@
 ghost use Rattle.std.specs.Prelude.{◌≡◌, ◌<◌, ◌≤◌, ◌+◌, ◌*◌, [], ℕ, ℤ, List, None, length, max, slice_index_or, IfOk, OnOk, OnErr};
-ghost use Rattle.causal_core.specs.Filters.{IsFilter, filter_refusal, filter_value};
-ghost use Rattle.causal_core.specs.Frames.{item, newest};
+ghost use Rattle.node_table.specs.Filters.{IsFilter, filter_refusal, filter_value};
+ghost use Rattle.node_table.specs.Frames.{item, newest};
 ghost use Rattle.shaper_iir.specs.Filter.{FilterStands, history_of};
 ghost use Rattle.shaper_iir.specs.Histories.{after, silent};
 ghost use Rattle.shaper_iir.specs.Scales.{IsScale};
 
 use crate::histories::{History, KEPT};
 use crate::scales::{Scale, is_also_within};
-use causal_core::Causal;
+use node_table::Causal;
 use std::alloc::Global;
 use std::marker::Model;
 use wa_base::{Fix, NoMemory, Samples};
@@ -65,7 +65,7 @@ impl Iir {
 
 impl Causal for Iir {
     ghost use Rattle.std.specs.Prelude.{length};
-    ghost use Rattle.causal_core.specs.Filters.{filter_value};
+    ghost use Rattle.node_table.specs.Filters.{filter_value};
 
     ghost stands = { FilterStands };
 

@@ -1,7 +1,7 @@
 ghost use Rattle.std.specs.Prelude.{◌≡◌, ◌≤◌, ◌≤ℤ◌, ◌^◌, pos, false, unsigned_abs};
 ghost use Rattle.wa_base.specs.Numbers.{rnd, sat as saturated};
-ghost use Rattle.causal_core.specs.Filters as filters;
-ghost use Rattle.causal_core.specs.Filters.{is_zero};
+ghost use Rattle.node_table.specs.Filters as filters;
+ghost use Rattle.node_table.specs.Filters.{is_zero};
 
 use wa_base::{Fix, rnd_div};
 

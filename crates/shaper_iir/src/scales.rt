@@ -1,6 +1,6 @@
 ghost use Rattle.std.specs.Prelude.{◌≡◌, ◌↔◌, ◌≤◌, ◌^◌, ℕ, ◌+ℤ◌, ◌*ℤ◌, pos, true, length, Some, IsTrue, unsigned_abs};
 ghost use Rattle.wa_base.specs.Numbers.{rnd, sat as saturated};
-ghost use Rattle.causal_core.specs.Filters.{IsFilter};
+ghost use Rattle.node_table.specs.Filters.{IsFilter};
 ghost use Rattle.shaper_iir.specs.Scales.{weight, greatest, upright, IsDivisor, IsScale};
 
 use wa_base::{Fix, sat};

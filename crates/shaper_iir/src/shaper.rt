@@ -1,9 +1,9 @@
 ghost use Rattle.std.specs.Prelude.{◌≡◌, ◌<◌, ◌≤◌, ◌+◌, ◌*◌, ◌∷◌, [], ℕ, length, option_copied, IfOk, OnOk, OnErr};
-ghost use Rattle.causal_core.specs.Curves.{IsCurve, shaped, shaper_value};
-ghost use Rattle.causal_core.specs.Frames.{item};
+ghost use Rattle.node_table.specs.Curves.{IsCurve, shaped, shaper_value};
+ghost use Rattle.node_table.specs.Frames.{item};
 
 use crate::curves::shape;
-use causal_core::Causal;
+use node_table::Causal;
 use std::alloc::Global;
 use std::marker::Model;
 use wa_base::{Fix, NoMemory, Samples};
@@ -20,7 +20,7 @@ pub struct Shaper {
 
 impl Model for Shaper {
     ghost use Rattle.shaper_iir.specs.Waves.{Wave};
-    ghost use Rattle.causal_core.specs.Curves.{IsCurve};
+    ghost use Rattle.node_table.specs.Curves.{IsCurve};
 
     ghost Value = { Wave };
 
@@ -57,7 +57,7 @@ impl Shaper {
 }
 
 impl Causal for Shaper {
-    ghost use Rattle.causal_core.specs.Curves.{shaper_value};
+    ghost use Rattle.node_table.specs.Curves.{shaper_value};
 
     ghost stands = { λ shaper channel frames. Unit {0} };
 

@@ -1,5 +1,5 @@
 ghost use Rattle.std.specs.Prelude.{◌≡◌, ◌≤◌, ◌+◌, ◌*◌, ◌^◌, ◌+ℤ◌, ◌-ℤ◌, ◌*ℤ◌, length, unsigned_abs};
-ghost use Rattle.causal_core.specs.Filters as filters;
+ghost use Rattle.node_table.specs.Filters as filters;
 ghost use Rattle.shaper_iir.specs.Scales.{weight, greatest};
 
 use crate::histories::KEPT;

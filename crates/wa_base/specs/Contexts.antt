@@ -1,5 +1,5 @@
 -- The words of a context's states, and the ranges in which a context can be rendered.
-use Rattle.std.specs.Prelude.{ℕ, List, codes, ◌≤◌, ◌*◌, ◌&&◌, nat_le, Bool}
+use Rattle.std.specs.Prelude.{ℕ, List, codes, ◌≤◌, ◌≡◌, ◌*◌, ◌&&◌, nat_le, nat_eq, Bool}
 use Rattle.wa_base.specs.declared.contexts.ContextSpec.{ContextSpec}
 use Rattle.wa_base.specs.declared.contexts.State.{State}
 use Rattle.wa_base.specs.declared.contexts.State.TheVariants.{Suspended, Running, Closed}
@@ -27,9 +27,13 @@ has_length spec = nat_le 1 spec.length && nat_le spec.length 33554432
 abbrev pub has_rate : ContextSpec → Bool
 has_rate spec = nat_le 8000 spec.rate && nat_le spec.rate 96000
 
+-- quanta of other sizes are not rendered
+abbrev pub has_quantum : ContextSpec → Bool
+has_quantum spec = nat_eq spec.quantum 128
+
 -- a context that can be rendered
 unfoldable pub is_supported : ContextSpec → Bool
-is_supported spec = has_channels spec && has_length spec && has_rate spec && nat_le (spec.channels * spec.length) 67108864
+is_supported spec = has_channels spec && has_length spec && has_rate spec && nat_le (spec.channels * spec.length) 67108864 && has_quantum spec
 
 -- the same ranges, by name
 pub record IsSupported (spec : ContextSpec) : Type 0 where
@@ -40,3 +44,4 @@ pub record IsSupported (spec : ContextSpec) : Type 0 where
   pub rate_low : 8000 ≤ spec.rate
   pub rate_high : spec.rate ≤ 96000
   pub samples_high : spec.channels * spec.length ≤ 67108864
+  pub quantum : spec.quantum ≡ 128

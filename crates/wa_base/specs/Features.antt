@@ -1,7 +1,7 @@
 -- The words of the features that the profile leaves out or limits.
 use Rattle.std.specs.Prelude.{ℕ, List, codes}
 use Rattle.wa_base.specs.declared.features.Feature.{Feature}
-use Rattle.wa_base.specs.declared.features.Feature.TheVariants.{Oscillator, PeriodicWave, Biquad, StereoPanner, Panner, Listener, Compressor, Analyser, MediaElementSource, MediaStreamSource, MediaStreamTrackSource, MediaStreamDestination, ScriptProcessor, AudioWorklet, ExponentialRamp, SetTarget, Oversample, Resampling, PlaybackRate, PlaybackRateAutomation, Detune, LoopChange, LateBuffer, BufferAcquired, DestinationOutput, LongDelay, Normalization, ResponseChannels, LongResponse, LoudResponse, AssetSize, NodeLimit, ConnectionLimit, BufferLimit, DelayLimit}
+use Rattle.wa_base.specs.declared.features.Feature.TheVariants.{Oscillator, PeriodicWave, Biquad, StereoPanner, Panner, Listener, Compressor, Analyser, MediaElementSource, MediaStreamSource, MediaStreamTrackSource, MediaStreamDestination, ScriptProcessor, AudioWorklet, ExponentialRamp, SetTarget, Oversample, Resampling, PlaybackRate, PlaybackRateAutomation, Detune, LoopChange, LateBuffer, BufferAcquired, DestinationOutput, LongDelay, Normalization, ResponseChannels, LongResponse, LoudResponse, Program, AssetSize, NodeLimit, ConnectionLimit, BufferLimit, DelayLimit}
 
 -- the word that stands for a feature in a transcript
 abbrev pub feature_word : Feature → List ℕ
@@ -35,6 +35,7 @@ feature_word Normalization = codes "normalization"
 feature_word ResponseChannels = codes "response-channels"
 feature_word LongResponse = codes "long-response"
 feature_word LoudResponse = codes "loud-response"
+feature_word Program = codes "program"
 feature_word AssetSize = codes "asset-size"
 feature_word NodeLimit = codes "node-limit"
 feature_word ConnectionLimit = codes "connection-limit"

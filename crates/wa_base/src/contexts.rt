@@ -39,17 +39,23 @@ pub struct ContextSpec {
     pub length: u64,
     /// The sample rate, in frames a second.
     pub rate: u32,
+    /// The size of a render quantum, in frames (renderSizeHint).
+    pub quantum: u32,
 }
 
 impl ContextSpec {
     /// Whether the context can be rendered: 1 to 32 channels, 1 to 33,554,432 frames, a rate of
-    /// 8,000 to 96,000, and at most 67,108,864 samples.
+    /// 8,000 to 96,000, at most 67,108,864 samples, and render quanta of 128 frames.
     #[tactic(auto, unfolding(crate::specs::Contexts::is_supported))]
     pub fn is_supported(self) -> bool
         ensures value { result ≡ contexts.is_supported self }
         ensures ranges { result ≡ true → IsSupported self }
     {
-        self.has_channels() && self.has_length() && self.has_rate() && self.has_few_samples()
+        self.has_channels()
+            && self.has_length()
+            && self.has_rate()
+            && self.has_few_samples()
+            && self.has_quantum()
     }
 
     fn has_channels(self) -> bool
@@ -78,5 +84,12 @@ impl ContextSpec {
         ensures range { result ≡ true → self.channels * self.length ≤ 67108864 }
     {
         u128::from(self.channels) * u128::from(self.length) <= MAX_SAMPLES
+    }
+
+    fn has_quantum(self) -> bool
+        ensures value { result ≡ contexts.has_quantum self }
+        ensures range { result ≡ true → self.quantum ≡ 128 }
+    {
+        u64::from(self.quantum) == QUANTUM
     }
 }

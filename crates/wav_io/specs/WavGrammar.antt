@@ -1,6 +1,6 @@
 -- The reading of a WAV file of PCM samples: RIFF, then a list of chunks, of which the first `fmt ` and the first `data` count.
 -- The lowest byte of a number comes first. A place is a number of bytes from the start of the file.
-use Rattle.std.specs.Prelude.{◌≡◌, ◌≤◌, ℕ, zero, suc, ◌+◌, ◌-◌, ◌*◌, ◌/◌, ◌%◌, ◌^◌, ℤ, pos, ◌*ℤ◌, ◌-ℤ◌, Bool, true, false, not, ◌&&◌, ◌||◌, if◌then◌else◌, nat_eq, nat_lt, nat_le, min, List, [], ◌∷◌, length, map, codes, slice_range, Option, Some, None, Result, Ok, Err}
+use Rattle.std.specs.Prelude.{ℕ, zero, suc, ◌+◌, ◌-◌, ◌*◌, ◌/◌, ◌%◌, ◌^◌, ℤ, pos, ◌*ℤ◌, ◌-ℤ◌, Bool, true, false, not, ◌&&◌, ◌||◌, if◌then◌else◌, nat_eq, nat_lt, nat_le, min, List, [], ◌∷◌, length, map, codes, slice_range, Option, Some, None, Result, Ok, Err}
 use Rattle.std.specs.List.{find, flat_map, range_with_len}
 use Rattle.std.specs.Str.{bytes_eq}
 use Rattle.byteorder.specs.Endian.{little_number, twos_complement}
@@ -9,7 +9,7 @@ use Rattle.wav_io.specs.declared.format_chunk.Format.{Format}
 use Rattle.wav_io.specs.declared.chunk_walk.Chunk.{Chunk}
 use Rattle.wav_io.specs.declared.chunk_walk.Kind.{Kind}
 use Rattle.wav_io.specs.declared.chunk_walk.Kind.TheVariants.{FormatChunk, DataChunk, Other}
-use Rattle.wav_io.specs.declared.wav.Wav.{Wav}
+use Rattle.buffer_store.specs.declared.wav.Wav.{Wav}
 use Rattle.wav_io.specs.declared.wav.WavErr.{WavErr}
 use Rattle.wav_io.specs.declared.wav.WavErr.TheVariants.{NotRiff, NoFormat, UnknownTag, BadBits, BadShape, NoData, DataFirst}
 
@@ -198,10 +198,3 @@ wav_of bytes = if is_riff bytes then judged_by bytes 12 (chunks_from bytes 12) e
 -- the frames a second of a file that is read
 abbrev pub rate_of : List ℕ → Result ℕ WavErr
 rate_of bytes = wav_of bytes >>= λ wav. Ok wav.rate
-
--- what every recording that is read has: 1 to 32 channels, at least one frame, and a sample for each channel and frame
-pub record IsRecording (wav : Wav) : Type 0 where
-  pub channels_low : 1 ≤ wav.channels
-  pub channels_high : wav.channels ≤ 32
-  pub frames : 1 ≤ wav.frames
-  pub samples : length wav.samples ≡ wav.channels * wav.frames

@@ -12,10 +12,11 @@ mod samples;
 mod values;
 mod wav;
 
+pub use buffer_store::Wav;
 pub use chunks::header;
 pub use reading::{decode, rate_of};
 pub use samples::frames_into;
-pub use wav::{Wav, WavErr};
+pub use wav::WavErr;
 
 /// The list of a file's chunks goes on wherever the file has eight bytes for another one.
 pub fn chunks_law()

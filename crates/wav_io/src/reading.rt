@@ -1,12 +1,14 @@
 ghost use Rattle.std.specs.Prelude.{◌≡◌, ◌≢◌, ◌≤◌, ◌+◌, ◌*◌, ◌/◌, true, false, length, Ok, Err, IfOk, IfErr, IsTrue};
 ghost use Rattle.std.specs.Str.{bytes_eq};
+ghost use Rattle.buffer_store.specs.Recordings.{IsRecording};
 ghost use Rattle.wav_io.specs.WavGrammar as grammar;
 ghost use Rattle.wav_io.specs.WavRest.{IsRest};
 
 use crate::chunk_walk::{Chunk, HEAD_LEN, chunk_at};
 use crate::format_chunk::{Format, format_in};
 use crate::values::values_in;
-use crate::wav::{Wav, WavErr};
+use crate::wav::WavErr;
+use buffer_store::Wav;
 use std::alloc::Global;
 
 const RIFF_LEN: usize = 12;
@@ -22,7 +24,7 @@ const RIFF_LEN: usize = 12;
 pub fn decode(alloc: Global, bytes: &[u8]) -> Result<Wav, WavErr>
     ensures ok { IfOk result (λ wav. grammar.wav_of bytes.now ≡ Ok wav) }
     ensures fault { IfErr result (λ e. e ≢ WavErr.NoMemory → grammar.wav_of bytes.now ≡ Err e) }
-    ensures recording { IfOk result (λ wav. grammar.IsRecording wav) }
+    ensures recording { IfOk result (λ wav. IsRecording wav) }
 {
     let (format, data_chunk) = parts_of(bytes)?;
     wav_in(alloc, bytes, &format, &data_chunk)
@@ -139,7 +141,7 @@ fn wav_in(alloc: Global, bytes: &[u8], format: &Format, chunk: &Chunk) -> Result
     requires there { chunk.now.place + 8 ≤ length bytes.now }
     ensures ok { IfOk result (λ wav. grammar.wav_in bytes.now format.now chunk.now ≡ Ok wav) }
     ensures fault { IfErr result (λ e. e ≢ WavErr.NoMemory → grammar.wav_in bytes.now format.now chunk.now ≡ Err e) }
-    ensures recording { IfOk result (λ wav. grammar.IsRecording wav) }
+    ensures recording { IfOk result (λ wav. IsRecording wav) }
 {
     let start = chunk.place + HEAD_LEN;
     let frames = frames_in(bytes, format, chunk);

@@ -1,9 +1,9 @@
 -- What earlier places leave to a place.
 use Rattle.std.proofs.Common.{ℕ, zero, suc, ◌≡◌, ◌+◌, ◌-◌, ◌<◌, ◌≤◌, List, Option, Some, None, sym, subst, refl, ◌∙◌, arith, below_more}
-use Rattle.worklet.specs.declared.code.Instr.{Instr}
+use Rattle.node_table.specs.declared.code.Instr.{Instr}
 use Rattle.worklet.specs.Arrivals.{Arrives, Agrees}
 use Rattle.worklet.specs.Errors.{AreFine, HasHeight, IsUneven}
-use Rattle.worklet.specs.Instructions.{MayPass, GoesOn, instr_at, left}
+use Rattle.node_table.specs.Instructions.{MayPass, GoesOn, instr_at, left}
 
 -- a place goes on at a later one just where it may pass over what lies between
 pub goes_from : (code : List Instr) (i place : ℕ) → i < place → MayPass (instr_at code i) (place - i - 1) → GoesOn code i place

@@ -1,12 +1,12 @@
 -- Worked programs that are accepted, or have an error.
 use Rattle.std.proofs.Common.{ℕ, zero, suc, ◌<◌, ◌≤◌, ◌≡◌, pos, List, [], ◌∷◌, refl, arith, inl, inr}
 use Rattle.std.specs.Prelude.{slice_index}
-use Rattle.worklet.specs.declared.code.Instr.{Instr}
-use Rattle.worklet.specs.declared.code.Instr.TheVariants.{Input, Push, Load, Add, Skipz}
+use Rattle.node_table.specs.declared.code.Instr.{Instr}
+use Rattle.node_table.specs.declared.code.Instr.TheVariants.{Input, Push, Load, Add, Skipz}
 use Rattle.worklet.specs.declared.errors.ProgErr.TheVariants.{Uneven, BadCell, Underflow}
-use Rattle.worklet.specs.Accepted.{IsAccepted}
+use Rattle.node_table.specs.Accepted.{IsAccepted}
 use Rattle.worklet.specs.Errors.{HasHeight, IsError, IsFine}
-use Rattle.worklet.specs.Instructions.{pops, HasCell, HasDivisor, instr_at, GoesOn, left}
+use Rattle.node_table.specs.Instructions.{pops, HasCell, HasDivisor, instr_at, GoesOn, left}
 use Rattle.worklet.proofs.Arriving.{height_first}
 
 only : (P : ℕ → Type 0) → P 0 → (i : ℕ) → i < 1 → P i

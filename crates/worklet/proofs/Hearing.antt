@@ -5,9 +5,9 @@ use Rattle.std.specs.Prelude.{unwrap_or}
 use Rattle.std.proofs.lemmas.Bool.{cases_lt}
 use Rattle.std.proofs.lemmas.List.{places, get_or_past, get_or_default}
 use Rattle.std.proofs.lemmas.Nat.{mul-le}
-use Rattle.causal_core.specs.Frames.{item, heard}
-use Rattle.worklet.specs.declared.code.Instr.{Instr}
-use Rattle.worklet.specs.Machine.{Frame, frame_of, played, cells_after, program_value}
+use Rattle.node_table.specs.Frames.{item, heard}
+use Rattle.node_table.specs.declared.code.Instr.{Instr}
+use Rattle.node_table.specs.Machine.{Frame, frame_of, played, cells_after, program_value}
 use Rattle.worklet.specs.Processor.{HasHeard, HasHeardNothing}
 
 -- ---- frame by frame

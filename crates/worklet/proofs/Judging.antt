@@ -3,10 +3,10 @@ use Rattle.std.proofs.Common.{ℕ, ◌≡◌, ◌+◌, ◌-◌, ◌<◌, ◌≤�
 use Rattle.std.specs.Prelude.{slice_index}
 use Rattle.std.proofs.lemmas.List.{get_or_append_left}
 use Rattle.std.proofs.Math.Seq.{get_or-append_seam}
-use Rattle.worklet.specs.declared.code.Instr.{Instr}
-use Rattle.worklet.specs.Accepted.{IsAccepted}
+use Rattle.node_table.specs.declared.code.Instr.{Instr}
+use Rattle.node_table.specs.Accepted.{IsAccepted}
 use Rattle.worklet.specs.Errors.{AreFine, FailsAt, HasHeight, IsFine, StaysInside}
-use Rattle.worklet.specs.Instructions.{MayPass, instr_at, pops, pushes}
+use Rattle.node_table.specs.Instructions.{MayPass, instr_at, pops, pushes}
 
 -- a place stays inside just where the furthest place is inside
 pub inside_from : (code : List Instr) (place far : ℕ) → ((n : ℕ) → MayPass (instr_at code place) n → n ≤ far) → place + 1 + far ≤ length code → StaysInside code place

@@ -1,7 +1,9 @@
 pub mod Arriving
+pub mod Deciding
 mod ErrorRows
 pub mod Hearing
 pub mod Judging
+pub mod OneError
 pub mod Refusals
 mod Rows
 pub mod Running

@@ -1,11 +1,11 @@
 -- A program with an error is not accepted.
 use Rattle.std.proofs.Common.{ℕ, zero, suc, ◌≡◌, ◌+◌, ◌-◌, ◌<◌, ◌≤◌, List, length, ap, sym, refl, ◌∙◌, arith, below_more}
 use Rattle.std.specs.Prelude.{slice_index}
-use Rattle.worklet.specs.declared.code.Instr.{Instr}
+use Rattle.node_table.specs.declared.code.Instr.{Instr}
 use Rattle.worklet.specs.declared.errors.ProgErr.TheVariants.{BadLength, Unreached, Uneven, BadCell, BadDivisor, BadJump, Underflow, TooDeep, BadEnd, NoMemory}
-use Rattle.worklet.specs.Accepted.{AreHeights, IsAccepted}
+use Rattle.node_table.specs.Accepted.{AreHeights, IsAccepted}
 use Rattle.worklet.specs.Errors.{AreFine, FailsAt, HasHeight, ErrorLaw}
-use Rattle.worklet.specs.Instructions.{pops, pushes, GoesOn, instr_at, left}
+use Rattle.node_table.specs.Instructions.{pops, pushes, GoesOn, instr_at, left}
 
 -- two lists of heights agree below a place
 abbrev Agree : (heights others : List ℕ) (place : ℕ) → Type 0

@@ -1,8 +1,8 @@
 -- The parts of a processor, lent for a block, and what becomes of them.
 use Rattle.std.proofs.Common.{◌≡◌, ◌<◌, ◌+◌, ◌*◌, ℕ, ℤ, List, ◌∷◌, length, get_or, ap, subst, sym, ◌∙◌, arith}
-use Rattle.causal_core.specs.Frames.{item, heard}
-use Rattle.worklet.specs.declared.code.Instr.{Instr}
-use Rattle.worklet.specs.Machine.{cells_after, program_value}
+use Rattle.node_table.specs.Frames.{item, heard}
+use Rattle.node_table.specs.declared.code.Instr.{Instr}
+use Rattle.node_table.specs.Machine.{cells_after, program_value}
 use Rattle.worklet.specs.Processor.{ProcessorView, ProcessorStands, HasHeardNothing}
 use Rattle.worklet.proofs.Hearing.{HaveHeard, block_stands}
 

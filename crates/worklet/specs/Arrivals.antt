@@ -1,7 +1,7 @@
 -- What earlier places leave to a place.
 use Rattle.std.specs.Prelude.{ℕ, ◌<◌, ◌≡◌, List, Option, Some, None}
-use Rattle.worklet.specs.declared.code.Instr.{Instr}
-use Rattle.worklet.specs.Instructions.{GoesOn, left}
+use Rattle.node_table.specs.declared.code.Instr.{Instr}
+use Rattle.node_table.specs.Instructions.{GoesOn, left}
 
 -- one of the first places so many goes on there
 abbrev pub IsReachedBelow : List Instr → (place bound : ℕ) → Type 0

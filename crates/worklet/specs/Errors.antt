@@ -1,10 +1,10 @@
 -- Why a program is not accepted, by the first place that has an error.
 use Rattle.std.specs.Prelude.{ℕ, ◌+◌, ◌-◌, ◌<◌, ◌≤◌, ◌≡◌, ◌≢◌, List, length, slice_index}
-use Rattle.worklet.specs.declared.code.Instr.{Instr}
+use Rattle.node_table.specs.declared.code.Instr.{Instr}
 use Rattle.worklet.specs.declared.errors.ProgErr.{ProgErr}
 use Rattle.worklet.specs.declared.errors.ProgErr.TheVariants.{BadLength, Unreached, Uneven, BadCell, BadDivisor, BadJump, Underflow, TooDeep, BadEnd, NoMemory}
-use Rattle.worklet.specs.Accepted.{IsAccepted}
-use Rattle.worklet.specs.Instructions.{pops, pushes, HasCell, HasDivisor, instr_at, GoesOn, IsReached, left}
+use Rattle.node_table.specs.Accepted.{IsAccepted}
+use Rattle.node_table.specs.Instructions.{pops, pushes, HasCell, HasDivisor, instr_at, GoesOn, IsReached, left}
 
 -- a program has 1 to 256 instructions
 pub record IsLong (code : List Instr) : Type 0 where
@@ -74,3 +74,7 @@ IsError code NoMemory = ⊥
 -- a program with an error is not accepted
 abbrev pub ErrorLaw : Type 0
 ErrorLaw = (code : List Instr) (error : ProgErr) → IsError code error → IsAccepted code → ⊥
+
+-- a program has one error alone
+abbrev pub OneErrorLaw : Type 0
+OneErrorLaw = (code : List Instr) (error other : ProgErr) → IsError code error → IsError code other → error ≡ other

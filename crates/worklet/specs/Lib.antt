@@ -1,7 +1,5 @@
-pub mod Accepted
 pub mod Arrivals
+pub mod Decision
 pub mod Errors
-pub mod Instructions
-pub mod Machine
 pub mod Processor
 pub mod ProcessorInside

@@ -1,8 +1,8 @@
 -- The state of a processor.
 use Rattle.std.specs.Prelude.{ℕ, ◌≡◌, ◌+◌, ℤ, pos, List, slice_index_or}
-use Rattle.causal_core.specs.Frames.{item, heard}
-use Rattle.worklet.specs.declared.code.Instr.{Instr}
-use Rattle.worklet.specs.Machine.{cells_after}
+use Rattle.node_table.specs.Frames.{item, heard}
+use Rattle.node_table.specs.declared.code.Instr.{Instr}
+use Rattle.node_table.specs.Machine.{cells_after}
 
 -- the code, the cells of each channel that there is room for, and those of all channels past them
 pub record ProcessorView : Type 0 where

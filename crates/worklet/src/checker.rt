@@ -1,13 +1,13 @@
 ghost use Rattle.std.specs.Prelude.{◌≡◌, ◌≤◌, ◌<◌, ◌⊎◌, ◌↔◌, ℕ, List, length, IfOk, IfErr, IsTrue, OnOk};
-ghost use Rattle.worklet.specs.Accepted.{IsAccepted};
+ghost use Rattle.node_table.specs.Accepted.{IsAccepted};
 ghost use Rattle.worklet.specs.Arrivals.{Agrees};
-ghost use Rattle.worklet.specs.Errors.{AreFine, FailsAt, HasHeight, IsError, IsFine, IsLong, ErrorLaw};
+ghost use Rattle.worklet.specs.Decision.{AcceptedLaw};
+ghost use Rattle.worklet.specs.Errors.{AreFine, FailsAt, HasHeight, IsError, IsFine, IsLong, ErrorLaw, OneErrorLaw};
 ghost use Rattle.worklet.specs.declared.errors.ProgErr.TheVariants.{NoMemory as no_memory};
 
-use crate::code::{Code, Instr};
 use crate::errors::ProgErr;
-use crate::program::Program;
 use crate::rules::{DEPTH, has_cell, has_divisor, left, may_pass, pops, pushes, stays_inside};
+use node_table::{Code, Instr, Program};
 use std::alloc::Global;
 
 /// The most instructions of a program.
@@ -21,7 +21,7 @@ pub fn check(alloc: Global, code: &Code) -> Result<Program, ProgErr>
     ensures error { IfErr result (λ error. (error ≡ no_memory) ⊎ IsError code.now error) }
 {
     judge_all(alloc, code.as_slice())?;
-    Program::of(alloc, code)
+    Ok(Program::of(code)?)
 }
 
 // Judges the length, all places and the end.
@@ -128,4 +128,14 @@ fn judge(code: &[Instr], place: usize, height: usize) -> Result<(), ProgErr>
 /// A program with an error is not accepted.
 pub fn error_law()
     ensures { ErrorLaw }
+{}
+
+/// A program has one error alone.
+pub fn one_error_law()
+    ensures { OneErrorLaw }
+{}
+
+/// Whether a program is accepted can be tried place by place.
+pub fn accepted_law()
+    ensures { AcceptedLaw }
 {}

@@ -1,4 +1,5 @@
-use std::alloc::{AllocError, AllocFailed};
+use std::alloc::AllocFailed;
+use wa_base::NoMemory;
 
 /// Why a program is not accepted. The places are judged from 0 upwards, and the first one with an error
 /// gives it; at one place the errors are tried in the order written here. The length is tried before
@@ -27,17 +28,6 @@ pub enum ProgErr {
     NoMemory,
 }
 
-impl From<AllocError> for ProgErr {
-    ghost use Rattle.std.specs.Prelude.{◌≡◌};
-    ghost use Rattle.worklet.specs.declared.errors.ProgErr.TheVariants.{NoMemory as no_memory};
-
-    ghost from_gives = { λ cause error. error ≡ no_memory };
-
-    fn from(_: AllocError) -> ProgErr {
-        ProgErr::NoMemory
-    }
-}
-
 impl<T: Drop> From<AllocFailed<T>> for ProgErr {
     ghost use Rattle.std.specs.Prelude.{◌≡◌};
     ghost use Rattle.worklet.specs.declared.errors.ProgErr.TheVariants.{NoMemory as no_memory};
@@ -45,6 +35,17 @@ impl<T: Drop> From<AllocFailed<T>> for ProgErr {
     ghost from_gives = { λ cause error. error ≡ no_memory };
 
     fn from(_: AllocFailed<T>) -> ProgErr {
+        ProgErr::NoMemory
+    }
+}
+
+impl From<NoMemory> for ProgErr {
+    ghost use Rattle.std.specs.Prelude.{◌≡◌};
+    ghost use Rattle.worklet.specs.declared.errors.ProgErr.TheVariants.{NoMemory as no_memory};
+
+    ghost from_gives = { λ cause error. error ≡ no_memory };
+
+    fn from(_: NoMemory) -> ProgErr {
         ProgErr::NoMemory
     }
 }

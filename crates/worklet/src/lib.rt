@@ -3,16 +3,13 @@
 #![tactic(auto)]
 
 mod checker;
-mod code;
 mod errors;
 mod machine;
 mod processor;
-mod program;
 mod rules;
 mod stack;
 
-pub use checker::{check, error_law};
-pub use code::{Code, Instr};
+pub use checker::{accepted_law, check, error_law, one_error_law};
 pub use errors::ProgErr;
+pub use machine::{frame, never_traps_law};
 pub use processor::Processor;
-pub use program::{Program, never_traps_law};

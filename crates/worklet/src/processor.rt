@@ -1,11 +1,11 @@
 ghost use Rattle.std.specs.Prelude.{◌≡◌, ◌<◌, ◌≤◌, ◌+◌, ◌*◌, ◌∷◌, [], ℕ, ℤ, List, length, max, pos, slice_index_or, OnOk, OnErr};
-ghost use Rattle.causal_core.specs.Frames.{item, heard};
-ghost use Rattle.worklet.specs.Machine.{cells_after, cells_at_birth, program_value};
+ghost use Rattle.node_table.specs.Frames.{item, heard};
+ghost use Rattle.node_table.specs.Machine.{cells_after, cells_at_birth, program_value};
 ghost use Rattle.worklet.specs.Processor.{ProcessorStands, HasHeard, HasHeardNothing, cells_of};
 
-use crate::program::Program;
+use crate::machine::frame;
 use crate::rules::CELLS;
-use causal_core::Causal;
+use node_table::{Causal, Program};
 use std::alloc::Global;
 use std::marker::Model;
 use wa_base::{Fix, NoMemory};
@@ -53,7 +53,7 @@ impl Processor {
 
 impl Causal for Processor {
     ghost use Rattle.std.specs.Prelude.{length};
-    ghost use Rattle.worklet.specs.Machine.{program_value};
+    ghost use Rattle.node_table.specs.Machine.{program_value};
 
     ghost stands = { ProcessorStands };
 
@@ -134,7 +134,7 @@ fn hear_channel(program: &Program, cells: &mut [Fix; CELLS], x: &[Fix], y: &mut 
     ensures outputs { (k : ℕ) (xs : List ℤ) → k < length x.now → cells.old ≡ cells_after program.now xs → item y.new k ≡ program_value program.now (heard x.now 0 (k + 1) xs) }
 {
     for (k, out) in y.iter_mut().enumerate() {
-        *out = program.frame(cells, x[k]);
+        *out = frame(program, cells, x[k]);
     }
 }
 
@@ -143,6 +143,6 @@ fn hear_nothing(program: &Program, cells: &mut [Fix; CELLS], frames: usize)
     ensures { HasHeardNothing program.now cells.old cells.new frames }
 {
     for _ in 0..frames {
-        program.frame(cells, 0);
+        frame(program, cells, 0);
     }
 }

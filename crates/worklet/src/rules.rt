@@ -1,9 +1,9 @@
 ghost use Rattle.std.specs.Prelude.{◌≡◌, ◌↔◌, ◌≤◌, ◌<◌, ◌+◌, ◌-◌, ℕ, length, IsTrue};
 ghost use Rattle.worklet.specs.Errors.{StaysInside};
-ghost use Rattle.worklet.specs.Instructions as instructions;
-ghost use Rattle.worklet.specs.Instructions.{MayPass, HasCell, HasDivisor};
+ghost use Rattle.node_table.specs.Instructions as instructions;
+ghost use Rattle.node_table.specs.Instructions.{MayPass, HasCell, HasDivisor};
 
-use crate::code::Instr;
+use node_table::Instr;
 
 /// The number of cells of a channel.
 pub(crate) const CELLS: usize = 16;

@@ -3,7 +3,7 @@ use Rattle.std.specs.Int.{w32}
 use Rattle.std.proofs.lemmas.Int.{to_z-of_z}
 use Rattle.wa_base.specs.Numbers.{rnd}
 use Rattle.lane_kern.specs.Blocks.{at}
-use Rattle.channel_mix.specs.Mixing.{one}
+use Rattle.mix_rules.specs.Mixing.{one}
 use Rattle.channel_mix.specs.Outputs.{front_speakers}
 use Rattle.channel_mix.proofs.Sums.{adds_more}
 use Rattle.channel_mix.proofs.kernels.add_front_speakers.Goals as goal

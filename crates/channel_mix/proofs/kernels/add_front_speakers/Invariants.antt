@@ -1,6 +1,6 @@
 use Rattle.wa_base.specs.Numbers.{rnd}
 use Rattle.lane_kern.specs.Blocks.{at}
-use Rattle.channel_mix.specs.Mixing.{one}
+use Rattle.mix_rules.specs.Mixing.{one}
 use Rattle.channel_mix.specs.Outputs.{front_speakers}
 use Rattle.channel_mix.proofs.Sums.{AddsBelow}
 use Rattle.channel_mix.proofs.kernels.add_front_speakers.Given as goal

@@ -1,6 +1,6 @@
 use Rattle.std.proofs.Common.{◌∙◌, ℤ, ap}
 use Rattle.wa_base.specs.Numbers.{rnd}
-use Rattle.channel_mix.specs.Mixing.{one}
+use Rattle.mix_rules.specs.Mixing.{one}
 use Rattle.channel_mix.proofs.Weighing.{read_is, pair_is, read_within, held_is, five_fit, five_are, five_within, same_sums}
 use Rattle.channel_mix.proofs.kernels.all_speakers_of.Goals as goal
 

@@ -1,7 +1,7 @@
 use Rattle.std.proofs.Common.{◌^◌, ◌∙◌, ℤ, ap, ap₂, arith}
 use Rattle.wa_base.specs.Numbers.{rnd}
 use Rattle.lane_kern.specs.Blocks.{IsWithin}
-use Rattle.channel_mix.specs.Mixing.{one}
+use Rattle.mix_rules.specs.Mixing.{one}
 use Rattle.channel_mix.specs.Outputs.{front_speakers}
 use Rattle.channel_mix.proofs.Weighing.{read_is, read_within, held_is, two_are}
 use Rattle.channel_mix.proofs.kernels.front_speakers_of.Goals as goal

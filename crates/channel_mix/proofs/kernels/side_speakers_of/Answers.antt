@@ -1,6 +1,6 @@
 use Rattle.std.proofs.Common.{◌∙◌, ℤ, ap, ap₂}
 use Rattle.wa_base.specs.Numbers.{rnd}
-use Rattle.channel_mix.specs.Mixing.{one}
+use Rattle.mix_rules.specs.Mixing.{one}
 use Rattle.channel_mix.specs.Outputs.{front_speakers}
 use Rattle.channel_mix.proofs.Weighing.{read_is, pair_is, read_within, held_is, two_are, two_within}
 use Rattle.channel_mix.proofs.kernels.side_speakers_of.Goals as goal

@@ -3,11 +3,11 @@ use Rattle.std.proofs.Math.Nat.{mul-div_cancel_left, mul-div-le}
 use Rattle.std.proofs.lemmas.List.{places}
 use Rattle.std.proofs.lemmas.Nat.{mul-le}
 use Rattle.lane_kern.specs.Blocks.{at}
-use Rattle.channel_mix.specs.Blocks.{frame_at, sample}
+use Rattle.mix_rules.specs.Blocks.{frame_at, sample}
 use Rattle.channel_mix.specs.Outputs.{value_of}
-use Rattle.channel_mix.specs.Mixing.{mix}
-use Rattle.channel_mix.proofs.Forms.{value_of-mix}
-use Rattle.channel_mix.proofs.Laws.{mix_same}
+use Rattle.mix_rules.specs.Mixing.{mix}
+use Rattle.channel_mix.proofs.OutputForms.{value_of-mix}
+use Rattle.mix_rules.proofs.Laws.{mix_same}
 use Rattle.channel_mix.proofs.Mixed.{mixed_at, mixed_at_sample}
 use Rattle.channel_mix.proofs.Sums.{adds_part, adds_whole, adds_room}
 use Rattle.channel_mix.proofs.mixing.mix_add.Goals as goal

@@ -2,7 +2,7 @@ use Rattle.std.proofs.Common.{rules, ◌≡◌, ◌≤◌, ◌+◌, ◌-◌, ◌
 use Rattle.std.specs.Int.{w128}
 use Rattle.std.specs.Prelude.{min, unsigned_abs}
 use Rattle.std.proofs.lemmas.Int.{to_z-of_z}
-use Rattle.causal_core.specs.Filters.{dot}
+use Rattle.node_table.specs.Filters.{dot}
 use Rattle.convolve.proofs.Bounds.{abs_of_sum}
 use Rattle.convolve.proofs.Dots.{group_more}
 use Rattle.convolve.proofs.sums.dot.Goals as goal

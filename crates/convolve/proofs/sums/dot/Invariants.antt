@@ -1,6 +1,6 @@
 use Rattle.std.proofs.Common.{◌≡◌, ◌≤◌, ◌*◌, ◌^◌, ℤ, List, ℕ, take}
 use Rattle.std.specs.Prelude.{unsigned_abs}
-use Rattle.causal_core.specs.Filters.{dot}
+use Rattle.node_table.specs.Filters.{dot}
 use Rattle.convolve.proofs.sums.dot.Given as goal
 
 -- the sum of so many groups, and how far it can be from 0

@@ -2,7 +2,7 @@ use Rattle.std.proofs.Common.{rules, ◌≡◌, ◌≤◌, ◌+◌, ◌*◌, ◌
 use Rattle.std.specs.Int.{w64}
 use Rattle.std.specs.Prelude.{unsigned_abs}
 use Rattle.std.proofs.lemmas.Int.{to_z-of_z}
-use Rattle.causal_core.specs.Filters.{dot}
+use Rattle.node_table.specs.Filters.{dot}
 use Rattle.convolve.proofs.Dots.{dot_more}
 use Rattle.convolve.proofs.sums.group_dot.Goals as goal
 

@@ -1,5 +1,5 @@
 use Rattle.std.proofs.Common.{◌≡◌, ◌≤◌, map, drop, filter, max}
-use Rattle.channel_mix.specs.Counts.{greatest}
+use Rattle.mix_rules.specs.Counts.{greatest}
 use Rattle.conn_graph.specs.Ends.{reader_of}
 use Rattle.quantum_blocks.specs.Blocks.{counts_in}
 use Rattle.quantum_blocks.specs.Connections.{leads_to}

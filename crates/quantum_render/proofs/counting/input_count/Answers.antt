@@ -1,5 +1,5 @@
 use Rattle.std.proofs.Common.{List, [], ◌∷◌, map, filter, sym, ◌∙◌, ap}
-use Rattle.channel_mix.specs.Counts.{input_count}
+use Rattle.mix_rules.specs.Counts.{input_count}
 use Rattle.node_table.specs.declared.nodes.Attrs.{Attrs}
 use Rattle.conn_graph.specs.declared.edges.Edge.{Edge}
 use Rattle.conn_graph.specs.declared.edges.Target.TheVariants.{Input}

@@ -3,7 +3,7 @@ use Rattle.wa_base.specs.declared.graph_names.End.{End}
 use Rattle.law_base.specs.Members.{IsIn}
 use Rattle.conn_graph.specs.Ends.{ends}
 use Rattle.meaning.proofs.Joined.{joined}
-use Rattle.filter_bank.specs.Banks.{filter_at, IsRestedIfThere}
+use Rattle.filter_bank.specs.Banks.{heard_at, IsRestedIfThere}
 use Rattle.quantum_blocks.specs.Blocks.{slot, IsSilent}
 use Rattle.quantum_blocks.specs.Fits.{AreFit}
 use Rattle.quantum_render.specs.Sites.{QuantumView, SiteView, site_in}
@@ -70,7 +70,7 @@ returns c =
       fit = c.loop-end.invariant.passing.fit;
       values = passing_ends q.world valid c.args.plan.now.order c.loop-end.end-index q.counts q.first c.args.memory.now c.loop-end.memory c.loop-end.blocks c.loop-end.invariant.passing past;
       memory = λ tape begins counted timely ready. all_remembered q.world valid c.args.plan.now.order c.loop-end.end-index q.counts q.first c.args.memory.now c.loop-end.memory c.loop-end.blocks c.loop-end.invariant.passing past
-          tape begins counted timely ready (record { filters = c.rest.new.self; delays = c.end_quantum.new.self })
-          (subst (λ (x : QuantumView). (n : ℕ) → IsRestedIfThere x.first (filter_at c.loop-end.memory.filters n) (filter_at c.rest.new.self n)) c.quantum.view_is c.rest.ensures.each) c.end_quantum.ensures.delays;
-      known = (c.rest.ensures.known ∙ c.loop-end.invariant.passing.filters, c.end_quantum.ensures.known ∙ c.loop-end.invariant.passing.delays);
+          tape begins counted timely ready (record { causal = c.rest.new.self; delays = c.end_quantum.new.self })
+          (subst (λ (x : QuantumView). (n : ℕ) → IsRestedIfThere x.first (heard_at c.loop-end.memory.causal n) (heard_at c.rest.new.self n)) c.quantum.view_is c.rest.ensures.each) c.end_quantum.ensures.delays;
+      known = (c.rest.ensures.known ∙ c.loop-end.invariant.passing.causal, c.end_quantum.ensures.known ∙ c.loop-end.invariant.passing.delays);
     }

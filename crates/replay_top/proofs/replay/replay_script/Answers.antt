@@ -1,14 +1,20 @@
-use Rattle.std.proofs.Common.{refl, ap, inl}
+use Rattle.std.proofs.Common.{refl, ap, inl, arith}
 use Rattle.std.proofs.KnownBytes.{Appends-nil}
 use Rattle.command_line.specs.Words.{renders}
 use Rattle.replay_top.proofs.Ends.{replays, answers_since}
-use Rattle.replay_top.proofs.Outcomes.{writable, rendering_answered}
+use Rattle.replay_top.proofs.Outcomes.{writable, runs_supported, rendering_answered}
 use Rattle.replay_top.proofs.replay.replay_script.Goals as goal
 
-pub answer_outcome-requires : goal.answer_outcome-requires
-answer_outcome-requires g c =
+pub answer_outcome-requires-clause-writable : goal.answer_outcome-requires-clause-writable
+answer_outcome-requires-clause-writable g c =
     let outcome = c.in-Ok.ensures.outcome in
     rw outcome.2.rendered (writable _ outcome.0 c.args.script.now)
+
+pub answer_outcome-requires-clause-rate : goal.answer_outcome-requires-clause-rate
+answer_outcome-requires-clause-rate g c = λ ran.
+    let outcome = c.in-Ok.ensures.outcome in
+    let supported = runs_supported outcome.0 c.args.script.now (rw outcome.2.end at ran) in
+    omega (arith, supported.rate_low)
 
 pub returns-in-Ok-clause-ends : goal.returns-in-Ok-clause-ends
 returns-in-Ok-clause-ends g c =

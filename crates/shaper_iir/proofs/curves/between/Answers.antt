@@ -2,8 +2,8 @@ use Rattle.std.proofs.Common.{rules, ◌≡◌, ◌*ℤ◌, ◌+ℤ◌, ◌-ℤ�
 use Rattle.std.specs.Int.{w32, w64}
 use Rattle.std.proofs.lemmas.Int.{to_z-of_z}
 use Rattle.wa_base.specs.Numbers.{rnd}
-use Rattle.causal_core.specs.Curves.{between}
-use Rattle.causal_core.proofs.Shares.{between_fits}
+use Rattle.node_table.specs.Curves.{between}
+use Rattle.node_table.proofs.Shares.{between_fits}
 use Rattle.shaper_iir.proofs.curves.between.Goals as goal
 
 fits : (c : goal.After-share) → FitsSigned w32 (between c.args.from c.args.to c.args.part 33554432)

@@ -1,7 +1,7 @@
 use Rattle.std.proofs.Common.{rules, ◌≡◌, ◌+◌, ◌-◌, ◌*◌, ◌/◌, ◌%◌, ℕ, pos, length, get_or, FitsSigned, ap, ◌∙◌, arith}
 use Rattle.std.specs.Int.{w32}
 use Rattle.std.proofs.lemmas.Int.{to_z-of_z}
-use Rattle.causal_core.specs.Curves.{between}
+use Rattle.node_table.specs.Curves.{between}
 use Rattle.shaper_iir.proofs.curves.on_way.Goals as goal
 
 left_over : (p : ℕ) → p % 33554432 ≡ p - p / 33554432 * 33554432

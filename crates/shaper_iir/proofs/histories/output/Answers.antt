@@ -1,7 +1,7 @@
 use Rattle.std.proofs.Common.{rules, ◌-ℤ◌, pos, get_or, FitsSigned, ap, ap₂, ◌∙◌}
 use Rattle.std.specs.Int.{w32, w128}
 use Rattle.std.proofs.lemmas.Int.{to_z-of_z}
-use Rattle.causal_core.specs.Filters as filters
+use Rattle.node_table.specs.Filters as filters
 use Rattle.shaper_iir.proofs.Dots.{rest_is}
 use Rattle.shaper_iir.proofs.histories.output.Goals as goal
 

@@ -2,7 +2,7 @@ use Rattle.std.proofs.Common.{rules, ◌^◌, ◌-ℤ◌, pos, get_or, FitsSigne
 use Rattle.std.specs.Int.{w32, w64}
 use Rattle.std.specs.Prelude.{unsigned_abs}
 use Rattle.std.proofs.lemmas.Int.{to_z-of_z}
-use Rattle.causal_core.specs.Filters as filters
+use Rattle.node_table.specs.Filters as filters
 use Rattle.shaper_iir.proofs.Dots.{rest_is}
 use Rattle.shaper_iir.proofs.Shifts.{quotient_is}
 use Rattle.shaper_iir.proofs.Weights.{both_small}

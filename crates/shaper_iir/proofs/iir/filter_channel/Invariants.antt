@@ -1,5 +1,5 @@
 use Rattle.std.proofs.Common.{ℕ, ℤ, ◌≡◌, ◌<◌, ◌+◌, List, true}
-use Rattle.causal_core.specs.Frames.{item, newest}
+use Rattle.node_table.specs.Frames.{item, newest}
 use Rattle.shaper_iir.specs.declared.histories.History.{History}
 use Rattle.shaper_iir.specs.Histories.{after}
 use Rattle.shaper_iir.specs.Scales.{IsQuiet}

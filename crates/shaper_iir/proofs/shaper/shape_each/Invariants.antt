@@ -1,6 +1,6 @@
 use Rattle.std.proofs.Common.{ℕ, ◌≡◌, ◌<◌}
-use Rattle.causal_core.specs.Curves.{shaped}
-use Rattle.causal_core.specs.Frames.{item}
+use Rattle.node_table.specs.Curves.{shaped}
+use Rattle.node_table.specs.Frames.{item}
 use Rattle.shaper_iir.proofs.shaper.shape_each.Given as goal
 
 abbrev pub invariant-loop-k : goal.invariant-loop-k

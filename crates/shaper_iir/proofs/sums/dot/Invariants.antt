@@ -1,6 +1,6 @@
 use Rattle.std.proofs.Common.{◌≡◌, ◌≤◌, ◌*◌, ◌^◌, ◌+ℤ◌, ℤ, List, ℕ, drop}
 use Rattle.std.specs.Prelude.{unsigned_abs}
-use Rattle.causal_core.specs.Filters.{dot}
+use Rattle.node_table.specs.Filters.{dot}
 use Rattle.shaper_iir.proofs.sums.dot.Given as goal
 
 -- what is left to add, and how far the sum can be from 0

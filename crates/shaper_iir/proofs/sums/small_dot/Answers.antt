@@ -2,7 +2,7 @@ use Rattle.std.proofs.Common.{rules, ◌≡◌, ◌≤◌, ◌^◌, ◌+ℤ◌, 
 use Rattle.std.specs.Int.{w64}
 use Rattle.std.specs.Prelude.{unsigned_abs}
 use Rattle.std.proofs.lemmas.Int.{to_z-of_z}
-use Rattle.causal_core.specs.Filters.{dot}
+use Rattle.node_table.specs.Filters.{dot}
 use Rattle.shaper_iir.proofs.Dots.{dot_more}
 use Rattle.shaper_iir.proofs.Weights.{prefix_within}
 use Rattle.shaper_iir.proofs.sums.small_dot.Goals as goal

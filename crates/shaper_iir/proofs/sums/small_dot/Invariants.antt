@@ -1,5 +1,5 @@
 use Rattle.std.proofs.Common.{◌≡◌, take}
-use Rattle.causal_core.specs.Filters.{dot}
+use Rattle.node_table.specs.Filters.{dot}
 use Rattle.shaper_iir.proofs.sums.small_dot.Given as goal
 
 -- the sum so far

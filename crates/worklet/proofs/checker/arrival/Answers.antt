@@ -1,6 +1,6 @@
 use Rattle.std.proofs.Common.{ℕ, ◌≡◌, ◌<◌, ◌+◌, Option, subst, sym, arith, rules}
 use Rattle.std.proofs.lemmas.Bool.{iff_false}
-use Rattle.worklet.specs.Instructions.{GoesOn, left}
+use Rattle.node_table.specs.Instructions.{GoesOn, left}
 use Rattle.worklet.specs.Arrivals.{Arrives, Agrees}
 use Rattle.worklet.proofs.Arriving.{goes_from, goes_back, arrives_past, arrives_more, uneven_here}
 use Rattle.worklet.proofs.checker.arrival.Goals as goal

@@ -1,7 +1,7 @@
 use Rattle.std.proofs.Common.{rules, ℤ, pos, get_or, List, Some, FitsSigned, ap, sym, ◌∙◌, arith, to_z, of_z}
 use Rattle.std.specs.Int.{w32}
 use Rattle.std.proofs.lemmas.Int.{to_z-of_z}
-use Rattle.worklet.specs.Machine.{Frame}
+use Rattle.node_table.specs.Machine.{Frame}
 use Rattle.worklet.proofs.Hearing.{hearing_more}
 use Rattle.worklet.proofs.processor.hear_channel.Goals as goal
 

@@ -2,10 +2,10 @@ use Rattle.std.proofs.Common.{ℕ, pos, ◌≡◌, ◌+◌, ◌-◌, ◌*◌, �
 use Rattle.std.specs.Prelude.{nat_lt, if◌then◌else◌}
 use Rattle.std.proofs.Math.Nat.{mul-le-mul_right}
 use Rattle.wa_base.specs.declared.graph_names.Interp.{Interp}
-use Rattle.channel_mix.specs.Mixing.{mix}
+use Rattle.mix_rules.specs.Mixing.{mix}
 use Rattle.std.proofs.lemmas.Bool.{cases_lt}
 use Rattle.std.proofs.lemmas.Bool.Decides.{nat_tests}
-use Rattle.channel_mix.specs.Blocks.{sample}
+use Rattle.mix_rules.specs.Blocks.{sample}
 use Rattle.delay_line.specs.Delays.{Writer, delayed}
 use Rattle.delay_line.specs.Spans.{IsReached, heard_count, delay_at}
 use Rattle.delay_bank.specs.Kept.{DelayView, HasKept, IsAsked, since_birth, read_back}

@@ -1,5 +1,5 @@
 use Rattle.std.proofs.Common.{◌≡◌, ◌+◌, ◌*◌, ◌/◌, sym, ◌∙◌, ap, arith, subst}
-use Rattle.channel_mix.specs.Counts.{greatest}
+use Rattle.mix_rules.specs.Counts.{greatest}
 use Rattle.meaning.specs.Lists.{since}
 use Rattle.delay_bank.specs.Kept.{DelayView, HasKept, since_birth}
 use Rattle.delay_bank.proofs.Keeping.{greatest_with, comes_next}

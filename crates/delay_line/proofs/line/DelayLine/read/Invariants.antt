@@ -1,5 +1,5 @@
 use Rattle.std.proofs.Common.{ℕ, ◌≡◌, ◌+◌, ◌-◌, ◌<◌, ◌≤◌, length}
-use Rattle.channel_mix.specs.Blocks.{sample}
+use Rattle.mix_rules.specs.Blocks.{sample}
 use Rattle.delay_line.specs.Delays.{Writer, delayed}
 use Rattle.delay_line.specs.Lines.{Keeps}
 use Rattle.delay_line.specs.Spans.{heard_count, delay_at}

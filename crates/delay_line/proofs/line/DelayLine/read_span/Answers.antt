@@ -2,8 +2,8 @@ use Rattle.std.proofs.Common.{rules, ℕ, ℤ, ◌≡◌, ◌+◌, ◌-◌, ◌*
 use Rattle.std.proofs.lemmas.List.{places}
 use Rattle.std.proofs.lemmas.Nat.{mul-le}
 use Rattle.lane_kern.specs.Blocks.{at}
-use Rattle.channel_mix.specs.Blocks.{sample}
-use Rattle.channel_mix.specs.Mixing.{mix}
+use Rattle.mix_rules.specs.Blocks.{sample}
+use Rattle.mix_rules.specs.Mixing.{mix}
 use Rattle.delay_line.specs.Delays.{delayed}
 use Rattle.delay_line.specs.Lines.{Line, frame_at}
 use Rattle.delay_line.specs.Sources.{picked, needed}

@@ -8,3 +8,6 @@ returns-in-Filter-clause-value c = rw c.in-Filter.is c.step.ensures.value
 
 pub returns-in-Convolution-clause-value : goal.returns-in-Convolution-clause-value
 returns-in-Convolution-clause-value c = rw c.in-Convolution.is c.step-in-Convolution.ensures.value
+
+pub returns-in-Processor-clause-value : goal.returns-in-Processor-clause-value
+returns-in-Processor-clause-value c = rw c.in-Processor.is c.step-in-Processor.ensures.value

@@ -1,6 +1,6 @@
 use Rattle.std.proofs.Common.{ℕ, ℤ, List, pos, ◌≡◌, ◌+◌, ◌-◌, ◌*◌, ◌<◌, length, take, slice_index_or, sym, ◌∙◌, ap, arith, subst}
 use Rattle.std.proofs.lemmas.List.{get_or-take, length-take-le}
-use Rattle.channel_mix.specs.Blocks.{sample}
+use Rattle.mix_rules.specs.Blocks.{sample}
 use Rattle.quantum_blocks.specs.Blocks.{BlockView, at, lanes_from, lane_at}
 use Rattle.quantum_blocks.proofs.Holding.{steady_at, moving_at}
 use Rattle.quantum_blocks.proofs.block.Block.held.Goals as goal

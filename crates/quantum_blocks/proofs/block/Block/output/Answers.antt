@@ -1,5 +1,5 @@
 use Rattle.std.proofs.Common.{ℕ, ℤ, List, rules, pos, ◌+◌, ◌*◌, ◌≤◌, length, slice_index_or, sym, ◌∙◌, ap, arith}
-use Rattle.channel_mix.specs.Blocks.{sample}
+use Rattle.mix_rules.specs.Blocks.{sample}
 use Rattle.quantum_blocks.specs.Blocks.{BlockView, at, lanes_from, lane_at}
 use Rattle.quantum_blocks.proofs.Holding.{steady_at, moving_at, steady_carried, moving_carried, part_length, part_steady, wide_length, part_moving}
 use Rattle.quantum_blocks.proofs.block.Block.output.Goals as goal

@@ -2,7 +2,7 @@ use Rattle.std.proofs.Common.{ℕ, ℤ, List, pos, ◌≡◌, ◌+◌, ◌-◌, 
 use Rattle.std.specs.Prelude.{if◌then◌else◌, nat_lt}
 use Rattle.std.proofs.lemmas.List.{get_or-take, length-take-le}
 use Rattle.std.proofs.lemmas.Bool.Decides.{nat_tests}
-use Rattle.channel_mix.specs.Blocks.{sample}
+use Rattle.mix_rules.specs.Blocks.{sample}
 use Rattle.quantum_blocks.specs.Blocks.{BlockView, quantum, lanes_from, lane_at, at}
 use Rattle.quantum_blocks.proofs.Holding.{place_low, moving_at}
 use Rattle.quantum_blocks.proofs.block.Block.plain.Goals as goal

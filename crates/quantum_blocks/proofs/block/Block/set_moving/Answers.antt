@@ -1,7 +1,7 @@
 use Rattle.std.proofs.Common.{ℕ, ℤ, List, rules, ◌≡◌, ◌+◌, ◌-◌, ◌*◌, ◌<◌, length, take, drop, sym, ◌∙◌, ap, arith, subst}
 use Rattle.std.specs.Vec.{vec_len}
 use Rattle.std.proofs.lemmas.List.{places, length-take-le}
-use Rattle.channel_mix.specs.Blocks.{sample}
+use Rattle.mix_rules.specs.Blocks.{sample}
 use Rattle.quantum_blocks.specs.Blocks.{BlockView, at}
 use Rattle.quantum_blocks.proofs.Made.{front_of}
 use Rattle.quantum_blocks.proofs.Lanes.{moving_own, moving_others, unfolded_or_not}

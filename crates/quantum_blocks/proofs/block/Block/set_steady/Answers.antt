@@ -4,7 +4,7 @@ use borrow.Rule.Slice.PartMut.{put_mid}
 use Rattle.std.specs.Int.{w32}
 use Rattle.std.proofs.lemmas.Int.{to_z-of_z}
 use Rattle.std.proofs.lemmas.List.{places}
-use Rattle.channel_mix.specs.Blocks.{sample}
+use Rattle.mix_rules.specs.Blocks.{sample}
 use Rattle.quantum_blocks.specs.Blocks.{BlockView, at, lanes_from, lane_at}
 use Rattle.quantum_blocks.proofs.Holding.{moving_at}
 use Rattle.quantum_blocks.proofs.Lanes.{steady_own, steady_others, moving_own, moving_others}

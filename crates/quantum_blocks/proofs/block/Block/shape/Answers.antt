@@ -1,5 +1,5 @@
 use Rattle.std.proofs.Common.{◌*◌, ◌+◌, ◌∷◌, [], sym, ◌∙◌, ap, arith}
-use Rattle.causal_core.specs.Curves.{shaper_value}
+use Rattle.node_table.specs.Curves.{shaper_value}
 use Rattle.quantum_blocks.proofs.Holding.{steady_is, moving_is}
 use Rattle.quantum_blocks.proofs.block.Block.shape.Goals as goal
 

@@ -1,8 +1,8 @@
 use Rattle.std.proofs.Common.{ℕ, ◌≡◌, ◌+◌, ◌-◌, ◌*◌, ◌<◌, length, Some, inl, inr, sym, ◌∙◌, ap, subst, arith}
 use borrow.Rule.Slice.PartMut.{put_mid}
 use Rattle.std.proofs.lemmas.Bool.{cases_lt}
-use Rattle.channel_mix.specs.Blocks.{sample}
-use Rattle.channel_mix.proofs.Sums.{written_before, written_here}
+use Rattle.mix_rules.specs.Blocks.{sample}
+use Rattle.lane_kern.proofs.Written.{written_before, written_here}
 use Rattle.sched_source.specs.Schedule.{played}
 use Rattle.meaning.specs.World.{channels_in, samples_in}
 use Rattle.quantum_blocks.proofs.Lanes.{written_length, lane_length}

@@ -1,5 +1,5 @@
 use Rattle.std.proofs.Common.{ℕ, ◌≡◌, ◌+◌, ◌<◌, ◌*◌, length, Some}
-use Rattle.channel_mix.specs.Blocks.{sample}
+use Rattle.mix_rules.specs.Blocks.{sample}
 use Rattle.sched_source.specs.Schedule.{played}
 use Rattle.meaning.specs.World.{channels_in, samples_in}
 use Rattle.quantum_blocks.proofs.playing.Source.play.Given as goal

@@ -1,7 +1,7 @@
 use Rattle.std.proofs.Common.{ℤ, ◌+ℤ◌, map, filter, sym, ◌∙◌, ap, arith}
 use Rattle.std.proofs.Math.IntN.{+ℤ_idr}
 use Rattle.std.proofs.Math.ListN.{drop_of_length-le}
-use Rattle.channel_mix.specs.Mixing.{total}
+use Rattle.mix_rules.specs.Mixing.{total}
 use Rattle.std.proofs.lemmas.Int.{ints}
 use Rattle.conn_graph.specs.declared.edges.Edge.{Edge}
 use Rattle.meaning.specs.Values.{part}

@@ -1,5 +1,5 @@
 use Rattle.std.proofs.Common.{ℕ, ◌≡◌, ◌<◌, ◌≤◌, ◌+ℤ◌, map, drop, filter}
-use Rattle.channel_mix.specs.Mixing.{total}
+use Rattle.mix_rules.specs.Mixing.{total}
 use Rattle.meaning.specs.declared.world.World.{World}
 use Rattle.meaning.specs.Values.{part}
 use Rattle.quantum_blocks.specs.Blocks.{frame_of}

@@ -4,15 +4,15 @@ use Rattle.node_table.specs.declared.kinds.Kind.TheVariants.{Delay}
 use Rattle.node_table.specs.Kinds.{is_delay_kind}
 use Rattle.node_table.proofs.Lasting.{the_delay}
 use Rattle.meaning.specs.World.{kind_of}
-use Rattle.filter_bank.specs.Banks.{BankView, filter_at, HaveRoom}
+use Rattle.filter_bank.specs.Banks.{BankView, heard_at, HaveRoom}
 use Rattle.delay_bank.specs.Banks.{BankView as DelayBank, HaveRoom as HaveDelayRoom}
 use Rattle.quantum_render.specs.Renders.{Stores}
 use Rattle.quantum_render.proofs.Listening.{with_memory}
 use Rattle.quantum_render.proofs.Rendering.{unstored}
 use Rattle.quantum_render.proofs.bench.Bench.render.Goals as goal
 
-pub render_filter-requires-clause-kind : goal.render_filter-requires-clause-kind
-render_filter-requires-clause-kind c = (c.in-Causal.equation, sym c.kind.ensures.value ∙ c.in-Causal.is)
+pub render_causal-requires-clause-kind : goal.render_causal-requires-clause-kind
+render_causal-requires-clause-kind c = (c.in-Causal.equation, sym c.kind.ensures.value ∙ c.in-Causal.is)
 
 pub render_delay-requires-clause-kind : goal.render_delay-requires-clause-kind
 render_delay-requires-clause-kind c = (c.in-Delay.longest, c.in-Delay.time, c.in-Delay.capacity, sym c.kind.ensures.value ∙ c.in-Delay.is)
@@ -46,36 +46,36 @@ returns-in_default-clause-listens c = record {
 
 pub returns-in-Causal-clause-stores : goal.returns-in-Causal-clause-stores
 returns-in-Causal-clause-stores c =
-    subst (Stores c.args.site.now c.render_filter.new.block c.args.memory.now.delays) (sym c.render_filter.ensures.delays)
-    (unstored c.args.site.now c.kind.ensures.site (ap is_delay_kind (sym c.kind.ensures.value ∙ c.in-Causal.is)) c.render_filter.new.block c.args.memory.now.delays)
+    subst (Stores c.args.site.now c.render_causal.new.block c.args.memory.now.delays) (sym c.render_causal.ensures.delays)
+    (unstored c.args.site.now c.kind.ensures.site (ap is_delay_kind (sym c.kind.ensures.value ∙ c.in-Causal.is)) c.render_causal.new.block c.args.memory.now.delays)
 
 pub returns-in-Causal-clause-rooms : goal.returns-in-Causal-clause-rooms
 returns-in-Causal-clause-rooms c =
     let rooms = c.requires.rooms in
     record {
-      filters = subst (λ n. length c.args.site.now.world.nodes ≤ n) (sym c.render_filter.ensures.listens.count) rooms.filters;
-      delays = subst (λ (b : DelayBank). length c.args.site.now.world.nodes ≤ length b.delays) (sym c.render_filter.ensures.delays) rooms.delays;
-      filter_rooms = c.render_filter.ensures.room;
-      delay_rooms = subst (λ (b : DelayBank). HaveDelayRoom b c.args.site.now.counts) (sym c.render_filter.ensures.delays) rooms.delay_rooms;
+      causal = subst (λ n. length c.args.site.now.world.nodes ≤ n) (sym c.render_causal.ensures.listens.count) rooms.causal;
+      delays = subst (λ (b : DelayBank). length c.args.site.now.world.nodes ≤ length b.delays) (sym c.render_causal.ensures.delays) rooms.delays;
+      causal_rooms = c.render_causal.ensures.room;
+      delay_rooms = subst (λ (b : DelayBank). HaveDelayRoom b c.args.site.now.counts) (sym c.render_causal.ensures.delays) rooms.delay_rooms;
     }
 
 pub returns-in-Delay-clause-rooms : goal.returns-in-Delay-clause-rooms
 returns-in-Delay-clause-rooms c =
     let rooms = c.requires.rooms in
     record {
-      filters = subst (λ (b : BankView). length c.args.site.now.world.nodes ≤ length b.filters) (sym c.render_delay.ensures.filters) rooms.filters;
+      causal = subst (λ (b : BankView). length c.args.site.now.world.nodes ≤ length b.nodes) (sym c.render_delay.ensures.causal) rooms.causal;
       delays = subst (λ n. length c.args.site.now.world.nodes ≤ n) (sym c.render_delay.ensures.stores.count) rooms.delays;
-      filter_rooms = subst (λ (b : BankView). HaveRoom b c.args.site.now.counts) (sym c.render_delay.ensures.filters) rooms.filter_rooms;
+      causal_rooms = subst (λ (b : BankView). HaveRoom b c.args.site.now.counts) (sym c.render_delay.ensures.causal) rooms.causal_rooms;
       delay_rooms = c.render_delay.ensures.room;
     }
 
 pub returns-in-Delay-clause-listens : goal.returns-in-Delay-clause-listens
 returns-in-Delay-clause-listens c =
-    let same = c.render_delay.ensures.filters in
+    let same = c.render_delay.ensures.causal in
     let kind = sym c.kind.ensures.value ∙ c.in-Delay.is in
     record {
       known = ap (λ (b : BankView). b.known) same;
-      count = ap (λ (b : BankView). length b.filters) same;
-      others = λ n apart. ap (λ (b : BankView). filter_at b n) same;
+      count = ap (λ (b : BankView). length b.nodes) same;
+      others = λ n apart. ap (λ (b : BankView). heard_at b n) same;
       own = λ equation is j earlier begins counted before ready. absurd (let no = sym kind ∙ is in cc);
     }

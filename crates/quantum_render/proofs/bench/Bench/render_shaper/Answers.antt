@@ -1,5 +1,5 @@
 use Rattle.std.proofs.Common.{◌∷◌, [], ◌≡◌, ◌<◌, sym, ◌∙◌, ap, refl, subst}
-use Rattle.causal_core.specs.Curves.{shaper_value}
+use Rattle.node_table.specs.Curves.{shaper_value}
 use Rattle.quantum_blocks.specs.Blocks.{BlockView, at, counts_in}
 use Rattle.quantum_render.specs.Sites.{SiteView}
 use Rattle.quantum_render.specs.Benches.{BenchView}

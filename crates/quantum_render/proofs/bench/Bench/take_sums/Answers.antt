@@ -7,7 +7,7 @@ use Rattle.wa_base.specs.declared.graph_names.ParamName.{ParamName}
 use Rattle.meaning.specs.declared.world.World.{World}
 use Rattle.std.specs.Prelude.{if◌then◌else◌}
 use Rattle.wa_base.specs.declared.graph_names.Interp.TheVariants.{Speakers}
-use Rattle.channel_mix.specs.Mixing.{total}
+use Rattle.mix_rules.specs.Mixing.{total}
 use Rattle.conn_graph.specs.declared.edges.Target.TheVariants.{Param}
 use Rattle.std.specs.List.{list_any}
 use Rattle.law_base.specs.Members.{IsIn}

@@ -1,10 +1,10 @@
 use Rattle.std.proofs.Common.{List, ℤ, ◌≡◌, ◌*◌, ◌≤◌, length, take, ◌∙◌, ap, arith, subst}
-use Rattle.channel_mix.specs.Blocks.{sample}
+use Rattle.mix_rules.specs.Blocks.{sample}
 use Rattle.delay_bank.specs.Banks.{Writes}
 use Rattle.quantum_blocks.specs.Blocks.{BlockView}
 use Rattle.quantum_render.specs.Benches.{BenchView}
 use Rattle.quantum_blocks.specs.Held.{IsWidened}
-use Rattle.quantum_render.proofs.Filtering.{widened_front}
+use Rattle.quantum_render.proofs.CausalLaws.{widened_front}
 use Rattle.law_base.proofs.Places.{rewritten}
 use Rattle.quantum_render.proofs.bench.Bench.write_heard.Goals as goal
 

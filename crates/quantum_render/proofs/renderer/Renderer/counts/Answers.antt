@@ -23,7 +23,7 @@ returns-clause-counted g c =
       cycles = subst (λ (r : RendererView). AreCycles w.graph.value r.cycles) (sym c.self.view_is) c.requires.prepared.cycles;
       range = subst (AreInRange w) (sym kept) c.count_channels.ensures.range;
       automation = subst (λ (r : RendererView). IsReady w.params.items (quantum_of r.spec * r.quanta) r.automation) (sym c.self.view_is) c.requires.prepared.automation;
-      memory = record { filter_count = has.filter_count; delay_count = has.delay_count; fresh_filters = has.fresh_filters; fresh_delays = has.fresh_delays };
+      memory = record { causal_count = has.causal_count; delay_count = has.delay_count; fresh_causal = has.fresh_causal; fresh_delays = has.fresh_delays };
       counted = λ tape stands regular.
           let begins : c.args.first ≡ 128 * length tape = time ∙ ap (λ n. 128 * n) stands.quanta in
           subst (λ ns. AreCounted 128 w ns tape) (sym kept)
@@ -33,6 +33,6 @@ returns-clause-counted g c =
 
 pub returns-clause-stands : goal.returns-clause-stands
 returns-clause-stands g c tape = (
-  λ stands. stands_like _ _ refl c.self.inside.memory.filters.known c.self.inside.memory.delays.known refl refl refl refl refl refl tape (subst (λ (r : RendererView). StandsFor r tape) (sym c.self.view_is) stands),
-  λ stands. subst (λ (r : RendererView). StandsFor r tape) c.self.view_is (stands_like _ _ refl c.self.inside.memory.filters.known c.self.inside.memory.delays.known refl refl refl refl refl refl tape stands),
+  λ stands. stands_like _ _ refl c.self.inside.memory.causal.known c.self.inside.memory.delays.known refl refl refl refl refl refl tape (subst (λ (r : RendererView). StandsFor r tape) (sym c.self.view_is) stands),
+  λ stands. subst (λ (r : RendererView). StandsFor r tape) c.self.view_is (stands_like _ _ refl c.self.inside.memory.causal.known c.self.inside.memory.delays.known refl refl refl refl refl refl tape stands),
 )

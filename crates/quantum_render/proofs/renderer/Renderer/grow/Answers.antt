@@ -16,45 +16,45 @@ use Rattle.quantum_render.proofs.renderer.Renderer.grow.Goals as goal
 abbrev grown : Memory → List BlockView → RendererView → RendererView
 grown memory blocks r = record r { memory = memory; blocks = blocks }
 
-module _ (memory : Memory) (blocks : List BlockView) (r : RendererView) (filters : AreSame r.memory.filters memory.filters) (delays : AreSameDelays r.memory.delays memory.delays) where
+module _ (memory : Memory) (blocks : List BlockView) (r : RendererView) (causal : AreSame r.memory.causal memory.causal) (delays : AreSameDelays r.memory.delays memory.delays) where
   still_stands : (tape : List World) → StandsFor r tape → StandsFor (grown memory blocks r) tape
   still_stands tape stands = record {
     quanta = stands.quanta;
-    nodes = (filters.known ∙ stands.nodes.0, delays.known ∙ stands.nodes.1);
-    filters = still_heard r.memory.filters memory.filters filters (last_world tape) _ _ stands.filters;
+    nodes = (causal.known ∙ stands.nodes.0, delays.known ∙ stands.nodes.1);
+    causal = still_heard r.memory.causal memory.causal causal (last_world tape) _ _ stands.causal;
     delays = λ n longest time capacity low is. (delays.still n _ _ _ _).0 (stands.delays n longest time capacity low is);
   }
 
   stood : (tape : List World) → StandsFor (grown memory blocks r) tape → StandsFor r tape
   stood tape stands = record {
     quanta = stands.quanta;
-    nodes = (sym filters.known ∙ stands.nodes.0, sym delays.known ∙ stands.nodes.1);
-    filters = was_heard r.memory.filters memory.filters filters (last_world tape) _ _ stands.filters;
+    nodes = (sym causal.known ∙ stands.nodes.0, sym delays.known ∙ stands.nodes.1);
+    causal = was_heard r.memory.causal memory.causal causal (last_world tape) _ _ stands.causal;
     delays = λ n longest time capacity low is. (delays.still n _ _ _ _).1 (stands.delays n longest time capacity low is);
   }
 
-  is_grown : (w : World) → IsCounted r w → AreFit w r.counts blocks → HaveRoom memory.filters r.counts → HaveDelayRoom memory.delays r.counts → IsGrown (grown memory blocks r) w
-  is_grown w are fit filter_rooms delay_rooms = record {
+  is_grown : (w : World) → IsCounted r w → AreFit w r.counts blocks → HaveRoom memory.causal r.counts → HaveDelayRoom memory.delays r.counts → IsGrown (grown memory blocks r) w
+  is_grown w are fit causal_rooms delay_rooms = record {
     counted = record {
       plan = are.plan;
       cycles = are.cycles;
       range = are.range;
       automation = are.automation;
       memory = record {
-        filter_count = filters.count ∙ are.memory.filter_count ∙ ap (λ k. max k (length w.nodes)) (sym filters.known);
+        causal_count = causal.count ∙ are.memory.causal_count ∙ ap (λ k. max k (length w.nodes)) (sym causal.known);
         delay_count = delays.count ∙ are.memory.delay_count ∙ ap (λ k. max k (length w.nodes)) (sym delays.known);
-        fresh_filters = still_new r.memory.filters memory.filters filters w are.memory.fresh_filters;
+        fresh_causal = still_new r.memory.causal memory.causal causal w are.memory.fresh_causal;
         fresh_delays = λ n longest time capacity high low is writer. (delays.still n _ _ _ _).0 (are.memory.fresh_delays n longest time capacity (subst (λ k. k ≤ n) delays.known high) low is writer);
       };
       counted = λ tape stands regular. are.counted tape (stood tape stands) regular;
     };
     blocks = fit;
-    filter_rooms = filter_rooms;
+    causal_rooms = causal_rooms;
     delay_rooms = delay_rooms;
   }
 
-filters_now : (c : goal.After-grow-2) → AreSame c.args.self.now.memory.filters c.grow.new.self
-filters_now c = subst (λ (r : RendererView). AreSame r.memory.filters c.grow.new.self) c.self.view_is c.grow.ensures.same
+causal_now : (c : goal.After-grow-2) → AreSame c.args.self.now.memory.causal c.grow.new.self
+causal_now c = subst (λ (r : RendererView). AreSame r.memory.causal c.grow.new.self) c.self.view_is c.grow.ensures.same
 
 delays_now : (c : goal.After-grow-2) → AreSameDelays c.args.self.now.memory.delays c.grow-2.new.self
 delays_now c = subst (λ (r : RendererView). AreSameDelays r.memory.delays c.grow-2.new.self) c.self.view_is c.grow-2.ensures.same
@@ -62,32 +62,32 @@ delays_now c = subst (λ (r : RendererView). AreSameDelays r.memory.delays c.gro
 pub returns-clause-ok : goal.returns-clause-ok
 returns-clause-ok c =
     let counts : c.as_slice-counts.result.now ≡ c.args.self.now.counts = c.as_slice-counts.ensures.value ∙ ap (λ (r : RendererView). r.counts) c.self.view_is in
-    let memory : Memory = record { filters = c.grow.new.self; delays = c.grow-2.new.self } in
+    let memory : Memory = record { causal = c.grow.new.self; delays = c.grow-2.new.self } in
     on_ok c.grow-2.result (λ rooms.
     subst (λ (r : RendererView). IsGrown (grown memory c.fit_blocks.new.blocks.items r) c.args.world.now) (sym c.self.view_is)
-    (is_grown memory c.fit_blocks.new.blocks.items c.args.self.now (filters_now c) (delays_now c) c.args.world.now c.requires.counted
+    (is_grown memory c.fit_blocks.new.blocks.items c.args.self.now (causal_now c) (delays_now c) c.args.world.now c.requires.counted
     (subst (λ ns. AreFit c.args.world.now ns c.fit_blocks.new.blocks.items) counts c.in_ok-fit_blocks.ensures) (subst (HaveRoom c.grow.new.self) counts c.in_ok-grow.ensures.ok) (subst (HaveDelayRoom c.grow-2.new.self) counts rooms)))
     c.grow-2.ensures.ok
 
 pub returns-clause-stands : goal.returns-clause-stands
 returns-clause-stands c tape =
-    let memory : Memory = record { filters = c.grow.new.self; delays = c.grow-2.new.self } in (
-      λ stands. subst (λ (r : RendererView). StandsFor (grown memory c.fit_blocks.new.blocks.items r) tape) (sym c.self.view_is) (still_stands memory c.fit_blocks.new.blocks.items c.args.self.now (filters_now c) (delays_now c) tape stands),
-      λ stands. stood memory c.fit_blocks.new.blocks.items c.args.self.now (filters_now c) (delays_now c) tape (subst (λ (r : RendererView). StandsFor (grown memory c.fit_blocks.new.blocks.items r) tape) c.self.view_is stands),
+    let memory : Memory = record { causal = c.grow.new.self; delays = c.grow-2.new.self } in (
+      λ stands. subst (λ (r : RendererView). StandsFor (grown memory c.fit_blocks.new.blocks.items r) tape) (sym c.self.view_is) (still_stands memory c.fit_blocks.new.blocks.items c.args.self.now (causal_now c) (delays_now c) tape stands),
+      λ stands. stood memory c.fit_blocks.new.blocks.items c.args.self.now (causal_now c) (delays_now c) tape (subst (λ (r : RendererView). StandsFor (grown memory c.fit_blocks.new.blocks.items r) tape) c.self.view_is stands),
     )
 
 pub returns-in_err-grow-clause-stands : goal.returns-in_err-grow-clause-stands
 returns-in_err-grow-clause-stands c tape =
-    let memory : Memory = record { filters = c.grow.new.self; delays = c.args.self.now.memory.delays } in
+    let memory : Memory = record { causal = c.grow.new.self; delays = c.args.self.now.memory.delays } in
     let same : AreSameDelays c.args.self.now.memory.delays c.args.self.now.memory.delays = record { known = refl; count = refl; still = λ n. same_refl _ } in (
-      λ stands. subst (λ (r : RendererView). StandsFor (grown (record { filters = c.grow.new.self; delays = r.memory.delays }) c.fit_blocks.new.blocks.items r) tape) (sym c.self.view_is) (still_stands memory c.fit_blocks.new.blocks.items c.args.self.now (subst (λ (r : RendererView). AreSame r.memory.filters c.grow.new.self) c.self.view_is c.grow.ensures.same) same tape stands),
-      λ stands. stood memory c.fit_blocks.new.blocks.items c.args.self.now (subst (λ (r : RendererView). AreSame r.memory.filters c.grow.new.self) c.self.view_is c.grow.ensures.same) same tape (subst (λ (r : RendererView). StandsFor (grown (record { filters = c.grow.new.self; delays = r.memory.delays }) c.fit_blocks.new.blocks.items r) tape) c.self.view_is stands),
+      λ stands. subst (λ (r : RendererView). StandsFor (grown (record { causal = c.grow.new.self; delays = r.memory.delays }) c.fit_blocks.new.blocks.items r) tape) (sym c.self.view_is) (still_stands memory c.fit_blocks.new.blocks.items c.args.self.now (subst (λ (r : RendererView). AreSame r.memory.causal c.grow.new.self) c.self.view_is c.grow.ensures.same) same tape stands),
+      λ stands. stood memory c.fit_blocks.new.blocks.items c.args.self.now (subst (λ (r : RendererView). AreSame r.memory.causal c.grow.new.self) c.self.view_is c.grow.ensures.same) same tape (subst (λ (r : RendererView). StandsFor (grown (record { causal = c.grow.new.self; delays = r.memory.delays }) c.fit_blocks.new.blocks.items r) tape) c.self.view_is stands),
     )
 
 pub returns-in_err-fit_blocks-clause-stands : goal.returns-in_err-fit_blocks-clause-stands
 returns-in_err-fit_blocks-clause-stands c tape = (
-  λ stands. subst (λ (r : RendererView). StandsFor (record r { blocks = c.fit_blocks.new.blocks.items }) tape) (sym c.self.view_is) (record { quanta = stands.quanta; nodes = stands.nodes; filters = stands.filters; delays = stands.delays }),
+  λ stands. subst (λ (r : RendererView). StandsFor (record r { blocks = c.fit_blocks.new.blocks.items }) tape) (sym c.self.view_is) (record { quanta = stands.quanta; nodes = stands.nodes; causal = stands.causal; delays = stands.delays }),
   λ stands.
       let was = subst (λ (r : RendererView). StandsFor (record r { blocks = c.fit_blocks.new.blocks.items }) tape) c.self.view_is stands in
-      record { quanta = was.quanta; nodes = was.nodes; filters = was.filters; delays = was.delays },
+      record { quanta = was.quanta; nodes = was.nodes; causal = was.causal; delays = was.delays },
 )

@@ -1,7 +1,7 @@
 use Rattle.std.proofs.Common.{ℕ, slice_index_or, List, ◌≡◌, ◌+◌, ◌-◌, ◌*◌, ◌<◌, ◌≤◌, max, ◌++◌, ◌∷◌, [], length, sym, ◌∙◌, ap, arith, subst, length-append}
 use Rattle.std.proofs.lemmas.List.{get_or_default}
 use Rattle.wa_base.specs.declared.contexts.ContextSpec.{ContextSpec}
-use Rattle.channel_mix.specs.Blocks.{sample as channel_sample}
+use Rattle.mix_rules.specs.Blocks.{sample as channel_sample}
 use Rattle.conn_graph.specs.Ends.{reader_of}
 use Rattle.meaning.specs.declared.world.World.{World}
 use Rattle.meaning.specs.Rendered.{sample}
@@ -25,7 +25,7 @@ use Rattle.quantum_render.proofs.renderer.Renderer.pass.Goals as goal
 -- the memory is that of what came before
 ready : (r : RendererView) (w : World) (tape : List World) → StandsFor r tape → IsRegular 128 (tape ++ w ∷ []) → (first : ℕ) → first ≡ 128 * r.quanta → first ≡ 128 * length tape → HasMemory r w → IsMemory r.memory w tape first
 ready r w tape stands regular first is begins has = record {
-  heard = remembered w tape regular r.memory.filters first begins stands.nodes.0 (subst (λ t. AreHeard r.memory.filters (last_world tape) t (past 128 tape).heard) (sym is) stands.filters) has.fresh_filters;
+  heard = remembered w tape regular r.memory.causal first begins stands.nodes.0 (subst (λ t. AreHeard r.memory.causal (last_world tape) t (past 128 tape).heard) (sym is) stands.causal) has.fresh_causal;
   kept = remembered_delays w tape regular r.memory.delays first begins stands.nodes.1 (subst (λ t. AreKept r.memory.delays (last_world tape) t (past_writer (past 128 tape))) (sym is) stands.delays) has.fresh_delays;
 }
 
@@ -58,9 +58,9 @@ pub render_quantum-requires-clause-rooms : goal.render_quantum-requires-clause-r
 render_quantum-requires-clause-rooms g c =
     subst (λ ns. HasRooms c.self.inside.memory c.args.world.now ns) (sym c.as_slice-2.ensures.value)
     (subst (λ (r : RendererView). HasRooms r.memory c.args.world.now r.counts) (sym c.self.view_is) (record {
-      filters = let e = c.requires.grown.counted.memory.filter_count in grind arith;
+      causal = let e = c.requires.grown.counted.memory.causal_count in grind arith;
       delays = let e = c.requires.grown.counted.memory.delay_count in grind arith;
-      filter_rooms = c.requires.grown.filter_rooms;
+      causal_rooms = c.requires.grown.causal_rooms;
       delay_rooms = c.requires.grown.delay_rooms;
     }))
 
@@ -76,19 +76,19 @@ returns-clause-stands g c tape stands regular =
     let quanta : c.self.inside.quanta + 1 ≡ length (tape ++ w ∷ []) = ap (λ (r : RendererView). r.quanta + 1) c.self.view_is ∙ ap (λ n. n + 1) stands.quanta ∙ sym longer in
     let ends : c.args.first + 128 ≡ 128 * length (tape ++ w ∷ []) = omega (arith, begins, longer) in
     let few : length (last_world tape).nodes ≤ length w.nodes = last_few w tape regular in
-    let filter_nodes : length c.self.inside.memory.filters.filters ≡ length w.nodes =
-    ap (λ (r : RendererView). length r.memory.filters.filters) c.self.view_is ∙ c.requires.grown.counted.memory.filter_count ∙ most c.args.self.now.memory.filters.known (length w.nodes) (subst (λ k. k ≤ length w.nodes) (sym stands.nodes.0) few) in
+    let causal_nodes : length c.self.inside.memory.causal.nodes ≡ length w.nodes =
+    ap (λ (r : RendererView). length r.memory.causal.nodes) c.self.view_is ∙ c.requires.grown.counted.memory.causal_count ∙ most c.args.self.now.memory.causal.known (length w.nodes) (subst (λ k. k ≤ length w.nodes) (sym stands.nodes.0) few) in
     let delay_nodes : length c.self.inside.memory.delays.delays ≡ length w.nodes =
     ap (λ (r : RendererView). length r.memory.delays.delays) c.self.view_is ∙ c.requires.grown.counted.memory.delay_count ∙ most c.args.self.now.memory.delays.known (length w.nodes) (subst (λ k. k ≤ length w.nodes) (sym stands.nodes.1) few) in
     let after = c.render_quantum.ensures.memory tape begins counted (timely w tape regular) before in
     record {
       quanta = quanta;
       nodes = (
-        c.render_quantum.ensures.known.0 ∙ filter_nodes ∙ ap (λ (x : World). length x.nodes) (sym (last_now w tape regular)),
+        c.render_quantum.ensures.known.0 ∙ causal_nodes ∙ ap (λ (x : World). length x.nodes) (sym (last_now w tape regular)),
         c.render_quantum.ensures.known.1 ∙ delay_nodes ∙ ap (λ (x : World). length x.nodes) (sym (last_now w tape regular)),
       );
-      filters = subst (λ t. AreHeard c.render_quantum.new.memory.filters (last_world (tape ++ w ∷ [])) t (past 128 (tape ++ w ∷ [])).heard) (ends ∙ ap (λ n. 128 * n) (sym quanta))
-          (remembers_on w tape regular c.render_quantum.new.memory.filters (c.args.first + 128) ends after.heard);
+      causal = subst (λ t. AreHeard c.render_quantum.new.memory.causal (last_world (tape ++ w ∷ [])) t (past 128 (tape ++ w ∷ [])).heard) (ends ∙ ap (λ n. 128 * n) (sym quanta))
+          (remembers_on w tape regular c.render_quantum.new.memory.causal (c.args.first + 128) ends after.heard);
       delays = subst (λ t. AreKept c.render_quantum.new.memory.delays (last_world (tape ++ w ∷ [])) t (past_writer (past 128 (tape ++ w ∷ [])))) (ends ∙ ap (λ n. 128 * n) (sym quanta))
           (remember_delays w tape regular c.render_quantum.new.memory.delays (c.args.first + 128) ends after.kept);
     }

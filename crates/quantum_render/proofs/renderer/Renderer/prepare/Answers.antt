@@ -15,9 +15,9 @@ prepare-requires g c =
 pub returns-clause-ok : goal.returns-clause-ok
 returns-clause-ok g c = record {
   memory = record {
-    filter_count = c.in_ok-follow.ensures.count ∙ ap (λ k. max k (length c.args.world.now.nodes)) (sym c.follow.ensures.known);
+    causal_count = c.in_ok-follow.ensures.count ∙ ap (λ k. max k (length c.args.world.now.nodes)) (sym c.follow.ensures.known);
     delay_count = c.in_ok-follow-2.ensures.count ∙ ap (λ k. max k (length c.args.world.now.nodes)) (sym c.follow-2.ensures.known);
-    fresh_filters = c.in_ok-follow.ensures.fresh;
+    fresh_causal = c.in_ok-follow.ensures.fresh;
     fresh_delays = c.in_ok-follow-2.ensures.fresh;
   };
   plan = c.in_ok-follow-3.ensures.plan.plan;
@@ -29,36 +29,36 @@ returns-clause-ok g c = record {
 
 pub returns-in_err-follow-clause-stands : goal.returns-in_err-follow-clause-stands
 returns-in_err-follow-clause-stands g c tape = (
-  λ stands. stands_like _ _ refl c.self.inside.memory.filters.known c.self.inside.memory.delays.known refl c.follow.ensures.known c.follow.ensures.kept refl refl refl tape (subst (λ (r : RendererView). StandsFor r tape) (sym c.self.view_is) stands),
-  λ stands. subst (λ (r : RendererView). StandsFor r tape) c.self.view_is (stands_like _ _ refl c.self.inside.memory.filters.known c.self.inside.memory.delays.known c.follow.ensures.known refl (sym c.follow.ensures.kept) refl refl (sym refl) tape stands),
+  λ stands. stands_like _ _ refl c.self.inside.memory.causal.known c.self.inside.memory.delays.known refl c.follow.ensures.known c.follow.ensures.kept refl refl refl tape (subst (λ (r : RendererView). StandsFor r tape) (sym c.self.view_is) stands),
+  λ stands. subst (λ (r : RendererView). StandsFor r tape) c.self.view_is (stands_like _ _ refl c.self.inside.memory.causal.known c.self.inside.memory.delays.known c.follow.ensures.known refl (sym c.follow.ensures.kept) refl refl (sym refl) tape stands),
 )
 
 pub returns-in_err-follow-2-clause-stands : goal.returns-in_err-follow-2-clause-stands
 returns-in_err-follow-2-clause-stands g c tape = (
-  λ stands. stands_like _ _ refl c.self.inside.memory.filters.known c.self.inside.memory.delays.known refl c.follow.ensures.known c.follow.ensures.kept refl c.follow-2.ensures.known c.follow-2.ensures.kept tape (subst (λ (r : RendererView). StandsFor r tape) (sym c.self.view_is) stands),
-  λ stands. subst (λ (r : RendererView). StandsFor r tape) c.self.view_is (stands_like _ _ refl c.self.inside.memory.filters.known c.self.inside.memory.delays.known c.follow.ensures.known refl (sym c.follow.ensures.kept) c.follow-2.ensures.known refl (sym c.follow-2.ensures.kept) tape stands),
+  λ stands. stands_like _ _ refl c.self.inside.memory.causal.known c.self.inside.memory.delays.known refl c.follow.ensures.known c.follow.ensures.kept refl c.follow-2.ensures.known c.follow-2.ensures.kept tape (subst (λ (r : RendererView). StandsFor r tape) (sym c.self.view_is) stands),
+  λ stands. subst (λ (r : RendererView). StandsFor r tape) c.self.view_is (stands_like _ _ refl c.self.inside.memory.causal.known c.self.inside.memory.delays.known c.follow.ensures.known refl (sym c.follow.ensures.kept) c.follow-2.ensures.known refl (sym c.follow-2.ensures.kept) tape stands),
 )
 
 pub returns-in_err-resize-clause-stands : goal.returns-in_err-resize-clause-stands
 returns-in_err-resize-clause-stands g c tape = (
-  λ stands. stands_like _ _ refl c.self.inside.memory.filters.known c.self.inside.memory.delays.known refl c.follow.ensures.known c.follow.ensures.kept refl c.follow-2.ensures.known c.follow-2.ensures.kept tape (subst (λ (r : RendererView). StandsFor r tape) (sym c.self.view_is) stands),
-  λ stands. subst (λ (r : RendererView). StandsFor r tape) c.self.view_is (stands_like _ _ refl c.self.inside.memory.filters.known c.self.inside.memory.delays.known c.follow.ensures.known refl (sym c.follow.ensures.kept) c.follow-2.ensures.known refl (sym c.follow-2.ensures.kept) tape stands),
+  λ stands. stands_like _ _ refl c.self.inside.memory.causal.known c.self.inside.memory.delays.known refl c.follow.ensures.known c.follow.ensures.kept refl c.follow-2.ensures.known c.follow-2.ensures.kept tape (subst (λ (r : RendererView). StandsFor r tape) (sym c.self.view_is) stands),
+  λ stands. subst (λ (r : RendererView). StandsFor r tape) c.self.view_is (stands_like _ _ refl c.self.inside.memory.causal.known c.self.inside.memory.delays.known c.follow.ensures.known refl (sym c.follow.ensures.kept) c.follow-2.ensures.known refl (sym c.follow-2.ensures.kept) tape stands),
 )
 
 pub returns-in_err-prepare-clause-stands : goal.returns-in_err-prepare-clause-stands
 returns-in_err-prepare-clause-stands g c tape = (
-  λ stands. stands_like _ _ refl c.self.inside.memory.filters.known c.self.inside.memory.delays.known refl c.follow.ensures.known c.follow.ensures.kept refl c.follow-2.ensures.known c.follow-2.ensures.kept tape (subst (λ (r : RendererView). StandsFor r tape) (sym c.self.view_is) stands),
-  λ stands. subst (λ (r : RendererView). StandsFor r tape) c.self.view_is (stands_like _ _ refl c.self.inside.memory.filters.known c.self.inside.memory.delays.known c.follow.ensures.known refl (sym c.follow.ensures.kept) c.follow-2.ensures.known refl (sym c.follow-2.ensures.kept) tape stands),
+  λ stands. stands_like _ _ refl c.self.inside.memory.causal.known c.self.inside.memory.delays.known refl c.follow.ensures.known c.follow.ensures.kept refl c.follow-2.ensures.known c.follow-2.ensures.kept tape (subst (λ (r : RendererView). StandsFor r tape) (sym c.self.view_is) stands),
+  λ stands. subst (λ (r : RendererView). StandsFor r tape) c.self.view_is (stands_like _ _ refl c.self.inside.memory.causal.known c.self.inside.memory.delays.known c.follow.ensures.known refl (sym c.follow.ensures.kept) c.follow-2.ensures.known refl (sym c.follow-2.ensures.kept) tape stands),
 )
 
 pub returns-clause-stands : goal.returns-clause-stands
 returns-clause-stands g c tape = (
-  λ stands. stands_like _ _ refl c.self.inside.memory.filters.known c.self.inside.memory.delays.known refl c.follow.ensures.known c.follow.ensures.kept refl c.follow-2.ensures.known c.follow-2.ensures.kept tape (subst (λ (r : RendererView). StandsFor r tape) (sym c.self.view_is) stands),
-  λ stands. subst (λ (r : RendererView). StandsFor r tape) c.self.view_is (stands_like _ _ refl c.self.inside.memory.filters.known c.self.inside.memory.delays.known c.follow.ensures.known refl (sym c.follow.ensures.kept) c.follow-2.ensures.known refl (sym c.follow-2.ensures.kept) tape stands),
+  λ stands. stands_like _ _ refl c.self.inside.memory.causal.known c.self.inside.memory.delays.known refl c.follow.ensures.known c.follow.ensures.kept refl c.follow-2.ensures.known c.follow-2.ensures.kept tape (subst (λ (r : RendererView). StandsFor r tape) (sym c.self.view_is) stands),
+  λ stands. subst (λ (r : RendererView). StandsFor r tape) c.self.view_is (stands_like _ _ refl c.self.inside.memory.causal.known c.self.inside.memory.delays.known c.follow.ensures.known refl (sym c.follow.ensures.kept) c.follow-2.ensures.known refl (sym c.follow-2.ensures.kept) tape stands),
 )
 
 pub returns-in_err-follow-3-clause-stands : goal.returns-in_err-follow-3-clause-stands
 returns-in_err-follow-3-clause-stands g c tape = (
-  λ stands. stands_like _ _ refl c.self.inside.memory.filters.known c.self.inside.memory.delays.known refl c.follow.ensures.known c.follow.ensures.kept refl c.follow-2.ensures.known c.follow-2.ensures.kept tape (subst (λ (r : RendererView). StandsFor r tape) (sym c.self.view_is) stands),
-  λ stands. subst (λ (r : RendererView). StandsFor r tape) c.self.view_is (stands_like _ _ refl c.self.inside.memory.filters.known c.self.inside.memory.delays.known c.follow.ensures.known refl (sym c.follow.ensures.kept) c.follow-2.ensures.known refl (sym c.follow-2.ensures.kept) tape stands),
+  λ stands. stands_like _ _ refl c.self.inside.memory.causal.known c.self.inside.memory.delays.known refl c.follow.ensures.known c.follow.ensures.kept refl c.follow-2.ensures.known c.follow-2.ensures.kept tape (subst (λ (r : RendererView). StandsFor r tape) (sym c.self.view_is) stands),
+  λ stands. subst (λ (r : RendererView). StandsFor r tape) c.self.view_is (stands_like _ _ refl c.self.inside.memory.causal.known c.self.inside.memory.delays.known c.follow.ensures.known refl (sym c.follow.ensures.kept) c.follow-2.ensures.known refl (sym c.follow-2.ensures.kept) tape stands),
 )

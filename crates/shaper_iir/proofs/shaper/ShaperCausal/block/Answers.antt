@@ -1,7 +1,7 @@
 use Rattle.std.proofs.Common.{◌+◌, ◌*◌, [], ◌∷◌, ap, sym, ◌∙◌, arith}
-use Rattle.causal_core.specs.Curves.{shaper_value}
-use Rattle.causal_core.specs.Frames.{item}
-use Rattle.causal_core.proofs.Lists.{newest-heard}
+use Rattle.node_table.specs.Curves.{shaper_value}
+use Rattle.node_table.specs.Frames.{item}
+use Rattle.node_table.proofs.Lists.{newest-heard}
 use Rattle.shaper_iir.specs.Waves.{Wave}
 use Rattle.shaper_iir.proofs.Parts.{part_room}
 use Rattle.shaper_iir.proofs.Waving.{shaper_newest}

@@ -1,4 +1,0 @@
-pub mod Lists
-pub mod Sums
-mod Rows
-pub mod Shares

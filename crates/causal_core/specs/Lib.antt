@@ -1,5 +1,0 @@
-pub mod Convolutions
-pub mod Curves
-pub mod Equations
-pub mod Filters
-pub mod Frames

@@ -1,0 +1,4 @@
+mod CountRows
+pub mod Forms
+pub mod Laws
+mod Rows

@@ -1,0 +1,37 @@
+-- What the private clauses of the writer cite: the members that it is handed.
+use Rattle.std.specs.Prelude.{ℕ, List, [], ◌∷◌}
+use Rattle.serde_json.specs.Data.{Data, boolean, string, Members, no_members, member}
+use Rattle.wa_base.specs.GraphNames.{mode_word, interp_word, rate_word}
+use Rattle.script_ast.specs.Entries.{op_word}
+use Rattle.script_ast.specs.Fields.{field_word}
+use Rattle.script_ast.specs.Words.{oversample_word}
+use Rattle.script_ast.specs.declared.fields.Field.{Field}
+use Rattle.script_text.specs.Members.{or_null, fix, fixes, count, time, code}
+use Rattle.script_text.specs.declared.members.Given.{Given}
+use Rattle.script_text.specs.declared.members.Given.TheVariants as given
+
+-- the JSON value of what a field holds
+abbrev pub given_data : ℕ → Given → Data
+given_data rate (given.Op name) = string (op_word name)
+given_data rate (given.Name name) = string name.now
+given_data rate (given.NameOrNull name) = or_null string name.now
+given_data rate (given.Path path) = string path.now
+given_data rate (given.Fix z) = fix z
+given_data rate (given.Fixes zs) = fixes zs.now
+given_data rate (given.FixesOrNull zs) = or_null fixes zs.now
+given_data rate (given.Count n) = count n
+given_data rate (given.CountOrNull n) = or_null count n
+given_data rate (given.Length n) = count n
+given_data rate (given.Time frames) = time rate frames
+given_data rate (given.TimeOrNull frames) = or_null (time rate) frames
+given_data rate (given.Flag b) = boolean b
+given_data rate (given.Code instrs) = code instrs.now
+given_data rate (given.Mode mode) = string (mode_word mode)
+given_data rate (given.Interp interp) = string (interp_word interp)
+given_data rate (given.Rate r) = string (rate_word r)
+given_data rate (given.Oversample oversample) = string (oversample_word oversample)
+
+-- the members of an object, in the order in which they are handed
+abbrev pub members_given : ℕ → List (Field × Given) → Members
+members_given rate [] = no_members
+members_given rate (m ∷ ms) = member (field_word m.0) (given_data rate m.1) (members_given rate ms)
