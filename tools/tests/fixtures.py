@@ -68,10 +68,10 @@ def wav(channels, rate=48000, bits=24):
     return wav_bytes(Form(len(channels), rate, bits), stored)
 
 
-def script(calls, channels=1, length=128, rate=48000):
+def script(calls, channels=1, length=128, rate=48000, version=1):
     """The bytes of a script."""
     context = {"channels": channels, "length": length, "rate": rate}
-    return json.dumps({"version": 1, "context": context, "calls": calls}).encode()
+    return json.dumps({"version": version, "context": context, "calls": calls}).encode()
 
 
 def run(tool, *words, **more):

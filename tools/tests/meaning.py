@@ -6,9 +6,10 @@ import contextlib
 import copy
 import unittest.mock
 
-from waplay_tools.expecting import sessions
+from waplay_tools.expecting import programs, sessions
 from waplay_tools.expecting.nodes import SOURCES
 from waplay_tools.expecting.numbers import ONE, computed_count, mixed, rounded_quotient, saturated
+from waplay_tools.expecting.programs import AT_BIRTH
 
 QUANTUM = 128
 
@@ -161,6 +162,8 @@ class Meaning:
             return node.shaped(self.heard(frame, number, 0, channel))
         if node.kind == "filter":
             return self.filtered(frame, number, channel)
+        if node.kind == "processor":
+            return self.processed(frame, number, channel)[0]
         return self.heard(frame, number, 0, channel)
 
     def delayed(self, frame, number, channel):
@@ -191,13 +194,27 @@ class Meaning:
         sign = -1 if node.back[0] < 0 else 1
         return saturated(rounded_quotient(sign * total, sign * node.back[0]))
 
+    def processed(self, frame, number, channel):
+        return self.once(self.processed_of, frame, number, channel)
+
+    def processed_of(self, frame, number, channel):
+        """The output of a processor and its cells, also in quanta in which it has no such channel
+        or is muted."""
+        cells = AT_BIRTH
+        if frame > self.births[number]:
+            cells = self.processed(frame - 1, number, channel)[1]
+        is_muted = (number, False) in self.world(frame).muted
+        x = 0 if is_muted else self.heard(frame, number, 0, channel)
+        return programs.frame(self.world(frame).nodes[number].code, cells, x)
+
     def frames(self, length):
         """The values of the destination's channels, frame by frame."""
+        kept = {"filter": self.filtered, "processor": self.processed}
         for frame in range(length):
             for number, node in enumerate(self.world(frame).nodes):
-                if node.kind == "filter":  # so that none has many frames to go back
+                if node.kind in kept:  # so that none has many frames to go back
                     for channel in range(32):
-                        self.filtered(frame, number, channel)
+                        kept[node.kind](frame, number, channel)
             yield self.frame_of(frame, 0, 0)
 
 

@@ -187,7 +187,7 @@ class Comparing(unittest.TestCase):
     def test_a_digest(self):
         members = {key: it for key, it in MEMBERS.items() if key != "samples"}
         case = case_of({**members, "wav_sha256": "0" * 64}, Path())
-        self.assertTrue(told(case)[0].startswith("digest of the WAV file: wanted 000"))
+        self.assertTrue(told(case)[0].startswith("digest of the file: wanted 000"))
 
     def test_a_file_has_an_even_number_of_bytes(self):
         self.assertEqual(len(wanted_file(case_with())), 44 + 9 + 1)

@@ -40,6 +40,9 @@ READ = {
     "--bits=24 --order=up --mode=render o": {},
     "o --order down": {"order": "down"},
     "--mode check o": {"mode": "check"},
+    "--mode migrate o": {"mode": "migrate"},
+    "--mode=migrate --bits=16 o": {"mode": "migrate", "bits": 16},
+    "--gen 0 --mode migrate o": {"generated": 0, "mode": "migrate"},
     "--gen 0 --mode check o": {"generated": 0, "mode": "check"},
     "--gen 0012 o": {"generated": 12},
     "--gen=9999 o": {"generated": 9999},
@@ -75,7 +78,8 @@ UNREAD = {
     "--bits==16 o": BAD_TEXT["bits"],
     "--order sideways o": BAD_TEXT["order"],
     "--order UP o": BAD_TEXT["order"],
-    "--mode migrate o": BAD_TEXT["mode"],
+    "--mode migration o": BAD_TEXT["mode"],
+    "--mode MIGRATE o": BAD_TEXT["mode"],
     "--gen 12345 o": BAD_TEXT["gen"],
     "--gen 00000 o": BAD_TEXT["gen"],
     "--gen= o": BAD_TEXT["gen"],
@@ -117,9 +121,13 @@ elif asked.generated is None:
     given = next((it for it in INPUTS if it.data == data), Input(data, 0, b"", True))
 else:
     text = SUMMARY + (b" peak 12 sum -34" if asked.mode == "render" else b"") + LAST
-    given = Input(json.dumps(load_script.script(asked.generated)).encode(), 0, text, True)
+    load = load_script.script(asked.generated)
+    given = Input(json.dumps(load).encode(), 0, text, True, script_text(load))
 %s
 sys.stdout.buffer.write(given.text)
+if asked and asked.mode == "migrate" and given.migrated is not None:
+    with open(asked.out, "wb") as file:
+        file.write(given.migrated)
 if given.is_rendered and asked.mode == "render":
     with open(asked.out, "wb") as file:
         is_load = len(given.data) > 1000
@@ -203,7 +211,7 @@ class Lines(unittest.TestCase):
         rng = random.Random("spelled lines")
         outs = ["o", "a b", "a=b", "\u00e9", "--", "--bits=16", "-x", "up"]
         for out, bits, order, mode, generated in itertools.product(
-            outs, [16, 24], ["up", "down"], ["render", "check"], [None, 0, 7, 9999]
+            outs, [16, 24], ["up", "down"], ["render", "check", "migrate"], [None, 0, 7, 9999]
         ):
             asked = command_lines.Reading(out, bits, order, mode, generated)
             parts = spelled(rng, asked)
@@ -249,7 +257,7 @@ class RandomLines(unittest.TestCase):
         times = collections.Counter(
             command_lines.answer(command_lines.line(1, number)) for number in range(1000)
         )
-        read = command_lines.READ, command_lines.CHECKED, command_lines.RENDERED
+        read = command_lines.READ, *command_lines.BY_MODE.values()
         for name in [*read, *command_lines.REASONS]:
             self.assertGreater(times[name], 0, name)
         self.assertGreater(times[command_lines.READ], 300)
@@ -330,7 +338,7 @@ if reason == UNKNOWN:
 if asked and asked.generated is not None:
     given = Input(b"", 2, USAGE, False)"""
         )
-        self.assertIn(": status 2 in place of 0, the usage line: [", lines[0])
+        self.assertIn(": status 2 in place of 0, the usage line", lines[0])
 
     def test_a_program_that_does_otherwise_differs(self):
         is_generated = "\nif asked and asked.generated is not None:\n    "
@@ -348,6 +356,8 @@ if asked and asked.generated is not None:
             (is_generated + "sys.stderr.write('load')", ": b'load' on standard error: ["),
             ("open('other.wav', 'w').close()", ": another file b'other.wav': ["),
             ("given = given._replace(is_rendered=False)", ": another file b'"),
+            ("given = given._replace(migrated=None)", ": another file b'"),
+            ("given = given._replace(migrated=b'{}')", ": another file b'"),
         ]:
             status, lines = self.compared(change, count=20)
             self.assertEqual(status, 1)
@@ -359,5 +369,7 @@ if asked and asked.generated is not None:
             self.assertEqual(
                 (it.status, it.text, it.is_rendered), (status, text.encode(), status == 0)
             )
+            migrated = sessions.file_of(session, "migrate") if session else None
+            self.assertEqual(it.migrated, migrated)
             for bits, file in command_lines.ONE_SAMPLE.items():
                 self.assertEqual(sessions.wav_bytes(session, bits) if status == 0 else file, file)

@@ -9,12 +9,15 @@ import tempfile
 import unittest
 import unittest.mock
 import xml.etree.ElementTree
+from pathlib import Path
 
 import fixtures
 from test_report import Page
 from test_report_take import CONSTANT, take
 
 from waplay_tools import compare
+from waplay_tools.expecting import reading
+from waplay_tools.expecting.writing import script_text
 from waplay_tools.reporting import checks, runs
 from waplay_tools.reporting.call_changes import changes_of
 from waplay_tools.reporting.checks import Check
@@ -50,6 +53,12 @@ class Calls(unittest.TestCase):
     def test_other_names_are_no_change(self):
         renamed = json.loads(json.dumps(CONSTANT).replace('"c"', '"c2"'))
         self.assertEqual(told(CONSTANT, renamed), [])
+
+    def test_a_script_and_what_is_migrated_of_it_are_alike(self):
+        for name in ("first_piece", "tremolo", "swing"):
+            old = Path(fixtures.EXAMPLES, f"{name}.json").read_bytes()
+            scripts = script_of(old), script_of(script_text(reading.script_of(old)))
+            self.assertEqual({it.kind for it in changes_of(*scripts)}, {"same"}, name)
 
     def test_scripts_with_faults(self):
         for calls in ([7], [{"op": []}], [{"op": "no"}], [{}]):

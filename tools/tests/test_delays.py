@@ -25,6 +25,7 @@ from waplay_tools.expecting.graph import End
 
 RATE = 16384  # 1,024 is the time of one frame, and 131,072 that of a quantum
 COUNT = int(os.environ.get("DELAY_SESSIONS", "30"))  # random sessions
+READ = [op for op in operations() if op != "createProcessor"]  # which has a shape of its own
 
 
 def call(op, **fields):
@@ -465,7 +466,7 @@ class Meaning(unittest.TestCase):
         shapes = [(1, "delayed"), (1, "crossed")]
         for number in range(count):
             with unittest.mock.patch.multiple(maker, SHAPES=[], DELAY_SHAPES=shapes):
-                script, assets = script_of(99, number, operations())
+                script, assets = script_of(99, number, READ)
             if len(script["calls"]) <= 70:
                 folder = tempfile.mkdtemp()
                 self.addCleanup(shutil.rmtree, folder)
@@ -531,7 +532,7 @@ class RandomScripts(unittest.TestCase):
         answers = set()
         for number, shape in enumerate(["lines"] * 4 + ["crowd"] * 2):
             with unittest.mock.patch.multiple(maker, SHAPES=[], DELAY_SHAPES=[(1, shape)]):
-                script, _ = script_of(5, number, operations())
+                script, _ = script_of(5, number, READ)
             _, text, _ = sessions.replayed(json.dumps(script).encode())
             answers.update(answers_of(script, text))
         wanted = {"createDelay throw " + refusal for refusal in REFUSALS["createDelay"]}

@@ -22,14 +22,14 @@ WIDTHS = generated.WIDTHS if "ALL_WIDTHS" in os.environ else (24,)
 PROGRAM = """
 import json, os, sys
 from waplay_tools import command_lines
-from waplay_tools.expecting.sessions import replayed, summary_of, wav_bytes
+from waplay_tools.expecting.sessions import file_of, replayed, summary_of, wav_bytes
 from small_load import small
 asked = command_lines.reading([os.fsencode(word) for word in sys.argv[1:]])
-is_checked, is_generated = asked.mode == "check", asked.generated is not None
+is_checked, is_generated = asked.mode != "render", asked.generated is not None
 data = json.dumps(small(asked.generated)).encode() if is_generated else sys.stdin.buffer.read()
 status, text, session = replayed(data, is_checked=is_checked)
 text = summary_of(session) + "\\nend completed\\n" if is_generated else text
-file = None if is_checked else wav_bytes(session, asked.bits)
+file = file_of(session, asked.mode, asked.bits)
 %s
 sys.stdout.write(text)
 if file:
@@ -110,7 +110,8 @@ class Comparison(unittest.TestCase):
                 "sys.stderr.write('load' * is_generated); open('load', 'w').close()",
                 "files ['load']",
             ),
-            ("file = wav_bytes(replayed(data)[2], 24)", "a file in mode check"),
+            ("file = wav_bytes(replayed(data)[2], 24)", "another file in mode check"),
+            ("file = file and file.replace(b'offset', b'level')", "another file in mode migrate"),
             ("text = text.replace('ended 1 c\\n', '')", "the transcript has other counts"),
             ("text = text.replace('end c', 'end  c')", "the text b'summary calls 8 quanta 3"),
             (

@@ -6,7 +6,7 @@ import unittest
 from pathlib import Path
 
 import fixtures
-from waplay_tools.expecting.sessions import replayed
+from waplay_tools.expecting.sessions import file_of, replayed
 
 TOP = Path(fixtures.TOP)
 EXAMPLES = TOP / "examples"
@@ -49,12 +49,26 @@ class Documents(unittest.TestCase):
         status, text, _ = replayed(longer.encode(), str(EXAMPLES), is_checked=True)
         self.assertEqual((status, re.findall("throw|rejected", text)), (0, []))
 
+    def test_the_first_piece_in_seconds_is_the_first_piece_migrated(self):
+        data = (EXAMPLES / "first_piece.json").read_bytes()
+        _, text, session = replayed(data, str(EXAMPLES), is_checked=True)
+        migrated = EXAMPLES / "first_piece_in_seconds.json"
+        self.assertEqual(migrated.read_bytes(), file_of(session, "migrate"))
+        self.assertEqual(migrated.with_suffix(".txt").read_text(encoding="utf-8"), text)
+
+    def test_the_script_of_the_formats_is_migrated_as_they_say(self):
+        script = block_with("docs/FORMATS.md", '"version": 1')
+        migrated = block_with("docs/FORMATS.md", '"version":2}').replace("\n", "")
+        _, _, session = replayed(script.encode(), is_checked=True)
+        self.assertEqual(migrated.encode(), file_of(session, "migrate"))
+
     def test_every_piece_stands_in_the_page_of_pieces(self):
         page = (TOP / "docs" / "EXAMPLES.md").read_text(encoding="utf-8")
         pictures = page + (TOP / "README.md").read_text(encoding="utf-8")
         for path in sorted(EXAMPLES.glob("*.json")):
             self.assertIn(f"](../examples/{path.name})", page)
-            self.assertIn(f"pictures/{path.stem}.svg", pictures)
+            # A piece that was migrated looks as it did before.
+            self.assertIn(f"pictures/{path.stem.removesuffix('_in_seconds')}.svg", pictures)
             self.assertTrue(path.with_suffix(".txt").is_file(), path)
 
 

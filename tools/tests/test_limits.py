@@ -24,6 +24,12 @@ NUMBERS = {
     "frames of a response": 16384,
     "least sample of a response": -33554432,
     "most sample of a response": 33554432,
+    "most instructions of a program": 256,
+    "values on the stack of a program": 32,
+    "cell that is loaded": 15,
+    "most version": 2,
+    "digits of seconds before the point": 10,
+    "digits of seconds behind the point": 9,
     "bytes of an asset": 67108864,
     "channels times length of a context": 67108864,
 }

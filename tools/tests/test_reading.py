@@ -8,6 +8,7 @@ import unittest
 
 import fixtures
 from waplay_tools.expecting import reading, sessions
+from waplay_tools.expecting.writing import script_text
 from waplay_tools.random_scripts.answers import REFUSALS
 from waplay_tools.random_scripts.maker import Maker
 from waplay_tools.reporting import entries, rules, script_reading, transcript_reading, wav_samples
@@ -107,6 +108,30 @@ class Reading(unittest.TestCase):
             data = (form % number).encode()
             self.assertEqual(script_reading.script_of(data).fault, wanted and "1 when " + wanted)
             self.assertEqual(script_reading.script_of(data).fault, fault_of(data))
+
+    def test_times_are_frames_in_either_version(self):
+        times = 0
+        for name in fixtures.SESSIONS:
+            data = fixtures.script_of_case(name)
+            _, _, session = sessions.replayed(data, fixtures.EXAMPLES, is_checked=True)
+            if session is None:
+                continue
+            one = script_reading.script_of(data)
+            two = script_reading.script_of(script_text(session.script))
+            self.assertEqual((one.version(), two.version(), two.fault), (1, 2, None), name)
+            for old, new in zip(one.calls, two.calls, strict=True):
+                fields = [field for field, kind, *_ in entries.fields_of(old.op) if kind != "calls"]
+                times += sum(kind == "time" for _, kind, *_ in entries.fields_of(old.op))
+                self.assertEqual(
+                    [old.field(it) for it in fields], [new.field(it) for it in fields], name
+                )
+        self.assertGreater(times, 20)
+
+    def test_seconds_that_have_a_fault_stay_as_they_are(self):
+        calls = [{"op": "stop", "node": "c", "when": it} for it in ("0.5", "1.", "9999999999", 1)]
+        for faulty in calls[1:]:
+            script = script_reading.script_of(fixtures.script([calls[0], faulty], version=2))
+            self.assertEqual([it.members["when"] for it in script.calls], [24000, faulty["when"]])
 
     def test_no_line_of_another_form_is_read(self):
         for text in (

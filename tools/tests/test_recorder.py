@@ -98,6 +98,12 @@ class CommandLine(unittest.TestCase):
             return command.main(list(arguments)), told.getvalue()
         return 2, told.getvalue()
 
+    def test_the_page_is_told_what_is_asked_for(self) -> None:
+        for words, wanted in ([], False), (["--seconds"], True):
+            asked = command.parser().parse_args(["http://127.0.0.1/", "out", *words])
+            options = command.wishes_of(asked).options()
+            self.assertIn(f'"seconds": {json.dumps(wanted)}', options)
+
     def test_what_is_refused(self) -> None:
         folder = temporary_folder(self)
         write_files(folder, {"a/page.html": "", "file": "", "full/notes.txt": ""})
@@ -216,6 +222,16 @@ class Replays(unittest.TestCase):
     LOOP = ({"op": "createDelay", "as": "d", "delayTime": 0.1},
             {"op": "createGain", "as": "g"},
             {"op": "connect", "from": "d", "to": "g"}, {"op": "connect", "from": "g", "to": "d"})
+
+    def test_times_are_frames_in_either_version(self) -> None:
+        held = [{"op": "resume"}]
+        context = {"channels": 1, "length": 1, "rate": 48000}
+        frames = [{"op": "suspend", "time": 24000, "then": held}, {"op": "stop", "node": "s"}]
+        seconds = [{**frames[0], "time": "0.500000000"}, frames[1]]
+        for version, calls in ((1, frames), (2, seconds)):
+            told = {"version": version, "context": context, "calls": calls}
+            script = replaying.script_in_frames(json.dumps(told))
+            self.assertEqual(script["calls"], frames)
 
     def compared(self, samples: list[int], made: Recorded,
                  transcript: str = "") -> replaying.Replay:

@@ -294,7 +294,17 @@ class Report(unittest.TestCase):
                 "script: 0 context MissingField\n",
                 "The script has no member context",
             ),
-            (b'{"version":2}', "script: 0 version OutOfRange\n", "it has to be 1"),
+            (b'{"version":3}', "script: 0 version OutOfRange\n", "it has to be 1 or 2"),
+            (
+                fixtures.script([{"op": "stop", "node": "c", "when": "1."}], version=2),
+                "script: 1 when WrongKind\n",
+                "a string of seconds",
+            ),
+            (
+                fixtures.script([{"op": "stop", "node": "c", "when": "9999999999"}], version=2),
+                "script: 1 when OutOfRange\n",
+                'It is "9999999999".',
+            ),
         ]:
             paths = fixtures.written(self.folder, "it", data, text)
             page = self.report(paths)

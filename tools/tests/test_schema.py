@@ -9,17 +9,20 @@ counted apart, and are only allowed where nothing else differs:
                    nests deeper than 127
     whole numbers  1.0, 1e2 and -0 are whole to a schema, and not to the reader
     bytes          a path has at most 255 bytes, and a schema counts characters
+    seconds        whether a frame is in range hangs on the rate, of which a schema knows nothing
 """
 
 import collections
 import json
 import os
 import random
+import re
 import unittest
 
 import fixtures
-from waplay_tools.expecting import reading
+from waplay_tools.expecting import programs, reading
 import test_reading
+from waplay_tools.random_scripts.versions import in_version_2
 from waplay_tools.reporting import entries, schema
 
 try:
@@ -39,24 +42,30 @@ VALUES = {
     "calls": [],
     "bool": True,
     "path": "p",
+    "code": ["in"],
     **dict.fromkeys(entries.RANGES, 1),
+    "time2": "1",
 }
 
 
-def some_value(kind):
+TOO_MANY = "9999999999"  # seconds, at any rate of random scripts
+
+
+def some_value(kind, version=1):
     """A value of a kind, which is the first of the words where it is a list of them."""
     kind = kind.replace(" or null", "")
-    return VALUES.get(kind, kind.split()[0])
+    return VALUES.get("time2" if kind == "time" and version == 2 else kind, kind.split()[0])
 
 
 def stricter(value, key=None):
-    """The value with a fraction in place of each number that is whole to a schema alone, and with a
-    path that is too long in place of one of too many bytes."""
+    """The value with a fraction in place of each number that is whole to a schema alone and of
+    seconds that are always too many, and with a path that is too long in place of one of too many
+    bytes."""
     if isinstance(value, dict):
         return {name: stricter(item, name) for name, item in value.items()}
     if isinstance(value, list):
         return [stricter(item) for item in value]
-    if isinstance(value, float):
+    if isinstance(value, float) or value == TOO_MANY:
         return 0.5
     if key == "path" and isinstance(value, str) and len(value.encode()) > 255:
         return "x" * 256
@@ -95,6 +104,7 @@ def random_text(number):
     another way."""
     rng = random.Random("schema %d" % number)
     value = test_reading.random_script(number, number % 2 == 1, 30)
+    value = in_version_2(rng, value) if number % 4 > 1 else value
     if number % 50 == 7 and isinstance(value.get("calls"), list):
         value["calls"] = value["calls"][:5] + [any_call(rng)]
     if number % 20 == 3 and isinstance(value.get("calls"), list):
@@ -120,15 +130,29 @@ class Schema(unittest.TestCase):
 
     def test_every_operation_and_field_has_its_kind_and_default(self):
         definitions = json.loads(self.text)["$defs"]
-        self.assertEqual(definitions["call"]["properties"]["op"]["enum"], list(entries.OPERATIONS))
         self.assertEqual(set(schema.DOES) | set(entries.LEFT_OUT), set(entries.OPERATIONS))
-        for op, fields in entries.OPERATIONS.items():
-            found = definitions[op]["properties"]
-            self.assertEqual(list(found), ["op"] + [name for name, *_ in fields])
+        for call in ("call", "call2"):
             self.assertEqual(
-                {name: it["default"] for name, it in found.items() if "default" in it},
-                {name: default[0] for name, _, *default in fields if default},
+                definitions[call]["properties"]["op"]["enum"], list(entries.OPERATIONS)
             )
+        for op, fields in entries.OPERATIONS.items():
+            defaults = {name: default[0] for name, _, *default in fields if default}
+            times = {name for name, kind, *_ in fields if kind == "time"}
+            self.look_at(definitions[op]["properties"], fields, defaults)
+            if op + "2" in definitions:
+                seconds = {
+                    name: "0" if name in times and it == 0 else it for name, it in defaults.items()
+                }
+                self.look_at(definitions[op + "2"]["properties"], fields, seconds)
+            else:
+                self.assertFalse(times, op)
+
+    def look_at(self, found, fields, defaults):
+        """Looks whether the properties of an operation are its fields, with these defaults."""
+        self.assertEqual(list(found), ["op"] + [name for name, *_ in fields])
+        self.assertEqual(
+            {name: it["default"] for name, it in found.items() if "default" in it}, defaults
+        )
 
     @unittest.skipUnless(jsonschema, "the module jsonschema is not installed")
     def test_the_schema_is_one(self):
@@ -163,7 +187,6 @@ class Schema(unittest.TestCase):
 
     @unittest.skipUnless(jsonschema, "the module jsonschema is not installed")
     def test_each_field_by_itself(self):
-        validator = jsonschema.Draft202012Validator(json.loads(self.text))
         values = [
             None,
             True,
@@ -195,6 +218,17 @@ class Schema(unittest.TestCase):
             "speakers",
             "none",
             "a\n",
+            "0",
+            "-1.000000000",
+            "1.0000000000",
+            "12345678901",
+            "1\n",
+            "1.",
+            ".5",
+            "-",
+            "+1",
+            "1e3",
+            "\u0661",
             [],
             [1],
             [2**31],
@@ -202,28 +236,81 @@ class Schema(unittest.TestCase):
             [None],
             [{}],
             {},
+            ["in"],
+            ["in", "drop", "push 5"],
+            ["in", 5],
+            ["push 2147483648"],
             [{"op": "resume"}],
             [{"op": "x"}],
         ]
-        compared = 0
-        for op, fields in reading.OPERATIONS.items():
-            whole = {
-                "op": op,
-                **{name: some_value(kind) for name, kind, *default in fields if not default},
-            }
-            for name in [name for name, *_ in fields] + ["op", "other"]:
-                for value in [*values, "absent"]:
-                    call = {**whole, name: value}
-                    if value == "absent":
-                        del call[name]
-                    data = fixtures.script([call])
-                    self.assertEqual(
-                        validator.is_valid(json.loads(data)),
-                        test_reading.fault_of(data) is None,
-                        call,
-                    )
-                    compared += 1
-        self.assertGreater(compared, 2000)
+        compared = sum(
+            self.compare_fields(op, version, values)
+            for op in reading.OPERATIONS
+            for version in reading.VERSIONS
+        )
+        self.assertGreater(compared, 4000)
+
+    def compare_fields(self, op, version, values):
+        """Holds each field of an operation with these values against the reader; how many."""
+        validator = jsonschema.Draft202012Validator(json.loads(self.text))
+        fields = entries.fields_of(op)
+        whole = {
+            "op": op,
+            **{name: some_value(kind, version) for name, kind, *default in fields if not default},
+        }
+        calls = []
+        for name in [name for name, *_ in fields] + ["op", "other"]:
+            calls += [{**whole, name: value} for value in values]
+            calls.append({field: value for field, value in whole.items() if field != name})
+        for call in calls:
+            data = fixtures.script([call], rate=8000, version=version)
+            self.assertEqual(
+                validator.is_valid(json.loads(data)), test_reading.fault_of(data) is None, data
+            )
+        return len(calls)
+
+    @unittest.skipUnless(jsonschema, "the module jsonschema is not installed")
+    def test_the_version_chooses_what_a_time_is(self):
+        validator = jsonschema.Draft202012Validator(json.loads(self.text))
+        for version, time, is_good in [
+            (1, 128, True),
+            (1, "128", False),
+            (2, "128", True),
+            (2, 128, False),
+            (3, 128, False),
+            (3, "128", False),
+            ("2", "128", False),
+        ]:
+            inner = {"op": "suspend", "time": time}
+            for call in (inner, {"op": "startRendering", "then": [inner]}):
+                data = fixtures.script([call], rate=8000, version=version)
+                self.assertEqual(validator.is_valid(json.loads(data)), is_good, data)
+                self.assertEqual(test_reading.fault_of(data) is None, is_good, data)
+        out_of_range = fixtures.script(
+            [{"op": "suspend", "time": "137438953.473"}], rate=8000, version=2
+        )
+        self.assertTrue(validator.is_valid(json.loads(out_of_range)))
+        self.assertEqual(test_reading.fault_of(out_of_range), "1 time OutOfRange")
+
+    def test_the_pattern_of_instructions(self):
+        rng, counts = random.Random("instructions"), collections.Counter()
+        ends = [0, 1, 9, 10, 2**31 - 1, 2**31, 2**31 + 1, 2147480000, 2**32, 10**10, 10**30]
+        for _ in range(12000):
+            word = rng.choice([*programs.STACK, "pus", "skipzz", ""])
+            number = rng.choice([*ends, rng.randint(0, 2**32), 10 ** rng.randint(0, 11)])
+            digits = "".join(
+                rng.choice("0123456789") if rng.random() < 0.1 else it for it in str(number)
+            )
+            space = rng.choice([" "] * 8 + ["", "  ", "\t", " +"])
+            sign = rng.choice(["", "", "-", "-", "--"])
+            number = f"{space}{sign}{rng.choice(['', '', '0', '000'])}{digits}"
+            text = word + (number if rng.random() < 0.7 else "")
+            text += rng.choice([""] * 9 + [" ", "\n"])
+            pattern = re.search(entries.INSTRUCTION, text) and not re.search("[^a-z0-9 -]", text)
+            cause = programs.cause_of(text)
+            self.assertEqual(bool(pattern), cause is None, text)
+            counts[cause] += 1
+        self.assertGreater(min(counts[it] for it in (None, "WrongKind", "OutOfRange")), 200)
 
     @unittest.skipUnless(jsonschema, "the module jsonschema is not installed")
     def test_the_forms_of_disconnect(self):

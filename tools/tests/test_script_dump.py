@@ -7,7 +7,7 @@ from pathlib import Path
 from typing import Any
 
 import fixtures
-from waplay_tools.expecting import reading
+from waplay_tools.expecting import reading, writing
 
 DUMP = Path(fixtures.TOP) / "crates" / "script_dump"
 
@@ -27,8 +27,13 @@ def op_text(call: dict[str, Any]) -> str:
     if op in reading.LEFT_OUT:
         return f"left out {reading.LEFT_OUT[op]}"
     fields = [field for field in reading.OPERATIONS[op] if field != reading.HELD]
-    values = [call.get(name, *default) for name, _, *default in fields]
-    return " ".join([op, *map(value_text, values)])
+    values = [
+        f"[{', '.join(writing.instructions(call[name]))}]"
+        if kind == "code"
+        else value_text(call.get(name, *default))
+        for name, kind, *default in fields
+    ]
+    return " ".join([op, *values])
 
 
 def lines_of(numbered: list[Any], holder: int) -> Iterator[str]:
@@ -45,7 +50,8 @@ def reading_text(data: bytes) -> str:
     except reading.Fault as fault:
         return str(fault)
     if not script["calls"]:
-        return "context {channels} {length} {rate}".format(**script["context"])
+        context = {"renderQuantum": 128, **script["context"]}
+        return "context {channels} {length} {rate} {renderQuantum}".format(**context)
     return ", ".join(lines_of(reading.numbered(script["calls"], 1)[0], 0))
 
 

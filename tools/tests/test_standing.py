@@ -9,6 +9,7 @@ from waplay_tools.standing import Answer, changed_in, files_in, wrong_after
 
 RENDERED = Answer(0, b"1 ok\nend completed\n", b"RIFF and so on")
 IDLE = Answer(3, b"end idle\n", None)
+MIGRATED = Answer(3, b"end idle\n", b'{"calls":[]}')
 BEFORE = b"before"
 
 
@@ -27,6 +28,8 @@ class Standing(unittest.TestCase):
             (9, whole, (None, RENDERED.file), RENDERED),
             (10, b"1", before, RENDERED),
             (10, whole, (BEFORE, b"RIFF"), RENDERED),
+            (3, MIGRATED.text, (BEFORE, MIGRATED.file), MIGRATED),
+            (9, MIGRATED.text, (BEFORE, b"{"), MIGRATED),
             (-9, b"1 ok", before, RENDERED),
             (-9, whole, (BEFORE, b"RI"), RENDERED),
         ]:
@@ -40,6 +43,8 @@ class Standing(unittest.TestCase):
             (0, whole, before, RENDERED),
             (0, whole[:-1], (BEFORE, RENDERED.file), RENDERED),
             (3, IDLE.text, (BEFORE, b""), IDLE),
+            (3, MIGRATED.text, before, MIGRATED),
+            (3, MIGRATED.text, (BEFORE, b"{"), MIGRATED),
             (6, b"1", before, RENDERED),
             (7, b"", (BEFORE, b""), RENDERED),
             (8, whole, before, RENDERED),

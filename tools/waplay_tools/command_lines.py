@@ -1,17 +1,18 @@
 """A second reading of the program's command lines, and random lines to compare it with the program.
 
 A line has a reading where it is UTF-8, gives each option at most once and with a good text, and has
-one word more, OUT. The options are --bits 16|24, --order up|down, --mode render|check and --gen N,
-where N is 1 to 4 decimal digits. The text of an option is the rest of its word after a `=`, or else
-the next word, whatever it is. The word `--` ends the options. OUT is not empty and not `-`.
+one word more, OUT. The options are --bits 16|24, --order up|down, --mode render|check|migrate and
+--gen N, where N is 1 to 4 decimal digits. The text of an option is the rest of its word after a
+`=`, or else the next word, whatever it is. The word `--` ends the options. OUT is not empty and not
+`-`.
 
 The program is run in a folder of its own, in which a file out.wav stands, over an input that is no
 script, or one that starts no rendering, or one of one frame. Compared are the status, the text, the
 folder's files to the byte, that nothing is printed on standard error, and how much was read of
 standard input: all of it where the line has a reading without a number, and else nothing. With a
 number the text is the summary of a load (tools/load-script), and the file is the one that the
-program writes for that load's script. What the greatest value and the sum are is looked at by
-tools/generated, and not here.
+program writes for that load's script, or in mode migrate that script in version 2. What the
+greatest value and the sum are is looked at by tools/generated, and not here.
 
 It prints a line for each difference, then how often each answer came up, and last how many lines
 differ. The status is 0 where none does and each answer came up.
@@ -30,11 +31,16 @@ from collections.abc import Mapping
 from typing import Any, NamedTuple
 
 from waplay_tools import load_script
+from waplay_tools.expecting.writing import script_text
 
-USAGE = b"words: waplay [--bits 16|24] [--order up|down] [--mode render|check] [--gen N] OUT\n"
+USAGE = (
+    b"words: waplay [--bits 16|24] [--order up|down] [--mode render|check|migrate] [--gen N] OUT\n"
+)
 READ = "reading"
 CHECKED = "reading with a number, in mode check"
 RENDERED = "reading with a number, in mode render"
+MIGRATED = "reading with a number, in mode migrate"
+BY_MODE = {"render": RENDERED, "check": CHECKED, "migrate": MIGRATED}
 
 
 # The reading.
@@ -55,7 +61,7 @@ class Reading(NamedTuple):
 TEXTS: dict[str, dict[str, int | str]] = {
     "bits": {"16": 16, "24": 24},
     "order": {"up": "up", "down": "down"},
-    "mode": {"render": "render", "check": "check"},
+    "mode": {"render": "render", "check": "check", "migrate": "migrate"},
 }
 OPTIONS = [*TEXTS, "gen"]
 
@@ -139,14 +145,14 @@ def answer(words: list[bytes]) -> str:
         asked = reading(words)
     except NoReading as reason:
         return str(reason)
-    return READ if asked.generated is None else CHECKED if asked.mode == "check" else RENDERED
+    return READ if asked.generated is None else BY_MODE[asked.mode]
 
 
 # The lines. No word has a slash, a full stop in front, or more bytes than a file's name may have:
 # OUT may be written.
 
 
-GOOD = {"bits": ["16", "24"], "order": ["up", "down"], "mode": ["render", "check"]}
+GOOD = {"bits": ["16", "24"], "order": ["up", "down"], "mode": ["render", "check", "migrate"]}
 OUTS = [
     "out.wav",
     "out.wav",
@@ -190,7 +196,7 @@ TEXTS_NEARBY = [
     "Up",
     "UP",
     "sideways",
-    "migrate",
+    "migration",
     "check ",
     "=16",
     "=",
@@ -300,8 +306,8 @@ def option_words(rng: random.Random, name: str, text: str) -> list[str]:
 
 
 def uses(rng: random.Random) -> list[list[str]]:
-    """Uses of options. With a number the mode is mostly check, since rendering a load takes its
-    time."""
+    """Uses of options. With a number the mode is mostly not render, since rendering a load takes
+    its time."""
     names = [name for name in OPTIONS if rng.random() < 0.35]
     if rng.random() < 0.08:
         names.append(rng.choice(names or OPTIONS))
@@ -314,7 +320,7 @@ def uses(rng: random.Random) -> list[list[str]]:
             rng,
             name,
             (
-                "check"
+                rng.choice(["check", "check", "migrate"])
                 if is_checked and name == "mode" and rng.random() < 0.9
                 else text_for(rng, name)
             ),
@@ -379,16 +385,24 @@ def input_of(calls: list[dict[str, Any]]) -> bytes:
 
 class Input(NamedTuple):
     """An input, and where a line reads it, the status, the text, and whether a file is written: one
-    sample, 1.0."""
+    sample, 1.0. In mode migrate the file is the script in version 2, where it has no fault."""
 
     data: bytes
     status: int
     text: bytes
     is_rendered: bool
+    migrated: bytes | None = None
 
 
 INPUTS = [
-    Input(input_of([]), 3, b"end idle\n", False),
+    Input(
+        input_of([]),
+        3,
+        b"end idle\n",
+        False,
+        b'{"calls":[],'
+        b'"context":{"channels":1,"length":1,"rate":48000,"renderQuantum":128},"version":2}',
+    ),
     Input(input_of([{"op": "start"}]), 4, b"script: 1 node MissingField\n", False),
     Input(b"\xff", 4, b"script: BadJson\n", False),
     Input(json.dumps(load_script.script(0)).encode()[:-1], 4, b"script: BadJson\n", False),
@@ -404,6 +418,11 @@ INPUTS = [
         0,
         b"1 ok\n2 ok\n3 ok\n4 pending\n4 resolved\ncomplete 1\nend completed\n",
         True,
+        b'{"calls":[{"as":"c","offset":16777216,"op":"createConstantSource"},'
+        b'{"from":"c","input":0,"op":"connect","output":0,"to":"destination"},'
+        b'{"duration":null,"node":"c","offset":"0.000000000","op":"start","when":"0.000000000"},'
+        b'{"op":"startRendering"}],'
+        b'"context":{"channels":1,"length":1,"rate":48000,"renderQuantum":128},"version":2}',
     ),
 ]
 ONE_SAMPLE = {
@@ -465,19 +484,29 @@ def load_file(program: str, number: int, bits: int, folder: str) -> bytes | None
     return files_in(folder).get(b"load.wav")
 
 
+def file_of_input(input: Input, asked: Reading) -> bytes | None:
+    """What an input leaves in OUT, if anything."""
+    if asked.mode == "migrate":
+        return input.migrated
+    return ONE_SAMPLE[asked.bits] if input.is_rendered and asked.mode == "render" else None
+
+
 def wanted_of(program: str, words: list[bytes], input: Input, folder: str) -> Wanted:
     """What a run on these words and this input is to give."""
     try:
         asked = reading(words)
     except NoReading:
         return Wanted(2, re.escape(USAGE), BEFORE, 0)
-    out, is_checked = asked.out.encode(), asked.mode == "check"
+    out = asked.out.encode()
     if asked.generated is None:
-        is_written = input.is_rendered and not is_checked
-        files = {**BEFORE, out: ONE_SAMPLE[asked.bits]} if is_written else BEFORE
+        file = file_of_input(input, asked)
+        files = BEFORE if file is None else {**BEFORE, out: file}
         return Wanted(input.status, re.escape(input.text), files, len(input.data))
-    if is_checked:
+    if asked.mode == "check":
         return Wanted(0, SUMMARY + LAST, BEFORE, 0)
+    if asked.mode == "migrate":
+        migrated = script_text(load_script.script(asked.generated))
+        return Wanted(0, SUMMARY + LAST, {**BEFORE, out: migrated}, 0)
     written = load_file(program, asked.generated, asked.bits, folder)
     return Wanted(0, SUMMARY_OF_SAMPLES + LAST, {**BEFORE, out: written}, 0)
 
@@ -514,7 +543,7 @@ def compare(program: str, seed: int, count: int, folder: str) -> int:
         if found:
             wrong += 1
             print(f"line {number}: {', '.join(found)}: {words!r}", flush=True)
-    answers = [READ, CHECKED, RENDERED, *REASONS]
+    answers = [READ, *BY_MODE.values(), *REASONS]
     for name in answers:
         print(f"{name}: {times[name]}")
     print(f"{wrong} of {count} lines differ")

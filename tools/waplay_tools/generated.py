@@ -1,13 +1,14 @@
 """Compares what waplay gives for a number, with --gen, with the load of that number
 (tools/load-script).
 
-Of each number the program is run with both orders and both widths of samples, in both modes, and so
+Of each number the program is run with both orders and both widths of samples, in each mode, and so
 is the load's script, as standard input. The summary has to have the counts that tools/expected.py
 works out, and those of the script's transcript. The file has to be the script's to the byte,
-whatever the order, and there is none in mode check. The greatest value and the sum have to be such
-that their values can have the file's samples. Of a number that is looked at whole they, and each
-byte of both files, have to be those that tools/expected.py works out, which takes some minutes.
-Standard input has a fault, of which nothing is read.
+whatever the order, and there is none in mode check; in mode migrate it is the script in version 2.
+The greatest value and the sum have to be such that their values can have the file's samples. Of a
+number that is looked at whole they, and each byte of both files, have to be those that
+tools/expected.py works out, which takes some minutes. Standard input has a fault, of which nothing
+is read.
 
 It prints a line for each difference, and last how many numbers were compared, how many of them
 whole, and how many differ. The status is 0 where none does.
@@ -26,6 +27,7 @@ import tempfile
 
 from waplay_tools import load_script
 from waplay_tools.expecting.sessions import replayed, summary_of, wav_bytes
+from waplay_tools.expecting.writing import script_text
 
 FAULTY = b'{"version":1,"context":{"channels":1,"length":1,"rate":48000},"calls":[{"op":"start"}]}'
 SUMMARY = re.compile(
@@ -33,7 +35,7 @@ SUMMARY = re.compile(
     rb" completed\n"
 )
 BEFORE = b"before\n"
-WIDTHS, ORDERS, MODES = (24, 16), ("up", "down"), ("render", "check")
+WIDTHS, ORDERS, MODES = (24, 16), ("up", "down"), ("render", "check", "migrate")
 
 
 class Run:
@@ -128,9 +130,10 @@ class Comparison:
             words, ran = self.generated(bits, order, mode)
             found = SUMMARY.fullmatch(ran.text)
             self.look(found and found[1] == counts, words, f"the text {ran.text[:100]!r}")
-            if mode == "check":
-                self.look(found and found[2] is None, words, "a greatest value in mode check")
-                self.look(ran.file == BEFORE, words, "a file in mode check")
+            if mode != "render":
+                self.look(found and found[2] is None, words, f"a greatest value in mode {mode}")
+                wanted = BEFORE if mode == "check" else script_text(session.script)
+                self.look(ran.file == wanted, words, f"another file in mode {mode}")
                 continue
             texts.add(ran.text)
             self.look(ran.file == scripts[bits].file, words, "another file than that of the script")

@@ -4,7 +4,7 @@ import dataclasses
 import os
 from pathlib import Path
 
-RENDERED, TRANSCRIPT_FAULT, WAV_FAULT, NO_MEMORY = 0, 8, 9, 10
+TRANSCRIPT_FAULT, WAV_FAULT, NO_MEMORY = 8, 9, 10
 UNWRITTEN = {5: "ScriptTooLong", 6: "ScriptFault", 7: "AssetFault"}  # they write nothing
 STATUSES = (0, 2, 3, 4, 5, 6, 7, 8, 9, 10)
 
@@ -68,7 +68,7 @@ def _file_faults(
     status: int, is_whole: bool, answer: Answer, before: bytes | None, after: bytes | None
 ) -> list[str]:
     """What is wrong with what stands at OUT after this status, where the text is whole or not."""
-    if status == RENDERED and answer.file is not None:
+    if status == answer.status and answer.file is not None:
         return [] if after == answer.file else ["the file is not what it has to be"]
     if after == before:
         return []

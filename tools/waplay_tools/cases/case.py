@@ -39,6 +39,7 @@ class Case:
     samples_at: dict[str, list[int]] | None = None
     frames: int | None = None
     wav_sha256: str | None = None
+    migrated: str | list[str] | None = None
     left: dict[str, Any] = dataclasses.field(default_factory=dict)
     only_program: str | None = None
     is_example: bool = False  # the file is that of the second calculation
@@ -79,9 +80,13 @@ class Case:
             for length in range(len(whole))
         ]
 
-    def is_rendered(self) -> bool:
-        """Whether the run must leave a WAV file."""
-        told = (self.samples, self.samples_at, self.wav_sha256)
+    def migrated_bytes(self) -> bytes | None:
+        """The script that OUT must be; None where the case does not tell it."""
+        return None if self.migrated is None else "".join(self.migrated).encode()
+
+    def leaves_a_file(self) -> bool:
+        """Whether the run must leave a WAV file, or a script in mode `migrate`."""
+        told = (self.samples, self.samples_at, self.wav_sha256, self.migrated)
         return self.is_example or any(it is not None for it in told)
 
 

@@ -25,6 +25,11 @@ def changed(case: Case) -> Iterator[tuple[str, Case]]:
         row = [sample ^ 1 for sample in case.samples_at[frame]]
         yield "a sample", dataclasses.replace(case, samples_at={**case.samples_at, frame: row})
         yield "the frames", dataclasses.replace(case, frames=(case.frames or 0) + 1)
+    if case.migrated is not None:
+        text = "".join(case.migrated)
+        place = len(text) // 2
+        other = text[:place] + ("0" if text[place] == "1" else "1") + text[place + 1 :]
+        yield "a byte of the script", dataclasses.replace(case, migrated=other)
     if case.wav_sha256:
         digest = ("1" if case.wav_sha256[0] == "0" else "0") + case.wav_sha256[1:]
         yield "the digest", dataclasses.replace(case, wav_sha256=digest)

@@ -3,6 +3,7 @@
 import hashlib
 import itertools
 import json
+import os
 
 from waplay_tools import wav
 from waplay_tools.cases.case import Case
@@ -22,7 +23,7 @@ def differences(case: Case, found: Outcome, second: Outcome | None) -> list[str]
     if second is not None and second is not found and case.samples is None:
         told += [
             f"{line} (wanted by the second calculation)"
-            for line in _of_bytes(second.wav, found.wav)
+            for line in _of_bytes(second.file, found.file)
         ]
     return told + found.faults
 
@@ -49,16 +50,20 @@ def _quoted(line: str | None) -> str:
 
 
 def _of_file(case: Case, found: Outcome) -> list[str]:
+    if case.migrated is not None:
+        return _of_scripts(case.migrated_bytes(), found.file)
     if case.samples is not None:
-        return _of_bytes(wanted_file(case), found.wav)
+        return _of_bytes(wanted_file(case), found.file)
     if case.samples_at is not None:
-        return _of_frames(case, found.wav)
+        return _of_frames(case, found.file)
+    if not case.leaves_a_file() and found.file is not None:
+        return [f"OUT: wanted no file, found {_present(found.file)}"]
     if case.wav_sha256 is not None:
-        digest = hashlib.sha256(found.wav).hexdigest() if found.wav is not None else "no file"
+        digest = hashlib.sha256(found.file).hexdigest() if found.file is not None else "no file"
         return (
             []
             if digest == case.wav_sha256
-            else [f"digest of the WAV file: wanted {case.wav_sha256}, found {digest}"]
+            else [f"digest of the file: wanted {case.wav_sha256}, found {digest}"]
         )
     return []
 
@@ -77,9 +82,22 @@ def wanted_file(case: Case) -> bytes:
     return wav.wav_bytes(wav.Form(len(channels), form.rate, form.bits), channels)
 
 
+def _of_scripts(wanted: bytes | None, found: bytes | None) -> list[str]:
+    """Where two scripts part, with what stands there."""
+    if wanted == found:
+        return []
+    if wanted is None or found is None:
+        return [f"OUT: wanted {_present(wanted)}, found {_present(found)}"]
+    place = len(os.path.commonprefix([wanted, found]))
+    ends = [_quoted(it[place : place + 40].decode(errors="replace")) for it in (wanted, found)]
+    return [f"OUT from byte {place} on: wanted {ends[0]}, found {ends[1]}"]
+
+
 def _of_bytes(wanted: bytes | None, found: bytes | None) -> list[str]:
     if wanted == found:
         return []
+    if wanted is not None and wanted[:1] == b"{":
+        return _of_scripts(wanted, found)
     if wanted is None or found is None:
         return [f"WAV file: wanted {_present(wanted)}, found {_present(found)}"]
     one, other = wav.form_of(wanted), wav.form_of(found)

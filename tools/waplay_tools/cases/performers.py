@@ -4,8 +4,7 @@ import dataclasses
 import os
 from pathlib import Path
 
-from waplay_tools.expecting.sessions import replayed
-from waplay_tools.expecting.sessions import wav_bytes as expected_wav
+from waplay_tools.expecting.sessions import file_of, replayed
 from waplay_tools.cases.case import Case
 from waplay_tools.cases.folder import changes_in, write_files
 from waplay_tools.cases.words import words_of
@@ -14,11 +13,12 @@ from waplay_tools.running import SECONDS, Terms, run
 
 @dataclasses.dataclass
 class Outcome:
-    """What a run gave: its status, its text, the WAV file if any, and what else is wrong."""
+    """What a run gave: its status, its text, what it wrote to OUT if anything, and what else is
+    wrong."""
 
     status: int
     text: bytes
-    wav: bytes | None
+    file: bytes | None
     faults: list[str] = dataclasses.field(default_factory=list)
 
 
@@ -31,7 +31,7 @@ def perform(program: Path, case: Case, folder: Path) -> Outcome:
     if done.is_late:
         return Outcome(-1, b"", None, [f"it did not end within {SECONDS:.0f} seconds"])
     asked = words_of(case.words)
-    out = asked.out if asked and case.is_rendered() else None
+    out = asked.out if asked and case.leaves_a_file() else None
     faults = changes_in(folder, case.files, case.left, out)
     if done.errors:
         faults.append(f"standard error: {done.errors[:200].decode(errors='replace')!r}")
@@ -46,8 +46,7 @@ def calculate(case: Case, folder: Path) -> Outcome:
     asked = words_of(case.words)
     if asked is None or asked.is_generated:
         raise ValueError(f"{case.path}: the second calculation has no such words")
-    is_checked = asked.mode == "check"
+    is_checked = asked.mode != "render"
     status, text, session = replayed(case.input_bytes() or b"", str(folder), is_checked)
-    is_rendered = status == 0 and not is_checked
-    file = expected_wav(session, asked.bits) if session and is_rendered else None
+    file = file_of(session, asked.mode, asked.bits) if session else None
     return Outcome(status, text.encode(), file)

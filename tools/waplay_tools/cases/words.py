@@ -2,7 +2,12 @@
 
 import dataclasses
 
-_VALUES = {"bits": ("16", "24"), "order": ("up", "down"), "mode": ("render", "check"), "gen": None}
+_VALUES = {
+    "bits": ("16", "24"),
+    "order": ("up", "down"),
+    "mode": ("render", "check", "migrate"),
+    "gen": None,
+}
 
 
 @dataclasses.dataclass

@@ -4,6 +4,9 @@ It follows the rules of docs/PROFILE.md and docs/FORMATS.md in the plainest way,
 can be compared with those of the program. It needs Python 3 and nothing else. Assets are the files
 of the folder that it runs in, as they are for the program.
 
+A session in mode migrate is run as one that is only checked, and its file is the script itself, in
+version 2.
+
 A summary is a line with numbers, and the transcript's last line: how many calls were run, quanta
 rendered, sources ended and calls refused, and of all rendered values, in units of 2^-24, the
 greatest one without its sign and the sum. A session that is only checked has neither of the last
@@ -26,7 +29,7 @@ import os
 import sys
 from pathlib import Path
 
-from waplay_tools.expecting.sessions import replayed, samples_of, summary_of, wav_bytes
+from waplay_tools.expecting.sessions import Session, file_of, replayed, samples_of, summary_of
 
 
 def arguments() -> argparse.Namespace:
@@ -41,9 +44,9 @@ def arguments() -> argparse.Namespace:
     words.add_argument("--summary", action="store_true", help="print a summary in its place")
     words.add_argument(
         "--mode",
-        choices=["render", "check"],
+        choices=["render", "check", "migrate"],
         default="render",
-        help="check: run the session without samples",
+        help="check: run the session without samples; migrate: then write the script of version 2",
     )
     words.add_argument(
         "--bits",
@@ -52,44 +55,53 @@ def arguments() -> argparse.Namespace:
         default=24,
         help="the bits of a sample in sums and files, 24 by default",
     )
-    words.add_argument("--wav", type=Path, metavar="OUT", help="write the WAV file")
-    words.add_argument("--check", type=Path, metavar="WAV", help="compare this file with it")
+    words.add_argument(
+        "--wav",
+        "--out",
+        type=Path,
+        metavar="OUT",
+        help="write the WAV file, or the script in mode migrate",
+    )
+    words.add_argument("--check", type=Path, metavar="OUT", help="compare this file with it")
     asked = words.parse_args()
     if asked.mode == "check" and (asked.check or asked.wav):
         words.error("a session that is only checked has no file")
     return asked
 
 
-def differs(path: Path, wav: bytes) -> bool:
+def differs(path: Path, file: bytes) -> bool:
     """Whether a file is another than this one. What differs is printed."""
     found = path.read_bytes()
-    place = len(os.path.commonprefix([found, wav]))
-    if found != wav:
-        sizes = f"{len(found)} bytes, expected {len(wav)}"
+    place = len(os.path.commonprefix([found, file]))
+    if found != file:
+        sizes = f"{len(found)} bytes, expected {len(file)}"
         print(f"{path}: {sizes}; the first difference is at byte {place}")
-    return found != wav
+    return found != file
+
+
+def tell_sums(session: Session, file: bytes, bits: int) -> None:
+    """Prints of each channel the sum of its samples, and the digest of the WAV file."""
+    for channel, samples in enumerate(zip(*samples_of(session.values or [], bits))):
+        print(f"channel {channel} sum {sum(samples)}")
+    print(f"wav sha256 {hashlib.sha256(file).hexdigest()}")
 
 
 def main() -> int:
     """Works a script out, and prints what is asked for."""
     asked = arguments()
-    is_checked = asked.mode == "check"
-    status, text, session = replayed(asked.script.read_bytes(), is_checked=is_checked)
+    data, is_rendered = asked.script.read_bytes(), asked.mode == "render"
+    status, text, session = replayed(data, is_checked=not is_rendered)
     if asked.summary and session:
-        print(summary_of(session), text.splitlines()[-1], sep="\n")
-        return 0
-    is_written = status == 0 and not is_checked
-    wav = wav_bytes(session, asked.bits) if session and is_written else b""
+        print(summary_of(session), session.last, sep="\n")
+    file = file_of(session, asked.mode, asked.bits) if session else None
     if asked.check:
-        return 1 if differs(asked.check, wav) else 0
-    print(text, end="")
-    if asked.wav and wav:
-        asked.wav.write_bytes(wav)
-    elif not asked.lines and wav and session:
-        values = session.values or []
-        for channel, samples in enumerate(zip(*samples_of(values, asked.bits))):
-            print(f"channel {channel} sum {sum(samples)}")
-        print(f"wav sha256 {hashlib.sha256(wav).hexdigest()}")
+        return 1 if differs(asked.check, file or b"") else 0
+    if not asked.summary or not session:
+        print(text, end="")
+    if asked.wav and file:
+        asked.wav.write_bytes(file)
+    elif is_rendered and session and file and not (asked.lines or asked.summary):
+        tell_sums(session, file, asked.bits)
     return 0
 
 

@@ -1,5 +1,5 @@
-"""Nodes that are made of what their input was up to a frame: wave shapers, IIR filters and
-convolvers."""
+"""Nodes that are made of what their input was up to a frame: wave shapers, IIR filters, convolvers
+and processors."""
 
 import itertools
 import operator
@@ -16,6 +16,7 @@ from waplay_tools.expecting.numbers import (
     rounded_quotient,
     saturated,
 )
+from waplay_tools.expecting.programs import AT_BIRTH, Cells, code_of, wrong_of, written
 from waplay_tools.expecting.reading import Call
 from waplay_tools.expecting.refusals import Refused, profile
 
@@ -183,3 +184,31 @@ def response_of(buffer: Buffer, rate: int) -> list[int]:
     if max(samples) > LOUDEST or min(samples) < -LOUDEST:
         raise profile("loud-response")
     return samples
+
+
+class Processor(Causal[Cells]):
+    """A processor. Of each channel it keeps the cells. A program may change them where it hears 0,
+    so those of the channels that it has not heard yet go on with each quantum, until a quantum of
+    silence leaves them as they were."""
+
+    def __init__(self, call: Call) -> None:
+        super().__init__("processor", call["as"])
+        self.unheard, self.is_at_rest = AT_BIRTH, False
+        if wrong_of(call["code"]):
+            raise profile("program")
+        self.code = code_of(call["code"])
+        self.run = written(self.code)
+
+    def passed(self, block: Block, history: Cells) -> tuple[Block, Cells]:
+        """What it gives of a channel, frame after frame."""
+        cells = list(history)
+        outputs = self.run(cells, block)
+        return outputs, tuple(cells)
+
+    def filtered(self, blocks: Blocks) -> Blocks:
+        """The same as of any such node."""
+        given = super().filtered(blocks)
+        if not self.is_at_rest:
+            before, self.unheard = self.unheard, self.passed(SILENCE, self.unheard)[1]
+            self.is_at_rest = self.unheard == before
+        return given

@@ -24,6 +24,7 @@ FIXED: dict[str, tuple[str, ...]] = {
     "shaper": (),
     "filter": (),
     "convolver": (),
+    "processor": (),
 }
 
 # How many channels the channelCount of each kind of node may ask for that is not free to have 32.

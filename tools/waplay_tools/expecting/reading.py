@@ -5,7 +5,8 @@ import re
 from collections.abc import Callable, Mapping
 from typing import Any, NoReturn
 
-from waplay_tools.expecting.numbers import ONE
+from waplay_tools.expecting.numbers import ONE, QUANTUM, rounded_quotient
+from waplay_tools.expecting.programs import cause_of
 
 Call = dict[str, Any]  # a call of a script, by its fields
 NumberedCall = tuple[int, Call, list[Any]]  # its ordinal, itself, and the numbered calls it holds
@@ -48,6 +49,7 @@ OPERATIONS: dict[str, list[Field]] = {
         ("buffer", "name", None),
         ("disableNormalization", "bool", False),
     ],
+    "createProcessor": [("as", "new name"), ("code", "code")],
     "createBufferSource": [
         ("as", "new name"),
         ("buffer", "name", None),
@@ -119,6 +121,14 @@ OPERATIONS: dict[str, list[Field]] = {
 # Those that are left out are read too; none of their fields is.
 READ: dict[str, list[Field]] = OPERATIONS | {op: [] for op in LEFT_OUT}
 
+# The fields of the context.
+CONTEXT: list[Field] = [
+    ("channels", "count"),
+    ("length", "count"),
+    ("rate", "count"),
+    ("renderQuantum", "count", QUANTUM),
+]
+
 # The ranges of the kinds that are whole numbers.
 RANGES = {
     "fix": (-(2**31), 2**31 - 1),
@@ -126,6 +136,11 @@ RANGES = {
     "count": (0, 2**32 - 1),
 }
 
+
+VERSIONS = (1, 2)
+
+# A time in version 2: seconds.
+SECONDS = re.compile(r"(-?[0-9]{1,10})(?:\.([0-9]{1,9}))?")
 
 MOST_NESTED = 127  # arrays and objects, one in another
 TOO_DEEP = f"arrays and objects nest deeper than {MOST_NESTED}"
@@ -193,9 +208,21 @@ def json_of(data: bytes, number: Callable[[str], Any] = float) -> Any:
         raise ValueError(TOO_DEEP) from None
 
 
-def cause(value: Any, kind: str) -> str | None:
+def frame_of(value: Any, rate: int) -> int | None:
+    """The frame that seconds in text are at a rate, a half going up; None where the value is no
+    such text."""
+    told = SECONDS.fullmatch(value) if isinstance(value, str) else None
+    if told is None:
+        return None
+    before, behind = told[1], told[2] or ""
+    return rounded_quotient(int(before + behind) * rate, 10 ** len(behind))
+
+
+def cause(value: Any, kind: str, rate: int | None = None) -> str | None:
     """What is wrong with a value that is to be of the kind, if anything is. A kind that is none of
-    the others is a list of words."""
+    the others is a list of words. With a rate, times are seconds in text."""
+    if kind == "time" and rate is not None:
+        value = frame_of(value, rate)
     if kind in RANGES:
         low, high = RANGES[kind]
         return (
@@ -211,8 +238,10 @@ def cause(value: Any, kind: str) -> str | None:
             if isinstance(value, {"object": dict, "calls": list, "bool": bool}[kind])
             else "WrongKind"
         )
-    if kind == "list":
-        causes = [cause(it, "fix") for it in value] if isinstance(value, list) else ["WrongKind"]
+    if kind in ("list", "code"):
+        if not isinstance(value, list):
+            return "WrongKind"
+        causes = [cause_of(it) if kind == "code" else cause(it, "fix") for it in value]
         return next((wrong for wrong in ("WrongKind", "OutOfRange") if wrong in causes), None)
     if not isinstance(value, str):
         return "WrongKind"
@@ -226,42 +255,65 @@ def cause(value: Any, kind: str) -> str | None:
     return None if fits else "OutOfRange"
 
 
-def look_at(ordinal: int, members: dict[str, Any], field: str, kind: str, *default: Any) -> None:
+def look_at(
+    ordinal: int,
+    members: dict[str, Any],
+    field: str,
+    kind: str,
+    *default: Any,
+    rate: int | None = None,
+) -> None:
     """Raises the fault of a field of the call with this ordinal, if it has one. A field without a
-    default has to be there."""
+    default has to be there. With a rate, times are seconds in text."""
     if field not in members:
         wrong = None if default else "MissingField"
     elif members[field] is None and (default == (None,) or kind.endswith(" or null")):
         wrong = None
     else:
-        wrong = cause(members[field], kind.replace(" or null", ""))
+        wrong = cause(members[field], kind.replace(" or null", ""), rate)
     if wrong:
         raise Fault(f"{ordinal} {field} {wrong}")
 
 
-def look_at_call(ordinal: int, call: Any, operations: Mapping[str, list[Field]]) -> None:
-    """Raises the first fault of a call that is to be one of the operations, if it has one."""
+def look_at_call(
+    ordinal: int, call: Any, operations: Mapping[str, list[Field]], rate: int | None = None
+) -> None:
+    """Raises the first fault of a call that is to be one of the operations, if it has one. With a
+    rate, its times are seconds in text."""
     if not isinstance(call, dict):
         raise Fault(f"{ordinal} call WrongKind")
     op = call.get("op")
     if not isinstance(op, str) or op not in operations:
         raise Fault(f"{ordinal} op UnknownOp")
     for field in operations[op]:
-        look_at(ordinal, call, *field)
+        look_at(ordinal, call, *field, rate=rate)
     if op == "disconnect" and call.get("input") is not None:
         for needed in ("to", "output"):
             if call.get(needed) is None:
                 raise Fault(f"{ordinal} {needed} MissingField")
 
 
-def look_at_calls(calls: list[Any], first: int) -> int:
-    """Looks at the calls of a list, and at those that they hold. The answer is the next ordinal."""
+def look_at_calls(calls: list[Any], first: int, rate: int | None = None) -> int:
+    """Looks at the calls of a list, and at those that they hold. The answer is the next ordinal.
+    With a rate, times are seconds in text."""
     for call in calls:
-        look_at_call(first, call, READ)
+        look_at_call(first, call, READ, rate)
         first += 1
         if HELD in READ[call["op"]]:
-            first = look_at_calls(call.get("then", []), first)
+            first = look_at_calls(call.get("then", []), first, rate)
     return first
+
+
+def in_frames(call: Call, rate: int, operations: Mapping[str, list[Field]] = READ) -> Call:
+    """A call without a fault whose times are seconds in text, and those that it holds, with their
+    frames in place of the seconds."""
+    changed = dict(call)
+    for field, kind, *_ in operations[call["op"]]:
+        if kind == "time" and call.get(field) is not None:
+            changed[field] = frame_of(call[field], rate)
+        if kind == "calls":
+            changed[field] = [in_frames(it, rate, operations) for it in call.get(field, [])]
+    return changed
 
 
 def look_at_head(script: Any) -> None:
@@ -269,22 +321,31 @@ def look_at_head(script: Any) -> None:
     if not isinstance(script, dict):
         raise Fault("0 script WrongKind")
     look_at(0, script, "version", "count")
-    if script["version"] != 1:
+    if script["version"] not in VERSIONS:
         raise Fault("0 version OutOfRange")
     look_at(0, script, "context", "object")
-    for field in ("channels", "length", "rate"):
-        look_at(0, script["context"], field, "count")
+    for field in CONTEXT:
+        look_at(0, script["context"], *field)
     look_at(0, script, "calls", "calls")
 
 
+def rate_of(script: dict[str, Any]) -> int | None:
+    """The rate at which the times of a script are seconds, in version 2; None where they are
+    frames. There is no fault in what stands around the calls."""
+    return script["context"]["rate"] if script["version"] == 2 else None
+
+
 def script_of(data: bytes) -> dict[str, Any]:
-    """The script that the bytes are."""
+    """The script that the bytes are. Its times are frames in either version."""
     try:
         script = json_of(data)
     except ValueError:
         raise Fault("BadJson") from None
     look_at_head(script)
-    look_at_calls(script["calls"], 1)
+    rate = rate_of(script)
+    look_at_calls(script["calls"], 1, rate)
+    if rate is not None:
+        script["calls"] = [in_frames(call, rate) for call in script["calls"]]
     return script
 
 

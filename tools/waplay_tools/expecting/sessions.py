@@ -9,7 +9,7 @@ from collections.abc import Sequence
 from typing import Any
 
 from waplay_tools.expecting.automation import EDITS, LEFT_OUT_EDITS
-from waplay_tools.expecting.causal import Convolver, Filter, Shaper, check_oversample
+from waplay_tools.expecting.causal import Convolver, Filter, Processor, Shaper, check_oversample
 from waplay_tools.expecting.delay import Delay
 from waplay_tools.expecting.graph import Edge
 from waplay_tools.expecting.nodes import (
@@ -36,6 +36,7 @@ from waplay_tools.expecting.reading import (
 from waplay_tools.expecting.refusals import Refused, profile
 from waplay_tools.expecting.rendering import Rendering
 from waplay_tools.expecting.wav_reading import Recording, WavFault, recording_of
+from waplay_tools.expecting.writing import script_text
 
 NODE_LIMIT = 1024
 CONNECTION_LIMIT = 8192
@@ -60,8 +61,10 @@ PROMISES = ("suspend", "startRendering", "resume", "decodeAudioData")
 class Session:
     """One session. Where it is only checked, nothing is rendered, and it has no values."""
 
-    def __init__(self, context: dict[str, int], folder: str, is_checked: bool = False) -> None:
+    def __init__(self, script: dict[str, Any], folder: str, is_checked: bool = False) -> None:
+        self.script, context = script, script["context"]
         self.channels, self.length, self.rate = (context[k] for k in ("channels", "length", "rate"))
+        self.quantum = context.get("renderQuantum", QUANTUM)
         self.folder, self.is_checked = folder, is_checked
         self.nodes = [Node("destination", "destination", self.channels)]
         self.buffers: list[Buffer] = []
@@ -73,6 +76,7 @@ class Session:
         self.rendering: tuple[int, list[NumberedCall]] | None = None
         self.suspensions: dict[int, tuple[int, list[NumberedCall]]] = {}
         self.lines: list[str] = []
+        self.last = ""  # the last line, when it is over
         self.calls_run = 0
         # When it is through, of each frame the values of its channels. Of all values that were
         # rendered, the greatest one without its sign, and their sum.
@@ -403,6 +407,7 @@ class Session:
             "createWaveShaper": lambda: self.add_node(Shaper(call)),
             "createIIRFilter": lambda: self.add_node(Filter(call)),
             "createConvolver": lambda: self.create_convolver(call),
+            "createProcessor": lambda: self.add_node(Processor(call)),
             "createBufferSource": lambda: self.create_source(call),
             "createBuffer": lambda: self.create_buffer(call),
             "connect": lambda: self.connect(call),
@@ -484,6 +489,7 @@ class Session:
             and 1 <= self.length <= 2**25
             and 8000 <= self.rate <= 96000
             and self.channels * self.length <= 2**26
+            and self.quantum == QUANTUM
         ):
             return "end refused NotSupportedError"
         self.run(calls)
@@ -532,6 +538,16 @@ def wav_bytes(session: Session, bits: int = 24) -> bytes:
     )
 
 
+def file_of(session: Session, mode: str, bits: int = 24) -> bytes | None:
+    """What OUT has of a session that is over and ran in this mode; None where it leaves no file.
+    Unless it was refused, it leaves the script itself in mode `migrate`."""
+    if mode == "render" and session.last == "end completed":
+        return wav_bytes(session, bits)
+    if mode == "migrate" and not session.last.startswith("end refused"):
+        return script_text(session.script)
+    return None
+
+
 def summary_of(session: Session) -> str:
     """What is told in place of the lines: how many calls were run, quanta rendered, sources ended
     and calls refused, and, where it was rendered to its end, what the rendered values come to."""
@@ -554,10 +570,11 @@ def replayed(
     the session when it is over. Where it is only checked, nothing is rendered."""
     try:
         script = script_of(data)
-        session = Session(script["context"], folder, is_checked)
-        last = session.replay(numbered(script["calls"], 1)[0])
+        session = Session(script, folder, is_checked)
+        session.last = session.replay(numbered(script["calls"], 1)[0])
     except Fault as fault:
         return 4, f"script: {fault}\n", None
     except AssetFault:
         return 7, "", None
-    return 0 if last == "end completed" else 3, "\n".join(session.lines + [last]) + "\n", session
+    status = 0 if session.last == "end completed" else 3
+    return status, "\n".join([*session.lines, session.last]) + "\n", session

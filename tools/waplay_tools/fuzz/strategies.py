@@ -17,11 +17,13 @@ from waplay_tools.fuzz.trials import FAILING_OUTPUTS, SCRIPT_BYTES, Trial, is_lo
 from waplay_tools.places import CASES
 from waplay_tools.random_scripts.kinds import Asset
 from waplay_tools.random_scripts.maker import operations, script_of
+from waplay_tools.random_scripts.versions import Versions
 from waplay_tools.running import Terms
 
 Base = tuple[bytes, dict[str, Asset]]  # the text of a script, and its assets
 MOST_BASE = 6000  # bytes of a base
 MANY = 2**20  # random scripts
+SCRIPTS = Versions(functools.partial(script_of, read=operations()), None)
 GOOD = (0, 3, 7)  # statuses of scripts without a fault
 # What a case has that stands for very many calls or samples.
 LARGE = re.compile(r'"last": \d{3,}|\[\d{5,}, -?\d+, -?\d+\]')
@@ -53,8 +55,8 @@ def bases() -> list[Base]:
 
 
 def random_base(number: int) -> Base:
-    """A random script, as tools/random-scripts makes it."""
-    script, assets = script_of(47, number, operations())
+    """A random script of either version, as tools/random-scripts makes it."""
+    script, assets = SCRIPTS(47, number)
     return json.dumps(script).encode(), assets
 
 
@@ -70,8 +72,10 @@ BYTE_CHANGES = st.tuples(
 
 
 def worded(given: bytes, assets: dict[str, Asset], terms: Terms = Terms()) -> Trial:
-    """The trial of a script, which is only checked where it would take long to render."""
+    """The trial of a script, which is only checked where it would take long to render. Some are
+    migrated."""
     words = (b"--mode=check", b"out.wav") if is_long(given) else (b"out.wav",)
+    words = (b"--mode=migrate", b"out.wav") if len(given) % 4 == 0 else words
     return Trial(given, words, assets, terms)
 
 

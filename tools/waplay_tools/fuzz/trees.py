@@ -43,6 +43,11 @@ TEXTS = [
     *(f'"{word}"' for word in "destination max k-rate a-rate explicit discrete 2x none".split()),
     *(r'"\ud800"', r'"\udc00\ud800"', r'"\ud83d\ude00"', r'"\u0000"', r'"\x"', r'"\u00"'),
     *('"\x01"', '"\u00e9"', '"\\u00e9"', '"a b"', "'c'", '"../beside"', '"/dev/zero"', '"."'),
+    *(f'"{it}"' for it in ("in", "drop", "add", "dup", "skip 1", "skipz 1", "skip 2147483647")),
+    *(f'"{it}"' for it in ("load 15", "store 16", "div 0", "push -0", "push -2147483648")),
+    *(f'"{it}"' for it in ("load -0", "push 2147483648", "push +1", "push  1", "in ", "push 007")),
+    *(f'"{it}"' for it in ("0", "-0", "0.5", "-0.0000625", "137438953.472", "137438953.473", "1.")),
+    *(f'"{it}"' for it in ("1e3", ".5", "+1", "-", "9999999999", "00000000000", "0.1234567890")),
 ]
 OTHERS = [
     "null",

@@ -12,8 +12,9 @@ from collections.abc import Iterator, Mapping
 from pathlib import Path
 from typing import Any
 
-from waplay_tools import command_lines
-from waplay_tools.expecting.sessions import replayed, wav_bytes
+from waplay_tools import command_lines, load_script
+from waplay_tools.expecting.sessions import file_of, replayed
+from waplay_tools.expecting.writing import script_text
 from waplay_tools.random_scripts.assets import write_assets
 from waplay_tools.random_scripts.kinds import Asset
 from waplay_tools.running import CLOSED, FULL, GONE, Ran, Terms, run
@@ -103,17 +104,17 @@ def answer_of(trial: Trial, folder: str) -> Answer | None:
     asked = reading_of(trial)
     if asked is None:
         return Answer(2, command_lines.USAGE, None)
-    is_checked = asked.mode == "check"
+    is_checked = asked.mode != "render"
     if asked.generated is not None:
-        text = command_lines.SUMMARY + command_lines.LAST
-        return Answer(0, text, None) if is_checked else None
+        text, is_migrated = command_lines.SUMMARY + command_lines.LAST, asked.mode == "migrate"
+        file = script_text(load_script.script(asked.generated)) if is_migrated else None
+        return Answer(0, text, file) if is_checked else None
     if len(trial.given) > SCRIPT_BYTES:
         return Answer(5, b"", None)
     try:
         with within(CALCULATED):
             status, lines, session = replayed(trial.given, folder, is_checked)
-            is_written = session is not None and status == 0 and not is_checked
-            file = wav_bytes(session, asked.bits) if session and is_written else None
+            file = file_of(session, asked.mode, asked.bits) if session else None
             return Answer(status, lines.encode(), file)
     except _TooSlow:
         return None
@@ -158,8 +159,9 @@ def reference(program: Path, trial: Trial, folder: Path, out: str | None) -> Ans
     """What comes of a trial on the program itself, where nothing fails. OUT is as before then."""
     before = files_in(folder)
     whole = run([os.fsencode(program), *trial.words], folder, Terms(trial.given))
-    file = files_in(folder).get(out) if out and whole.status == 0 else None
-    if out and (before.get(out) != file):
+    found = files_in(folder).get(out) if out else None
+    file = found if out and found != before.get(out) else None
+    if out and file is not None:
         (folder / out).unlink(missing_ok=True)
         write_assets(str(folder), {out: before[out]} if out in before else {})
     return Answer(whole.status, whole.text, file)
@@ -173,7 +175,9 @@ def _faults_of(trial: Trial, ran: Ran, answer: Answer | None, out: Stood) -> lis
         return [f"status {ran.status}"]
     faults = [f"{ran.errors[:80]!r} on standard error"] if ran.errors and ran.status >= 0 else []
     if answer is None:
-        is_touched = out[0] != out[1] and ran.status != 0
+        asked = reading_of(trial)
+        written = (0, 3) if asked and asked.mode == "migrate" else (0,)
+        is_touched = out[0] != out[1] and ran.status not in written
         return faults + ill_formed(ran.status, ran.text) + ["OUT is touched"] * is_touched
     if ran.status not in (answer.status, *_allowed(trial)):
         return [*faults, f"status {ran.status} in place of {answer.status}"]

@@ -101,7 +101,8 @@ def judged(program: Path, library: Path, it: Run, whole: Whole, told: dict[str, 
 def whole_of(program: Path, library: Path, it: Run) -> Whole:
     """What a run comes to where nothing is refused."""
     left = performed(program, library, it, {})
-    file = left.files.get("out.wav") if left.ran.status == 0 else None
+    found = left.files.get("out.wav")
+    file = found if found != BEFORE["out.wav"] else None
     return Whole(Answer(left.ran.status, left.ran.text, file), left.growths)
 
 

@@ -74,6 +74,16 @@ FILTER: Call = {
     "feedback": [ONE, -ONE // 2],
 }
 ROOM: Call = {"op": "createConvolver", "as": "v", "buffer": "b", "disableNormalization": True}
+SUM: Call = {
+    "op": "createProcessor",
+    "as": "p",
+    "code": ["load 0", "in", "add", "dup", "store 0"],
+}
+STEREO: list[Call] = [
+    {"op": "createBuffer", "as": "t", "channels": 2, "length": 1, "rate": 48000},
+    {"op": "createBufferSource", "as": "u", "buffer": "t"},
+    {"op": "start", "node": "u", "when": 200},
+]
 BENT: Call = {"op": "createWaveShaper", "as": "w", "curve": [-ONE, 0, ONE]}
 
 RUNS = [
@@ -93,6 +103,12 @@ RUNS = [
     Run("an asset that is decoded and played", script(128, *DECODED)),
     Run("a convolver", script(384, *IMPULSE, ROOM, *joined("s", "v", "destination"))),
     Run(
+        "a processor that comes to have two channels",
+        script(
+            384, *IMPULSE, *STEREO, SUM, *joined("s", "p", "destination"), *joined("u", "p")
+        ),
+    ),
+    Run(
         "a delay in a cycle, a filter, a shaper, a timeline and buffers",
         script(
             512,
@@ -106,6 +122,19 @@ RUNS = [
             *joined("s", "i", "w", "destination"),
             {"op": "connectParam", "from": "c", "to": "g", "param": "gain"},
             {"op": "suspend", "time": 256, "then": [*DECODED, {"op": "resume"}]},
+        ),
+    ),
+    Run(
+        "a script that is migrated",
+        script(
+            384, CONSTANT, CURVE, SUM, {"op": "suspend", "time": 256, "then": HELD}, *DECODED, START
+        ),
+        ("--mode", "migrate", "out.wav"),
+    ),
+    Run(
+        "a script of version 2",
+        script(128, CONSTANT, START, {"op": "stop", "node": "c", "when": "0.001"}).replace(
+            b'"version": 1', b'"version": 2'
         ),
     ),
     Run("a script with a fault", script(128, CONSTANT, {"op": "createFoo"})),

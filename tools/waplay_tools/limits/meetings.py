@@ -64,6 +64,31 @@ def exponent(number: int) -> Members:
     return {"input": json.dumps(script([])["script"])[:-1] + f', "x": 1e{number}}}'}
 
 
+def version(number: int) -> Members:
+    """A script of this version, without calls."""
+    members = script([])
+    members["script"]["version"] = number
+    return members
+
+
+def seconds(text_of: Callable[[int], str], **context: int) -> Callable[[int], Members]:
+    """A call of version 2 that is refused, whose time is the text of the number."""
+
+    def made(number: int) -> Members:
+        """The script of the number."""
+        members = script([{"op": "stop", "node": "x", "when": text_of(number)}], **context)
+        members["script"]["version"] = 2
+        return members
+
+    return made
+
+
+def thousandths(number: int) -> str:
+    """So many thousandths of a second, as text."""
+    whole, rest = divmod(abs(number), 1000)
+    return f"{'-' if number < 0 else ''}{whole}.{rest:03}"
+
+
 def nodes(number: int) -> Members:
     """So many nodes, the destination among them."""
     return script([{"op": "createGain", "as": "g"}] * (number - 1))
@@ -134,6 +159,36 @@ def response_shape(member: str) -> Callable[[int], Members]:
 def response_sample(number: int) -> Members:
     """A convolver whose response has this sample alone."""
     return response([number])
+
+
+def program(*code: str) -> Members:
+    """A processor with this program."""
+    return script([{"op": "createProcessor", "as": "p", "code": list(code)}])
+
+
+def instructions(number: int) -> Members:
+    """A program of so many instructions, which negates its input again and again."""
+    return program(*["in", *["neg"] * (number - 1)][:number])
+
+
+def operands(number: int) -> Members:
+    """A program that has so many values on its stack, and adds them up."""
+    return program(*["in"] * number, *["add"] * (number - 1))
+
+
+def instruction(text: str, *behind: str) -> Callable[[int], Members]:
+    """A program whose second instruction has the number."""
+    return lambda number: program("in", f"{text} {number}", *behind)
+
+
+def jump_to(number: int) -> Members:
+    """A program of three instructions whose jump goes on at this place."""
+    return program("in", "dup", f"skipz {number - 3}")
+
+
+def instruction_digits(number: int) -> Members:
+    """A program with a number of so many digits."""
+    return program(f"push {10 ** (number - 1)}")
 
 
 def asset_bytes(number: int) -> Members:

@@ -14,7 +14,7 @@ REFUSED = "end refused NotSupportedError"
 BAD_JSON = "script: BadJson"
 OUT_OF_RANGE = "script: 1 {} OutOfRange"
 TOO_LONG = "nothing"  # status 5
-USAGE = "words: waplay [--bits 16|24] [--order up|down] [--mode render|check] [--gen N] OUT"
+USAGE = "words: waplay [--bits 16|24] [--order up|down] [--mode render|check|migrate] [--gen N] OUT"
 LOAD = "summary calls 1768 quanta 3750 ended 200 refused 0"
 PROFILE = "NotSupportedError profile:"
 THROWS = "throw "
@@ -195,6 +195,62 @@ NUMBERS = [
         OUT_OF_RANGE.format("gain"),
         "script: 1 gain WrongKind",
     ),
+    *both(
+        "number that is pushed",
+        -(2**31),
+        2**31 - 1,
+        meetings.instruction("push", "add"),
+        "ok",
+        OUT_OF_RANGE.format("code"),
+    ),
+    *both(
+        "number of another instruction",
+        0,
+        2**31 - 1,
+        meetings.instruction("skip"),
+        "ok",
+        "script: 1 code WrongKind",
+        THROWS + PROFILE + "program",
+        OUT_OF_RANGE.format("code"),
+    ),
+    Limit(
+        "digits of a number that is pushed",
+        10,
+        meetings.instruction_digits,
+        "ok",
+        OUT_OF_RANGE.format("code"),
+    ),
+    *both(
+        "render quantum of a context",
+        128,
+        128,
+        meetings.context("renderQuantum"),
+        IDLE,
+        "end refused NotSupportedError",
+    ),
+    *both("version", 1, 2, meetings.version, IDLE, "script: 0 version OutOfRange"),
+    Limit(
+        "digits of seconds before the point",
+        10,
+        meetings.seconds(lambda number: "0" * number),
+        THROWS + "TypeError",
+        "script: 1 when WrongKind",
+    ),
+    Limit(
+        "digits of seconds behind the point",
+        9,
+        meetings.seconds(lambda number: "0." + "0" * number),
+        THROWS + "TypeError",
+        "script: 1 when WrongKind",
+    ),
+    *both(
+        "thousandths of a second, at 8000 frames a second",
+        -(2**37),
+        2**37,
+        meetings.seconds(meetings.thousandths, rate=8000),
+        THROWS + "TypeError",
+        OUT_OF_RANGE.format("when"),
+    ),
     Limit(
         "time of a start",
         0,
@@ -326,6 +382,50 @@ OBJECTS = [
         meetings.response_sample,
         "ok",
         THROWS + PROFILE + "loud-response",
+    ),
+    *both(
+        "instructions of a program",
+        1,
+        256,
+        meetings.instructions,
+        "ok",
+        THROWS + PROFILE + "program",
+    ),
+    Limit(
+        "values on the stack of a program",
+        32,
+        meetings.operands,
+        "ok",
+        THROWS + PROFILE + "program",
+    ),
+    Limit(
+        "cell that is loaded",
+        15,
+        meetings.instruction("load", "add"),
+        "ok",
+        THROWS + PROFILE + "program",
+    ),
+    Limit(
+        "cell that is stored",
+        15,
+        meetings.instruction("store", "in"),
+        "ok",
+        THROWS + PROFILE + "program",
+    ),
+    Limit(
+        "divisor of a program",
+        1,
+        meetings.instruction("div"),
+        "ok",
+        THROWS + PROFILE + "program",
+        -1,
+    ),
+    Limit(
+        "place at which a program of three instructions goes on",
+        3,
+        meetings.jump_to,
+        "ok",
+        THROWS + PROFILE + "program",
     ),
     *both(
         "channels of a buffer",

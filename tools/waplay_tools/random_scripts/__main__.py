@@ -4,13 +4,16 @@ Of each script it compares the exit status, the transcript and every byte of the
 that decode assets have these files beside them: WAV files of every kind, files that are none, files
 of another rate, links, folders, and paths that lead nowhere or out of the folder. About half of the
 scripts have suspensions. A script and its assets hang on the seed and its number, and on which
-operations are read: what the program does not read is in no script, and gets a line.
+operations are read: what the program does not read is in no script, and gets a line. With
+--programs the scripts are short ones with sixteen random programs of processors each. With
+--version 2 their times are seconds.
 
 A comparison prints a line for each difference, then how often each answer came up and which of
 those that can come up did not, and last how many scripts differ. The status is 0 where none does.
 """
 
 import argparse
+import functools
 import json
 import os
 import sys
@@ -19,11 +22,12 @@ from pathlib import Path
 
 from waplay_tools.places import BUILT
 from waplay_tools.random_scripts.assets import Assets, put_assets, write_assets
-from waplay_tools.random_scripts.comparing import compare, enter, read_by
+from waplay_tools.random_scripts.comparing import Of, compare, enter, read_by, tell_missing
 from waplay_tools.random_scripts.loads import write_loads
-from waplay_tools.random_scripts.maker import operations, script_of
+from waplay_tools.random_scripts.maker import operations, programs_of, script_of
 from waplay_tools.random_scripts.measuring import measure
 from waplay_tools.random_scripts.shrinking import shrunk
+from waplay_tools.random_scripts.versions import Versions
 
 
 def arguments() -> argparse.Namespace:
@@ -33,6 +37,13 @@ def arguments() -> argparse.Namespace:
         description=__doc__,
         formatter_class=argparse.RawDescriptionHelpFormatter,
     )
+    _add_scripts(words)
+    _add_deeds(words)
+    return words.parse_args()
+
+
+def _add_scripts(words: argparse.ArgumentParser) -> None:
+    """The options that say which scripts are made, and what they are run on."""
     words.add_argument("--seed", type=int, default=1, help="the seed of the scripts, 1 by default")
     words.add_argument("--count", type=int, default=1000, help="how many scripts, 1,000 by default")
     words.add_argument(
@@ -45,6 +56,20 @@ def arguments() -> argparse.Namespace:
         metavar="FILE",
         help="the program, that which tools/prove has built by default",
     )
+    words.add_argument(
+        "--programs", action="store_true", help="the scripts are those with programs of processors"
+    )
+    words.add_argument(
+        "--version",
+        type=int,
+        choices=[0, 1, 2],
+        default=1,
+        help="the version of the scripts, 1 by default; 0: either",
+    )
+
+
+def _add_deeds(words: argparse.ArgumentParser) -> None:
+    """The options that ask for something else than a comparison."""
     words.add_argument(
         "--print",
         type=int,
@@ -75,7 +100,6 @@ def arguments() -> argparse.Namespace:
         help="run the scripts of a folder, and print the least user time of three runs and "
         "the peak memory of each; it wants GNU time",
     )
-    return words.parse_args()
 
 
 def give(folder: Path | None, script: dict, assets: Assets) -> None:
@@ -87,15 +111,35 @@ def give(folder: Path | None, script: dict, assets: Assets) -> None:
     write_assets(str(folder), {"script.json": json.dumps(script).encode(), **assets})
 
 
+def scripts_of(asked: argparse.Namespace, read: list[str]) -> Of:
+    """The scripts that are asked for, of which the program reads these operations."""
+    made: Of = functools.partial(script_of, read=read)
+    if asked.programs:
+        made = programs_of
+    if asked.version != 1:
+        made = Versions(made, asked.version)
+    return made
+
+
 def give_shrunk(asked: argparse.Namespace, program: Path) -> None:
     """Gives a script with as few calls as still differ."""
-    script, assets = script_of(asked.seed, asked.shrink, read_by(program, operations()))
+    script, assets = scripts_of(asked, read_by(program, operations()))(asked.seed, asked.shrink)
     folder = asked.folder and asked.folder.resolve()
     with tempfile.TemporaryDirectory() as work:
         enter(work)
         put_assets(assets)
         script = shrunk(program, script)
     give(folder, script, assets)
+
+
+def give_differences(asked: argparse.Namespace, program: Path) -> int:
+    """Compares scripts, tells what is to be known of them, and gives the status."""
+    read = read_by(program, operations())
+    wrong, answers = compare(program, scripts_of(asked, read), asked.seed, asked.count, asked.jobs)
+    if not asked.programs:
+        tell_missing(answers, read)
+    print(f"{asked.count} scripts, {wrong} differences")
+    return 1 if wrong else 0
 
 
 def main() -> int:
@@ -105,7 +149,7 @@ def main() -> int:
     is_there = os.access(program, os.X_OK)
     if asked.print is not None:
         read = read_by(program, operations()) if is_there else operations()
-        give(asked.folder, *script_of(asked.seed, asked.print, read))
+        give(asked.folder, *scripts_of(asked, read)(asked.seed, asked.print))
     elif asked.loads:
         write_loads(str(asked.loads))
     elif not is_there:
@@ -116,7 +160,7 @@ def main() -> int:
     elif asked.shrink is not None:
         give_shrunk(asked, program)
     else:
-        return compare(program, asked.seed, asked.count, asked.jobs)
+        return give_differences(asked, program)
     return 0
 
 

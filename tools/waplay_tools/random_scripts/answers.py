@@ -62,6 +62,7 @@ REFUSALS = {
         PROFILE + "loud-response",
         PROFILE + "node-limit",
     ],
+    "createProcessor": [PROFILE + "program", PROFILE + "node-limit"],
     "createDelay": [
         "NotSupportedError",
         PROFILE + "long-delay",

@@ -84,6 +84,38 @@ DELAY_SHAPES = [
     (1500, "convolved"),
 ]
 
+# The same of shapes that want processors, which are in some of the scripts.
+PROCESSOR_SHAPES = [(15000, "processed")]
+
+# What stands in a program now and then, and is no instruction, or has a number that is none.
+NO_INSTRUCTIONS: list[Any] = [
+    "",
+    "add ",
+    " add",
+    "add 1",
+    "push",
+    "push ",
+    "push  1",
+    "push +1",
+    "push 1.0",
+    "push 0x1",
+    "push --1",
+    "push \u0661",
+    "load -0",
+    "store -1",
+    "skip",
+    "Dup",
+    "in\n",
+    "push 2147483648",
+    "push -2147483649",
+    "div 2147483648",
+    "skipz 00099999999999",
+    "load " + "9" * 5000,
+    7,
+    None,
+    ["in"],
+]
+
 # What a member is spoiled with: much of it is of a wrong kind or out of range for most fields.
 SPOILED: list[Any] = [
     None,
@@ -138,6 +170,7 @@ NEEDED = {
     "delayed": [*BUFFERS, *AUTOMATED, "connectParam", *CHANNELS],
     "crossed": [*AUTOMATED, "connectParam", *CHANNELS],
     "convolved": ["createConvolver", *BUFFERS, *AUTOMATED, "connectParam", *CHANNELS],
+    "processed": ["createProcessor", *BUFFERS, *AUTOMATED, "connectParam", *CHANNELS],
     "woven": [*CHANNELS],
     "cables": [*CHANNELS],
 }
@@ -148,6 +181,7 @@ WITH_BUFFERS = {
     "filtered": 0.8,
     "delayed": 0.8,
     "convolved": 0.8,
+    "processed": 0.5,
     **dict.fromkeys(("crowd", "tangle", "cables", "store", "lines"), 0),
 }
 

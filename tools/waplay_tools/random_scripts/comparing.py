@@ -7,14 +7,18 @@ import os
 import shutil
 import subprocess
 import tempfile
+from collections.abc import Callable
 from pathlib import Path
 
 from waplay_tools.expecting.sessions import replayed, wav_bytes
 from waplay_tools.places import EXAMPLES
 from waplay_tools.random_scripts.answers import answers_of, wanted_answers
 from waplay_tools.random_scripts.assets import put_assets
-from waplay_tools.random_scripts.kinds import Script
-from waplay_tools.random_scripts.maker import operations, script_of
+from waplay_tools.random_scripts.kinds import Assets, Script
+from waplay_tools.random_scripts.maker import operations
+
+# The script of a seed and a number, and its assets.
+Of = Callable[[int, int], tuple[Script, Assets]]
 
 SECONDS = 600  # for one run of a program
 
@@ -59,11 +63,11 @@ def differences(program: Path, script: Script) -> tuple[list[str], str]:
     return wrong, text
 
 
-def compared(job: tuple[Path, int, list[str], int]) -> tuple[int, list[str], collections.Counter]:
+def compared(job: tuple[Path, Of, int, int]) -> tuple[int, list[str], collections.Counter]:
     """The number of a script, what differs at it, and how often each answer came up."""
-    program, seed, read, number = job
+    program, script_of, seed, number = job
     try:
-        script, assets = script_of(seed, number, read)
+        script, assets = script_of(seed, number)
         put_assets(assets)
         wrong, text = differences(program, script)
         answers = collections.Counter(answers_of(script, text))
@@ -72,10 +76,8 @@ def compared(job: tuple[Path, int, list[str], int]) -> tuple[int, list[str], col
     return number, wrong, answers
 
 
-def tell(answers: collections.Counter, read: list[str]) -> None:
-    """Prints how often each answer came up, and which did not."""
-    for answer, often in answers.most_common():
-        print(f"{often:9} {answer}")
+def tell_missing(answers: collections.Counter, read: list[str]) -> None:
+    """Prints which answers did not come up, and which operations could not."""
     for answer in wanted_answers(read):
         if answer not in answers:
             print(f"     none {answer}")
@@ -84,17 +86,20 @@ def tell(answers: collections.Counter, read: list[str]) -> None:
             print(f"{op} is not read by this program, and is in no script")
 
 
-def compare(program: Path, seed: int, count: int, jobs: int) -> int:
-    """Compares so many scripts of a seed, tells what differs, and gives the status."""
-    wrong, read = 0, read_by(program, operations())
+def compare(
+    program: Path, script_of: Of, seed: int, count: int, jobs: int
+) -> tuple[int, collections.Counter[str]]:
+    """Compares so many scripts of a seed, tells what differs and how often each answer came up. It
+    gives the number of scripts that differ, and the answers."""
+    wrong = 0
     answers: collections.Counter[str] = collections.Counter()
     with tempfile.TemporaryDirectory() as work, multiprocessing.Pool(jobs, enter, [work]) as pool:
-        asked = ((program, seed, read, number) for number in range(count))
+        asked = ((program, script_of, seed, number) for number in range(count))
         for number, different, seen in pool.imap_unordered(compared, asked, 20):
             answers.update(seen)
             if different:
                 wrong += 1
                 print(f"script {number} of seed {seed}: {', '.join(different)}", flush=True)
-    tell(answers, read)
-    print(f"{count} scripts, {wrong} differences")
-    return 1 if wrong else 0
+    for answer, often in answers.most_common():
+        print(f"{often:9} {answer}")
+    return wrong, answers

@@ -41,6 +41,7 @@ KINDS = {
     "createWaveShaper": Kind(6, "create_shaper", 1, 1, False, None),
     "createIIRFilter": Kind(6, "create_filter", 1, 1, False, None),
     "createConvolver": Kind(5, "create_convolver", 1, 1, False, None),
+    "createProcessor": Kind(5, "create_processor", 1, 1, False, None),
     "createDelay": Kind(12, "create_delay", 1, 1, False, "delayTime"),
 }
 

@@ -150,6 +150,13 @@ def loops_through_filters() -> Script:
     )
 
 
+def loops_through_processors() -> Script:
+    """The loops, each through a processor of 25 instructions: three filters of one pole."""
+    pole = ["load {k}", "sub", "push 4194304", "mul", "load {k}", "add", "dup", "store {k}"]
+    code = ["in", *(it.format(k=k) for k in range(3) for it in pole)]
+    return loops_through(1, {"op": "createProcessor", "code": code})
+
+
 def loops_through_long_filters() -> Script:
     """The loops, each through a filter with as many coefficients as there may be."""
     back = [ONE, *(ONE // (40 + k) for k in range(19))]
@@ -334,4 +341,5 @@ LOADS = {
     "q": loops_through_long_filters,  # g, each loop through a filter of order 19
     "r": loop_through_the_longest_room,  # a loop of g through 16,384 taps, 48,000 frames
     "s": loops_through_small_rooms,  # g, each loop through a convolver of 300 taps, 48,000 frames
+    "t": loops_through_processors,  # g, each loop through a program of 25 instructions
 }

@@ -6,6 +6,7 @@ from waplay_tools.expecting.reading import OPERATIONS as FIELDS
 from waplay_tools.random_scripts.chances import (
     DELAY_SHAPES,
     NEEDED,
+    PROCESSOR_SHAPES,
     SHAPES,
     SPRINKLED,
     WITH_BUFFERS,
@@ -21,6 +22,7 @@ class Maker(Limits):
         """The shape of the script; a graph where the program does not read what the drawn one
         needs."""
         shapes = SHAPES + DELAY_SHAPES if "createDelay" in self.read_ops else SHAPES
+        shapes = shapes + PROCESSOR_SHAPES if "createProcessor" in self.read_ops else shapes
         shape = self.rng.choices([shape for _, shape in shapes], [often for often, _ in shapes])[0]
         return shape if self.read_ops.issuperset(NEEDED.get(shape, ())) else "graph"
 
@@ -45,7 +47,12 @@ class Maker(Limits):
             rate = rng.choice([0, 7999, 8000, 48000, 96000, 96001, 2**32 - 1])
         elif self.may(0.02):
             channels = rng.choice([0, 33, 2**32 - 1])
-        return {"channels": channels, "length": self.length, "rate": rate}
+        context = {"channels": channels, "length": self.length, "rate": rate}
+        # What reads processors reads this member, too.
+        if "createProcessor" in self.read_ops and self.may(0.1):
+            quanta = [128] * 8 + [0, 1, 64, 127, 129, 256, 2**32 - 1]
+            context["renderQuantum"] = rng.choice(quanta)
+        return context
 
     def script(self) -> Script:
         """The script."""
@@ -63,12 +70,22 @@ class Maker(Limits):
 
 
 def script_of(seed: int, number: int, read: list[str]) -> tuple[Script, Assets]:
-    """A script, and its assets. Half of the scripts have no suspensions, and are the same where the
-    program reads none."""
+    """A script, and its assets. Half of the scripts have no suspensions, and four fifths of them no
+    processors; they are the same where the program reads none."""
     if random.Random(f"{seed} {number} suspensions").random() < 0.5:
         read = [op for op in read if op != "suspend"]
+    if random.Random(f"{seed} {number} processors").random() < 0.8:
+        read = [op for op in read if op != "createProcessor"]
     maker = Maker(random.Random(f"{seed} {number}"), read)
     return maker.script(), maker.assets
+
+
+def programs_of(seed: int, number: int) -> tuple[Script, Assets]:
+    """A short script with many processors, and no assets."""
+    maker = Maker(random.Random(f"{seed} {number} programs"), operations())
+    maker.length, maker.channels, maker.rate = 256, 32, 8000
+    context = {"channels": maker.channels, "length": maker.length, "rate": maker.rate}
+    return {"version": 1, "context": context, "calls": maker.side_by_side()}, {}
 
 
 def operations() -> list[str]:

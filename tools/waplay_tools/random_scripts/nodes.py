@@ -5,8 +5,9 @@ from typing import Any
 
 from waplay_tools.expecting.reading import LEFT_OUT
 from waplay_tools.expecting.reading import OPERATIONS as FIELDS
-from waplay_tools.random_scripts.chances import OPERATIONS
+from waplay_tools.random_scripts.chances import NO_INSTRUCTIONS, OPERATIONS
 from waplay_tools.random_scripts.kinds import FIX, KINDS, ONE, Call, Calls, Fits, Sound
+from waplay_tools.random_scripts.programs import any_code, good_code
 from waplay_tools.random_scripts.values import Values
 
 
@@ -140,6 +141,15 @@ class Nodes(Values):
         if self.may(0.98):
             call["disableNormalization"] = self.may(0.97)
         return call
+
+    def create_processor(self) -> Call:
+        """A processor, mostly with a program that is accepted. Now and then there is an instruction
+        that is none."""
+        call = self.create("createProcessor")
+        code: list[Any] = [*(good_code if self.may(0.7) else any_code)(self.rng)]
+        if self.may(0.005):
+            code.insert(self.rng.randint(0, len(code)), self.rng.choice(NO_INSTRUCTIONS))
+        return {**call, "code": code}
 
     def create_delay(self) -> Call:
         """A delay: mostly one of some quanta or a second at most; now and then one that there

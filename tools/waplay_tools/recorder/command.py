@@ -80,6 +80,8 @@ def parser() -> argparse.ArgumentParser:
         help="rewrite nothing of what a script has no word for")
     add("--loops-as-browser", action="store_true",
         help="make loops through delays as long as Chromium has them")
+    add("--seconds", action="store_true",
+        help="write scripts of version 2, whose times are seconds")
     add("--contexts", type=count, default=0, metavar="N", help="wait for this many contexts")
     add("--until", metavar="EXPRESSION", help="wait until this holds in the page")
     add("--quiet", type=positive, default=1, metavar="SECONDS",

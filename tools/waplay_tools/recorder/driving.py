@@ -45,6 +45,7 @@ class Wishes:
     do: Path | None = None
     plain: bool = False
     loops_as_browser: bool = False
+    seconds: bool = False
     timeout: float = 60
     quiet: float = 1
     contexts: int = 0
@@ -58,8 +59,8 @@ class Wishes:
     def options(self) -> str:
         """The script that tells the recorder in the page."""
         is_begun_by_hand = self.click is not None or self.do is not None
-        words = {"plain": self.plain, "loops": self.loops_as_browser, "realtime": self.realtime,
-                 "click": is_begun_by_hand}
+        words = {"plain": self.plain, "loops": self.loops_as_browser, "seconds": self.seconds,
+                 "realtime": self.realtime, "click": is_begun_by_hand}
         return f"globalThis.waplayRecorderOptions = {json.dumps(words)};\n"
 
 

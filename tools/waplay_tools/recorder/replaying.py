@@ -14,7 +14,9 @@ import sys
 import wave
 from collections.abc import Sequence
 from pathlib import Path
+from typing import Any
 
+from waplay_tools.expecting.reading import in_frames, rate_of
 from waplay_tools.places import PACKAGED, TOP
 from waplay_tools.recorder.departures import all_calls, known_departures
 from waplay_tools.recorder.results import Recorded
@@ -179,11 +181,20 @@ def recorded_otherwise(lines: list[str]) -> bool:
     return any("ended otherwise" in line for line in lines)
 
 
+def script_in_frames(text: str) -> dict[str, Any]:
+    """A recorded script, whose times are frames whatever its version."""
+    script = json.loads(text)
+    rate = rate_of(script)
+    if rate is not None:
+        script["calls"] = [in_frames(call, rate) for call in script["calls"]]
+    return script
+
+
 def replay(program: Path, folder: Path, recorded: Recorded, tolerance: float = TOLERANCE,
            timeout: float = 600) -> Replay:
     """Runs the program over a recorded script. Its WAV file and its transcript come to the folder
     of the take."""
-    script = json.loads(recorded.script)
+    script = script_in_frames(recorded.script)
     path = folder / f"{recorded.number}.wav"
     limit = timeout + 10 * recorded.seconds
     try:

@@ -18,6 +18,7 @@ KINDS = {
     "Flag": "true or false",
     "Fixes": "fixes",
     "FixesOrNull": "fixes or null",
+    "Code": "program",
     "Path": "path",
     "Mode": "mode",
     "Interp": "interpretation",

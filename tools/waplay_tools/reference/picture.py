@@ -19,6 +19,7 @@ The script
     1 script_ast      calls, fields
     2 script_fields   members of objects
     3 script_json     bytes to calls
+    4 script_text     calls to bytes
 Calls
     1 name_book       names of objects
     2 ctx_state       when it renders
@@ -41,13 +42,14 @@ One thing each
     0 param_events    timelines
     1 param_cursor    places in them
     2 sched_source    starts and stops
-    3 causal_core     causal equations
-    4 shaper_iir      filters, shapers
-    5 convolve        convolvers
+    3 shaper_iir      filters, shapers
+    4 convolve        convolvers
+    5 worklet         programs
 Samples
-    0 delay_line      a ring of frames
+    0 mix_rules       who gets what
     1 channel_mix     up- and down-mix
-    2 lane_kern       loops over them
+    2 delay_line      a ring of frames
+    3 lane_kern       loops over them
 The ground
     0 wa_base         numbers, words
     1 law_base        laws, no audio

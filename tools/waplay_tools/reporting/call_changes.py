@@ -42,13 +42,14 @@ class Names:
         self.kinds = {"destination": "destination"}
 
     def told(self, call: Call) -> str:
-        """A call with the kinds of what its names stand for in the place of the names."""
+        """A call with the kinds of what its names stand for in the place of the names. A field that
+        is absent has its default."""
         if not isinstance(call.op, str) or call.op not in entries.OPERATIONS:
             return f"{call.depth} {shown(call.value)}"
         words: list[str] = [str(call.depth), call.op]
         for field, kind, *_ in entries.fields_of(call.op):
-            value = call.members.get(field)
-            if kind == "calls" or field not in call.members or kind == "new name":
+            value = call.field(field)
+            if kind in ("calls", "new name"):
                 continue
             if kind.startswith("name") and isinstance(value, str):
                 value = self.kinds.get(value, "nothing")

@@ -1,5 +1,5 @@
-"""The operations of the script format, version 1: of each its fields, their kinds and their
-defaults.
+"""The operations of the script format: of each its fields, their kinds and their defaults. They are
+those of version 1; in version 2 a time is seconds in text.
 
 These are all operations of the format, also those that the program does not read yet. A field is
 its name, its kind, and its default where it has one. A kind that is none of KINDS is a list of
@@ -8,6 +8,7 @@ words. Null is a value of a field whose default is null, and of one whose kind e
 
 from typing import Any
 
+from waplay_tools.expecting.programs import NUMBERS, STACK
 from waplay_tools.expecting.reading import RANGES, Field
 
 Fields = dict[str, list[Field]]  # of an operation
@@ -15,11 +16,32 @@ Fields = dict[str, list[Field]]  # of an operation
 ONE = 2**24
 QUANTUM = 128
 
-KINDS = (*RANGES, "bool", "list", "name", "param", "new name", "path", "calls", "object")
+KINDS = (*RANGES, "bool", "list", "name", "param", "new name", "path", "code", "calls", "object")
 
 PARAMETERS = ("offset", "gain", "delayTime", "playbackRate", "detune")
 
 NEW_NAME = "^[A-Za-z0-9_-]{1,64}$"
+SECONDS = r"^-?[0-9]{1,10}(\.[0-9]{1,9})?$"
+
+
+def _at_most(most: int) -> str:
+    """The pattern of the whole numbers from 0 to this one of several digits, with zeros in front of
+    them or without."""
+    text = str(most)
+    parts = [f"[0-9]{{1,{len(text) - 1}}}", text]
+    for at, digit in enumerate(text):  # those that differ first here
+        parts.append(f"{text[:at]}[{int(at == 0)}-{int(digit) - 1}][0-9]{{{len(text) - at - 1}}}")
+    return f"0*(?:{'|'.join(part for part in parts if '[0--1]' not in part)})"
+
+
+_PLAIN = "|".join(word for word in STACK if word not in NUMBERS)
+_WITHOUT_SIGN = "|".join(word for word in NUMBERS if word != "push")
+_NUMBER = _at_most(NUMBERS["load"][1])
+
+# An instruction of a program.
+INSTRUCTION = (
+    f"^(?:{_PLAIN}|push (?:-?{_NUMBER}|-0*{-NUMBERS['push'][0]})|(?:{_WITHOUT_SIGN}) {_NUMBER})$"
+)
 
 _NEW = ("as", "new name")
 _NODE = ("node", "name")
@@ -39,6 +61,7 @@ CREATIONS: Fields = {
         ("buffer", "name", None),
         ("disableNormalization", "bool", False),
     ],
+    "createProcessor": [_NEW, ("code", "code")],
     "createBufferSource": [
         _NEW,
         ("buffer", "name", None),
@@ -60,6 +83,7 @@ NODES = {
     "createWaveShaper": "wave shaper",
     "createIIRFilter": "IIR filter",
     "createConvolver": "convolver",
+    "createProcessor": "processor",
     "createBufferSource": "buffer source",
 }
 

@@ -6,7 +6,7 @@ script.
 from collections.abc import Mapping
 from typing import Any, NoReturn
 
-from waplay_tools.reporting import entries
+from waplay_tools.reporting import entries, programs
 from waplay_tools.reporting.script_reading import Call, Script
 from waplay_tools.reporting.sources import Book, quantum_end
 from waplay_tools.reporting.text import BadInput, as_it_is, counted, grouped, quoted
@@ -157,7 +157,10 @@ class Session:
                 self.suspensions[ordinal] = quantum_end(call.field("time"))
 
     def _detail(self, line: Line, call: Call) -> str:
-        """Of a TypeError, what the names of the call stand for at that moment."""
+        """Of a TypeError, what the names of the call stand for at that moment; of a program, why it
+        is not accepted."""
+        if line.feature == "program":
+            return programs.why(call.field("code"))
         if line.exception != "TypeError":
             return ""
         names = [

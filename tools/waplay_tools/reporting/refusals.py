@@ -5,6 +5,10 @@ from waplay_tools.reporting.following import Row, Session
 from waplay_tools.reporting.script_reading import Call
 
 
+# What was called, how it was refused, and why, where the same answer has several reasons.
+Key = tuple[str, str, str]
+
+
 class Cause:
     """A cause of refusals: what was called and how it was refused, the calls of which this holds,
     and the calls that were refused since those made no object."""
@@ -40,7 +44,7 @@ def _missing(call: Call, lost: dict[str, Cause]) -> Cause | None:
 
 def causes_of(session: Session) -> list[Cause]:
     """The causes of all refused calls, first those that explain most."""
-    found: dict[tuple[str, str], Cause] = {}
+    found: dict[Key, Cause] = {}
     lost: dict[str, Cause] = {}  # of names that stand for nothing, why
     for row in (row for part in session.parts for row in part.rows):
         call = row.call
@@ -61,9 +65,10 @@ def causes_of(session: Session) -> list[Cause]:
     return sorted(found.values(), key=lambda cause: (-cause.count(), cause.calls[0]))
 
 
-def _own_cause(found: dict[tuple[str, str], Cause], row: Row, call: Call) -> Cause:
+def _own_cause(found: dict[Key, Cause], row: Row, call: Call) -> Cause:
     """The cause of a call that was refused for itself."""
-    key = (str(call.op), row.line.answer())
+    why = row.detail if row.line.feature == "program" else ""
+    key = (str(call.op), row.line.answer(), why)
     cause = found.setdefault(key, Cause(row))
     cause.calls.append(call.ordinal)
     return cause

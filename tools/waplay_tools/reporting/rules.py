@@ -2,6 +2,7 @@
 
 from typing import Any
 
+from waplay_tools.expecting.programs import NUMBERS
 from waplay_tools.reporting import entries
 from waplay_tools.reporting.following import Row
 from waplay_tools.reporting.script_reading import Call, Script
@@ -59,6 +60,10 @@ FEATURES = {
     "long-response": "The response of a convolver may have at most 16,384 frames.",
     "loud-response": (
         "A sample of a convolver's response is from -33554432 to 33554432, which is from -2 to 2."
+    ),
+    "program": (
+        "A processor's program is accepted where nothing in it can go wrong. Its places are counted"
+        " from 0."
     ),
     "asset-size": "A file may have at most 67,108,864 bytes.",
     "node-limit": "A session may have at most 1,024 nodes, the destination among them.",
@@ -245,7 +250,7 @@ _NAMES = {
 
 CONTEXT = (
     "A context has from 1 to 32 channels, from 1 to 33,554,432 frames, from 8,000 to 96,000 frames"
-    " a second, and at most 67,108,864 samples."
+    " a second, at most 67,108,864 samples, and a render quantum of 128 frames."
 )
 
 
@@ -267,6 +272,11 @@ _KINDS = {
     "param": "a string, the name of a parameter",
     "new name": "a string of 1 to 64 ASCII letters, digits, `_` or `-`, and not `destination`",
     "path": "a string of 1 to 255 bytes",
+    "code": (
+        "an array of instructions, each a string of a word and for some words a space and a number,"
+        " %s to %s for `push` and 0 to %s for the others"
+        % tuple(map(grouped, (*NUMBERS["push"], NUMBERS["load"][1])))
+    ),
     "calls": "an array of calls",
     "object": "an object",
     **{
@@ -275,6 +285,11 @@ _KINDS = {
     },
 }
 
+_SECONDS = (
+    "a string of seconds: an optional minus, 1 to 10 digits, and optionally a point with 1 to 9"
+    " digits, for a frame from %s to %s" % tuple(map(grouped, entries.RANGES["time"]))
+)
+
 _SCRIPT_FIELDS = {
     "script": "object",
     "version": "count",
@@ -282,6 +297,7 @@ _SCRIPT_FIELDS = {
     "channels": "count",
     "length": "count",
     "rate": "count",
+    "renderQuantum": "count",
     "calls": "calls",
 }
 
@@ -293,21 +309,22 @@ def kind_in_words(kind: str, default: list[Any]) -> str:
     return told + (", or null" if default == [None] or kind != base else "")
 
 
-def _field(ordinal: int | None, field: str | None, op: Any) -> str:
+def _field(ordinal: int | None, field: str | None, op: Any, version: int) -> str:
     """What a field that has a fault may be, in words."""
     if ordinal == 0:
-        return "1" if field == "version" else _KINDS[_SCRIPT_FIELDS.get(field or "", "object")]
+        return "1 or 2" if field == "version" else _KINDS[_SCRIPT_FIELDS.get(field or "", "object")]
     for name, kind, *default in entries.fields_of(op):
+        if name == field and kind == "time" and version == 2:
+            return _SECONDS + (", or null" if default == [None] else "")
         if name == field:
             return kind_in_words(kind, default)
     return "an object"
 
 
-def fault(line: Line, call: Call | None, reason: str) -> str:
-    """The fault of a script that a line tells, in words. The reason is that of a text that is no
-    JSON."""
+def fault(line: Line, call: Call | None, script: Script) -> str:
+    """The fault of a script that a line tells, in words."""
     if line.word == "BadJson":
-        return f"The script is no JSON text: {reason}."
+        return f"The script is no JSON text: {script.reason}."
     if line.word == "UnknownOp":
         if call and isinstance(call.op, str) and call.op in entries.OPERATIONS:
             return "The program that wrote the transcript does not read this operation."
@@ -318,7 +335,7 @@ def fault(line: Line, call: Call | None, reason: str) -> str:
         )
         return f"The call {told}, which is no operation."
     of = f"Call {grouped(line.ordinal)}" if line.ordinal else "The script"
-    wanted = _field(line.ordinal, line.field, call.op if call else None)
+    wanted = _field(line.ordinal, line.field, call.op if call else None, script.version())
     if line.word == "MissingField":
         if call and call.op == "disconnect" and line.field != "from":
             return (
@@ -351,7 +368,7 @@ def meaning(row: Row, script: Script) -> str:
     if line.kind in ("throw", "rejected") and call:
         return (rule(call.op, line.exception, line.feature) + " " + row.detail).strip()
     if line.kind == "script":
-        return fault(line, call, script.reason)
+        return fault(line, call, script)
     if line.kind == "end":
         return _ENDS[line.word or ""]
     if line.kind == "ended":

@@ -1,4 +1,9 @@
-"""The schema of scripts, made of the table of operations, so that both say the same."""
+"""The schema of scripts of both versions, made of the table of operations, so that they say the
+same.
+
+What hangs on the version, which are times and all that has one, stands in it twice: what is for
+version 2 has a 2 behind its name.
+"""
 
 import json
 from typing import Any
@@ -18,6 +23,7 @@ DOES = {
     "createConvolver": (
         "A node that convolves with a buffer. Its disableNormalization can only be true."
     ),
+    "createProcessor": "A node that runs a program on each sample of each channel.",
     "createBufferSource": (
         "A source that plays a buffer. Its loop is in frames of the buffer, and its rate is whole."
     ),
@@ -119,13 +125,65 @@ def _kinds() -> dict[str, Any]:
         "minLength": 1,
         "maxLength": 255,
     }
-    kinds["calls"] = {"description": "A list of calls.", "type": "array", "items": _ref("call")}
+    return {**kinds, "code": _code(), **_versioned_kinds()}
+
+
+def _code() -> dict[str, Any]:
+    """The definition of a program."""
+    return {
+        "description": (
+            "A program. Whether it is accepted is asked when the call is done: it has 1 to 256"
+            " instructions, and none of them can go wrong."
+        ),
+        "type": "array",
+        "items": {
+            "type": "string",
+            "pattern": entries.INSTRUCTION,
+            # To some engines the end of the pattern is also before a last line feed.
+            "not": {"pattern": "[^a-z0-9 -]"},
+        },
+        "examples": [["load 0", "in", "add", "div 2", "dup", "store 0"]],
+    }
+
+
+def _versioned_kinds() -> dict[str, Any]:
+    """The definitions of the kinds of fields that hang on the version."""
+    kinds = {}
+    for behind in ("", "2"):
+        kinds["calls" + behind] = {
+            "description": "A list of calls.",
+            "type": "array",
+            "items": _ref("call" + behind),
+        }
+    kinds["time2"] = {
+        "description": (
+            "A time in seconds, as text: an optional minus, 1 to 10 digits, and optionally a point"
+            " with 1 to 9 digits. It stands for the nearest frame, of two the later one."
+        ),
+        "type": "string",
+        "pattern": entries.SECONDS,
+        # To some engines the end of the pattern is also before a last line feed.
+        "not": {"pattern": "[^0-9.-]"},
+        "examples": ["0.5", "0.002666667"],
+    }
     return kinds
 
 
-def _field(kind: str, default: list[Any]) -> dict[str, Any]:
+def _is_versioned(op: str) -> bool:
+    """Whether the calls of an operation hang on the version."""
+    return any(kind in ("time", "calls") for _, kind, *_ in entries.fields_of(op))
+
+
+def _of_version(name: str, version: int) -> str:
+    """The name of what hangs on the version."""
+    return name + "2" if version == 2 else name
+
+
+def _field(kind: str, default: list[Any], version: int) -> dict[str, Any]:
     """The schema of a field."""
     base = kind.replace(" or null", "")
+    if version == 2 and base in ("time", "calls"):
+        base, default = base + "2", ["0" if it == 0 else it for it in default]
     schema: dict[str, Any]
     if base == "bool":
         schema = {"type": "boolean"}
@@ -133,12 +191,12 @@ def _field(kind: str, default: list[Any]) -> dict[str, Any]:
         schema = {"enum": base.split()}
     else:
         schema = _ref("newName" if base == "new name" else base)
-    if kind != base or default == [None]:
+    if kind.endswith(" or null") or default == [None]:
         schema = {"anyOf": [schema, {"type": "null"}]}
     return {**schema, "default": default[0]} if default else schema
 
 
-def _operation(op: str) -> dict[str, Any]:
+def _operation(op: str, version: int) -> dict[str, Any]:
     """The schema of the calls of one operation."""
     if op in entries.LEFT_OUT:
         told = (
@@ -149,7 +207,9 @@ def _operation(op: str) -> dict[str, Any]:
         told = DOES[op]
     fields = entries.fields_of(op)
     schema: dict[str, Any] = {"description": told, "properties": {"op": {"const": op}}}
-    schema["properties"].update((name, _field(kind, default)) for name, kind, *default in fields)
+    schema["properties"].update(
+        (name, _field(kind, default, version)) for name, kind, *default in fields
+    )
     schema["required"] = ["op"] + [name for name, _, *default in fields if not default]
     if op == "disconnect":
         schema["if"] = {"required": ["input"], "properties": {"input": {"not": {"type": "null"}}}}
@@ -165,25 +225,63 @@ def _where(op: dict[str, Any], name: str) -> dict[str, Any]:
     return {"if": {"required": ["op"], "properties": {"op": op}}, "then": _ref(name)}
 
 
-def _groups() -> dict[str, Any]:
-    """The definitions of the groups of operations, each of which chooses by the operation."""
+def _groups(version: int) -> dict[str, Any]:
+    """The definitions of the groups of operations that hang on the version, each of which chooses
+    by the operation."""
     return {
-        name: {
+        _of_version(name, version): {
             "description": "The calls of one of these operations.",
-            "allOf": [_where({"const": op}, op) for op in group],
+            "allOf": [
+                _where({"const": op}, _of_version(op, version) if _is_versioned(op) else op)
+                for op in group
+            ],
         }
         for name, group in entries.GROUPS.items()
+        if version == 1 or any(map(_is_versioned, group))
     }
 
 
-def _call(operations: list[str]) -> dict[str, Any]:
+def _call(operations: list[str], version: int) -> dict[str, Any]:
     """The definition of a call, which chooses the group by the operation."""
+    groups = _groups(version)
     return {
         "description": "A call: its operation and its fields. Further members are ignored.",
         "type": "object",
         "required": ["op"],
         "properties": {"op": {"description": "The operation.", "enum": operations}},
-        "allOf": [_where({"enum": list(group)}, name) for name, group in entries.GROUPS.items()],
+        "allOf": [
+            _where(
+                {"enum": list(group)},
+                _of_version(name, version) if _of_version(name, version) in groups else name,
+            )
+            for name, group in entries.GROUPS.items()
+        ],
+    }
+
+
+def _version(version: int, told: str) -> dict[str, Any]:
+    """What the calls of a script are in a version."""
+    return {
+        "title": f"Version {version}: {told}",
+        "properties": {
+            "version": {"const": version},
+            "calls": _ref(_of_version("calls", version)),
+        },
+    }
+
+
+def _definitions() -> dict[str, Any]:
+    """All definitions, those of version 1 first."""
+    operations = list(entries.OPERATIONS)
+    versioned = [op for op in operations if _is_versioned(op)]
+    return {
+        **_kinds(),
+        "call": _call(operations, 1),
+        **_groups(1),
+        **{op: _operation(op, 1) for op in operations},
+        "call2": _call(operations, 2),
+        **_groups(2),
+        **{op + "2": _operation(op, 2) for op in versioned},
     }
 
 
@@ -201,17 +299,21 @@ def _context() -> dict[str, Any]:
             "channels": count,
             "length": {**count, "description": "Frames."},
             "rate": {**count, "description": "Frames a second."},
+            "renderQuantum": {
+                **count,
+                "description": "Frames that are rendered at a time.",
+                "default": entries.QUANTUM,
+            },
         },
     }
 
 
 def schema() -> dict[str, Any]:
     """The schema of scripts."""
-    operations = list(entries.OPERATIONS)
     return {
         "$schema": "https://json-schema.org/draft/2020-12/schema",
-        "$id": "urn:waplay:script:1",
-        "title": "A script of waplay, version 1",
+        "$id": "urn:waplay:script",
+        "title": "A script of waplay",
         "description": (
             "A session of the Web Audio API in whole numbers. Further members are ignored"
             " everywhere."
@@ -223,16 +325,19 @@ def schema() -> dict[str, Any]:
         "type": "object",
         "required": ["version", "context", "calls"],
         "properties": {
-            "version": {"description": "The version of the format.", "type": "integer", "const": 1},
+            "version": {
+                "description": "The version of the format: 1 with times in frames, 2 in seconds.",
+                "type": "integer",
+                "enum": [1, 2],
+            },
             "context": _context(),
-            "calls": {**_ref("calls"), "description": "The main list of calls."},
+            "calls": {"description": "The main list of calls.", "type": "array"},
         },
-        "$defs": {
-            **_kinds(),
-            "call": _call(operations),
-            **_groups(),
-            **{op: _operation(op) for op in operations},
-        },
+        "oneOf": [
+            _version(1, "times are frames, as whole numbers"),
+            _version(2, "times are seconds, as texts"),
+        ],
+        "$defs": _definitions(),
     }
 
 

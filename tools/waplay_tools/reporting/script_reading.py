@@ -2,7 +2,7 @@
 
 Calls are also given of a script with a fault, as far as there are any, so that a fault can be shown
 where it stands. It reads all operations of the format, also those that the program does not read
-yet.
+yet. The times of its calls are frames in either version: what stands for the seconds of version 2.
 """
 
 from typing import Any
@@ -37,6 +37,11 @@ class Script:
         # None stands for the ordinal of a line that has none, and so for no call.
         self.by_ordinal: dict[int | None, Call] = {call.ordinal: call for call in calls}
 
+    def version(self) -> int:
+        """The version of the format in which it is written; 1 where that can't be told."""
+        version = self.value.get("version") if isinstance(self.value, dict) else None
+        return version if type(version) is int and version in reading.VERSIONS else 1
+
     def context(self, name: str) -> int:
         """A number of the context; 0 where the script has a fault there."""
         context = self.value.get("context") if isinstance(self.value, dict) else None
@@ -44,11 +49,24 @@ class Script:
         return number if type(number) is int else 0
 
 
+def _put_frames(call: Call, rate: int) -> None:
+    """Puts frames in the place of the seconds of a call. What has a fault stays."""
+    for field, kind, *_ in entries.fields_of(call.op if isinstance(call.op, str) else None):
+        written = call.members.get(field)
+        if kind == "time" and reading.cause(written, kind, rate) is None:
+            call.members[field] = reading.frame_of(written, rate)
+
+
 def _look_at(value: Any, calls: list[Call]) -> None:
-    """Raises the first fault of a script, if it has one."""
+    """Raises the first fault of a script, if it has one. Afterwards its times are frames."""
     reading.look_at_head(value)
-    for call in calls:
-        reading.look_at_call(call.ordinal, call.value, entries.OPERATIONS)
+    rate = reading.rate_of(value)
+    try:
+        for call in calls:
+            reading.look_at_call(call.ordinal, call.value, entries.OPERATIONS, rate)
+    finally:
+        for call in calls if rate is not None else []:
+            _put_frames(call, rate or 0)
 
 
 def _numbered(values: list[Any], holder: int, depth: int, calls: list[Call]) -> list[int]:

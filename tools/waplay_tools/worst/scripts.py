@@ -13,6 +13,7 @@ MOST = 2**24  # bytes of a script
 RATE = 16384
 LONGEST_DELAY = 2**28
 CHECKED = ("--mode", "check", "out.wav")
+MIGRATED = ("--mode", "migrate", "out.json")
 
 
 @dataclasses.dataclass(frozen=True)
@@ -41,6 +42,13 @@ def filled(before: str, part: str, behind: str) -> str:
 def member_of(part: str, last: str) -> Callable[[], str]:
     """A script with a list of parts in a member that nothing reads."""
     return lambda: filled(text_of([])[:-1] + ',"x":[', part, last + "]}")
+
+
+def repeated(call: Call, size: int) -> str:
+    """A script of this many bytes, or somewhat fewer, of one call again and again."""
+    part = json.dumps(call, separators=(",", ":")) + ","
+    text = text_of([])[:-2]
+    return text + (part * ((size - len(text) - 2) // len(part)))[:-1] + "]}"
 
 
 def listed(call: Call, field: str, before: list[Call]) -> Callable[[], str]:
@@ -213,6 +221,27 @@ def longest_responses() -> str:
     return text_of([*calls, START], length=128)
 
 
+def longest_programs() -> str:
+    """As many processors as there may be, of the longest program, which hear 32 channels for three
+    quanta."""
+    calls: list[Call] = [
+        {"op": "createBuffer", "as": "b", "channels": 32, "length": 384, "rate": RATE}
+    ]
+    written = {"op": "copyToChannel", "buffer": "b", "samples": list(range(384))}
+    calls += [{**written, "channel": channel} for channel in range(32)]
+    calls += [{"op": "createBufferSource", "as": "s", "buffer": "b"}, {"op": "start", "node": "s"}]
+    code = ["load 0", *["in", "mul", "in", "div 2147483647", "add"] * 50, "in", "add"]
+    code += ["dup", "store 0", "neg"]
+    for number in range(1022):
+        name = f"p{number}"
+        calls += [
+            {"op": "createProcessor", "as": name, "code": code},
+            {"op": "connect", "from": "s", "to": name},
+            {"op": "connect", "from": name, "to": "destination"},
+        ]
+    return text_of([*calls, START], length=384)
+
+
 def sources_that_end() -> str:
     """As many sources as there may be, in the longest session; the last frame ends them."""
     calls: list[Call] = []
@@ -300,6 +329,31 @@ TEXTS = [
         ),
     ),
 ]
+MIGRATIONS = [
+    Worst(
+        "12 MiB of times that are migrated",
+        lambda: repeated({"op": "stop", "node": "c", "when": -TIME}, 12 * 2**20),
+        MIGRATED,
+    ),
+    Worst(
+        "12 MiB of samples that are migrated",
+        lambda: repeated(
+            {"op": "copyToChannel", "buffer": "b", "channel": 0, "samples": [0] * 10**6},
+            12 * 2**20,
+        ),
+        MIGRATED,
+    ),
+    Worst(
+        "12 MiB of controls in names that are migrated",
+        lambda: repeated({"op": "readValue", "node": "\0" * 10**5, "param": ""}, 12 * 2**20),
+        MIGRATED,
+    ),
+    Worst(
+        "all calls there is room for, migrated to three times as much",
+        lambda: repeated({"op": "start", "node": "c"}, MOST),
+        MIGRATED,
+    ),
+]
 ROOM = [
     Worst(
         "10 decodings of a 64 MiB asset of another rate",
@@ -310,9 +364,10 @@ ROOM = [
     Worst("the largest buffers", largest_buffers),
     Worst("the largest delays, of 32 channels", delays_of_32_channels),
     Worst("a quantum of 1,022 convolvers of the longest response", longest_responses),
+    Worst("three quanta of 1,022 processors of the longest program", longest_programs),
     Worst("the largest rendering", lambda: text_of([START], channels=2, length=2**25)),
     Worst("1,023 sources in the longest session, checked", sources_that_end, CHECKED),
     Worst("200,000 suspensions in falling order of time", scheduled, CHECKED),
     Worst("200,000 names", named),
 ]
-TABLE = [*TIMELINES, *CONNECTIONS, *GRAPHS, *TEXTS, *ROOM]
+TABLE = [*TIMELINES, *CONNECTIONS, *GRAPHS, *TEXTS, *MIGRATIONS, *ROOM]

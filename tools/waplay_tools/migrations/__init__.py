@@ -1,0 +1,1 @@
+"""Scripts that a program migrates to version 2, and times that it reads in seconds."""
