@@ -18,5 +18,10 @@ export function featureOf(op) {
   return told ? told[1] : null;
 }
 
+// The fields of an operation that are times, which are texts of seconds in version 2.
+export const timesOf = op => Object.entries(definitions[op].properties)
+  .filter(([, field]) => [field, ...field.anyOf || []].some(part => part.$ref === '#/$defs/time'))
+  .map(([name]) => name);
+
 // The words that the field `value` of an operation may have.
 export const wordsOf = op => definitions[op].properties.value.enum;

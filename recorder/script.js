@@ -8,8 +8,10 @@ import {Graph} from './graph.js';
 import {ASSET_LIMIT, BUFFER_LIMIT, SCRIPT_LIMIT, loseOfContext, loseOfSizes} from './limits.js';
 import {loseOfFilters, lowerFilters} from './filter_rows.js';
 import {lowerLoops} from './loops.js';
+import {timesOf} from './operations.js';
 import {lowerPanners} from './panners.js';
 import {Replacements} from './replacing.js';
+import {inSeconds} from './seconds.js';
 import {settings} from './settings.js';
 import {loseOfTargets} from './targets.js';
 import {ONE} from './values.js';
@@ -147,6 +149,8 @@ function bufferCalls(recording, version, assets, name) {
 export function writeScript(recording, withAssets, name) {
   const assets = withAssets ? [] : null, numbers = new Map();
   const versionOfCall = new Map(recording.versions.map(version => [version.call, version]));
+  const {channels, length} = recording, rate = Math.max(0, Math.round(recording.rate));
+  const timed = call => settings.seconds ? inSeconds(call, rate, timesOf(call.op)) : call;
   let count = 0;
   const write = list => list.flatMap(call => {
     const version = versionOfCall.get(call);
@@ -154,14 +158,13 @@ export function writeScript(recording, withAssets, name) {
     numbers.set(call, count + 1);
     return parts.map(part => {
       count++;
-      return part.then ? {...part, then: write(part.then)} : part;
+      return timed(part.then ? {...part, then: write(part.then)} : part);
     });
   });
   const calls = write(recording.main);
-  const {channels, length, rate} = recording;
-  const head = JSON.stringify({channels, length, rate: Math.max(0, Math.round(rate))});
+  const version = settings.seconds ? 2 : 1, head = JSON.stringify({channels, length, rate});
   const lines = calls.map(call => '  ' + JSON.stringify(call)).join(',\n');
-  const text = `{"version": 1, "context": ${head}, "calls": [\n${lines}\n]}\n`;
+  const text = `{"version": ${version}, "context": ${head}, "calls": [\n${lines}\n]}\n`;
   if (new TextEncoder().encode(text).length > SCRIPT_LIMIT) recording.lose('script-length');
   return {text, assets: assets || [], numbers, count};
 }
