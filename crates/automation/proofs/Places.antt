@@ -1,7 +1,7 @@
 -- Items by their places, and levels by their nodes.
 use Rattle.std.proofs.Common.{ℕ, zero, suc, ◌≡◌, ◌+◌, ◌<◌, length, List, [], ◌∷◌, ◌++◌, take, slice_index_or, slice_set, Bool, true, false, inl, inr, refl, sym, ◌∙◌, ap, arith, subst}
 use Rattle.std.specs.Prelude.{◌⊎◌, ◌==◌}
-use Rattle.std.proofs.lemmas.List.{get_or-set_same, get_or-set_other, get_or_default}
+use Rattle.std.proofs.lemmas.List.{get_or-set_other, get_or_default}
 use Rattle.std.proofs.Math.Seq.{take-append_seam}
 use Rattle.std.proofs.lemmas.Grind.{get_or-set_at}
 use Rattle.std.proofs.lemmas.Bool.Decides.{nat_tests}
@@ -28,7 +28,7 @@ before_or_here i j l = grind arith
 
 -- ---- one level is written
 
-module _ (levels : List LevelView) (node : ℕ) (y : LevelView) (within : node < length levels) where
+module _ (q : ℕ) (levels : List LevelView) (node : ℕ) (y : LevelView) (within : node < length levels) where
   pub own_level : (n : ℕ) → n ≡ node → level_of (slice_set levels node y) n ≡ y
   own_level n same = get_or-set_at levels node n y no_level same within
 
@@ -36,43 +36,43 @@ module _ (levels : List LevelView) (node : ℕ) (y : LevelView) (within : node <
   other_level n other = get_or-set_other levels node n y no_level other
 
   -- where there was room there is still room
-  pub room_stays : HasRoom y → (n : ℕ) → HasRoom (level_of levels n) → HasRoom (level_of (slice_set levels node y) n)
+  pub room_stays : HasRoom q y → (n : ℕ) → HasRoom q (level_of levels n) → HasRoom q (level_of (slice_set levels node y) n)
   room_stays own n old = by_test (n == node) refl
     where
-      by_test : (b : Bool) → (n == node) ≡ b → HasRoom (level_of (slice_set levels node y) n)
-      by_test true t = subst HasRoom (sym (own_level n (let same : n ≡ node = grind (arith, nat_tests) in same))) own
-      by_test false t = subst HasRoom (sym (other_level n (λ e. let k : n ≡ node = e in let no : (n == node) ≡ true = grind (arith, nat_tests) in absurd cc))) old
+      by_test : (b : Bool) → (n == node) ≡ b → HasRoom q (level_of (slice_set levels node y) n)
+      by_test true t = subst (HasRoom q) (sym (own_level n (let same : n ≡ node = grind (arith, nat_tests) in same))) own
+      by_test false t = subst (HasRoom q) (sym (other_level n (λ e. let k : n ≡ node = e in let no : (n == node) ≡ true = grind (arith, nat_tests) in absurd cc))) old
 
   -- the parameters before one have room, and it has too
-  pub room_more : (params : List Param) (i : ℕ) (d : Param) → HasRoom y → node ≡ (slice_index_or params i d).id.node.0
-      → ((j : ℕ) (p : Param) → j < i → HasRoom (level_of levels (slice_index_or params j p).id.node.0))
-      → i < length params → (j : ℕ) (p : Param) → j < i + 1 → HasRoom (level_of (slice_set levels node y) (slice_index_or params j p).id.node.0)
+  pub room_more : (params : List Param) (i : ℕ) (d : Param) → HasRoom q y → node ≡ (slice_index_or params i d).id.node.0
+      → ((j : ℕ) (p : Param) → j < i → HasRoom q (level_of levels (slice_index_or params j p).id.node.0))
+      → i < length params → (j : ℕ) (p : Param) → j < i + 1 → HasRoom q (level_of (slice_set levels node y) (slice_index_or params j p).id.node.0)
   room_more params i d own here old l j p low = by_place (before_or_here i j low)
     where
-      by_place : (j < i) ⊎ (j ≡ i) → HasRoom (level_of (slice_set levels node y) (slice_index_or params j p).id.node.0)
+      by_place : (j < i) ⊎ (j ≡ i) → HasRoom q (level_of (slice_set levels node y) (slice_index_or params j p).id.node.0)
       by_place (inl before) = room_stays own _ (old j p before)
       by_place (inr same) =
-          subst HasRoom (sym (own_level _ (ap (λ k. (slice_index_or params k p).id.node.0) same ∙ ap (λ (q : Param). q.id.node.0) (get_or_default params i p d l) ∙ sym here))) own
+          subst (HasRoom q) (sym (own_level _ (ap (λ k. (slice_index_or params k p).id.node.0) same ∙ ap (λ (x : Param). x.id.node.0) (get_or_default params i p d l) ∙ sym here))) own
 
   -- the parameters before one have their levels, and it has too
   pub taken_more : (params : List Param) (first i : ℕ) (d : Param) → AreInOrder params → node ≡ (slice_index_or params i d).id.node.0
-      → IsLevelOf (slice_index_or params i d) first y
-      → ((j : ℕ) (p : Param) → j < i → IsLevelOf (slice_index_or params j p) first (level_of levels (slice_index_or params j p).id.node.0))
-      → i < length params → (j : ℕ) (p : Param) → j < i + 1 → IsLevelOf (slice_index_or params j p) first (level_of (slice_set levels node y) (slice_index_or params j p).id.node.0)
+      → IsLevelOf q (slice_index_or params i d) first y
+      → ((j : ℕ) (p : Param) → j < i → IsLevelOf q (slice_index_or params j p) first (level_of levels (slice_index_or params j p).id.node.0))
+      → i < length params → (j : ℕ) (p : Param) → j < i + 1 → IsLevelOf q (slice_index_or params j p) first (level_of (slice_set levels node y) (slice_index_or params j p).id.node.0)
   taken_more params first i d order here own old l j p low = by_place (before_or_here i j low)
     where
-      by_place : (j < i) ⊎ (j ≡ i) → IsLevelOf (slice_index_or params j p) first (level_of (slice_set levels node y) (slice_index_or params j p).id.node.0)
+      by_place : (j < i) ⊎ (j ≡ i) → IsLevelOf q (slice_index_or params j p) first (level_of (slice_set levels node y) (slice_index_or params j p).id.node.0)
       by_place (inl before) =
-          subst (IsLevelOf (slice_index_or params j p) first)
+          subst (IsLevelOf q (slice_index_or params j p) first)
           (sym (other_level _ (λ e.
           let rise = nodes_rise params order j i p before l in
-          let same : (slice_index_or params j p).id.node.0 ≡ (slice_index_or params i p).id.node.0 = e ∙ here ∙ ap (λ (q : Param). q.id.node.0) (get_or_default params i d p l) in
+          let same : (slice_index_or params j p).id.node.0 ≡ (slice_index_or params i p).id.node.0 = e ∙ here ∙ ap (λ (x : Param). x.id.node.0) (get_or_default params i d p l) in
           absurd (omega (arith, rise, same)))))
           (old j p before)
       by_place (inr same) =
           let item : slice_index_or params i d ≡ slice_index_or params j p = get_or_default params i d p l ∙ ap (λ k. slice_index_or params k p) (sym same) in
-          subst (λ (q : Param). IsLevelOf q first (level_of (slice_set levels node y) q.id.node.0)) item
-          (subst (IsLevelOf (slice_index_or params i d) first) (sym (own_level _ (sym here))) own)
+          subst (λ (x : Param). IsLevelOf q x first (level_of (slice_set levels node y) x.id.node.0)) item
+          (subst (IsLevelOf q (slice_index_or params i d) first) (sym (own_level _ (sym here))) own)
 
 -- a list that was written over as a whole
 pub rewritten : {X : Type 0} (n : ℕ) (new rest : List X) → length new ≡ n → take n (new ++ rest) ≡ new

@@ -1,4 +1,4 @@
--- The values of a parameter in a quantum of 128 frames.
+-- The values of a parameter in a quantum of q frames.
 use Rattle.std.specs.Prelude.{ℕ, ◌+◌, ◌≡◌, ◌<◌, ℤ, pos, Bool, true, List, [], length, slice_index_or, if◌then◌else◌}
 use Rattle.wa_base.specs.declared.graph_names.Rate.{Rate}
 use Rattle.wa_base.specs.declared.graph_names.Rate.TheVariants.{A, K}
@@ -17,8 +17,8 @@ abbrev pub level_at : LevelView → ℕ → ℤ
 level_at level m = slice_index_or level.values (if level.steady then 0 else m) (pos 0)
 
 -- there is room for one value for each frame
-abbrev pub HasRoom : LevelView → Type 0
-HasRoom level = length level.values ≡ 128
+abbrev pub HasRoom : ℕ → LevelView → Type 0
+HasRoom q level = length level.values ≡ q
 
 -- the frame at which the value of frame m is taken: at k-rate it is the first of the quantum
 abbrev pub taken_at : Rate → ℕ → ℕ
@@ -26,10 +26,10 @@ taken_at A m = m
 taken_at K m = 0
 
 -- the level of a parameter in the quantum that begins at a frame: its intrinsic value at each frame
-pub record IsLevelOf (param : Param) (first : ℕ) (level : LevelView) : Type 0 where
-  pub room : HasRoom level
+pub record IsLevelOf (q : ℕ) (param : Param) (first : ℕ) (level : LevelView) : Type 0 where
+  pub room : HasRoom q level
   pub rate : level.rate ≡ param.rate
-  pub values : (m : ℕ) → m < 128 → level_at level m ≡ value_at param.line.base param.line.events (first + taken_at param.rate m)
+  pub values : (m : ℕ) → m < q → level_at level m ≡ value_at param.line.base param.line.events (first + taken_at param.rate m)
 
 -- stands where there is no level
 abbrev pub no_level : LevelView
@@ -40,5 +40,5 @@ abbrev pub level_of : List LevelView → ℕ → LevelView
 level_of levels node = slice_index_or levels node no_level
 
 -- each parameter has its level, at the place of its node
-abbrev pub AreLevels : List Param → ℕ → List LevelView → Type 0
-AreLevels params first levels = (p : Param) → IsIn p params → IsLevelOf p first (level_of levels p.id.node.0)
+abbrev pub AreLevels : ℕ → List Param → ℕ → List LevelView → Type 0
+AreLevels q params first levels = (p : Param) → IsIn p params → IsLevelOf q p first (level_of levels p.id.node.0)

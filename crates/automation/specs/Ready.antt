@@ -6,8 +6,9 @@ use Rattle.meaning.specs.declared.params.Param.{Param}
 use Rattle.param_cursor.specs.Cursors.{place_at, within}
 use Rattle.automation.specs.Levels.{LevelView, HasRoom, level_of}
 
--- What contracts see of an automation: a place in each timeline, and the level of each node.
+-- What contracts see of an automation: the frames of a quantum, a place in each timeline, and the level of each node.
 pub record AutomationView : Type 0 where
+  pub quantum : ℕ
   pub cursors : List ℕ
   pub levels : List LevelView
 
@@ -23,8 +24,8 @@ place_in first p = place_at first p.line.events
 -- Each cursor stands at a frame in the timeline of its parameter, and for each parameter there is room.
 pub record IsReady (params : List Param) (first : ℕ) (a : AutomationView) : Type 0 where
   pub stands : a.cursors ≡ map (place_in first) params
-  pub room : (p : Param) → IsIn p params → (p.id.node.0 < length a.levels) × HasRoom (level_of a.levels p.id.node.0)
+  pub room : (p : Param) → IsIn p params → (p.id.node.0 < length a.levels) × HasRoom a.quantum (level_of a.levels p.id.node.0)
 
--- the looks that a quantum takes at the events of a timeline: two, and those with a time in the quantum
-abbrev pub looks_at : ℕ → Param → ℕ
-looks_at first p = 2 + length (within first (first + 128) p.line.events)
+-- the looks that a quantum of q frames takes at the events of a timeline: two, and those with a time in the quantum
+abbrev pub looks_at : ℕ → ℕ → Param → ℕ
+looks_at q first p = 2 + length (within first (first + q) p.line.events)

@@ -1,6 +1,7 @@
-ghost use Rattle.std.specs.Prelude.{max, ◌≡◌, ◌<◌, ◌≤◌, ◌+◌, ◌^◌, ℕ, length, map, OnOk};
+ghost use Rattle.std.specs.Prelude.{max, ◌≡◌, [], ◌<◌, ◌≤◌, ◌+◌, ◌^◌, ℕ, length, map, OnOk};
 ghost use Rattle.std.specs.List.{sum_by};
 ghost use Rattle.law_base.specs.Members.{IsIn};
+ghost use Rattle.wa_base.specs.Contexts.{IsQuantumSize};
 ghost use Rattle.meaning.specs.declared.params.Param.{Param as a_param};
 ghost use Rattle.automation.specs.Levels.{AreLevels, HasRoom, level_of};
 ghost use Rattle.automation.specs.Ready.{AreOfNodes, IsReady, looks_at, place_in};
@@ -21,23 +22,32 @@ use wa_base::{NoMemory, NodeId, Steps};
 #[derive(Drop)]
 pub struct Automation {
     alloc: Global,
+    // The frames of a render quantum.
+    quantum: usize,
     cursors: Vec<Cursor>,
     levels: Vec<Level>,
 }
 
 impl Model for Automation {
     ghost use Rattle.automation.specs.Ready.{AutomationView};
+    ghost use Rattle.wa_base.specs.Contexts.{IsQuantumSize};
 
     ghost Value = { AutomationView };
 
-    ghost view = { λ s. record { cursors = s.cursors.items; levels = s.levels.items } };
+    ghost view = { λ s. record { quantum = s.quantum; cursors = s.cursors.items; levels = s.levels.items } };
+
+    ghost invariant = { λ s. IsQuantumSize s.quantum };
 }
 
 impl Automation {
-    /// Of no parameter. It takes no memory.
-    pub fn new(alloc: Global) -> Automation {
+    /// Of no parameter, for render quanta of so many frames. It takes no memory.
+    pub fn new(alloc: Global, quantum: usize) -> Automation
+        requires { IsQuantumSize quantum }
+        ensures { result ≡ record { quantum = quantum; cursors = []; levels = [] } }
+    {
         Automation {
             alloc,
+            quantum,
             cursors: Vec::new(alloc),
             levels: Vec::new(alloc),
         }
@@ -54,13 +64,14 @@ impl Automation {
         steps: &mut Steps<L>,
     ) -> Result<(), NoMemory>
         requires { AreOfNodes nodes params.now }
+        ensures quantum { self.new.quantum ≡ self.old.quantum }
         ensures ready { OnOk result (IsReady params.now first self.new) }
         ensures levels { OnOk result (length self.new.levels ≡ max (length self.old.levels) nodes) }
         ensures cost { (digits : a_param → ℕ) → ((p : a_param) → IsIn p params.now → length p.line.events < 2 ^ digits p) → steps.new ≤ steps.old + sum_by digits params.now }
     {
         self.cursors.resize(params.len(), Cursor::new())?;
         extend(self.alloc, &mut self.levels, nodes)?;
-        make_room(self.levels.as_mut_slice(), params)?;
+        make_room(self.levels.as_mut_slice(), params, self.quantum)?;
         seek(self.cursors.as_mut_slice(), params, first, steps);
         Ok(())
     }
@@ -71,14 +82,16 @@ impl Automation {
         requires nodes { (nodes : ℕ) × AreOfNodes nodes params.now }
         requires first { first ≤ 2 ^ 62 }
         requires ready { IsReady params.now first self.old }
-        ensures levels { AreLevels params.now first self.new.levels }
-        ensures cost { steps.new ≤ steps.old + sum_by (looks_at first) params.now }
+        ensures quantum { self.new.quantum ≡ self.old.quantum }
+        ensures levels { AreLevels self.old.quantum params.now first self.new.levels }
+        ensures cost { steps.new ≤ steps.old + sum_by (looks_at self.old.quantum first) params.now }
     {
         take_each(
             self.levels.as_mut_slice(),
             self.cursors.as_mut_slice(),
             params,
             first,
+            self.quantum,
             steps,
         );
     }
@@ -102,13 +115,13 @@ fn extend(alloc: Global, levels: &mut Vec<Level>, nodes: usize) -> Result<(), No
 }
 
 // Takes the memory for the values of each parameter.
-fn make_room(levels: &mut [Level], params: &[Param]) -> Result<(), NoMemory>
+fn make_room(levels: &mut [Level], params: &[Param], frames: usize) -> Result<(), NoMemory>
     requires { AreOfNodes (length levels.old) params.now }
     ensures length { length levels.new ≡ length levels.old }
-    ensures room { OnOk result ((p : a_param) → IsIn p params.now → HasRoom (level_of levels.new p.id.node.0)) }
+    ensures room { OnOk result ((p : a_param) → IsIn p params.now → HasRoom frames (level_of levels.new p.id.node.0)) }
 {
     for param in params {
-        levels[param.id.node.0 as usize].reserve()?;
+        levels[param.id.node.0 as usize].reserve(frames)?;
     }
     Ok(())
 }
@@ -130,16 +143,18 @@ fn take_each<L: Ledger>(
     cursors: &mut [Cursor],
     params: &[Param],
     first: u64,
+    frames: usize,
     steps: &mut Steps<L>,
 )
     requires nodes { (nodes : ℕ) × AreOfNodes nodes params.now }
+    requires quantum { IsQuantumSize frames }
     requires first { first ≤ 2 ^ 62 }
-    requires ready { IsReady params.now first (record { cursors = cursors.old; levels = levels.old }) }
-    ensures levels { AreLevels params.now first levels.new }
-    ensures cost { steps.new ≤ steps.old + sum_by (looks_at first) params.now }
+    requires ready { IsReady params.now first (record { quantum = frames; cursors = cursors.old; levels = levels.old }) }
+    ensures levels { AreLevels frames params.now first levels.new }
+    ensures cost { steps.new ≤ steps.old + sum_by (looks_at frames first) params.now }
 {
     for (i, param) in params.iter().enumerate() {
         let node = param.id.node.0 as usize;
-        levels[node].take(param, &mut cursors[i], first, steps);
+        levels[node].take(param, &mut cursors[i], first, frames, steps);
     }
 }

@@ -1,4 +1,5 @@
 ghost use Rattle.std.specs.Prelude.{◌≡◌, ◌<◌, ◌≤◌, ◌+◌, ◌^◌, ℕ, pos, length, slice_index_or, OnOk};
+ghost use Rattle.wa_base.specs.Contexts.{IsQuantumSize};
 ghost use Rattle.param_cursor.specs.Cursors.{place_at, within};
 ghost use Rattle.automation.specs.Levels.{HasRoom, IsLevelOf};
 ghost use Rattle.automation.specs.Held.{AreValues};
@@ -10,10 +11,7 @@ use std::marker::Model;
 use std::sync::ledger::Ledger;
 use wa_base::{Fix, NoMemory, Rate, Steps};
 
-// The frames of a render quantum.
-const QUANTUM: usize = wa_base::QUANTUM as usize;
-
-/// The intrinsic values of a parameter in a render quantum of 128 frames (paramIntrinsicValue), in
+/// The intrinsic values of a parameter in a render quantum (paramIntrinsicValue), in
 /// units of 2^-24. At k-rate all have the value of the first frame.
 #[derive(Drop)]
 pub struct Level {
@@ -49,30 +47,32 @@ impl Level {
     }
 
     // Takes the memory for a value for each frame.
-    pub(crate) fn reserve(&mut self) -> Result<(), NoMemory>
-        ensures { OnOk result (HasRoom self.new) }
+    pub(crate) fn reserve(&mut self, frames: usize) -> Result<(), NoMemory>
+        ensures { OnOk result (HasRoom frames self.new) }
     {
-        self.values.resize(QUANTUM, 0)?;
+        self.values.resize(frames, 0)?;
         Ok(())
     }
 
-    // Takes the values of a parameter in the quantum that begins at `first`.
+    // Takes the values of a parameter in the quantum of so many frames that begins at `first`.
     pub(crate) fn take<L: Ledger>(
         &mut self,
         param: &Param,
         cursor: &mut Cursor,
         first: u64,
+        frames: usize,
         steps: &mut Steps<L>,
     )
-        requires room { HasRoom self.old }
+        requires room { HasRoom frames self.old }
+        requires quantum { IsQuantumSize frames }
         requires first { first ≤ 2 ^ 62 }
         requires stands { cursor.old ≡ place_at first param.now.line.events }
-        ensures level { IsLevelOf param.now first self.new }
-        ensures cost { steps.new ≤ steps.old + 2 + length (within first (first + 128) param.now.line.events) }
+        ensures level { IsLevelOf frames param.now first self.new }
+        ensures cost { steps.new ≤ steps.old + 2 + length (within first (first + frames) param.now.line.events) }
     {
         self.rate = param.rate;
         let count = match param.rate {
-            Rate::A => QUANTUM,
+            Rate::A => frames,
             Rate::K => 1,
         };
         match cursor.draw(&mut self.values[0..count], first, &param.line, steps) {
@@ -93,8 +93,8 @@ impl Level {
 
     /// All values of the quantum.
     pub fn values(&self) -> Values<'_>
-        requires { HasRoom self.now }
-        ensures { AreValues self.now result }
+        requires { IsQuantumSize (length self.now.values) }
+        ensures { AreValues (length self.now.values) self.now result }
     {
         if self.steady {
             Values::Steady(self.values[0])

@@ -161,12 +161,12 @@ named_machine m name e world bindings first_names world_is bindings_are names_ar
 -- ---- the context
 
 -- a context with the same numbers
-pub steady_context : (context new : ContextView) (w : World) (book : BookView) → new.spec ≡ context.spec → new.time ≤ 33554560 → IsSteady (machine_of context w book) → IsSteady (machine_of new w book)
+pub steady_context : (context new : ContextView) (w : World) (book : BookView) → new.spec ≡ context.spec → new.time ≤ 33555456 → IsSteady (machine_of context w book) → IsSteady (machine_of new w book)
 steady_context context new w book spec time steady = record { valid = steady.valid; spec = spec ∙ steady.spec; time = time; bound = steady.bound; named = steady.named }
 
 -- ---- a quantum
 
-pub steady_turned : (context new : ContextView) (w next : World) (book : BookView) (last : ℕ) → plain next ≡ ended_marked last (plain w) → IsValid (plain next) → new.spec ≡ context.spec → new.time ≤ 33554560
+pub steady_turned : (context new : ContextView) (w next : World) (book : BookView) (last : ℕ) → plain next ≡ ended_marked last (plain w) → IsValid (plain next) → new.spec ≡ context.spec → new.time ≤ 33555456
     → IsSteady (machine_of context w book) → IsSteady (machine_of new next book)
 steady_turned context new w next book last is valid spec time steady =
     let same : play_nodes (plain next) ≡ play_nodes (plain w) = ap play_nodes is ∙ marked_nodes last w.scheds.items in

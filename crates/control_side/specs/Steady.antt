@@ -15,6 +15,6 @@ IsThere w (Buffer buffer) = buffer.0 < length w.store
 pub record IsSteady (machine : Machine) : Type 0 where
   pub valid : IsValid machine.world
   pub spec : machine.context.spec ≡ machine.world.spec
-  pub time : machine.context.time ≤ 33554560
+  pub time : machine.context.time ≤ 33555456
   pub bound : All (λ (b : List ℕ × Object). IsThere machine.world b.1) machine.bindings
   pub named : All (λ node. IsSome (first_name_of machine.first_names node)) (play_nodes machine.world)

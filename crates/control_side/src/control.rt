@@ -27,7 +27,7 @@ use script_ast::{Call, Op};
 use std::alloc::Global;
 use std::marker::Model;
 use transcript::{Answer, Line};
-use wa_base::{BufId, ContextSpec, Name, NoMemory, NodeId, QUANTUM, State};
+use wa_base::{BufId, ContextSpec, Name, NoMemory, NodeId, State};
 
 /// What a call did: its answer, and the change of the world of which the side that renders has to hear.
 #[derive(Drop)]
@@ -259,7 +259,7 @@ impl Control {
             alloc,
             &self.book,
             self.world.scheds.as_slice(),
-            self.context.now() + QUANTUM,
+            self.context.now() + u64::from(self.context.spec().quantum),
         )
     }
 

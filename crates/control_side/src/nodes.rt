@@ -9,7 +9,7 @@ use conn_graph::{Edge, Form, Target};
 use meaning::{AttributeEdit, Edit};
 use node_table::{Kind, delay_capacity};
 use script_ast::{Interface, Op};
-use wa_base::{Exc, Fix, Name, NoMemory, NodeId, QUANTUM};
+use wa_base::{Exc, Fix, Name, NoMemory, NodeId};
 
 // What the operations on nodes come to, whatever their kind (the BaseAudioContext and AudioNode
 // interfaces).
@@ -42,10 +42,11 @@ impl Control {
     fn create_delay(&self, longest: Fix, time: Fix) -> Decided
         ensures { result ≡ spec.edits self.now (Edit.Create (spec.delay_of self.now.world.spec longest time)) }
     {
+        let spec = self.spec();
         self.create_node(Kind::Delay {
             longest,
             time,
-            capacity: delay_capacity(QUANTUM, longest, self.spec().rate),
+            capacity: delay_capacity(u64::from(spec.quantum), longest, spec.rate),
         })
     }
 

@@ -6,18 +6,18 @@ use wa_base::{ContextSpec, Exc, NoMemory, Refusal, State};
 // A function pays for each of its ends at which a context is let go. So a context is made in one function,
 // lent to the others, and given to `drop` before any error goes up.
 
-fn spec_of(length: u64) -> ContextSpec {
+fn spec_of(quantum: u32, length: u64) -> ContextSpec {
     ContextSpec {
         channels: 1,
         length,
         rate: 48_000,
-        quantum: 128,
+        quantum,
     }
 }
 
-// A context of so many frames, before its first call.
-fn begin(alloc: Global, length: u64) -> Result<Context, Exc> {
-    let spec = spec_of(length);
+// A context of quanta of this size and of so many frames, before its first call.
+fn begin(alloc: Global, quantum: u32, length: u64) -> Result<Context, Exc> {
+    let spec = spec_of(quantum, length);
     if !spec.is_supported() {
         return Err(Exc::NotSupported(None));
     }
@@ -73,12 +73,13 @@ fn resumes(context: &mut Context) -> bool {
     context.resume_refusal().is_none() && context.resume() == Ok(())
 }
 
-// The length of a context, the quanta that it went over, and suspends that come one after another: the
-// time, and the frame at which it takes effect, or none where it is refused.
-type Row = (u64, u32, &'static [(i64, Option<u64>)]);
+// The size of a context's quanta, its length, the quanta that it went over, and suspends that come one
+// after another: the time, and the frame at which it takes effect, or none where it is refused.
+type Row = (u32, u64, u32, &'static [(i64, Option<u64>)]);
 
-const SUSPENDS: [Row; 7] = [
+const SUSPENDS: [Row; 11] = [
     (
+        128,
         300,
         0,
         &[
@@ -99,15 +100,17 @@ const SUSPENDS: [Row; 7] = [
     ),
     // At the length, and up to it.
     (
+        128,
         256,
         0,
         &[(256, None), (129, None), (255, None), (128, Some(128))],
     ),
-    (128, 0, &[(1, None), (127, None), (128, None)]),
-    (257, 0, &[(257, None), (255, Some(256))]),
-    (129, 0, &[(128, Some(128)), (129, None)]),
+    (128, 128, 0, &[(1, None), (127, None), (128, None)]),
+    (128, 257, 0, &[(257, None), (255, Some(256))]),
+    (128, 129, 0, &[(128, Some(128)), (129, None)]),
     // Up to the present.
     (
+        128,
         512,
         1,
         &[
@@ -119,6 +122,7 @@ const SUSPENDS: [Row; 7] = [
         ],
     ),
     (
+        128,
         512,
         2,
         &[
@@ -129,6 +133,32 @@ const SUSPENDS: [Row; 7] = [
             (385, None),
         ],
     ),
+    // Quanta of other sizes.
+    (
+        32,
+        128,
+        0,
+        &[
+            (1, Some(32)),
+            (33, Some(64)),
+            (96, Some(96)),
+            (65, None),
+            (97, None),
+        ],
+    ),
+    (64, 129, 1, &[(64, None), (65, Some(128)), (128, None)]),
+    (
+        1_024,
+        2_048,
+        0,
+        &[
+            (1, Some(1_024)),
+            (1_024, None),
+            (1_025, None),
+            (2_047, None),
+        ],
+    ),
+    (1_024, 2_049, 1, &[(1_024, None), (1_025, Some(2_048))]),
 ];
 
 fn goes_over(context: &mut Context, quanta: u32) -> bool {
@@ -151,8 +181,8 @@ fn suspends_in_turn(context: &mut Context, quanta: u32, calls: &[(i64, Option<u6
 }
 
 fn is_row_met(alloc: Global, row: &Row) -> Result<bool, Exc> {
-    let (length, quanta, calls) = *row;
-    let mut context = begin(alloc, length)?;
+    let (quantum, length, quanta, calls) = *row;
+    let mut context = begin(alloc, quantum, length)?;
     let is_met = suspends_in_turn(&mut context, quanta, calls);
     drop(context);
     Ok(is_met)
@@ -167,7 +197,7 @@ fn suspends_take_effect_at_the_next_boundary_or_are_refused(rt: HostRuntime) {
 
 // A context before its start: there is nothing to resume, and suspensions can be asked for.
 fn is_idle(context: &mut Context) -> bool {
-    context.spec() == spec_of(500)
+    context.spec() == spec_of(128, 500)
         && is_at(context, State::Suspended, 0, None)
         && turn(context).is_none()
         && refuses_resume(context)
@@ -228,7 +258,7 @@ fn goes_from_start_to_end(context: &mut Context) -> bool {
 }
 
 fn goes(alloc: Global) -> Result<bool, Exc> {
-    let mut context = begin(alloc, 500)?;
+    let mut context = begin(alloc, 128, 500)?;
     let goes = goes_from_start_to_end(&mut context);
     drop(context);
     Ok(goes)
@@ -253,7 +283,7 @@ fn asks_at_a_suspension(context: &mut Context) -> bool {
 }
 
 fn asks(alloc: Global) -> Result<bool, Exc> {
-    let mut context = begin(alloc, 385)?;
+    let mut context = begin(alloc, 128, 385)?;
     let asks = asks_at_a_suspension(&mut context);
     drop(context);
     Ok(asks)
@@ -304,7 +334,7 @@ fn schedules(context: &mut Context) -> Result<bool, Refusal> {
 }
 
 fn is_done_again(alloc: Global) -> Result<bool, Refusal> {
-    let mut context = begin(alloc, 5_248)?;
+    let mut context = begin(alloc, 128, 5_248)?;
     let is_done = schedules(&mut context);
     drop(context);
     is_done

@@ -117,4 +117,4 @@ IsInState Closed started time length = IsSome started × (length ≤ time)
 pub record IsContext (c : ContextView) : Type 0 where
   pub in_state : IsInState c.state c.started c.time c.spec.length
   pub spec : IsSupported c.spec
-  pub short : c.time ≤ 33554560
+  pub short : c.time ≤ 33555456

@@ -1,12 +1,12 @@
-ghost use Rattle.std.specs.Prelude.{◌≡◌, ◌↔◌, Some, ◌≤◌, None, true, IfOk, IfErr, IsErrOf, IsOk, OnOk, OnErr};
+ghost use Rattle.std.specs.Prelude.{◌≡◌, ◌↔◌, Some, ◌≤◌, ◌+◌, ◌-◌, ◌*◌, ◌/◌, None, true, IfOk, IfErr, IsErrOf, IsOk, OnOk, OnErr};
 ghost use Rattle.std.specs.Result.{result_err};
-ghost use Rattle.wa_base.specs.Contexts.{IsSupported};
+ghost use Rattle.wa_base.specs.Contexts.{quantum_of, IsQuantumSize, IsSupported};
 ghost use Rattle.ctx_state.specs.Context as of_context;
 
 use std::alloc::Global;
 use std::collections::BTreeMap;
 use std::marker::Model;
-use wa_base::{ContextSpec, Exc, NoMemory, QUANTUM, Refusal, State};
+use wa_base::{ContextSpec, Exc, NoMemory, Refusal, State};
 
 /// What a quantum led to.
 #[derive(Clone, Copy, PartialEq, Eq)]
@@ -65,6 +65,14 @@ impl Context {
         self.spec
     }
 
+    // The number of frames of a quantum.
+    fn quantum(&self) -> u64
+        ensures value { result ≡ quantum_of self.now.spec }
+        ensures size { IsQuantumSize result }
+    {
+        u64::from(self.spec.quantum)
+    }
+
     /// The state (BaseAudioContext.state).
     pub fn state(&self) -> State
         ensures { result ≡ self.now.state }
@@ -75,7 +83,7 @@ impl Context {
     /// The first frame of the next quantum (BaseAudioContext.currentTime, in frames).
     pub fn now(&self) -> u64
         ensures now { result ≡ self.now.time }
-        ensures short { result ≤ 33554560 }
+        ensures short { result ≤ 33555456 }
         ensures state { of_context.IsInState self.now.state self.now.started self.now.time self.now.spec.length }
     {
         self.time
@@ -149,7 +157,7 @@ impl Context {
         if time <= 0 || time as u64 >= self.spec.length {
             return Err(Exc::InvalidState);
         }
-        let frame = (time as u64).div_ceil(QUANTUM) * QUANTUM;
+        let frame = boundary_from(time as u64, self.quantum());
         if frame <= self.time
             || frame >= self.spec.length
             || self.suspensions.contains_key(&frame)
@@ -190,7 +198,7 @@ impl Context {
         requires { self.now.state ≡ State.Running }
         ensures { result ≡ of_context.turn_of self.now }
     {
-        let next = self.time + QUANTUM;
+        let next = self.time + self.quantum();
         if next >= self.spec.length {
             return Turn::Done(self.started.unwrap_or(0));
         }
@@ -210,7 +218,7 @@ impl Context {
         ensures state { of_context.IsTurned result self.old self.new }
     {
         let turn = self.next_turn();
-        self.time += QUANTUM;
+        self.time += self.quantum();
         match turn {
             Turn::Went => {}
             Turn::Due(_) => {
@@ -221,4 +229,14 @@ impl Context {
         }
         turn
     }
+}
+
+// A time in frames, moved up to the next boundary of quanta.
+fn boundary_from(time: u64, quantum: u64) -> u64
+    requires time { time ≤ 33554432 }
+    requires quantum { IsQuantumSize quantum }
+    ensures frame { result ≡ (time + (quantum - 1)) / quantum * quantum }
+    ensures after { time ≤ result }
+{
+    time.div_ceil(quantum) * quantum
 }

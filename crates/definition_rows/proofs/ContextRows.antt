@@ -6,7 +6,7 @@ use Rattle.script_ast.specs.declared.operations.Op.TheVariants as op
 use Rattle.transcript.specs.declared.lines.Answer.TheVariants.{Pending, Resolved, Rejected, State, Time}
 use Rattle.definition_rows.proofs.Machines.{ℕ, pos, neg_ℤ, ◌≡◌, [], ◌∷◌, map, true, false, refl, InvalidState, Answer, Machine, first_machine, stepped, after, ◌gives◌, Answers, context, at_frame}
 
--- ---- 1 to 32 channels, 1 to 33,554,432 frames, 8,000 to 96,000 frames a second, at most 67,108,864 samples, and quanta of 128 frames
+-- ---- 1 to 32 channels, 1 to 33,554,432 frames, 8,000 to 96,000 frames a second, at most 67,108,864 samples, and quanta of 32, 64, 128, 256, 512 or 1,024 frames
 abbrev spec : ℕ → ℕ → ℕ → ContextSpec
 spec channels length rate = record { channels = channels; length = length; rate = rate; quantum = 128 }
 
@@ -15,9 +15,10 @@ contexts : (map (λ n. is_supported (spec n 1 48000)) (0 ∷ 1 ∷ 32 ∷ 33 ∷
     × (map (λ n. is_supported (spec 1 n 48000)) (0 ∷ 1 ∷ 33554432 ∷ 33554433 ∷ []) ≡ false ∷ true ∷ true ∷ false ∷ [])
     × (map (λ n. is_supported (spec 1 1 n)) (7999 ∷ 8000 ∷ 96000 ∷ 96001 ∷ []) ≡ false ∷ true ∷ true ∷ false ∷ [])
     × (map is_supported (spec 2 33554432 48000 ∷ spec 32 2097152 48000 ∷ spec 5 13421773 48000 ∷ spec 5 13421772 48000 ∷ spec 32 2097153 48000 ∷ []) ≡ true ∷ true ∷ false ∷ true ∷ false ∷ [])
-    × (map (λ n. is_supported (record { channels = 1; length = 1; rate = 48000; quantum = n })) (0 ∷ 1 ∷ 64 ∷ 127 ∷ 128 ∷ 129 ∷ 256 ∷ []) ≡ false ∷ false ∷ false ∷ false ∷ true ∷ false ∷ false ∷ [])
+    × (map (λ n. is_supported (record { channels = 1; length = 1; rate = 48000; quantum = n })) (32 ∷ 64 ∷ 128 ∷ 256 ∷ 512 ∷ 1024 ∷ []) ≡ true ∷ true ∷ true ∷ true ∷ true ∷ true ∷ [])
+    × (map (λ n. is_supported (record { channels = 1; length = 1; rate = 48000; quantum = n })) (0 ∷ 1 ∷ 31 ∷ 33 ∷ 100 ∷ 127 ∷ 129 ∷ 2048 ∷ []) ≡ false ∷ false ∷ false ∷ false ∷ false ∷ false ∷ false ∷ false ∷ [])
 unfolding is_supported
-contexts = (refl, refl, refl, refl, refl)
+contexts = (refl, refl, refl, refl, refl, refl)
 
 -- ---- before the start, while it renders, at a suspension and at the end; the length is 1,024
 abbrev rejected : Answer
@@ -38,6 +39,17 @@ scheduled : Answers (after new (op.Suspend (pos 129) ∷ [])) (op.Suspend (pos 1
     × ((after new (op.Suspend (pos 500) ∷ op.Suspend (pos 1) ∷ [])).context.suspensions ≡ (128, 7) ∷ (512, 7) ∷ [])
 unfolding new stepped after
 scheduled = (refl, refl)
+
+-- of quanta of other sizes: the first boundary behind the start is at 1,024, and that behind it is the length; or they are at 32, 64 and so on
+sized : ℕ → Machine
+sized quantum = first_machine (record (context 48000) { length = 2048; quantum = quantum })
+
+scheduled_sized : Answers (sized 1024) (
+    op.Suspend (pos 0) gives rejected ∷ op.Suspend (pos 1) gives Pending ∷ op.Suspend (pos 1024) gives Pending ∷ op.Suspend (pos 1025) gives rejected ∷ op.Suspend (pos 2047) gives rejected ∷ [])
+    × ((after (sized 1024) (op.Suspend (pos 1) ∷ [])).context.suspensions ≡ (1024, 7) ∷ [])
+    × ((after (sized 32) (op.Suspend (pos 33) ∷ op.Suspend (pos 1) ∷ op.Suspend (pos 2016) ∷ [])).context.suspensions ≡ (32, 7) ∷ (64, 7) ∷ (2016, 7) ∷ [])
+unfolding sized stepped after
+scheduled_sized = (refl, refl, refl)
 
 abbrev suspended : Machine
 suspended = record new { context = record (at_frame 256 new).context { state = Suspended } }

@@ -65,12 +65,21 @@ frames_kept : Answers two_long (
 unfolding stepped after two_long
 frames_kept = (refl, refl)
 
--- It keeps as many frames as its longest delay has, to the nearest, and at least the 128 of a quantum.
+-- It keeps as many frames as its longest delay has, to the nearest, and at least those of a quantum, here 128.
 kept : map (λ longest. kind_at (stepped studio (op.CreateDelay x longest (pos 0))).machine.world.nodes 8) (pos 1 ∷ pos 44914 ∷ pos 44915 ∷ one ∷ [])
     ≡ Some (kind.Delay (pos 1) (pos 0) 128) ∷ Some (kind.Delay (pos 44914) (pos 0) 128) ∷ Some (kind.Delay (pos 44915) (pos 0) 129)
     ∷ Some (kind.Delay one (pos 0) 48000) ∷ []
 unfolding stepped after studio
 kept = refl
+
+-- in a context with quanta of so many frames
+sized : ℕ → Machine
+sized quantum = first_machine (record (context 48000) { quantum = quantum })
+
+kept_sized : map (λ quantum. kind_at (stepped (sized quantum) (op.CreateDelay x (pos 44915) (pos 0))).machine.world.nodes 1) (32 ∷ 64 ∷ 256 ∷ 1024 ∷ [])
+    ≡ Some (kind.Delay (pos 44915) (pos 0) 129) ∷ Some (kind.Delay (pos 44915) (pos 0) 129) ∷ Some (kind.Delay (pos 44915) (pos 0) 256) ∷ Some (kind.Delay (pos 44915) (pos 0) 1024) ∷ []
+unfolding sized stepped
+kept_sized = refl
 
 -- ---- createWaveShaper: no oversampling, then a curve of at least 2 points where there is one, then room
 abbrev shaper : Option (List ℤ) → Op

@@ -25,12 +25,22 @@ turns : map turn_of (running 128 0 [] ∷ running 129 0 [] ∷ running 130 128 [
     ≡ Done 6 ∷ Went ∷ Done 6 ∷ Due 3 ∷ Due 4 ∷ Went ∷ Done 6 ∷ []
 turns = refl
 
+-- the same of quanta of other sizes
+abbrev sized : ℕ → ContextView → ContextView
+sized quantum c = record c { spec = record c.spec { quantum = quantum } }
+
+sized_turns : map turn_of (
+    sized 1024 (running 1024 0 []) ∷ sized 1024 (running 1025 0 []) ∷ sized 1024 (running 2048 0 ((1024, 3) ∷ [])) ∷ sized 1024 (running 1025 1024 []) ∷ sized 32 (running 128 0 []) ∷ sized 32 (running 128 0 ((32, 3) ∷ [])) ∷ sized 32 (running 128 96 []) ∷ [])
+    ≡ Done 6 ∷ Went ∷ Due 3 ∷ Done 6 ∷ Went ∷ Due 3 ∷ Done 6 ∷ []
+sized_turns = refl
+
 -- a suspension that is due is scheduled no more
 afterwards : (after_turn (running 384 0 ((256, 4) ∷ [])) ≡ running 384 128 ((256, 4) ∷ []))
     × (after_turn (running 384 0 ((128, 3) ∷ (256, 4) ∷ [])) ≡ record (running 384 128 ((256, 4) ∷ [])) { state = Suspended })
     × (after_turn (running 130 128 []) ≡ record (running 130 256 []) { state = Closed })
+    × (after_turn (sized 1024 (running 1025 1024 [])) ≡ record (sized 1024 (running 1025 2048 [])) { state = Closed })
 unfolding after_turn
-afterwards = (refl, refl, refl)
+afterwards = (refl, refl, refl, refl)
 
 -- ---- which sources end: those whose end is reached at the next quantum's first frame, in order of node number
 abbrev k : List ℕ

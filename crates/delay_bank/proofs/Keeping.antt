@@ -5,8 +5,7 @@ use Rattle.std.specs.List.{list_all}
 use Rattle.std.proofs.lemmas.Bool.{and_parts, and_from}
 use Rattle.std.proofs.lemmas.List.Sums.{AllPass-from_list_all}
 use Rattle.std.proofs.lemmas.Bool.Decides.{nat_tests}
-use Rattle.std.proofs.lemmas.Nat.{div-mul-add}
-use Rattle.std.proofs.Math.Nat.{lt-div-mul-add, div-mul-le_self}
+use Rattle.std.proofs.Math.Nat.{add-mul-div_right, mul-add-div}
 use Rattle.wa_base.specs.declared.graph_names.Interp.{Interp}
 use Rattle.mix_rules.specs.Blocks.{sample}
 use Rattle.mix_rules.specs.Counts.{greatest}
@@ -22,13 +21,8 @@ pub still_below : (low high : ℕ) → low ≤ high → (ns : List ℕ) → All 
 still_below low high l ns all k d there = let here = all k d there in omega arith
 
 -- so many quanta after a quantum
-pub quantum_after : (born blocks : ℕ) → (born + blocks * 128) / 128 ≡ born / 128 + blocks
-quantum_after born blocks =
-    let high = lt-div-mul-add {a = born} {b = 128} (omega arith) in
-    let low = div-mul-le_self born 128 in
-    let rest : born - born / 128 * 128 < 128 = omega arith in
-    let sum : born + blocks * 128 ≡ (born / 128 + blocks) * 128 + (born - born / 128 * 128) = omega arith in
-    ap (λ n. n / 128) sum ∙ div-mul-add (born / 128 + blocks) 128 (born - born / 128 * 128) rest
+pub quantum_after : (q : ℕ) → 0 < q → (born blocks : ℕ) → (born + blocks * q) / q ≡ born / q + blocks
+quantum_after q some born blocks = add-mul-div_right born blocks some
 
 -- the greatest count, with one more
 pub greatest_with : (counts : ℕ → ℕ) (first blocks count : ℕ) → counts (first + blocks) ≡ count → (most : ℕ) → most ≡ greatest (since counts first blocks) → max most count ≡ greatest (since counts first (blocks + 1))
@@ -37,9 +31,9 @@ greatest_with counts first blocks count is most before =
     subst (λ n. max most count ≡ greatest (since counts first n)) (sym longer) (let e : max most count ≡ max (counts (first + blocks)) (greatest (since counts first blocks)) = omega (arith, is, before) in e)
 
 -- what a writer brings in a quantum comes next
-pub comes_next : (line : Line) → line.block ≡ 128 → (born first channels : ℕ) (block : List ℤ) (writer : Writer) → first ≡ born + line.blocks * 128 → Brings first channels block writer → IsNext line (since_birth born writer) channels block
-comes_next line frames born first channels block writer here brings = record {
-  count = ap writer.counts (sym (quantum_after born line.blocks) ∙ ap (λ n. n / 128) (sym here)) ∙ brings.count;
+pub comes_next : (q : ℕ) → 0 < q → (line : Line) → line.block ≡ q → (born first channels : ℕ) (block : List ℤ) (writer : Writer) → first ≡ born + line.blocks * q → Brings q first channels block writer → IsNext line (since_birth q born writer) channels block
+comes_next q some line frames born first channels block writer here brings = record {
+  count = ap writer.counts (sym (quantum_after q some born line.blocks) ∙ ap (λ n. n / q) (sym here)) ∙ brings.count;
   frames = λ c k low now.
       ap (λ g. writer.frames g c) (let e : born + (line.blocks * line.block + k) ≡ first + k = ap (λ n. born + (line.blocks * n + k)) frames ∙ omega (arith, here) in e)
       ∙ brings.frames c k low (subst (λ n. k < n) frames now)
@@ -49,9 +43,9 @@ comes_next line frames born first channels block writer here brings = record {
 -- ---- reading
 
 -- what is asked for is kept
-pub is_reached : (line : Line) → line.block ≡ 128 → (born first least : ℕ) → born ≤ first → IsNearest first (born + line.blocks * 128) least
-    → (d k : ℕ) → k < 128 → least ≤ d → d ≤ line.capacity → IsReached line (first - born + k) d
-is_reached line frames born first least lived near d k now low high old = elim near [
+pub is_reached : (q : ℕ) (line : Line) → line.block ≡ q → (born first least : ℕ) → born ≤ first → IsNearest q first (born + line.blocks * q) least
+    → (d k : ℕ) → k < q → least ≤ d → d ≤ line.capacity → IsReached line (first - born + k) d
+is_reached q line frames born first least lived near d k now low high old = elim near [
   | inl here ↦ let time = here.0 in (let e : first - born + k - d < line.blocks * line.block = rw frames (omega (arith, time, lived, now)) in e, let e : line.blocks * line.block ≤ first - born + k - d + (line.capacity + line.block) = rw frames (omega (arith, time, lived, now, high)) in e)
   | inr here ↦ let time = here.0 in let some = here.1 in (let e : first - born + k - d < line.blocks * line.block = rw frames (omega (arith, time, some, lived, now, low)) in e, let e : line.blocks * line.block ≤ first - born + k - d + (line.capacity + line.block) = rw frames (omega (arith, time, lived, now, high)) in e)
 ]
@@ -72,35 +66,31 @@ all_between least greatest_delay (d ∷ ds) each =
     and_from _ _ (and_from _ _ (let e : nat_le least d ≡ true = grind (arith, nat_tests) in e) (let e : nat_le d greatest_delay ≡ true = grind (arith, nat_tests) in e)) (all_between least greatest_delay ds (λ k l. each (suc k) (omega arith)))
 
 -- a quantum since birth, and one of the context
-same_quantum : (born first k d : ℕ) → born ≤ first → 128 * (born / 128) ≡ born → born + d ≤ first + k → born / 128 + (first - born + k - d) / 128 ≡ (first + k - d) / 128
-same_quantum born first k d lived whole late =
-    let g = first - born + k - d in
-    let high = lt-div-mul-add {a = g} {b = 128} (omega arith) in
-    let low = div-mul-le_self g 128 in
-    let rest : g - g / 128 * 128 < 128 = omega arith in
-    let sum : first + k - d ≡ (born / 128 + g / 128) * 128 + (g - g / 128 * 128) = omega (arith, whole) in
-    sym (ap (λ n. n / 128) sum ∙ div-mul-add (born / 128 + g / 128) 128 (g - g / 128 * 128) rest)
+same_quantum : (q : ℕ) → 0 < q → (born first k d : ℕ) → born ≤ first → q * (born / q) ≡ born → born + d ≤ first + k → born / q + (first - born + k - d) / q ≡ (first + k - d) / q
+same_quantum q some born first k d lived whole late =
+    let sum : first + k - d ≡ q * (born / q) + (first - born + k - d) = omega (arith, whole, lived, late) in
+    sym (ap (λ n. n / q) sum ∙ mul-add-div some (born / q) (first - born + k - d))
 
 -- what is heard has no more channels than the reader
-pub heard_few : (line : Line) → line.block ≡ 128 → (born first : ℕ) → born ≤ first → 128 * (born / 128) ≡ born → (writer : Writer) → Keeps line (since_birth born writer) → (k d channels : ℕ) → IsReached line (first - born + k) d
-    → (born + d ≤ first + k → writer.counts ((first + k - d) / 128) ≤ channels) → heard_count line (first - born + k) d ≤ channels
-heard_few line frames born first lived whole writer keeps k d channels reached few = by_test (nat_lt (first - born + k) d) refl
+pub heard_few : (q : ℕ) → 0 < q → (line : Line) → line.block ≡ q → (born first : ℕ) → born ≤ first → q * (born / q) ≡ born → (writer : Writer) → Keeps line (since_birth q born writer) → (k d channels : ℕ) → IsReached line (first - born + k) d
+    → (born + d ≤ first + k → writer.counts ((first + k - d) / q) ≤ channels) → heard_count line (first - born + k) d ≤ channels
+heard_few q some line frames born first lived whole writer keeps k d channels reached few = by_test (nat_lt (first - born + k) d) refl
   where
     by_test : (b : Bool) → nat_lt (first - born + k) d ≡ b → (if b then 0 else count_at line ((first - born + k - d) / line.block)) ≤ channels
     by_test true t = omega arith
     by_test false t =
         let late : d ≤ first - born + k = grind (arith, nat_tests) in
         let born_by : born + d ≤ first + k = omega arith in
-        subst (λ n. n ≤ channels) (sym (keeps.counts (first - born + k - d) (reached late) ∙ ap (λ b. writer.counts (born / 128 + (first - born + k - d) / b)) frames ∙ ap writer.counts (same_quantum born first k d lived whole born_by))) (few born_by)
+        subst (λ n. n ≤ channels) (sym (keeps.counts (first - born + k - d) (reached late) ∙ ap (λ b. writer.counts (born / q + (first - born + k - d) / b)) frames ∙ ap writer.counts (same_quantum q some born first k d lived whole born_by))) (few born_by)
 
 -- what is read by frames since birth, and by those of the context
-pub by_context : (born first : ℕ) → born ≤ first → 128 * (born / 128) ≡ born → (writer : Writer) (interp : Interp) (channels k d c : ℕ)
-    → delayed 128 (since_birth born writer) interp channels (first - born + k) d c ≡ read_back born writer interp channels (first + k) d c
-by_context born first lived whole writer interp channels k d c = by_test (nat_lt (first + k) (born + d)) refl
+pub by_context : (q : ℕ) → 0 < q → (born first : ℕ) → born ≤ first → q * (born / q) ≡ born → (writer : Writer) (interp : Interp) (channels k d c : ℕ)
+    → delayed q (since_birth q born writer) interp channels (first - born + k) d c ≡ read_back q born writer interp channels (first + k) d c
+by_context q some born first lived whole writer interp channels k d c = by_test (nat_lt (first + k) (born + d)) refl
   where
     by_test : (b : Bool) → nat_lt (first + k) (born + d) ≡ b
-        → (if nat_lt (first - born + k) d then pos 0 else mix interp (writer.counts (born / 128 + (first - born + k - d) / 128)) channels (writer.frames (born + (first - born + k - d))) c)
-        ≡ (if b then pos 0 else mix interp (writer.counts ((first + k - d) / 128)) channels (writer.frames (first + k - d)) c)
+        → (if nat_lt (first - born + k) d then pos 0 else mix interp (writer.counts (born / q + (first - born + k - d) / q)) channels (writer.frames (born + (first - born + k - d))) c)
+        ≡ (if b then pos 0 else mix interp (writer.counts ((first + k - d) / q)) channels (writer.frames (first + k - d)) c)
     by_test true t =
         let early : first + k < born + d = grind (arith, nat_tests) in
         let e : nat_lt (first - born + k) d ≡ true = let l : first - born + k < d = omega arith in grind (arith, nat_tests) in rw e refl
@@ -109,5 +99,5 @@ by_context born first lived whole writer interp channels k d c = by_test (nat_lt
         let e : nat_lt (first - born + k) d ≡ false = let l : d ≤ first - born + k = omega arith in grind (arith, nat_tests) in
         let back : born + (first - born + k - d) ≡ first + k - d = omega arith in
         let g = first - born + k - d in
-        let quantum = same_quantum born first k d lived whole late in
-        rw e (ap (λ q. mix interp (writer.counts q) channels (writer.frames (born + g)) c) quantum ∙ ap (λ f. mix interp (writer.counts ((first + k - d) / 128)) channels (writer.frames f) c) back)
+        let quantum = same_quantum q some born first k d lived whole late in
+        rw e (ap (λ n. mix interp (writer.counts n) channels (writer.frames (born + g)) c) quantum ∙ ap (λ f. mix interp (writer.counts ((first + k - d) / q)) channels (writer.frames f) c) back)

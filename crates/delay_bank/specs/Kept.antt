@@ -1,5 +1,6 @@
--- What the delay of a node keeps of what its writer wrote.
+-- What the delay of a node keeps of what its writer wrote, in quanta of q frames.
 use Rattle.std.specs.Prelude.{ℕ, ℤ, pos, ◌≡◌, ◌↔◌, ◌<◌, ◌≤◌, ◌+◌, ◌-◌, ◌*◌, ◌/◌, ◌⊎◌, ◌&&◌, Bool, nat_lt, nat_le, if◌then◌else◌, length, List, [], All, Option, None, Some}
+use Rattle.wa_base.specs.Contexts.{IsQuantumSize}
 use Rattle.wa_base.specs.declared.graph_names.Interp.{Interp}
 use Rattle.mix_rules.specs.Blocks.{sample}
 use Rattle.mix_rules.specs.Counts.{greatest}
@@ -21,11 +22,12 @@ pub record DelayView : Type 0 where
   pub line : Line
 
 -- what holds of every one
-pub record IsLived (born now greatest_count longest : ℕ) (kept : Line) : Type 0 where
-  pub time : now ≡ born + kept.blocks * 128
+pub record IsLived (q born now greatest_count longest : ℕ) (kept : Line) : Type 0 where
+  pub time : now ≡ born + kept.blocks * q
   pub low : 1 ≤ greatest_count
   pub high : greatest_count ≤ 32
-  pub block : kept.block ≡ 128
+  pub block : kept.block ≡ q
+  pub size : IsQuantumSize q
   pub capacity : kept.capacity ≡ longest
   pub small : longest ≤ 4194304
   pub counts : All (λ n. n ≤ greatest_count) kept.counts
@@ -35,62 +37,71 @@ abbrev pub room_of : DelayView → ℕ
 room_of d = length d.line.channels
 
 -- what a writer wrote by the frames and quanta of its context, by those since a birth
-abbrev pub since_birth : ℕ → Writer → Writer
-since_birth birth writer = record { counts = λ k. writer.counts (birth / 128 + k); frames = λ g c. writer.frames (birth + g) c }
+abbrev pub since_birth : ℕ → ℕ → Writer → Writer
+since_birth q birth writer = record { counts = λ k. writer.counts (birth / q + k); frames = λ g c. writer.frames (birth + g) c }
 
 -- A delay of so many frames keeps what its writer wrote from the node's birth up to a frame.
-pub record HasKept (d : DelayView) (longest born now : ℕ) (writer : Writer) : Type 0 where
+pub record HasKept (q : ℕ) (d : DelayView) (longest born now : ℕ) (writer : Writer) : Type 0 where
   pub capacity : d.line.capacity ≡ longest
-  pub block : d.line.block ≡ 128
+  pub block : d.line.block ≡ q
   pub birth : d.birth ≡ born
   pub time : d.time ≡ now
-  pub long : now ≡ born + d.line.blocks * 128
-  pub most : d.most ≡ greatest (since writer.counts (born / 128) d.line.blocks)
-  pub keeps : Keeps d.line (since_birth born writer)
+  pub long : now ≡ born + d.line.blocks * q
+  pub most : d.most ≡ greatest (since writer.counts (born / q) d.line.blocks)
+  pub keeps : Keeps d.line (since_birth q born writer)
 
 -- The delay of a node is there, and keeps it.
-pub record IsKept (found : Option DelayView) (longest born now : ℕ) (writer : Writer) : Type 0 where
+pub record IsKept (q : ℕ) (found : Option DelayView) (longest born now : ℕ) (writer : Writer) : Type 0 where
   pub delay : DelayView
   pub there : found ≡ Some delay
-  pub has : HasKept delay longest born now writer
+  pub has : HasKept q delay longest born now writer
 
 -- what is kept by either of two delays is kept by the other
-abbrev pub KeepSame : Option DelayView → Option DelayView → Type 0
-KeepSame a b = (longest born now : ℕ) (writer : Writer) → IsKept a longest born now writer ↔ IsKept b longest born now writer
+abbrev pub KeepSame : ℕ → Option DelayView → Option DelayView → Type 0
+KeepSame q a b = (longest born now : ℕ) (writer : Writer) → IsKept q a longest born now writer ↔ IsKept q b longest born now writer
+
+-- a delay, if it is there, is for quanta of q frames
+abbrev pub IsOf : ℕ → Option DelayView → Type 0
+IsOf q found = (d : DelayView) → found ≡ Some d → d.line.block ≡ q
+
+-- a delay that was made room for keeps what it kept, in quanta of as many frames
+pub record IsGrown (old new : Option DelayView) : Type 0 where
+  pub still : (q : ℕ) → KeepSame q old new
+  pub block : (q : ℕ) → IsOf q old → IsOf q new
 
 -- in the quantum that begins at a frame a writer has so many channels, and writes these samples, channel after channel
-pub record Brings (first channels : ℕ) (block : List ℤ) (writer : Writer) : Type 0 where
-  pub count : writer.counts (first / 128) ≡ channels
-  pub frames : (c k : ℕ) → c < channels → k < 128 → writer.frames (first + k) c ≡ sample 128 block c k
+pub record Brings (q first channels : ℕ) (block : List ℤ) (writer : Writer) : Type 0 where
+  pub count : writer.counts (first / q) ≡ channels
+  pub frames : (c k : ℕ) → c < channels → k < q → writer.frames (first + k) c ≡ sample q block c k
 
 -- whether a delay has so many frames
 abbrev pub between : ℕ → ℕ → ℕ → Bool
 between least greatest_delay d = nat_le least d && nat_le d greatest_delay
 
 -- the least number of frames back at which all was written, where a writer has written all before a frame
-abbrev pub IsNearest : ℕ → ℕ → ℕ → Type 0
-IsNearest first now least = ((now ≡ first + 128) × (least ≡ 0)) ⊎ ((now ≡ first) × (least ≡ 128))
+abbrev pub IsNearest : ℕ → ℕ → ℕ → ℕ → Type 0
+IsNearest q first now least = ((now ≡ first + q) × (least ≡ 0)) ⊎ ((now ≡ first) × (least ≡ q))
 
 -- what is asked for in the quantum that begins at a frame is no older than what is kept, and was written before
-pub record IsAsked (first now longest : ℕ) (delays : List ℕ) : Type 0 where
-  pub written : (now ≡ first) ⊎ (now ≡ first + 128)
-  pub kept : (k : ℕ) → k < 128 → delay_at delays k ≤ longest
-  pub earlier : now ≡ first → (k : ℕ) → k < 128 → 128 ≤ delay_at delays k
+pub record IsAsked (q first now longest : ℕ) (delays : List ℕ) : Type 0 where
+  pub written : (now ≡ first) ⊎ (now ≡ first + q)
+  pub kept : (k : ℕ) → k < q → delay_at delays k ≤ longest
+  pub earlier : now ≡ first → (k : ℕ) → k < q → q ≤ delay_at delays k
 
 -- what is asked for was written with no more channels than the reader has
-abbrev pub AreFew : ℕ → Writer → ℕ → ℕ → List ℕ → Type 0
-AreFew born writer channels first delays = (k : ℕ) → k < 128 → born + delay_at delays k ≤ first + k → writer.counts ((first + k - delay_at delays k) / 128) ≤ channels
+abbrev pub AreFew : ℕ → ℕ → Writer → ℕ → ℕ → List ℕ → Type 0
+AreFew q born writer channels first delays = (k : ℕ) → k < q → born + delay_at delays k ≤ first + k → writer.counts ((first + k - delay_at delays k) / q) ≤ channels
 
 -- Channel c of what the reader gives at frame f, where the delay is d frames: what the writer wrote so many frames before, mixed from the channels that it had then. It is 0 before birth.
-abbrev pub read_back : ℕ → Writer → Interp → ℕ → ℕ → ℕ → ℕ → ℤ
-read_back born writer interp channels f d c =
-    if nat_lt f (born + d) then pos 0 else mix interp (writer.counts ((f - d) / 128)) channels (writer.frames (f - d)) c
+abbrev pub read_back : ℕ → ℕ → Writer → Interp → ℕ → ℕ → ℕ → ℕ → ℤ
+read_back q born writer interp channels f d c =
+    if nat_lt f (born + d) then pos 0 else mix interp (writer.counts ((f - d) / q)) channels (writer.frames (f - d)) c
 
 -- the delay with which a node is created, if it keeps what it writes
-abbrev pub delay_for : NodeKeeps → ℕ → Option DelayView
-delay_for (Written frames) born = Some (record { birth = born; time = born; most = 1; line = record { capacity = frames; block = 128; blocks = 0; counts = []; channels = [] } })
-delay_for Heard born = None
-delay_for Nothing born = None
+abbrev pub delay_for : ℕ → NodeKeeps → ℕ → Option DelayView
+delay_for q (Written frames) born = Some (record { birth = born; time = born; most = 1; line = record { capacity = frames; block = q; blocks = 0; counts = []; channels = [] } })
+delay_for q Heard born = None
+delay_for q Nothing born = None
 
-abbrev pub first_delay : Kind → ℕ → Option DelayView
-first_delay kind born = delay_for (row kind).keeps born
+abbrev pub first_delay : ℕ → Kind → ℕ → Option DelayView
+first_delay q kind born = delay_for q (row kind).keeps born

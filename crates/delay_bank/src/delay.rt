@@ -1,5 +1,6 @@
 ghost use Rattle.std.specs.Prelude.{◌≡◌, ◌↔◌, ◌<◌, ◌≤◌, ◌+◌, ◌-◌, ◌*◌, ◌/◌, ◌^◌, ℕ, pos, true, [], length, slice_index_or, MatchOption, IfOk, OnOk};
 ghost use Rattle.std.specs.List.{list_all};
+ghost use Rattle.wa_base.specs.Contexts.{IsQuantumSize};
 ghost use Rattle.mix_rules.specs.Blocks.{sample};
 ghost use Rattle.delay_line.specs.Delays.{Writer};
 ghost use Rattle.delay_line.specs.Spans.{IsReached, delay_at};
@@ -8,9 +9,9 @@ ghost use Rattle.delay_bank.specs.Kept.{room_of, HasKept, Brings, IsAsked, IsNea
 use delay_line::DelayLine;
 use std::alloc::Global;
 use std::marker::Model;
-use wa_base::{Fix, Interp, NoMemory, QUANTUM};
+use wa_base::{Fix, Interp, NoMemory};
 
-/// A quantum that is asked of a delay's reader: its first frame, the delay of each of its 128 frames, in
+/// A quantum that is asked of a delay's reader: its first frame, the delay of each of its frames, in
 /// frames, and to how many channels what was written is mixed, and how.
 #[derive(Clone, Copy)]
 pub struct Reading<'a> {
@@ -25,6 +26,8 @@ pub struct Reading<'a> {
 pub(crate) struct NodeDelay {
     birth: u64,
     time: u64,
+    // The frames of a render quantum.
+    quantum: u64,
     most: u32,
     capacity: u64,
     line: DelayLine,
@@ -37,27 +40,36 @@ impl Model for NodeDelay {
 
     ghost view = { λ d. record { birth = d.birth; time = d.time; most = d.most; line = d.line } };
 
-    ghost invariant = { λ d. IsLived d.birth d.time d.most d.capacity d.line };
+    ghost invariant = { λ d. IsLived d.quantum d.birth d.time d.most d.capacity d.line };
 }
 
 impl NodeDelay {
-    // The delay of a node that is born at a frame, of at most so many frames.
-    pub(crate) fn new(alloc: Global, birth: u64, capacity: u64) -> Result<NodeDelay, NoMemory>
-        requires { capacity ≤ 4194304 }
-        ensures { IfOk result (λ d. d ≡ record { birth = birth; time = birth; most = 1; line = record { capacity = capacity; block = 128; blocks = 0; counts = []; channels = [] } }) }
+    // The delay of a node that is born at a frame, of at most so many frames, for render quanta of
+    // `quantum` frames.
+    pub(crate) fn new(
+        alloc: Global,
+        birth: u64,
+        capacity: u64,
+        quantum: usize,
+    ) -> Result<NodeDelay, NoMemory>
+        requires capacity { capacity ≤ 4194304 }
+        requires quantum { IsQuantumSize quantum }
+        ensures { IfOk result (λ d. d ≡ record { birth = birth; time = birth; most = 1; line = record { capacity = capacity; block = quantum; blocks = 0; counts = []; channels = [] } }) }
     {
         Ok(NodeDelay {
             birth,
             time: birth,
+            quantum: quantum as u64,
             most: 1,
             capacity,
-            line: DelayLine::new(alloc, capacity, QUANTUM as u32)?,
+            line: DelayLine::new(alloc, capacity, quantum as u32)?,
         })
     }
 
     // Makes room for so many channels.
     pub(crate) fn grow(&mut self, channels: u32) -> Result<(), NoMemory>
-        ensures still { (longest born now : ℕ) (writer : Writer) → HasKept self.old longest born now writer ↔ HasKept self.new longest born now writer }
+        ensures still { (q longest born now : ℕ) (writer : Writer) → HasKept q self.old longest born now writer ↔ HasKept q self.new longest born now writer }
+        ensures block { self.new.line.block ≡ self.old.line.block }
         ensures ok { OnOk result (channels ≤ room_of self.new) }
     {
         self.line.grow(channels)
@@ -77,26 +89,27 @@ impl NodeDelay {
     pub(crate) fn write(&mut self, block: &[Fix], channels: u32, first: u64)
         requires room { channels ≤ room_of self.old }
         requires few { channels ≤ 32 }
-        requires block { length block.now ≡ channels * 128 }
+        requires block { length block.now ≡ channels * self.old.line.block }
         requires time { first ≤ 2 ^ 62 }
         ensures room { room_of self.new ≡ room_of self.old }
-        ensures kept { (longest born : ℕ) (writer : Writer) → HasKept self.old longest born first writer → Brings first channels block.now writer → HasKept self.new longest born (first + 128) writer }
+        ensures block { self.new.line.block ≡ self.old.line.block }
+        ensures kept { (q longest born : ℕ) (writer : Writer) → HasKept q self.old longest born first writer → Brings q first channels block.now writer → HasKept q self.new longest born (first + q) writer }
     {
         if self.time != first {
             return;
         }
         self.line.write(block, channels);
-        self.time += QUANTUM;
+        self.time += self.quantum;
         self.most = self.most.max(channels);
     }
 
     // Reads a quantum. What is not kept is silent.
     pub(crate) fn read(&self, out: &mut [Fix], asked: Reading<'_>)
-        requires out { length out.old ≡ asked.channels * 128 }
-        requires delays { length asked.delays.now ≡ 128 }
+        requires out { length out.old ≡ asked.channels * self.now.line.block }
+        requires delays { length asked.delays.now ≡ self.now.line.block }
         requires time { asked.first ≤ 2 ^ 62 }
-        ensures values { (longest born now : ℕ) (writer : Writer) → HasKept self.now longest born now writer → IsAsked asked.entry.first now longest asked.entry.delays.now → AreFew born writer asked.entry.channels asked.entry.first asked.entry.delays.now → 128 * (born / 128) ≡ born →
-            (c k : ℕ) → c < asked.entry.channels → k < 128 → sample 128 out.new c k ≡ read_back born writer asked.entry.interp asked.entry.channels (asked.entry.first + k) (delay_at asked.entry.delays.now k) c }
+        ensures values { (q longest born now : ℕ) (writer : Writer) → HasKept q self.now longest born now writer → IsAsked q asked.entry.first now longest asked.entry.delays.now → AreFew q born writer asked.entry.channels asked.entry.first asked.entry.delays.now → q * (born / q) ≡ born →
+            (c k : ℕ) → c < asked.entry.channels → k < q → sample q out.new c k ≡ read_back q born writer asked.entry.interp asked.entry.channels (asked.entry.first + k) (delay_at asked.entry.delays.now k) c }
     {
         if !self.has(asked.first, asked.delays) {
             silence(out);
@@ -109,11 +122,11 @@ impl NodeDelay {
 
     // Whether all that the quantum asks for is kept.
     fn has(&self, first: u64, delays: &[u64]) -> bool
-        requires delays { length delays.now ≡ 128 }
+        requires delays { length delays.now ≡ self.now.line.block }
         requires time { first ≤ 2 ^ 62 }
         ensures born { result ≡ true → self.now.birth ≤ first }
-        ensures reached { result ≡ true → (k : ℕ) → k < 128 → IsReached self.now.line (first - self.now.birth + k) (delay_at delays.now k) }
-        ensures asked { IsAsked first self.now.time self.now.line.capacity delays.now → self.now.birth ≤ first → result ≡ true }
+        ensures reached { result ≡ true → (k : ℕ) → k < self.now.line.block → IsReached self.now.line (first - self.now.birth + k) (delay_at delays.now k) }
+        ensures asked { IsAsked self.now.line.block first self.now.time self.now.line.capacity delays.now → self.now.birth ≤ first → result ≡ true }
     {
         let Some(least) = self.nearest(first) else {
             return false;
@@ -127,11 +140,11 @@ impl NodeDelay {
     // The least number of frames back at which all of the quantum was written, where all before it was.
     fn nearest(&self, first: u64) -> Option<u64>
         requires { first ≤ 2 ^ 62 }
-        ensures { MatchOption result ((self.now.time ≡ first → ⊥) × (self.now.time ≡ first + 128 → ⊥)) (IsNearest first self.now.time) }
+        ensures { MatchOption result ((self.now.time ≡ first → ⊥) × (self.now.time ≡ first + self.now.line.block → ⊥)) (IsNearest self.now.line.block first self.now.time) }
     {
         if self.time == first {
-            Some(QUANTUM)
-        } else if self.time == first + QUANTUM {
+            Some(self.quantum)
+        } else if self.time == first + self.quantum {
             Some(0)
         } else {
             None

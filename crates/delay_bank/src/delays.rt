@@ -1,11 +1,12 @@
 ghost use Rattle.std.specs.Prelude.{◌≡◌, ◌<◌, ◌≤◌, ◌+◌, ◌*◌, ◌/◌, ◌^◌, ℕ, Some, None, [], IfSome, max, take, length, slice_index_or, IfOk, OnOk};
+ghost use Rattle.wa_base.specs.Contexts.{IsQuantumSize};
 ghost use Rattle.mix_rules.specs.Blocks.{sample};
 ghost use Rattle.delay_line.specs.Delays.{Writer};
 ghost use Rattle.delay_line.specs.Spans.{delay_at as frames_back};
 ghost use Rattle.meaning.specs.Validity.{IsValid};
 ghost use Rattle.meaning.specs.World.{node_at, kind_of};
-ghost use Rattle.delay_bank.specs.Kept.{DelayView as a_delay, room_of, HasKept, IsKept, KeepSame, Brings, IsAsked, AreFew, read_back, first_delay};
-ghost use Rattle.delay_bank.specs.Banks.{delay_at, AreNew, AreSame, Writes as BankWrites, HaveRoom};
+ghost use Rattle.delay_bank.specs.Kept.{DelayView as a_delay, room_of, HasKept, IsKept, IsOf, IsGrown, Brings, IsAsked, AreFew, read_back, first_delay};
+ghost use Rattle.delay_bank.specs.Banks.{delay_at, AreOf, AreNew, AreSame, Writes as BankWrites, HaveRoom};
 
 use crate::delay::{NodeDelay, Reading, silence};
 use meaning::World;
@@ -21,29 +22,32 @@ use wa_base::{Fix, NoMemory, NodeId};
 #[derive(Drop)]
 pub struct Delays {
     alloc: Global,
+    // The frames of a render quantum.
+    quantum: usize,
     // How many nodes had a quantum behind them.
     known: usize,
     delays: Vec<Option<NodeDelay>>,
 }
 
 impl Model for Delays {
-    ghost use Rattle.std.specs.Prelude.{◌≤◌, length};
-    ghost use Rattle.delay_bank.specs.Banks.{BankView};
+    ghost use Rattle.delay_bank.specs.Banks.{BankView, IsBank};
 
     ghost Value = { BankView };
 
-    ghost view = { λ d. record { known = d.known; delays = d.delays.items } };
+    ghost view = { λ d. record { quantum = d.quantum; known = d.known; delays = d.delays.items } };
 
-    ghost invariant = { λ d. d.known ≤ length d.delays.items };
+    ghost invariant = { λ d. IsBank d.quantum d.known d.delays.items };
 }
 
 impl Delays {
-    /// No delay, before the first quantum.
-    pub fn new(alloc: Global) -> Delays
-        ensures { result ≡ record { known = 0; delays = [] } }
+    /// No delay, before the first quantum, where each has so many frames.
+    pub fn new(alloc: Global, quantum: usize) -> Delays
+        requires { IsQuantumSize quantum }
+        ensures { result ≡ record { quantum = quantum; known = 0; delays = [] } }
     {
         Delays {
             alloc,
+            quantum,
             known: 0,
             delays: Vec::new(alloc),
         }
@@ -53,13 +57,14 @@ impl Delays {
     /// as they are.
     pub fn follow(&mut self, world: &World) -> Result<(), NoMemory>
         requires { IsValid world.now }
+        ensures quantum { self.new.quantum ≡ self.old.quantum }
         ensures known { self.new.known ≡ self.old.known }
         ensures kept { take self.old.known self.new.delays ≡ take self.old.known self.old.delays }
         ensures fresh { OnOk result (AreNew self.new world.now) }
         ensures count { OnOk result (length self.new.delays ≡ max self.old.known (length world.now.nodes)) }
     {
         self.delays.truncate(self.known);
-        add_delays(self.alloc, &mut self.delays, world)
+        add_delays(self.alloc, &mut self.delays, world, self.quantum)
     }
 
     /// Makes room for the channels of each writer, by the two places of each node. What is kept stays.
@@ -82,13 +87,13 @@ impl Delays {
         }
     }
 
-    /// A node's writer writes the quantum that begins at the frame `first`: 128 frames of each of its
+    /// A node's writer writes the quantum that begins at the frame `first`: the frames of each of its
     /// channels, channel after channel.
     pub fn write(&mut self, node: NodeId, block: &[Fix], channels: u32, first: u64)
         requires there { node.0 < length self.old.delays }
         requires room { (d : a_delay) → delay_at self.old node.0 ≡ Some d → channels ≤ room_of d }
         requires few { channels ≤ 32 }
-        requires block { length block.now ≡ channels * 128 }
+        requires block { length block.now ≡ channels * self.old.quantum }
         requires time { first ≤ 2 ^ 62 }
         ensures { BankWrites self.old self.new node.0 first channels block.now }
     {
@@ -97,11 +102,11 @@ impl Delays {
 
     /// A node's reader reads a quantum.
     pub fn read(&self, node: NodeId, out: &mut [Fix], asked: Reading<'_>)
-        requires out { length out.old ≡ asked.channels * 128 }
-        requires delays { length asked.delays.now ≡ 128 }
+        requires out { length out.old ≡ asked.channels * self.now.quantum }
+        requires delays { length asked.delays.now ≡ self.now.quantum }
         requires time { asked.first ≤ 2 ^ 62 }
-        ensures values { (d : a_delay) (longest born now : ℕ) (writer : Writer) → delay_at self.now node.0 ≡ Some d → HasKept d longest born now writer → IsAsked asked.entry.first now longest asked.entry.delays.now → AreFew born writer asked.entry.channels asked.entry.first asked.entry.delays.now → 128 * (born / 128) ≡ born →
-            (c k : ℕ) → c < asked.entry.channels → k < 128 → sample 128 out.new c k ≡ read_back born writer asked.entry.interp asked.entry.channels (asked.entry.first + k) (frames_back asked.entry.delays.now k) c }
+        ensures values { (d : a_delay) (longest born now : ℕ) (writer : Writer) → delay_at self.now node.0 ≡ Some d → HasKept self.now.quantum d longest born now writer → IsAsked self.now.quantum asked.entry.first now longest asked.entry.delays.now → AreFew self.now.quantum born writer asked.entry.channels asked.entry.first asked.entry.delays.now → self.now.quantum * (born / self.now.quantum) ≡ born →
+            (c k : ℕ) → c < asked.entry.channels → k < self.now.quantum → sample self.now.quantum out.new c k ≡ read_back self.now.quantum born writer asked.entry.interp asked.entry.channels (asked.entry.first + k) (frames_back asked.entry.delays.now k) c }
     {
         match self.delays.get(node.0 as usize) {
             Some(Some(delay)) => delay.read(out, asked),
@@ -111,6 +116,7 @@ impl Delays {
 
     /// A quantum is behind all nodes.
     pub fn end_quantum(&mut self)
+        ensures quantum { self.new.quantum ≡ self.old.quantum }
         ensures known { self.new.known ≡ length self.old.delays }
         ensures delays { self.new.delays ≡ self.old.delays }
     {
@@ -123,28 +129,37 @@ fn add_delays(
     alloc: Global,
     delays: &mut Vec<Option<NodeDelay>>,
     world: &World,
+    quantum: usize,
 ) -> Result<(), NoMemory>
-    requires { IsValid world.now }
+    requires valid { IsValid world.now }
+    requires quantum { IsQuantumSize quantum }
+    ensures each { AreOf quantum delays.old.items → AreOf quantum delays.new.items }
     ensures kept { take (length delays.old.items) delays.new.items ≡ delays.old.items }
     ensures count { OnOk result (length delays.new.items ≡ max (length delays.old.items) (length world.now.nodes)) }
-    ensures fresh { OnOk result ((n : ℕ) → length delays.old.items ≤ n → n < length world.now.nodes → slice_index_or delays.new.items n None ≡ first_delay (kind_of world.now n) (node_at world.now n).attrs.birth) }
+    ensures fresh { OnOk result ((n : ℕ) → length delays.old.items ≤ n → n < length world.now.nodes → slice_index_or delays.new.items n None ≡ first_delay quantum (kind_of world.now n) (node_at world.now n).attrs.birth) }
 {
     for node in delays.len()..world.nodes.len() as usize {
-        delays.push(delay_of(alloc, world, NodeId(node as u32))?)?;
+        delays.push(delay_of(alloc, world, NodeId(node as u32), quantum)?)?;
     }
     Ok(())
 }
 
 // The delay of a node whose writer has written nothing, if it is one.
-fn delay_of(alloc: Global, world: &World, node: NodeId) -> Result<Option<NodeDelay>, NoMemory>
+fn delay_of(
+    alloc: Global,
+    world: &World,
+    node: NodeId,
+    quantum: usize,
+) -> Result<Option<NodeDelay>, NoMemory>
     requires valid { IsValid world.now }
+    requires quantum { IsQuantumSize quantum }
     requires node { node.0 < length world.now.nodes }
-    ensures { IfOk result (λ delay. delay ≡ first_delay (kind_of world.now node.0) (node_at world.now node.0).attrs.birth) }
+    ensures { IfOk result (λ delay. delay ≡ first_delay quantum (kind_of world.now node.0) (node_at world.now node.0).attrs.birth) }
 {
     match world.nodes.kind(node).row().keeps {
         Keeps::Written(frames) => {
             let birth = world.nodes.attrs(node).birth;
-            Ok(Some(NodeDelay::new(alloc, birth, frames)?))
+            Ok(Some(NodeDelay::new(alloc, birth, frames, quantum)?))
         }
         Keeps::Nothing | Keeps::Heard => Ok(None),
     }
@@ -154,7 +169,7 @@ fn delay_of(alloc: Global, world: &World, node: NodeId) -> Result<Option<NodeDel
 // places.
 fn grow_each(delays: &mut [Option<NodeDelay>], counts: &[u32]) -> Result<(), NoMemory>
     ensures count { length delays.new ≡ length delays.old }
-    ensures still { (n : ℕ) → KeepSame (slice_index_or delays.old n None) (slice_index_or delays.new n None) }
+    ensures each { (n : ℕ) → IsGrown (slice_index_or delays.old n None) (slice_index_or delays.new n None) }
     ensures ok { OnOk result ((n : ℕ) (d : a_delay) → slice_index_or delays.new n None ≡ Some d → 2 * n < length counts.now → slice_index_or counts.now (2 * n) 1 ≤ room_of d) }
 {
     let nodes = delays.len().min((counts.len() + 1) / 2);
@@ -165,7 +180,7 @@ fn grow_each(delays: &mut [Option<NodeDelay>], counts: &[u32]) -> Result<(), NoM
 }
 
 fn grow_one(delay: &mut Option<NodeDelay>, channels: u32) -> Result<(), NoMemory>
-    ensures still { KeepSame delay.old delay.new }
+    ensures grown { IsGrown delay.old delay.new }
     ensures ok { OnOk result (IfSome delay.new (λ d. channels ≤ room_of d)) }
 {
     match delay {
@@ -177,10 +192,11 @@ fn grow_one(delay: &mut Option<NodeDelay>, channels: u32) -> Result<(), NoMemory
 fn write_one(delay: &mut Option<NodeDelay>, block: &[Fix], channels: u32, first: u64)
     requires room { (d : a_delay) → delay.old ≡ Some d → channels ≤ room_of d }
     requires few { channels ≤ 32 }
-    requires block { length block.now ≡ channels * 128 }
+    requires block { (d : a_delay) → delay.old ≡ Some d → length block.now ≡ channels * d.line.block }
     requires time { first ≤ 2 ^ 62 }
     ensures rooms { (e : a_delay) → delay.new ≡ Some e → (d : a_delay) × (delay.old ≡ Some d) × (room_of e ≡ room_of d) }
-    ensures own { (longest born : ℕ) (writer : Writer) → IsKept delay.old longest born first writer → Brings first channels block.now writer → IsKept delay.new longest born (first + 128) writer }
+    ensures block { (q : ℕ) → IsOf q delay.old → IsOf q delay.new }
+    ensures own { (q longest born : ℕ) (writer : Writer) → IsKept q delay.old longest born first writer → Brings q first channels block.now writer → IsKept q delay.new longest born (first + q) writer }
 {
     if let Some(delay) = delay {
         delay.write(block, channels, first);

@@ -28,9 +28,9 @@ room_of f = room f.state
 abbrev pub HasHeard : (ℕ → ℕ → ℤ) → HeardView → Type 0
 HasHeard at f = (c : ℕ) → stands f.state c (since (λ g. at g c) f.birth (f.time - f.birth))
 
--- a block, channel after channel, has 128 frames from a frame on
-abbrev pub Brings : ℕ → List ℤ → (ℕ → ℕ → ℤ) → Type 0
-Brings time x at = (c k : ℕ) → k < 128 → at (time + k) c ≡ item x (c * 128 + k)
+-- a block, channel after channel, has q frames from a frame on
+abbrev pub Brings : ℕ → ℕ → List ℤ → (ℕ → ℕ → ℤ) → Type 0
+Brings q time x at = (c k : ℕ) → k < q → at (time + k) c ≡ item x (c * q + k)
 
 -- the outputs are those of an equation
 abbrev pub HasOutputs : State → Equation → Type 0
@@ -45,13 +45,13 @@ pub record IsHeard (found : Option HeardView) (equation : Equation) (born now : 
   pub time : causal.time ≡ now
   pub heard : HasHeard at causal
 
--- nothing is to be heard in the quantum that begins at a frame
-abbrev pub IsSilentFrom : ℕ → (ℕ → ℕ → ℤ) → Type 0
-IsSilentFrom first at = (c k : ℕ) → k < 128 → at (first + k) c ≡ pos 0
+-- nothing is to be heard in the quantum of q frames that begins at a frame
+abbrev pub IsSilentFrom : ℕ → ℕ → (ℕ → ℕ → ℤ) → Type 0
+IsSilentFrom q first at = (c k : ℕ) → k < q → at (first + k) c ≡ pos 0
 
 -- A causal node hears a silent quantum, if it has heard its input before the first frame of it and no further; else it stays.
-pub record IsRested (first : ℕ) (old new : HeardView) : Type 0 where
-  pub heard : old.time ≡ first → (at : ℕ → ℕ → ℤ) → HasHeard at old → IsSilentFrom first at → IsHeard (Some new) (equation_of old.state) old.birth (first + 128) at
+pub record IsRested (q first : ℕ) (old new : HeardView) : Type 0 where
+  pub heard : old.time ≡ first → (at : ℕ → ℕ → ℤ) → HasHeard at old → IsSilentFrom q first at → IsHeard (Some new) (equation_of old.state) old.birth (first + q) at
   pub kept : (old.time ≡ first → ⊥) → new ≡ old
 
 -- a causal node that was made room for is as it was

@@ -1,4 +1,5 @@
 ghost use Rattle.std.specs.Prelude.{◌≡◌, ◌<◌, ◌≤◌, ◌+◌, ◌-◌, ◌*◌, ◌^◌, ℕ, ℤ, pos, None, [], length, slice_index_or, IfOk, OnOk};
+ghost use Rattle.wa_base.specs.Contexts.{IsQuantumSize};
 ghost use Rattle.node_table.specs.Equations.{equation_refusal, equation_value};
 ghost use Rattle.filter_bank.specs.States.{equation_of, first_state};
 ghost use Rattle.node_table.specs.Frames.{item};
@@ -10,9 +11,6 @@ use node_table::{Causal, Equation};
 use std::alloc::Global;
 use std::marker::Model;
 use wa_base::{Fix, NoMemory};
-
-// The frames of a render quantum.
-pub(crate) const QUANTUM: usize = wa_base::QUANTUM as usize;
 
 // A causal node: its state, and before which frame it has heard its input.
 #[derive(Drop)]
@@ -67,36 +65,39 @@ impl CausalNode {
         self.state.channels()
     }
 
-    // Hears 128 frames of each channel that there is room for, and writes the output of each.
-    pub(crate) fn hear(&mut self, x: &[Fix], y: &mut [Fix])
-        requires x { length x.now ≡ room_of self.old * 128 }
-        requires y { length y.old ≡ room_of self.old * 128 }
+    // Hears so many frames of each channel that there is room for, and writes the output of each.
+    pub(crate) fn hear(&mut self, x: &[Fix], y: &mut [Fix], frames: usize)
+        requires frames { IsQuantumSize frames }
+        requires x { length x.now ≡ room_of self.old * frames }
+        requires y { length y.old ≡ room_of self.old * frames }
         ensures birth { self.new.birth ≡ self.old.birth }
-        ensures time { self.old.time ≤ 2 ^ 62 → self.new.time ≡ self.old.time + 128 }
+        ensures time { self.old.time ≤ 2 ^ 62 → self.new.time ≡ self.old.time + frames }
         ensures room { room_of self.new ≡ room_of self.old }
         ensures outputs { HasOutputs self.new.state (equation_of self.old.state) }
-        ensures heard { self.old.time ≤ 2 ^ 62 → (at : ℕ → ℕ → ℤ) → HasHeard at self.old → Brings self.old.time x.now at → HasHeard at self.new }
-        ensures values { (at : ℕ → ℕ → ℤ) → HasHeard at self.old → Brings self.old.time x.now at → (c k : ℕ) → c < room_of self.old → k < 128 →
-            item y.new (c * 128 + k) ≡ equation_value (equation_of self.old.state) (since (λ g. at g c) self.old.birth (self.old.time + k + 1 - self.old.birth)) }
+        ensures heard { self.old.time ≤ 2 ^ 62 → (at : ℕ → ℕ → ℤ) → HasHeard at self.old → Brings frames self.old.time x.now at → HasHeard at self.new }
+        ensures values { (at : ℕ → ℕ → ℤ) → HasHeard at self.old → Brings frames self.old.time x.now at → (c k : ℕ) → c < room_of self.old → k < frames →
+            item y.new (c * frames + k) ≡ equation_value (equation_of self.old.state) (since (λ g. at g c) self.old.birth (self.old.time + k + 1 - self.old.birth)) }
         ensures length { length y.new ≡ length y.old }
     {
-        self.state.block(x, y, QUANTUM);
-        self.time = self.time.saturating_add(QUANTUM as u64);
+        self.state.block(x, y, frames);
+        self.time = self.time.saturating_add(frames as u64);
     }
 
-    // Hears a silent quantum, where it has heard its input before the frame `first` and no further.
-    pub(crate) fn rest(&mut self, zeros: &[Fix], scratch: &mut [Fix], first: u64)
-        requires zeros { length zeros.now ≡ 4096 }
+    // Hears a silent quantum of so many frames, where it has heard its input before the frame `first`
+    // and no further.
+    pub(crate) fn rest(&mut self, zeros: &[Fix], scratch: &mut [Fix], frames: usize, first: u64)
+        requires frames { IsQuantumSize frames }
+        requires zeros { length zeros.now ≡ 32 * frames }
         requires silent { (k : ℕ) → slice_index_or zeros.now k (pos 0) ≡ pos 0 }
-        requires scratch { length scratch.old ≡ 4096 }
+        requires scratch { length scratch.old ≡ 32 * frames }
         requires time { first ≤ 2 ^ 62 }
-        ensures scratch { length scratch.new ≡ 4096 }
-        ensures rested { IsRested first self.old self.new }
+        ensures scratch { length scratch.new ≡ 32 * frames }
+        ensures rested { IsRested frames first self.old self.new }
     {
         if self.time != first {
             return;
         }
-        let values = self.room() * QUANTUM;
-        self.hear(&zeros[..values], &mut scratch[..values]);
+        let values = self.room() * frames;
+        self.hear(&zeros[..values], &mut scratch[..values], frames);
     }
 }

@@ -1,4 +1,5 @@
 ghost use Rattle.std.specs.Prelude.{◌≡◌, ◌<◌, ◌≤◌, ◌+◌, ◌-◌, ◌*◌, ◌^◌, ℕ, ℤ, pos, [], None, IfSome, max, take, length, slice_index_or, slice_set, Some, IfOk, OnOk};
+ghost use Rattle.wa_base.specs.Contexts.{IsQuantumSize};
 ghost use Rattle.node_table.specs.Equations.{equation_value};
 ghost use Rattle.filter_bank.specs.States.{equation_of};
 ghost use Rattle.node_table.specs.Frames.{item};
@@ -8,7 +9,7 @@ ghost use Rattle.filter_bank.specs.Heard.{HeardView as a_node, room_of, HasHeard
 ghost use Rattle.meaning.specs.World.{node_at, kind_of};
 ghost use Rattle.filter_bank.specs.Banks.{heard_at, AreNew, AreSame, IsSameIfThere, IsRestedIfThere, HaveRoom, Hears};
 
-use crate::causal_node::{CausalNode, QUANTUM};
+use crate::causal_node::CausalNode;
 use meaning::World;
 use node_table::Kind;
 use std::alloc::Global;
@@ -22,6 +23,8 @@ const CHANNELS: usize = 32;
 #[derive(Drop)]
 pub struct CausalNodes {
     alloc: Global,
+    // The frames of a render quantum.
+    quantum: usize,
     // How many nodes had a quantum behind them.
     known: usize,
     nodes: Vec<Option<CausalNode>>,
@@ -35,28 +38,31 @@ impl Model for CausalNodes {
 
     ghost Value = { BankView };
 
-    ghost view = { λ f. record { known = f.known; nodes = f.nodes.items } };
+    ghost view = { λ f. record { quantum = f.quantum; known = f.known; nodes = f.nodes.items } };
 
-    ghost invariant = { λ f. IsBank f.known (length f.nodes.items) f.zeros.items f.scratch.items };
+    ghost invariant = { λ f. IsBank f.quantum f.known (length f.nodes.items) f.zeros.items f.scratch.items };
 }
 
 impl CausalNodes {
-    /// No node, before the first quantum.
-    pub fn new(alloc: Global) -> Result<CausalNodes, NoMemory>
-        ensures { IfOk result (λ bank. bank ≡ record { known = 0; nodes = [] }) }
+    /// No node, before the first quantum, where each has so many frames.
+    pub fn new(alloc: Global, quantum: usize) -> Result<CausalNodes, NoMemory>
+        requires { IsQuantumSize quantum }
+        ensures { IfOk result (λ bank. bank ≡ record { quantum = quantum; known = 0; nodes = [] }) }
     {
         Ok(CausalNodes {
             alloc,
+            quantum,
             known: 0,
             nodes: Vec::new(alloc),
-            zeros: vec![in alloc; 0; CHANNELS * QUANTUM]?,
-            scratch: vec![in alloc; 0; CHANNELS * QUANTUM]?,
+            zeros: vec![in alloc; 0; CHANNELS * quantum]?,
+            scratch: vec![in alloc; 0; CHANNELS * quantum]?,
         })
     }
 
     /// Adds each causal node of a world that had no quantum behind it. The others stay as they are.
     pub fn follow(&mut self, world: &World) -> Result<(), NoMemory>
         requires { IsValid world.now }
+        ensures quantum { self.new.quantum ≡ self.old.quantum }
         ensures known { self.new.known ≡ self.old.known }
         ensures kept { take self.old.known self.new.nodes ≡ take self.old.known self.old.nodes }
         ensures fresh { OnOk result (AreNew self.new world.now) }
@@ -87,30 +93,32 @@ impl CausalNodes {
         }
     }
 
-    /// One causal node hears the next quantum of its input: 128 frames of each channel that it has
+    /// One causal node hears the next quantum of its input: the frames of each channel that it has
     /// room for, channel after channel. `y` gets the outputs in the same order.
     pub fn hear(&mut self, node: NodeId, x: &[Fix], y: &mut [Fix])
         requires there { node.0 < length self.old.nodes }
-        requires x { (f : a_node) → heard_at self.old node.0 ≡ Some f → length x.now ≡ room_of f * 128 }
+        requires x { (f : a_node) → heard_at self.old node.0 ≡ Some f → length x.now ≡ room_of f * self.old.quantum }
         requires y { length y.old ≡ length x.now }
         ensures hears { Hears self.old self.new node.0 x.now y.new }
         ensures length { length y.new ≡ length y.old }
     {
-        hear_one(&mut self.nodes[node.0 as usize], x, y);
+        hear_one(&mut self.nodes[node.0 as usize], x, y, self.quantum);
     }
 
     /// The causal nodes that have heard nothing of the quantum that begins at `first` hear that it is silent.
     /// Then a quantum is behind all nodes.
     pub fn rest(&mut self, first: u64)
         requires { first ≤ 2 ^ 62 }
+        ensures quantum { self.new.quantum ≡ self.old.quantum }
         ensures known { self.new.known ≡ length self.old.nodes }
         ensures count { length self.new.nodes ≡ length self.old.nodes }
-        ensures each { (n : ℕ) → IsRestedIfThere first (heard_at self.old n) (heard_at self.new n) }
+        ensures each { (n : ℕ) → IsRestedIfThere self.old.quantum first (heard_at self.old n) (heard_at self.new n) }
     {
         rest_each(
             self.nodes.as_mut_slice(),
             self.zeros.as_slice(),
             self.scratch.as_mut_slice(),
+            self.quantum,
             first,
         );
         self.known = self.nodes.len();
@@ -175,44 +183,59 @@ fn grow_one(causal: &mut Option<CausalNode>, channels: u32) -> Result<(), NoMemo
     }
 }
 
-fn hear_one(causal: &mut Option<CausalNode>, x: &[Fix], y: &mut [Fix])
-    requires x { IfSome causal.old (λ f. length x.now ≡ room_of f * 128) }
+fn hear_one(causal: &mut Option<CausalNode>, x: &[Fix], y: &mut [Fix], frames: usize)
+    requires frames { IsQuantumSize frames }
+    requires x { IfSome causal.old (λ f. length x.now ≡ room_of f * frames) }
     requires y { length y.old ≡ length x.now }
     ensures rooms { (g : a_node) → causal.new ≡ Some g → (f : a_node) × (causal.old ≡ Some f) × (room_of g ≡ room_of f) }
-    ensures heard { (f : a_node) → causal.old ≡ Some f → f.time ≤ 2 ^ 62 → (at : ℕ → ℕ → ℤ) → HasHeard at f → Brings f.time x.now at → IsHeard causal.new (equation_of f.state) f.birth (f.time + 128) at }
-    ensures values { (f : a_node) → causal.old ≡ Some f → (at : ℕ → ℕ → ℤ) → HasHeard at f → Brings f.time x.now at → (c k : ℕ) → c < room_of f → k < 128 →
-        item y.new (c * 128 + k) ≡ equation_value (equation_of f.state) (since (λ g. at g c) f.birth (f.time + k + 1 - f.birth)) }
+    ensures heard { (f : a_node) → causal.old ≡ Some f → f.time ≤ 2 ^ 62 → (at : ℕ → ℕ → ℤ) → HasHeard at f → Brings frames f.time x.now at → IsHeard causal.new (equation_of f.state) f.birth (f.time + frames) at }
+    ensures values { (f : a_node) → causal.old ≡ Some f → (at : ℕ → ℕ → ℤ) → HasHeard at f → Brings frames f.time x.now at → (c k : ℕ) → c < room_of f → k < frames →
+        item y.new (c * frames + k) ≡ equation_value (equation_of f.state) (since (λ g. at g c) f.birth (f.time + k + 1 - f.birth)) }
     ensures length { length y.new ≡ length y.old }
 {
     if let Some(causal) = causal {
-        causal.hear(x, y);
+        causal.hear(x, y, frames);
     }
 }
 
 // Each causal node that has heard nothing of a quantum hears a silent one.
-fn rest_each(nodes: &mut [Option<CausalNode>], zeros: &[Fix], scratch: &mut [Fix], first: u64)
-    requires zeros { length zeros.now ≡ 4096 }
+fn rest_each(
+    nodes: &mut [Option<CausalNode>],
+    zeros: &[Fix],
+    scratch: &mut [Fix],
+    frames: usize,
+    first: u64,
+)
+    requires frames { IsQuantumSize frames }
+    requires zeros { length zeros.now ≡ 32 * frames }
     requires silent { (k : ℕ) → slice_index_or zeros.now k (pos 0) ≡ pos 0 }
-    requires scratch { length scratch.old ≡ 4096 }
+    requires scratch { length scratch.old ≡ 32 * frames }
     requires time { first ≤ 2 ^ 62 }
     ensures count { length nodes.new ≡ length nodes.old }
-    ensures scratch { length scratch.new ≡ 4096 }
-    ensures each { (n : ℕ) → IsRestedIfThere first (slice_index_or nodes.old n None) (slice_index_or nodes.new n None) }
+    ensures scratch { length scratch.new ≡ 32 * frames }
+    ensures each { (n : ℕ) → IsRestedIfThere frames first (slice_index_or nodes.old n None) (slice_index_or nodes.new n None) }
 {
     for causal in nodes.iter_mut() {
-        rest_one(causal, zeros, scratch, first);
+        rest_one(causal, zeros, scratch, frames, first);
     }
 }
 
-fn rest_one(causal: &mut Option<CausalNode>, zeros: &[Fix], scratch: &mut [Fix], first: u64)
-    requires zeros { length zeros.now ≡ 4096 }
+fn rest_one(
+    causal: &mut Option<CausalNode>,
+    zeros: &[Fix],
+    scratch: &mut [Fix],
+    frames: usize,
+    first: u64,
+)
+    requires frames { IsQuantumSize frames }
+    requires zeros { length zeros.now ≡ 32 * frames }
     requires silent { (k : ℕ) → slice_index_or zeros.now k (pos 0) ≡ pos 0 }
-    requires scratch { length scratch.old ≡ 4096 }
+    requires scratch { length scratch.old ≡ 32 * frames }
     requires time { first ≤ 2 ^ 62 }
-    ensures scratch { length scratch.new ≡ 4096 }
-    ensures rested { IsRestedIfThere first causal.old causal.new }
+    ensures scratch { length scratch.new ≡ 32 * frames }
+    ensures rested { IsRestedIfThere frames first causal.old causal.new }
 {
     if let Some(causal) = causal {
-        causal.rest(zeros, scratch, first);
+        causal.rest(zeros, scratch, frames, first);
     }
 }

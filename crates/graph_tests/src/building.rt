@@ -25,6 +25,7 @@ pub(crate) fn begin(alloc: Global) -> Result<World, Refusal>
     ensures valid { IfOk result IsValid }
     ensures supported { IfOk result (λ world. IsSupported world.spec) }
     ensures channels { IfOk result (λ world. world.spec.channels ≡ 2) }
+    ensures quantum { IfOk result (λ world. world.spec.quantum ≡ 128) }
 {
     if !CONTEXT.is_supported() {
         return Err(Refusal::Exc(Exc::NotSupported(None)));

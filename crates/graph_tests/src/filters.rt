@@ -48,7 +48,8 @@ fn add_late(alloc: Global, world: &mut World) -> Result<(), Refusal>
 fn begin_quantum(bank: &mut CausalNodes, world: &World, channels: u32) -> Result<(), NoMemory>
     requires valid { IsValid world.now }
     requires channels { channels ≤ 2 }
-    ensures { OnOk result (length world.now.nodes ≤ length bank.new.nodes) }
+    ensures count { OnOk result (length world.now.nodes ≤ length bank.new.nodes) }
+    ensures quantum { bank.new.quantum ≡ bank.old.quantum }
 {
     bank.follow(world)?;
     bank.grow(&[1, 1, 1, channels, 1, 1, 1, 1])
@@ -56,8 +57,10 @@ fn begin_quantum(bank: &mut CausalNodes, world: &World, channels: u32) -> Result
 
 // The outputs of a node's filter for a quantum, of as many channels as it has room for.
 fn hear(bank: &mut CausalNodes, world: &World, node: u32, x: &Quantum) -> Quantum
-    requires { length world.now.nodes ≤ length bank.old.nodes }
-    ensures { length bank.new.nodes ≡ length bank.old.nodes }
+    requires count { length world.now.nodes ≤ length bank.old.nodes }
+    requires quantum { bank.old.quantum ≡ 128 }
+    ensures count { length bank.new.nodes ≡ length bank.old.nodes }
+    ensures quantum { bank.new.quantum ≡ bank.old.quantum }
 {
     let mut y = SILENCE;
     let values = bank.room(NodeId(node)) * 128;
@@ -93,7 +96,9 @@ fn rooms(bank: &CausalNodes) -> (usize, usize, usize, usize) {
 
 // Frames 0 to 127. The first filter hears an impulse in its first frame.
 fn first_quantum(bank: &mut CausalNodes, world: &World) -> Result<bool, NoMemory>
-    requires { IsValid world.now }
+    requires valid { IsValid world.now }
+    requires quantum { bank.old.quantum ≡ 128 }
+    ensures { bank.new.quantum ≡ bank.old.quantum }
 {
     bank.follow(world)?;
     let had_no_room = rooms(bank) == (0, 0, 0, 0);
@@ -106,7 +111,9 @@ fn first_quantum(bank: &mut CausalNodes, world: &World) -> Result<bool, NoMemory
 // Frames 128 to 255. The first filter gets a second channel, which hears an impulse, and the late one, which is
 // born, hears an impulse in the last frame.
 fn second_quantum(bank: &mut CausalNodes, world: &World) -> Result<bool, NoMemory>
-    requires { IsValid world.now }
+    requires valid { IsValid world.now }
+    requires quantum { bank.old.quantum ≡ 128 }
+    ensures { bank.new.quantum ≡ bank.old.quantum }
 {
     begin_quantum(bank, world, 2)?;
     let y = hear(bank, world, 1, &impulse(128));
@@ -118,7 +125,9 @@ fn second_quantum(bank: &mut CausalNodes, world: &World) -> Result<bool, NoMemor
 // Frames 256 to 383. The second channel is away, so it hears silence. The late filter puts out what it heard at
 // frame 255, and hears an impulse two frames before the next quantum.
 fn third_quantum(bank: &mut CausalNodes, world: &World) -> Result<bool, NoMemory>
-    requires { IsValid world.now }
+    requires valid { IsValid world.now }
+    requires quantum { bank.old.quantum ≡ 128 }
+    ensures { bank.new.quantum ≡ bank.old.quantum }
 {
     begin_quantum(bank, world, 1)?;
     let y = hear(bank, world, 1, &SILENCE);
@@ -130,7 +139,9 @@ fn third_quantum(bank: &mut CausalNodes, world: &World) -> Result<bool, NoMemory
 // Frames 384 to 511, in which both filters are muted, and frames 512 to 639. The second channel comes back with
 // its history, and what the late filter would have put out at frame 384 is over.
 fn last_quanta(bank: &mut CausalNodes, world: &World) -> Result<bool, NoMemory>
-    requires { IsValid world.now }
+    requires valid { IsValid world.now }
+    requires quantum { bank.old.quantum ≡ 128 }
+    ensures { bank.new.quantum ≡ bank.old.quantum }
 {
     begin_quantum(bank, world, 2)?;
     bank.rest(384);
@@ -143,7 +154,8 @@ fn last_quanta(bank: &mut CausalNodes, world: &World) -> Result<bool, NoMemory>
 }
 
 fn quanta(alloc: Global, bank: &mut CausalNodes, world: &mut World) -> Result<[bool; 4], Refusal>
-    requires { IsValid world.old }
+    requires valid { IsValid world.old }
+    requires quantum { bank.old.quantum ≡ 128 }
 {
     add_first(alloc, world)?;
     let first = first_quantum(bank, world)?;
@@ -159,7 +171,7 @@ fn quanta(alloc: Global, bank: &mut CausalNodes, world: &mut World) -> Result<[b
 fn hear_all(alloc: Global, world: &mut World) -> Result<[bool; 4], Refusal>
     requires { IsValid world.old }
 {
-    let mut bank = CausalNodes::new(alloc)?;
+    let mut bank = CausalNodes::new(alloc, 128)?;
     let are_met = quanta(alloc, &mut bank, world);
     drop(bank);
     are_met

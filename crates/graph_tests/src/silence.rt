@@ -54,7 +54,7 @@ fn loudest_of<L: Ledger>(
     requires planned { renderer.old.planned ≡ None }
 {
     render(renderer, world, 0, steps)?;
-    render(renderer, world, 128, steps)?;
+    render(renderer, world, u64::from(world.spec.quantum), steps)?;
     let mut loudest = 0;
     for value in renderer.out(1) {
         loudest = loudest.max(value.saturating_abs());

@@ -69,6 +69,7 @@ fn play<L: Ledger>(
     requires valid { IsValid world.now }
     requires spec { world.now.spec ≡ renderer.old.spec }
     requires channels { 1 < renderer.old.spec.channels }
+    requires quantum { renderer.old.spec.quantum ≡ 128 }
     requires first { renderer.old.quanta ≡ 0 }
     requires planned { renderer.old.planned ≡ None }
 {
@@ -76,7 +77,7 @@ fn play<L: Ledger>(
     render(renderer, world, 0, steps)?;
     samples[0][..128].copy_from_slice(renderer.out(0));
     samples[1][..128].copy_from_slice(renderer.out(1));
-    render(renderer, world, 128, steps)?;
+    render(renderer, world, u64::from(world.spec.quantum), steps)?;
     samples[0][128..].copy_from_slice(renderer.out(0));
     samples[1][128..].copy_from_slice(renderer.out(1));
     Ok(samples)
@@ -91,6 +92,7 @@ fn play_with<L: Ledger>(
     requires valid { IsValid world.now }
     requires spec { IsSupported world.now.spec }
     requires channels { 1 < world.now.spec.channels }
+    requires quantum { world.now.spec.quantum ≡ 128 }
 {
     let mut renderer = Renderer::new(alloc, world.spec, tie)?;
     let samples = play(&mut renderer, world, steps);
@@ -103,6 +105,7 @@ fn play_both<L: Ledger>(alloc: Global, world: &World, blank: Blank) -> Result<[P
     requires valid { IsValid world.now }
     requires spec { IsSupported world.now.spec }
     requires channels { 1 < world.now.spec.channels }
+    requires quantum { world.now.spec.quantum ≡ 128 }
     requires name { blank.name ≡ L.name }
     requires parts { blank.parts ≡ L.parts }
     requires some { 0 < L.parts }
@@ -138,6 +141,7 @@ fn is_met(alloc: Global, world: &World) -> Result<bool, Refusal>
     requires valid { IsValid world.now }
     requires spec { IsSupported world.now.spec }
     requires channels { 1 < world.now.spec.channels }
+    requires quantum { world.now.spec.quantum ≡ 128 }
 {
     let text = told(alloc, &world.graph)?;
     let samples = play_both::<Brand>(alloc, world, Blank::new(1))?;
@@ -152,6 +156,7 @@ fn is_met_in(alloc: Global, world: &mut World) -> Result<bool, Refusal>
     requires valid { IsValid world.old }
     requires spec { IsSupported world.old.spec }
     requires channels { 1 < world.old.spec.channels }
+    requires quantum { world.old.spec.quantum ≡ 128 }
 {
     add_nodes(alloc, world)?;
     connect_nodes(world)?;

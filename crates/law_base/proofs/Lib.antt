@@ -4,3 +4,4 @@ pub mod Reaching
 pub mod HeightLaws
 pub mod SchemeLaws
 pub mod Places
+pub mod Rows

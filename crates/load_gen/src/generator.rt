@@ -9,7 +9,7 @@ use crate::random::Random;
 use crate::voices::Voice;
 use script_ast::{Call, Calls, Op, Script};
 use std::alloc::Global;
-use wa_base::{ContextSpec, NoMemory};
+use wa_base::{ContextSpec, DEFAULT_QUANTUM, NoMemory};
 
 /// How many voices a script has.
 const VOICES: u32 = 200;
@@ -37,7 +37,7 @@ pub fn script(alloc: Global, number: u32) -> Result<Script, NoMemory>
             channels: 2,
             length: 480_000,
             rate: 48_000,
-            quantum: 128,
+            quantum: DEFAULT_QUANTUM,
         },
         calls,
     })

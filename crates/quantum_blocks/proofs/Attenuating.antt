@@ -1,11 +1,11 @@
 -- A product with a gain below 1.0 and above -1.0 needs no saturation.
-use Rattle.std.proofs.Common.{◌≡◌, ◌≤◌, ◌<◌, ◌+◌, ◌*◌, ◌/◌, ◌^◌, ◌-◌, ◌+ℤ◌, ◌*ℤ◌, suc, ℤ, pos, negsuc, FitsSigned, ap, ◌∙◌, arith}
+use Rattle.std.proofs.Common.{◌≡◌, ◌≤◌, ◌<◌, ◌+◌, ◌*◌, ◌/◌, ◌^◌, ◌-◌, ◌+ℤ◌, ◌*ℤ◌, ℤ, pos, negsuc, FitsSigned, arith}
 use Rattle.std.specs.Prelude.{unsigned_abs}
-use Rattle.std.specs.Int.{w32, w64, int_div_euclid}
+use Rattle.std.specs.Int.{w32, w64}
 use Rattle.std.proofs.lemmas.Int.{ints, unsigned_abs-mul}
 use Rattle.std.proofs.lemmas.Nat.{mul-le}
-use lib.Signed.{shr_z, mag_shr}
-use Rattle.wa_base.specs.Numbers.{rnd, sat}
+use lib.Signed.{shr_z}
+use Rattle.wa_base.specs.Numbers.{sat}
 use Rattle.lane_kern.specs.Blocks.{IsWithin}
 
 abs_of_32_bits : (x : ℤ) → FitsSigned w32 x → unsigned_abs x ≤ 2 ^ 31

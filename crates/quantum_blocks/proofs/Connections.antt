@@ -8,7 +8,7 @@ use Rattle.wa_base.specs.declared.graph_names.End.{End}
 use Rattle.mix_rules.specs.Mixing.{total}
 use Rattle.conn_graph.specs.declared.edges.Edge.{Edge}
 use Rattle.conn_graph.specs.declared.edges.Target.{Target}
-use Rattle.quantum_blocks.specs.Blocks.{BlockView, no_block, slot, block_of, lanes_of, Writes}
+use Rattle.quantum_blocks.specs.Blocks.{BlockView, no_block, slot, block_of, lanes_of, frames_of, Writes}
 use Rattle.quantum_blocks.specs.Connections.{leads_to}
 use Rattle.quantum_blocks.proofs.Slots.{slot_apart}
 
@@ -21,6 +21,16 @@ lanes_at (b ∷ bs) (suc k) = lanes_at bs k
 -- where the numbers of lanes stay, each end keeps its own
 pub lanes_kept : (old new : List BlockView) → lanes_of new ≡ lanes_of old → (e : End) → (block_of new e).lanes ≡ (block_of old e).lanes
 lanes_kept old new same e = sym (lanes_at new (slot e)) ∙ ap (λ ns. slice_index_or ns (slot e) 0) same ∙ lanes_at old (slot e)
+
+-- the frames at a place
+pub frames_at : (blocks : List BlockView) (k : ℕ) → slice_index_or (frames_of blocks) k 0 ≡ (slice_index_or blocks k no_block).frames
+frames_at [] k = refl
+frames_at (b ∷ bs) zero = refl
+frames_at (b ∷ bs) (suc k) = frames_at bs k
+
+-- where the frames stay, each end keeps its own
+pub frames_kept : (old new : List BlockView) → frames_of new ≡ frames_of old → (e : End) → (block_of new e).frames ≡ (block_of old e).frames
+frames_kept old new same e = sym (frames_at new (slot e)) ∙ ap (λ ns. slice_index_or ns (slot e) 0) same ∙ frames_at old (slot e)
 
 -- the sum over the connections from a place on, by the one at that place
 pub total_step : (target : Target) (f : Edge → ℤ) (es : List Edge) (i : ℕ) (d : Edge) → i < length es
@@ -49,9 +59,15 @@ same_lanes [] k b e = refl
 same_lanes (x ∷ xs) zero b e = ap (λ (n : ℕ). n ∷ lanes_of xs) e
 same_lanes (x ∷ xs) (suc k) b e = ap (λ ns. x.lanes ∷ ns) (same_lanes xs k b e)
 
-pub writes_one : (old : List BlockView) (e : End) (k : ℕ) (b : BlockView) → k ≡ slot e → b.lanes ≡ (block_of old e).lanes → Writes old (slice_set old k b) e
-writes_one old e k b here lanes = record {
+same_frames : (old : List BlockView) (k : ℕ) (b : BlockView) → b.frames ≡ (slice_index_or old k no_block).frames → frames_of (slice_set old k b) ≡ frames_of old
+same_frames [] k b e = refl
+same_frames (x ∷ xs) zero b e = ap (λ (n : ℕ). n ∷ frames_of xs) e
+same_frames (x ∷ xs) (suc k) b e = ap (λ ns. x.frames ∷ ns) (same_frames xs k b e)
+
+pub writes_one : (old : List BlockView) (e : End) (k : ℕ) (b : BlockView) → k ≡ slot e → b.lanes ≡ (block_of old e).lanes → b.frames ≡ (block_of old e).frames → Writes old (slice_set old k b) e
+writes_one old e k b here lanes frames = record {
   lanes = same_lanes old k b (lanes ∙ ap (λ j. (slice_index_or old j no_block).lanes) (sym here));
+  frames = same_frames old k b (frames ∙ ap (λ j. (slice_index_or old j no_block).frames) (sym here));
   others = λ d apart. get_or-set_other old k (slot d) b no_block (λ same. slot_apart d e apart (same ∙ here));
 }
 

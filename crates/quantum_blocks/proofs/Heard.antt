@@ -6,6 +6,7 @@ use Rattle.std.specs.Option.{option_map_or}
 use Rattle.std.proofs.lemmas.List.{length-drop, length-take-le}
 use Rattle.std.proofs.lemmas.Option.{get_or_from_slice_get}
 use Rattle.std.proofs.Math.Nat.{mul-le-mul_right}
+use Rattle.wa_base.specs.Contexts.{quantum_of}
 use Rattle.wa_base.specs.declared.graph_names.BufId.{BufId}
 use Rattle.law_base.specs.Members.{IsIn}
 use Rattle.law_base.proofs.Members.{list_any-IsIn}
@@ -49,7 +50,7 @@ no_samples false sched f = refl
 
 module _ (w : World) (node first : ℕ) where
   -- the number of channels is that of the source that is heard
-  pub heard_channels : played_channels w node 128 first ≡ option_map_or (λ (s : SourceView). channels_in s.store (Some s.buffer)) (heard_source w node first) 1
+  pub heard_channels : played_channels w node (quantum_of w.spec) first ≡ option_map_or (λ (s : SourceView). channels_in s.store (Some s.buffer)) (heard_source w node first) 1
   heard_channels = by_play (find_play w.scheds.items node)
     where
       by_sound : (p : Play) (b : Bool) (source : Option BufId) → (if b then channels_in w.store source else 1)
@@ -58,13 +59,13 @@ module _ (w : World) (node first : ℕ) where
       by_sound p true (Some x) = refl
       by_sound p false source = refl
 
-      by_play : (o : Option Play) → option_map_or (λ (p : Play). if plays_in 128 p.sched first then channels_in w.store p.buffer else 1) o 1
+      by_play : (o : Option Play) → option_map_or (λ (p : Play). if plays_in (quantum_of w.spec) p.sched first then channels_in w.store p.buffer else 1) o 1
           ≡ option_map_or (λ (s : SourceView). channels_in s.store (Some s.buffer)) (option_and_then (heard_of w first) o) 1
       by_play None = refl
-      by_play (Some p) = by_sound p (plays_in 128 p.sched first) p.buffer
+      by_play (Some p) = by_sound p (plays_in (quantum_of w.spec) p.sched first) p.buffer
 
   -- one that is not heard is silent
-  pub unheard : heard_source w node first ≡ None → (c m : ℕ) → m < 128 → played_at w node c (first + m) ≡ pos 0
+  pub unheard : heard_source w node first ≡ None → (c m : ℕ) → m < quantum_of w.spec → played_at w node c (first + m) ≡ pos 0
   unheard none c m now = by_play (find_play w.scheds.items node) none
     where
       by_buffer : (p : Play) (source : Option BufId) → option_map {T = BufId} (λ x. let s : SourceView = record { sched = p.sched; store = w.store; buffer = x } in s) source ≡ None → (b : Bool)
@@ -72,14 +73,14 @@ module _ (w : World) (node first : ℕ) where
       by_buffer p None is b = no_samples b p.sched (first + m)
       by_buffer p (Some x) is b = absurd cc
 
-      by_sound : (p : Play) (b : Bool) → plays_in 128 p.sched first ≡ b → (if b then option_map {T = BufId} (λ x. let s : SourceView = record { sched = p.sched; store = w.store; buffer = x } in s) p.buffer else None) ≡ None
+      by_sound : (p : Play) (b : Bool) → plays_in (quantum_of w.spec) p.sched first ≡ b → (if b then option_map {T = BufId} (λ x. let s : SourceView = record { sched = p.sched; store = w.store; buffer = x } in s) p.buffer else None) ≡ None
           → played p.sched (samples_in w.store p.buffer c) (first + m) ≡ pos 0
       by_sound p true sounds is = by_buffer p p.buffer is (plays_at p.sched (first + m))
-      by_sound p false sounds is = ap (λ b. if b then sample_at p.sched.content p.sched.start (samples_in w.store p.buffer c) (first + m) else pos 0) (quiet_at p.sched first 128 m sounds now)
+      by_sound p false sounds is = ap (λ b. if b then sample_at p.sched.content p.sched.start (samples_in w.store p.buffer c) (first + m) else pos 0) (quiet_at p.sched first (quantum_of w.spec) m sounds now)
 
       by_play : (o : Option Play) → option_and_then (heard_of w first) o ≡ None → option_map_or (λ (p : Play). played p.sched (samples_in w.store p.buffer c) (first + m)) o (pos 0) ≡ pos 0
       by_play None is = refl
-      by_play (Some p) is = by_sound p (plays_in 128 p.sched first) refl is
+      by_play (Some p) is = by_sound p (plays_in (quantum_of w.spec) p.sched first) refl is
 
   -- and one that is heard plays its buffer
   pub heard : (s : SourceView) → heard_source w node first ≡ Some s → (c f : ℕ) → played_at w node c f ≡ played s.sched (samples_in s.store (Some s.buffer) c) f
@@ -98,14 +99,14 @@ module _ (w : World) (node first : ℕ) where
       by_play : (o : Option Play) → option_and_then (heard_of w first) o ≡ Some s
           → option_map_or (λ (p : Play). played p.sched (samples_in w.store p.buffer c) f) o (pos 0) ≡ played s.sched (samples_in s.store (Some s.buffer) c) f
       by_play None is = absurd cc
-      by_play (Some p) is = by_sound p (plays_in 128 p.sched first) is
+      by_play (Some p) is = by_sound p (plays_in (quantum_of w.spec) p.sched first) is
 
 -- a source that sounds in a quantum was started
-pub heard_started : (sched : Schedule) (first : ℕ) → plays_in 128 sched first ≡ true → IsSome sched.start
-heard_started sched first sounds = by_start sched.start refl
+pub heard_started : (q : ℕ) (sched : Schedule) (first : ℕ) → plays_in q sched first ≡ true → IsSome sched.start
+heard_started q sched first sounds = by_start sched.start refl
   where
     by_start : (o : Option ℕ) → sched.start ≡ o → IsSome o
-    by_start None none = let quiet = plays_in_not_started 128 sched first none in absurd cc
+    by_start None none = let quiet = plays_in_not_started q sched first none in absurd cc
     by_start (Some start) is = refl
 
 -- its buffer is there, with the frames over which it was started

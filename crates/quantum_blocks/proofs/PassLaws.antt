@@ -19,17 +19,17 @@ use Rattle.meaning.proofs.QuantumLaws.{AreRight, HasCounts, HasSources, block_ri
 use Rattle.quantum_blocks.specs.Blocks.{BlockView, at, shown, carried, block_of, counts_in, drafts_of, frame_of, IsSilent, Writes}
 use Rattle.quantum_blocks.proofs.Slots.{not_same, lane_low, lane_high}
 
-module _ (w : World) (joined : IsJoined (sounding w)) (tape : List World) (blocks blocks' : List BlockView) (counts : List ℕ)
-    (counted : HasCounts 128 (tape ++ w ∷ []) (length tape) w (counts_in counts)) (done : List End) (right : AreRight 128 (tape ++ w ∷ []) (length tape) w (drafts_of blocks counts) done)
+module _ (q : ℕ) (some : 0 < q) (w : World) (joined : IsJoined (sounding w)) (tape : List World) (blocks blocks' : List BlockView) (counts : List ℕ)
+    (counted : HasCounts q (tape ++ w ∷ []) (length tape) w (counts_in counts)) (done : List End) (right : AreRight q (tape ++ w ∷ []) (length tape) w (drafts_of blocks counts) done)
     (x : End) (in_x : IsIn x (ends w.graph.value)) (unmuted : muted w.graph.value x ≡ false) (sources : HasSources w done x)
     (lanes : (block_of blocks' x).lanes ≡ outputs (kind_of w x.node.0) * counts_in counts x) (writes : Writes blocks blocks' x)
-    (renders : (o c m : ℕ) → o < outputs (kind_of w x.node.0) → c < counts_in counts x → m < 128 → at (block_of blocks' x) (o * counts_in counts x + c) m
-    ≡ value_by_kind 128 (128 * length tape + m) (with_drafts (frame 128 (tape ++ w ∷ [])) (128 * length tape) (sounding w) (counts_in counts) (drafts_of blocks counts)) (frame_of (sounding w) blocks counts m) (kind_of w x.node.0) x o c) where
+    (renders : (o c m : ℕ) → o < outputs (kind_of w x.node.0) → c < counts_in counts x → m < q → at (block_of blocks' x) (o * counts_in counts x + c) m
+    ≡ value_by_kind q (q * length tape + m) (with_drafts (frame q (tape ++ w ∷ [])) (q * length tape) (sounding w) (counts_in counts) (drafts_of blocks counts)) (frame_of (sounding w) blocks counts m) (kind_of w x.node.0) x o c) where
   abbrev longer : List World
   longer = tape ++ w ∷ []
 
   abbrev first : ℕ
-  first = 128 * length tape
+  first = q * length tape
 
   abbrev outs : ℕ
   outs = outputs (kind_of w x.node.0)
@@ -38,14 +38,14 @@ module _ (w : World) (joined : IsJoined (sounding w)) (tape : List World) (block
   n = counts_in counts x
 
   -- the end that is rendered is right
-  own_right : (m : ℕ) → m < 128 → drafts_of blocks' counts m x ≡ value 128 longer (first + m) x
+  own_right : (m : ℕ) → m < q → drafts_of blocks' counts m x ≡ value q longer (first + m) x
   unfolding equation
   own_right m l =
       fun_ext (λ o. fun_ext (λ c. by_channel o c (nat_lt o outs) (nat_lt c n) refl refl))
-      ∙ block_right 128 (omega arith) w joined tape (counts_in counts) counted (drafts_of blocks counts) done right x in_x sources m l
+      ∙ block_right q some w joined tape (counts_in counts) counted (drafts_of blocks counts) done right x in_x sources m l
     where
       v : ℕ → ℕ → ℤ
-      v o c = value_by_kind 128 (first + m) (with_drafts (frame 128 longer) first (sounding w) (counts_in counts) (drafts_of blocks counts)) (frame_of (sounding w) blocks counts m) (kind_of w x.node.0) x o c
+      v o c = value_by_kind q (first + m) (with_drafts (frame q longer) first (sounding w) (counts_in counts) (drafts_of blocks counts)) (frame_of (sounding w) blocks counts m) (kind_of w x.node.0) x o c
 
       by_channel : (o c : ℕ) (a b : Bool) → nat_lt o outs ≡ a → nat_lt c n ≡ b
           → (if b then shown (block_of blocks' x) m (o * n + c) else pos 0) ≡ (if muted w.graph.value x then pos 0 else if a && b then v o c else pos 0)
@@ -64,11 +64,11 @@ module _ (w : World) (joined : IsJoined (sounding w)) (tape : List World) (block
       by_channel o c true false s t = ap (λ (k : Bool). if k then pos 0 else pos 0) (sym unmuted)
       by_channel o c false false s t = ap (λ (k : Bool). if k then pos 0 else pos 0) (sym unmuted)
 
-  pub one_more_right : AreRight 128 longer (length tape) w (drafts_of blocks' counts) (x ∷ done)
+  pub one_more_right : AreRight q longer (length tape) w (drafts_of blocks' counts) (x ∷ done)
   one_more_right m l d in_d known = by_test (same_end d x) refl
     where
-      by_test : (b : Bool) → same_end d x ≡ b → drafts_of blocks' counts m d ≡ value 128 longer (first + m) d
-      by_test true t = subst (λ (e : End). drafts_of blocks' counts m e ≡ value 128 longer (first + m) e) (sym (same_end_is d x t)) (own_right m l)
+      by_test : (b : Bool) → same_end d x ≡ b → drafts_of blocks' counts m d ≡ value q longer (first + m) d
+      by_test true t = subst (λ (e : End). drafts_of blocks' counts m e ≡ value q longer (first + m) e) (sym (same_end_is d x t)) (own_right m l)
       by_test false t =
           ap (λ b. λ o. carried b (counts_in counts d) o m) (writes.others d (not_same d x t)) ∙ right m l d in_d (known_before w.graph.value x done d known t)
 
@@ -84,7 +84,7 @@ silent_more blocks blocks' mute k e writes own within silent i d l = by_place (b
     by_end : (y : End) (b : Bool) → same_end y (slice_index_or mute k e) ≡ b → IsSilent blocks y → IsSilent blocks' y
     by_end y true t old = subst (IsSilent blocks') (sym (same_end_is y (slice_index_or mute k e) t)) own
     by_end y false t old =
-        subst (λ (b : BlockView). (lane m : ℕ) → lane < b.lanes → m < 128 → at b lane m ≡ pos 0) (sym (writes.others y (not_same y (slice_index_or mute k e) t))) old
+        subst (λ (b : BlockView). (lane m : ℕ) → lane < b.lanes → m < b.frames → at b lane m ≡ pos 0) (sym (writes.others y (not_same y (slice_index_or mute k e) t))) old
 
     by_place : (i < k) ⊎ (i ≡ k) → IsSilent blocks' (slice_index_or mute i d)
     by_place (inl before) = let y : End = slice_index_or mute i d in by_end y (same_end y (slice_index_or mute k e)) refl (silent i d before)

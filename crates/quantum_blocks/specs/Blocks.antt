@@ -1,43 +1,42 @@
 -- The values of a quantum: a block for each end.
 use Rattle.std.specs.Prelude.{ℕ, ℤ, pos, ◌+◌, ◌*◌, ◌≡◌, ◌≤◌, ◌<◌, List, [], map, slice_index_or, nat_lt, if◌then◌else◌, Bool, true, false, take, drop}
 use Rattle.std.specs.List.{range_with_len}
+use Rattle.wa_base.specs.Contexts.{IsQuantumSize}
 use Rattle.wa_base.specs.declared.graph_names.End.{End}
 use Rattle.meaning.specs.declared.world.World.{World}
 use Rattle.meaning.specs.Counts.{Counts}
 use Rattle.meaning.specs.Values.{Frame}
 use Rattle.meaning.specs.Blocks.{Drafts, drafted}
 
--- the frames of a quantum
-abbrev pub quantum : ℕ
-quantum = 128
-
--- What contracts see of a block: its number of lanes, for how many values more there is room, and the values of each lane, one for each frame.
+-- What contracts see of a block: its number of lanes, the frames of a quantum, for how many values more there is room, and the values of each lane, one for each frame.
 pub record BlockView : Type 0 where
   pub lanes : ℕ
+  pub frames : ℕ
   pub spare : ℕ
   pub values : List (List ℤ)
 
 -- for so many values there is room
 abbrev pub room_of : BlockView → ℕ
-room_of block = block.lanes * quantum + block.spare
+room_of block = block.lanes * block.frames + block.spare
 
--- the values of a lane of a block that holds one for each lane, or one for each frame of each lane
-abbrev pub lane_of : Bool → List ℤ → ℕ → List ℤ
-lane_of true held lane = map (λ m. slice_index_or held lane (pos 0)) (range_with_len 0 quantum)
-lane_of false held lane = take quantum (drop (lane * quantum) held)
+-- the values of a lane of a block of q frames that holds one for each lane, or one for each frame of each lane
+abbrev pub lane_of : ℕ → Bool → List ℤ → ℕ → List ℤ
+lane_of q true held lane = map (λ m. slice_index_or held lane (pos 0)) (range_with_len 0 q)
+lane_of q false held lane = take q (drop (lane * q) held)
 
 -- those of so many lanes
-abbrev pub lanes_from : Bool → ℕ → List ℤ → List (List ℤ)
-lanes_from steady lanes held = map (lane_of steady held) (range_with_len 0 lanes)
+abbrev pub lanes_from : ℕ → Bool → ℕ → List ℤ → List (List ℤ)
+lanes_from q steady lanes held = map (lane_of q steady held) (range_with_len 0 lanes)
 
 -- what holds of every block
-pub record IsBlock (number cells : ℕ) : Type 0 where
+pub record IsBlock (number q cells : ℕ) : Type 0 where
+  pub size : IsQuantumSize q
   pub high : number ≤ 32
-  pub room : number * quantum ≤ cells
+  pub room : number * q ≤ cells
 
 -- stands where there is no end
 abbrev pub no_block : BlockView
-no_block = record { lanes = 0; spare = 0; values = [] }
+no_block = record { lanes = 0; frames = 0; spare = 0; values = [] }
 
 -- a lane at frame m
 abbrev pub lane_at : List (List ℤ) → ℕ → ℕ → ℤ
@@ -69,6 +68,10 @@ block_of blocks e = slice_index_or blocks (slot e) no_block
 abbrev pub lanes_of : List BlockView → List ℕ
 lanes_of blocks = map (λ b. b.lanes) blocks
 
+-- the frames of each
+abbrev pub frames_of : List BlockView → List ℕ
+frames_of blocks = map (λ b. b.frames) blocks
+
 -- the number of channels of each end, by its place
 abbrev pub counts_in : List ℕ → Counts
 counts_in counts = λ e. slice_index_or counts (slot e) 1
@@ -82,9 +85,10 @@ frame_of w blocks counts m = drafted w (counts_in counts) (drafts_of blocks coun
 
 -- the lanes of an end are silent
 abbrev pub IsSilent : List BlockView → End → Type 0
-IsSilent blocks e = (lane m : ℕ) → lane < (block_of blocks e).lanes → m < quantum → at (block_of blocks e) lane m ≡ pos 0
+IsSilent blocks e = (lane m : ℕ) → lane < (block_of blocks e).lanes → m < (block_of blocks e).frames → at (block_of blocks e) lane m ≡ pos 0
 
--- The block of one end is written, and no other's. All keep their number of lanes.
+-- The block of one end is written, and no other's. All keep their number of lanes, and their frames.
 pub record Writes (old new : List BlockView) (e : End) : Type 0 where
   pub lanes : lanes_of new ≡ lanes_of old
+  pub frames : frames_of new ≡ frames_of old
   pub others : (d : End) → (d ≡ e → ⊥) → block_of new d ≡ block_of old d

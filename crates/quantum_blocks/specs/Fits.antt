@@ -1,5 +1,6 @@
 -- What there is room for in a quantum: channels and lanes of each end.
 use Rattle.std.specs.Prelude.{ℕ, ◌≡◌, ◌<◌, ◌≤◌, ◌*◌, ◌+◌, ◌/◌, List, length, slice_index_or}
+use Rattle.wa_base.specs.Contexts.{quantum_of}
 use Rattle.wa_base.specs.declared.graph_names.End.{End}
 use Rattle.law_base.specs.Members.{IsIn}
 use Rattle.node_table.specs.declared.rows.Channels.TheVariants.{Always}
@@ -18,19 +19,21 @@ pub record AreInRange (w : World) (counts : List ℕ) : Type 0 where
   pub lanes : (k : ℕ) → k < length counts → outputs (kind_of w (k / 2)) * slice_index_or counts k 1 ≤ 32
   pub mono : (k : ℕ) → k < length counts → (row (kind_of w (k / 2))).channels ≡ Always 1 → slice_index_or counts k 1 ≡ 1
 
--- each end has its channels, once for each output of its node
+-- each end has its channels, once for each output of its node, and the frames of the world's quanta
 pub record AreFit (w : World) (counts : List ℕ) (blocks : List BlockView) : Type 0 where
   pub places : length blocks ≡ 2 * length w.nodes
   pub lanes : (e : End) → IsIn e (ends w.graph.value) → (block_of blocks e).lanes ≡ outputs (kind_of w e.node.0) * counts_in counts e
+  pub frames : (e : End) → IsIn e (ends w.graph.value) → (block_of blocks e).frames ≡ quantum_of w.spec
 
--- a connection comes from an output that its source's block has
-pub record IsSource (counts : List ℕ) (blocks : List BlockView) (e : Edge) : Type 0 where
+-- a connection comes from an output that its source's block has, which has so many frames
+pub record IsSource (q : ℕ) (counts : List ℕ) (blocks : List BlockView) (e : Edge) : Type 0 where
   pub block : slot (reader_of e.from.0) < length blocks
   pub count : slot (reader_of e.from.0) < length counts
   pub low : 1 ≤ counts_in counts (reader_of e.from.0)
   pub high : counts_in counts (reader_of e.from.0) ≤ 32
   pub lanes : e.output * counts_in counts (reader_of e.from.0) + counts_in counts (reader_of e.from.0) ≤ (block_of blocks (reader_of e.from.0)).lanes
+  pub frames : (block_of blocks (reader_of e.from.0)).frames ≡ q
 
 -- and so does each of several connections
-abbrev pub AreSources : List ℕ → List BlockView → List Edge → Type 0
-AreSources counts blocks edges = (i : ℕ) (d : Edge) → i < length edges → IsSource counts blocks (slice_index_or edges i d)
+abbrev pub AreSources : ℕ → List ℕ → List BlockView → List Edge → Type 0
+AreSources q counts blocks edges = (i : ℕ) (d : Edge) → i < length edges → IsSource q counts blocks (slice_index_or edges i d)

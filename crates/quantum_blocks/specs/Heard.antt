@@ -1,5 +1,6 @@
--- A buffer source that sounds in a quantum of 128 frames.
+-- A buffer source that sounds in a quantum.
 use Rattle.std.specs.Prelude.{ℕ, ◌≡◌, ◌<◌, List, length, Option, None, Some, IfSome, if◌then◌else◌, option_map, option_and_then}
+use Rattle.wa_base.specs.Contexts.{quantum_of}
 use Rattle.wa_base.specs.declared.graph_names.BufId.{BufId}
 use Rattle.buffer_store.specs.declared.buffers.Buffer.{Buffer as AudioBuffer}
 use Rattle.buffer_store.specs.Buffers.{AreBuffers}
@@ -23,7 +24,7 @@ pub record IsHeard (schedule : Schedule) (buffers : List AudioBuffer) (source : 
 -- a source in the quantum that begins at a frame, if it sounds there
 abbrev pub heard_of : World → ℕ → Play → Option SourceView
 heard_of w first play =
-    if plays_in 128 play.sched first
+    if plays_in (quantum_of w.spec) play.sched first
     then option_map {T = BufId} (λ b. let s : SourceView = record { sched = play.sched; store = w.store; buffer = b } in s) play.buffer
     else None
 

@@ -1,11 +1,12 @@
 ghost use Rattle.std.specs.Prelude.{◌≡◌, ◌≤◌, ◌<◌, ◌*◌, ◌+◌, ◌/◌, ◌^◌, ◌+ℤ◌, ◌∷◌, [], ℕ, ℤ, pos, Some, length, slice_index_or, OnOk, IfOk, IfSome, FitsSigned, if◌then◌else◌};
 ghost use Rattle.std.specs.Int.{w32};
 ghost use Rattle.wa_base.specs.Numbers.{sat as saturated, scale as scaled};
+ghost use Rattle.wa_base.specs.Contexts.{IsQuantumSize};
 ghost use Rattle.node_table.specs.Curves.{IsCurve, shaper_value};
 ghost use Rattle.sched_source.specs.Schedule.{is_between, played};
 ghost use Rattle.meaning.specs.World.{channels_in, samples_in, up_to as clamped};
 ghost use Rattle.mix_rules.specs.Blocks.{sample};
-ghost use Rattle.quantum_blocks.specs.Blocks.{quantum, at, shown, carried, room_of};
+ghost use Rattle.quantum_blocks.specs.Blocks.{at, shown, carried, room_of};
 ghost use Rattle.quantum_blocks.specs.Sums.{sum_at};
 ghost use Rattle.quantum_blocks.specs.Held.{IsHeld, IsCarried, IsWidened};
 
@@ -22,14 +23,12 @@ use std::alloc::Global;
 use std::marker::Model;
 use wa_base::{Fix, NoMemory, Samples};
 
-/// The frames of a render quantum.
-pub const QUANTUM: usize = wa_base::QUANTUM as usize;
-
-/// The values of a quantum of 128 frames, on each of up to 32 lanes: one for each channel of each
+/// The values of a render quantum, on each of up to 32 lanes: one for each channel of each
 /// output of an end. Contracts read a lane at frame m as `at`.
 #[derive(Drop)]
 pub struct Block {
     lanes: usize,
+    frames: usize,
     // Whether each lane has one value, which it has at all frames.
     steady: bool,
     values: Vec<Fix>,
@@ -37,48 +36,57 @@ pub struct Block {
 
 impl Model for Block {
     ghost use Rattle.std.specs.Prelude.{◌*◌, ◌-◌, vec_len};
-    ghost use Rattle.quantum_blocks.specs.Blocks.{BlockView, IsBlock, quantum, lanes_from};
+    ghost use Rattle.quantum_blocks.specs.Blocks.{BlockView, IsBlock, lanes_from};
 
     ghost Value = { BlockView };
 
-    ghost view = { λ b. record { lanes = b.lanes; spare = vec_len b.values - b.lanes * quantum; values = lanes_from b.steady b.lanes b.values.items } };
+    ghost view = { λ b. record { lanes = b.lanes; frames = b.frames; spare = vec_len b.values - b.lanes * b.frames; values = lanes_from b.frames b.steady b.lanes b.values.items } };
 
-    ghost invariant = { λ b. IsBlock b.lanes (vec_len b.values) };
+    ghost invariant = { λ b. IsBlock b.lanes b.frames (vec_len b.values) };
 }
 
 impl Block {
     // No lane, and no room.
-    pub(crate) fn empty(alloc: Global) -> Block {
+    pub(crate) fn empty(alloc: Global, frames: usize) -> Block
+        requires { IsQuantumSize frames }
+    {
         Block {
             lanes: 0,
+            frames,
             steady: true,
             values: Vec::new(alloc),
         }
     }
 
-    /// One silent lane, with room for so many.
-    pub fn new(alloc: Global, room: usize) -> Result<Block, NoMemory>
+    /// One silent lane of so many frames, with room for so many lanes.
+    pub fn new(alloc: Global, room: usize, frames: usize) -> Result<Block, NoMemory>
         requires low { 1 ≤ room }
         requires high { room ≤ 32 }
+        requires frames { IsQuantumSize frames }
+        ensures frames { IfOk result (λ block. block.frames ≡ frames) }
         ensures lanes { IfOk result (λ block. block.lanes ≡ 1) }
-        ensures room { IfOk result (λ block. room_of block ≡ room * quantum) }
+        ensures room { IfOk result (λ block. room_of block ≡ room * frames) }
     {
         Ok(Block {
             lanes: 1,
+            frames,
             steady: true,
-            values: vec![in alloc; 0; room * QUANTUM]?,
+            values: vec![in alloc; 0; room * frames]?,
         })
     }
 
-    // Takes the memory for so many lanes, and has them. Their values may be any.
-    pub(crate) fn fit(&mut self, lanes: usize) -> Result<(), NoMemory>
-        requires { lanes ≤ 32 }
-        ensures { OnOk result (self.new.lanes ≡ lanes) }
+    // Takes the memory for so many lanes of so many frames, and has them. Their values may be any.
+    pub(crate) fn fit(&mut self, lanes: usize, frames: usize) -> Result<(), NoMemory>
+        requires lanes { lanes ≤ 32 }
+        requires frames { IsQuantumSize frames }
+        ensures lanes { OnOk result (self.new.lanes ≡ lanes) }
+        ensures frames { OnOk result (self.new.frames ≡ frames) }
     {
-        if self.values.len() < lanes * QUANTUM {
-            self.values.resize(lanes * QUANTUM, 0)?;
+        if self.values.len() < lanes * frames {
+            self.values.resize(lanes * frames, 0)?;
         }
         self.lanes = lanes;
+        self.frames = frames;
         Ok(())
     }
 
@@ -90,6 +98,14 @@ impl Block {
         self.lanes
     }
 
+    /// The number of frames of a quantum.
+    pub fn frames(&self) -> usize
+        ensures value { result ≡ self.now.frames }
+        ensures size { IsQuantumSize result }
+    {
+        self.frames
+    }
+
     /// All values.
     pub fn held(&self) -> Held<'_>
         ensures { IsHeld self.now result }
@@ -97,14 +113,14 @@ impl Block {
         if self.steady {
             Held::Steady(&self.values[0..self.lanes])
         } else {
-            Held::Moving(&self.values[0..self.lanes * QUANTUM])
+            Held::Moving(&self.values[0..self.lanes * self.frames])
         }
     }
 
     // All values of one output, where each has so many channels.
     pub(crate) fn output(&self, output: usize, channels: usize) -> Held<'_>
         requires { output * channels + channels ≤ self.now.lanes }
-        ensures { IsCarried (carried self.now channels output) channels result }
+        ensures { IsCarried self.now.frames (carried self.now channels output) channels result }
     {
         let values = self.values.as_slice();
         let first = output * channels;
@@ -112,7 +128,7 @@ impl Block {
         if self.steady {
             Held::Steady(&values[first..end])
         } else {
-            Held::Moving(&values[first * QUANTUM..end * QUANTUM])
+            Held::Moving(&values[first * self.frames..end * self.frames])
         }
     }
 
@@ -120,16 +136,16 @@ impl Block {
     pub fn copy_out(&self, out: &mut [Fix], lanes: usize)
         requires few { lanes ≤ 32 }
         requires within { self.now.lanes ≤ lanes }
-        requires room { lanes * quantum ≤ length out.old }
+        requires room { lanes * self.now.frames ≤ length out.old }
         ensures length { length out.new ≡ length out.old }
-        ensures values { (lane m : ℕ) → lane < lanes → m < quantum → sample quantum out.new lane m ≡ shown self.now m lane }
+        ensures values { (lane m : ℕ) → lane < lanes → m < self.now.frames → sample self.now.frames out.new lane m ≡ shown self.now m lane }
     {
-        let filled = self.lanes() * QUANTUM;
+        let filled = self.lanes() * self.frames;
         match self.held() {
-            Held::Steady(held) => spread(&mut out[0..filled], held),
+            Held::Steady(held) => spread(&mut out[0..filled], held, self.frames),
             Held::Moving(values) => copy_values(&mut out[0..filled], values),
         }
-        silence(out, filled, lanes * QUANTUM);
+        silence(out, filled, lanes * self.frames);
     }
 
     /// All values as they are, where there are so many lanes and each has a value for each frame.
@@ -139,13 +155,14 @@ impl Block {
         if self.steady || self.lanes != lanes {
             return None;
         }
-        Some(&self.values[0..self.lanes * QUANTUM])
+        Some(&self.values[0..self.lanes * self.frames])
     }
 
     /// Silences the lanes.
     pub fn silence(&mut self)
+        ensures frames { self.new.frames ≡ self.old.frames }
         ensures lanes { self.new.lanes ≡ self.old.lanes }
-        ensures values { (lane m : ℕ) → lane < self.old.lanes → m < quantum → at self.new lane m ≡ pos 0 }
+        ensures values { (lane m : ℕ) → lane < self.old.lanes → m < self.old.frames → at self.new lane m ≡ pos 0 }
     {
         self.steady = true;
         fill(&mut self.values[0..self.lanes], 0);
@@ -153,10 +170,11 @@ impl Block {
 
     /// Becomes one lane with the same value at all frames.
     pub fn hold(&mut self, value: Fix)
-        requires { quantum ≤ room_of self.old }
+        requires room { self.old.frames ≤ room_of self.old }
+        ensures frames { self.new.frames ≡ self.old.frames }
         ensures lanes { self.new.lanes ≡ 1 }
         ensures room { room_of self.new ≡ room_of self.old }
-        ensures values { (m : ℕ) → m < quantum → at self.new 0 m ≡ value }
+        ensures values { (m : ℕ) → m < self.old.frames → at self.new 0 m ≡ value }
     {
         self.lanes = 1;
         self.steady = true;
@@ -167,9 +185,11 @@ impl Block {
     pub fn add(&mut self, sums: &Sums)
         requires mono { self.old.lanes ≡ 1 }
         requires sum { sums.now.count ≡ 1 }
+        requires frames { sums.now.frames ≡ self.old.frames }
+        ensures frames { self.new.frames ≡ self.old.frames }
         ensures lanes { self.new.lanes ≡ 1 }
         ensures room { room_of self.new ≡ room_of self.old }
-        ensures values { (m : ℕ) → m < quantum → at self.new 0 m ≡ saturated (at self.old 0 m +ℤ saturated (sum_at sums.now 0 m)) }
+        ensures values { (m : ℕ) → m < self.old.frames → at self.new 0 m ≡ saturated (at self.old 0 m +ℤ saturated (sum_at sums.now 0 m)) }
     {
         match self.steady_level(sums) {
             Some(level) => self.hold(level),
@@ -181,7 +201,8 @@ impl Block {
     fn steady_level(&self, sums: &Sums) -> Option<Fix>
         requires mono { self.now.lanes ≡ 1 }
         requires sum { sums.now.count ≡ 1 }
-        ensures { IfSome result (λ level. (m : ℕ) → m < quantum → level ≡ saturated (at self.now 0 m +ℤ saturated (sum_at sums.now 0 m))) }
+        requires frames { sums.now.frames ≡ self.now.frames }
+        ensures { IfSome result (λ level. (m : ℕ) → m < self.now.frames → level ≡ saturated (at self.now 0 m +ℤ saturated (sum_at sums.now 0 m))) }
     {
         if !self.steady {
             return None;
@@ -193,21 +214,24 @@ impl Block {
     fn add_moving(&mut self, sums: &Sums)
         requires mono { self.old.lanes ≡ 1 }
         requires sum { sums.now.count ≡ 1 }
+        requires frames { sums.now.frames ≡ self.old.frames }
+        ensures frames { self.new.frames ≡ self.old.frames }
         ensures lanes { self.new.lanes ≡ 1 }
         ensures room { room_of self.new ≡ room_of self.old }
-        ensures values { (m : ℕ) → m < quantum → at self.new 0 m ≡ saturated (at self.old 0 m +ℤ saturated (sum_at sums.now 0 m)) }
+        ensures values { (m : ℕ) → m < self.old.frames → at self.new 0 m ≡ saturated (at self.old 0 m +ℤ saturated (sum_at sums.now 0 m)) }
     {
-        move_on(&mut self.values[0..QUANTUM], self.steady);
+        move_on(&mut self.values[0..self.frames], self.steady);
         self.steady = false;
-        sums.add_to(&mut self.values[0..QUANTUM], 0);
+        sums.add_to(&mut self.values[0..self.frames], 0);
     }
 
     /// Of one lane, holds the value of the first frame.
     pub fn hold_first(&mut self)
         requires mono { self.old.lanes ≡ 1 }
+        ensures frames { self.new.frames ≡ self.old.frames }
         ensures lanes { self.new.lanes ≡ 1 }
         ensures room { room_of self.new ≡ room_of self.old }
-        ensures values { (m : ℕ) → m < quantum → at self.new 0 m ≡ at self.old 0 0 }
+        ensures values { (m : ℕ) → m < self.old.frames → at self.new 0 m ≡ at self.old 0 0 }
     {
         let value = self.values[0];
         self.hold(value);
@@ -215,10 +239,11 @@ impl Block {
 
     /// Of one lane, clamps each value to those from 0 up to another.
     pub fn up_to(&mut self, most: Fix)
-        requires { self.old.lanes ≡ 1 }
+        requires mono { self.old.lanes ≡ 1 }
+        ensures frames { self.new.frames ≡ self.old.frames }
         ensures lanes { self.new.lanes ≡ 1 }
         ensures room { room_of self.new ≡ room_of self.old }
-        ensures values { (m : ℕ) → m < quantum → at self.new 0 m ≡ clamped most (at self.old 0 m) }
+        ensures values { (m : ℕ) → m < self.old.frames → at self.new 0 m ≡ clamped most (at self.old 0 m) }
     {
         match self.steady_value() {
             Some(value) => self.hold(up_to(value, most)),
@@ -229,7 +254,7 @@ impl Block {
     // Of one lane, the value that it has at all frames, if it is steady.
     fn steady_value(&self) -> Option<Fix>
         requires { self.now.lanes ≡ 1 }
-        ensures { IfSome result (λ value. (m : ℕ) → m < quantum → value ≡ at self.now 0 m) }
+        ensures { IfSome result (λ value. (m : ℕ) → m < self.now.frames → value ≡ at self.now 0 m) }
     {
         if self.steady {
             Some(self.values[0])
@@ -239,28 +264,30 @@ impl Block {
     }
 
     fn up_to_moving(&mut self, most: Fix)
-        requires { self.old.lanes ≡ 1 }
+        requires mono { self.old.lanes ≡ 1 }
+        ensures frames { self.new.frames ≡ self.old.frames }
         ensures lanes { self.new.lanes ≡ 1 }
         ensures room { room_of self.new ≡ room_of self.old }
-        ensures values { (m : ℕ) → m < quantum → at self.new 0 m ≡ clamped most (at self.old 0 m) }
+        ensures values { (m : ℕ) → m < self.old.frames → at self.new 0 m ≡ clamped most (at self.old 0 m) }
     {
-        move_on(&mut self.values[0..QUANTUM], self.steady);
+        move_on(&mut self.values[0..self.frames], self.steady);
         self.steady = false;
-        up_to_each(&mut self.values[0..QUANTUM], most);
+        up_to_each(&mut self.values[0..self.frames], most);
     }
 
     /// Of one lane, silences the frames before `start` and from `end` on.
     pub fn sound(&mut self, start: u64, end: u64, first: u64)
         requires mono { self.old.lanes ≡ 1 }
         requires time { first ≤ 2 ^ 62 }
+        ensures frames { self.new.frames ≡ self.old.frames }
         ensures lanes { self.new.lanes ≡ 1 }
         ensures room { room_of self.new ≡ room_of self.old }
-        ensures values { (m : ℕ) → m < quantum → at self.new 0 m ≡ (if is_between (Some start) (Some end) (first + m) then at self.old 0 m else pos 0) }
+        ensures values { (m : ℕ) → m < self.old.frames → at self.new 0 m ≡ (if is_between (Some start) (Some end) (first + m) then at self.old 0 m else pos 0) }
     {
-        if is_throughout(start, end, first) {
+        if is_throughout(start, end, first, self.frames) {
             return;
         }
-        if is_silent(start, end, first) {
+        if is_silent(start, end, first, self.frames) {
             self.hold(0);
             return;
         }
@@ -270,32 +297,41 @@ impl Block {
     fn sound_in_part(&mut self, start: u64, end: u64, first: u64)
         requires mono { self.old.lanes ≡ 1 }
         requires time { first ≤ 2 ^ 62 }
+        ensures frames { self.new.frames ≡ self.old.frames }
         ensures lanes { self.new.lanes ≡ 1 }
         ensures room { room_of self.new ≡ room_of self.old }
-        ensures values { (m : ℕ) → m < quantum → at self.new 0 m ≡ (if is_between (Some start) (Some end) (first + m) then at self.old 0 m else pos 0) }
+        ensures values { (m : ℕ) → m < self.old.frames → at self.new 0 m ≡ (if is_between (Some start) (Some end) (first + m) then at self.old 0 m else pos 0) }
     {
-        move_on(&mut self.values[0..QUANTUM], self.steady);
+        move_on(&mut self.values[0..self.frames], self.steady);
         self.steady = false;
-        sound(&mut self.values[0..QUANTUM], start, end, first);
+        sound(&mut self.values[0..self.frames], start, end, first);
     }
 
     /// Becomes what a source plays in the quantum that begins at `first`.
     pub fn play(&mut self, source: &Source, first: u64)
         requires time { first ≤ 2 ^ 62 }
+        ensures frames { self.new.frames ≡ self.old.frames }
         ensures lanes { self.new.lanes ≡ self.old.lanes }
-        ensures values { (lane m : ℕ) → lane < self.old.lanes → lane < channels_in source.now.store (Some source.now.buffer) → m < quantum →
+        ensures values { (lane m : ℕ) → lane < self.old.lanes → lane < channels_in source.now.store (Some source.now.buffer) → m < self.old.frames →
             at self.new lane m ≡ played source.now.sched (samples_in source.now.store (Some source.now.buffer) lane) (first + m) }
     {
         self.steady = false;
-        source.play(&mut self.values[0..self.lanes * QUANTUM], self.lanes, first);
+        source.play(
+            &mut self.values[0..self.lanes * self.frames],
+            self.lanes,
+            self.frames,
+            first,
+        );
     }
 
     /// Becomes what the sums are, saturated.
     pub fn saturate(&mut self, sums: &Sums)
-        requires { sums.now.count * quantum ≤ room_of self.old }
+        requires room { sums.now.count * self.old.frames ≤ room_of self.old }
+        requires frames { sums.now.frames ≡ self.old.frames }
+        ensures frames { self.new.frames ≡ self.old.frames }
         ensures lanes { self.new.lanes ≡ sums.now.count }
         ensures room { room_of self.new ≡ room_of self.old }
-        ensures values { (lane m : ℕ) → lane < sums.now.count → m < quantum → at self.new lane m ≡ saturated (sum_at sums.now lane m) }
+        ensures values { (lane m : ℕ) → lane < sums.now.count → m < self.old.frames → at self.new lane m ≡ saturated (sum_at sums.now lane m) }
     {
         self.lanes = sums.count();
         match sums.steady() {
@@ -305,17 +341,19 @@ impl Block {
             }
             None => {
                 self.steady = false;
-                sums.settle(&mut self.values[0..self.lanes * QUANTUM]);
+                sums.settle(&mut self.values[0..self.lanes * self.frames]);
             }
         }
     }
 
     /// Becomes what another block is.
     pub fn copy(&mut self, other: &Block)
-        requires { other.now.lanes * quantum ≤ room_of self.old }
+        requires room { other.now.lanes * self.old.frames ≤ room_of self.old }
+        requires frames { other.now.frames ≡ self.old.frames }
+        ensures frames { self.new.frames ≡ self.old.frames }
         ensures lanes { self.new.lanes ≡ other.now.lanes }
         ensures room { room_of self.new ≡ room_of self.old }
-        ensures values { (lane m : ℕ) → lane < other.now.lanes → m < quantum → at self.new lane m ≡ at other.now lane m }
+        ensures values { (lane m : ℕ) → lane < other.now.lanes → m < self.old.frames → at self.new lane m ≡ at other.now lane m }
     {
         let lanes = other.lanes();
         match other.held() {
@@ -328,11 +366,13 @@ impl Block {
     pub fn copy_output(&mut self, other: &Block, output: usize, channels: usize)
         requires output { output * channels + channels ≤ other.now.lanes }
         requires few { channels ≤ 32 }
-        requires room { channels * quantum ≤ room_of self.old }
+        requires room { channels * self.old.frames ≤ room_of self.old }
+        requires frames { other.now.frames ≡ self.old.frames }
+        ensures frames { self.new.frames ≡ self.old.frames }
         ensures lanes { self.new.lanes ≡ channels }
         ensures room { room_of self.new ≡ room_of self.old }
-        ensures values { (c m : ℕ) → c < channels → m < quantum → at self.new c m ≡ carried other.now channels output m c }
-        ensures fit { (c m : ℕ) → c < channels → m < quantum → FitsSigned w32 (carried other.now channels output m c) }
+        ensures values { (c m : ℕ) → c < channels → m < self.old.frames → at self.new c m ≡ carried other.now channels output m c }
+        ensures fit { (c m : ℕ) → c < channels → m < self.old.frames → FitsSigned w32 (carried other.now channels output m c) }
     {
         match other.output(output, channels) {
             Held::Steady(held) => self.copy_steady(held),
@@ -342,10 +382,11 @@ impl Block {
 
     fn copy_steady(&mut self, held: &[Fix])
         requires few { length held.now ≤ 32 }
-        requires room { length held.now * quantum ≤ room_of self.old }
+        requires room { length held.now * self.old.frames ≤ room_of self.old }
+        ensures frames { self.new.frames ≡ self.old.frames }
         ensures lanes { self.new.lanes ≡ length held.now }
         ensures room { room_of self.new ≡ room_of self.old }
-        ensures values { (lane m : ℕ) → lane < length held.now → m < quantum → at self.new lane m ≡ slice_index_or held.now lane (pos 0) }
+        ensures values { (lane m : ℕ) → lane < length held.now → m < self.old.frames → at self.new lane m ≡ slice_index_or held.now lane (pos 0) }
         ensures fit { (lane : ℕ) → lane < length held.now → FitsSigned w32 (slice_index_or held.now lane (pos 0)) }
     {
         self.lanes = held.len();
@@ -356,23 +397,25 @@ impl Block {
     /// Becomes so many lanes with these values: one for each frame of the first lane, then those of the
     /// second and so on.
     pub fn copy_moving(&mut self, values: &[Fix], lanes: usize)
-        requires length { length values.now ≡ lanes * quantum }
+        requires length { length values.now ≡ lanes * self.old.frames }
         requires few { lanes ≤ 32 }
-        requires room { lanes * quantum ≤ room_of self.old }
+        requires room { lanes * self.old.frames ≤ room_of self.old }
+        ensures frames { self.new.frames ≡ self.old.frames }
         ensures lanes { self.new.lanes ≡ lanes }
         ensures room { room_of self.new ≡ room_of self.old }
-        ensures values { (lane m : ℕ) → lane < lanes → m < quantum → at self.new lane m ≡ sample quantum values.now lane m }
-        ensures fit { (lane m : ℕ) → lane < lanes → m < quantum → FitsSigned w32 (sample quantum values.now lane m) }
+        ensures values { (lane m : ℕ) → lane < lanes → m < self.old.frames → at self.new lane m ≡ sample self.old.frames values.now lane m }
+        ensures fit { (lane m : ℕ) → lane < lanes → m < self.old.frames → FitsSigned w32 (sample self.old.frames values.now lane m) }
     {
         self.lanes = lanes;
         self.steady = false;
-        copy_values(&mut self.values[0..lanes * QUANTUM], values);
+        copy_values(&mut self.values[0..lanes * self.frames], values);
     }
 
     /// Has so many lanes. Their values may be any.
     pub fn begin(&mut self, lanes: usize)
         requires few { lanes ≤ 32 }
-        requires room { lanes * quantum ≤ room_of self.old }
+        requires room { lanes * self.old.frames ≤ room_of self.old }
+        ensures frames { self.new.frames ≡ self.old.frames }
         ensures lanes { self.new.lanes ≡ lanes }
         ensures room { room_of self.new ≡ room_of self.old }
     {
@@ -384,10 +427,12 @@ impl Block {
     pub fn set_lane(&mut self, lane: usize, other: &Block)
         requires lane { lane < self.old.lanes }
         requires mono { other.now.lanes ≡ 1 }
+        requires frames { other.now.frames ≡ self.old.frames }
+        ensures frames { self.new.frames ≡ self.old.frames }
         ensures lanes { self.new.lanes ≡ self.old.lanes }
         ensures room { room_of self.new ≡ room_of self.old }
-        ensures own { (m : ℕ) → m < quantum → at self.new lane m ≡ at other.now 0 m }
-        ensures others { (l m : ℕ) → l < self.old.lanes → (l ≡ lane → ⊥) → m < quantum → at self.new l m ≡ at self.old l m }
+        ensures own { (m : ℕ) → m < self.old.frames → at self.new lane m ≡ at other.now 0 m }
+        ensures others { (l m : ℕ) → l < self.old.lanes → (l ≡ lane → ⊥) → m < self.old.frames → at self.new l m ≡ at self.old l m }
     {
         match other.held() {
             Held::Steady(held) => self.set_steady(lane, held[0]),
@@ -397,16 +442,17 @@ impl Block {
 
     fn set_steady(&mut self, lane: usize, value: Fix)
         requires lane { lane < self.old.lanes }
+        ensures frames { self.new.frames ≡ self.old.frames }
         ensures lanes { self.new.lanes ≡ self.old.lanes }
         ensures room { room_of self.new ≡ room_of self.old }
-        ensures own { (m : ℕ) → m < quantum → at self.new lane m ≡ value }
-        ensures others { (l m : ℕ) → l < self.old.lanes → (l ≡ lane → ⊥) → m < quantum → at self.new l m ≡ at self.old l m }
+        ensures own { (m : ℕ) → m < self.old.frames → at self.new lane m ≡ value }
+        ensures others { (l m : ℕ) → l < self.old.lanes → (l ≡ lane → ⊥) → m < self.old.frames → at self.new l m ≡ at self.old l m }
     {
         if self.steady {
             self.values[lane] = value;
         } else {
             fill(
-                &mut self.values[lane * QUANTUM..(lane + 1) * QUANTUM],
+                &mut self.values[lane * self.frames..(lane + 1) * self.frames],
                 value,
             );
         }
@@ -414,31 +460,36 @@ impl Block {
 
     fn set_moving(&mut self, lane: usize, values: &[Fix])
         requires lane { lane < self.old.lanes }
-        requires length { length values.now ≡ quantum }
+        requires length { length values.now ≡ self.old.frames }
+        ensures frames { self.new.frames ≡ self.old.frames }
         ensures lanes { self.new.lanes ≡ self.old.lanes }
         ensures room { room_of self.new ≡ room_of self.old }
-        ensures own { (m : ℕ) → m < quantum → at self.new lane m ≡ slice_index_or values.now m (pos 0) }
-        ensures others { (l m : ℕ) → l < self.old.lanes → (l ≡ lane → ⊥) → m < quantum → at self.new l m ≡ at self.old l m }
+        ensures own { (m : ℕ) → m < self.old.frames → at self.new lane m ≡ slice_index_or values.now m (pos 0) }
+        ensures others { (l m : ℕ) → l < self.old.lanes → (l ≡ lane → ⊥) → m < self.old.frames → at self.new l m ≡ at self.old l m }
     {
         unfold_if(
-            &mut self.values[0..self.lanes * QUANTUM],
+            &mut self.values[0..self.lanes * self.frames],
             self.lanes,
+            self.frames,
             self.steady,
         );
         self.steady = false;
         copy_values(
-            &mut self.values[lane * QUANTUM..(lane + 1) * QUANTUM],
+            &mut self.values[lane * self.frames..(lane + 1) * self.frames],
             values,
         );
     }
 
     /// Becomes what another block is, multiplied at each frame by the gain there.
     pub fn scale(&mut self, other: &Block, gains: &Block)
-        requires room { other.now.lanes * quantum ≤ room_of self.old }
+        requires room { other.now.lanes * self.old.frames ≤ room_of self.old }
         requires mono { gains.now.lanes ≡ 1 }
+        requires frames { other.now.frames ≡ self.old.frames }
+        requires gain_frames { gains.now.frames ≡ self.old.frames }
+        ensures frames { self.new.frames ≡ self.old.frames }
         ensures lanes { self.new.lanes ≡ other.now.lanes }
         ensures room { room_of self.new ≡ room_of self.old }
-        ensures values { (lane m : ℕ) → lane < other.now.lanes → m < quantum → at self.new lane m ≡ scaled (at other.now lane m) (at gains.now 0 m) }
+        ensures values { (lane m : ℕ) → lane < other.now.lanes → m < self.old.frames → at self.new lane m ≡ scaled (at other.now lane m) (at gains.now 0 m) }
     {
         match gains.held() {
             Held::Steady(held) => self.scale_by(other, held[0]),
@@ -447,10 +498,12 @@ impl Block {
     }
 
     fn scale_by(&mut self, other: &Block, gain: Fix)
-        requires room { other.now.lanes * quantum ≤ room_of self.old }
+        requires room { other.now.lanes * self.old.frames ≤ room_of self.old }
+        requires frames { other.now.frames ≡ self.old.frames }
+        ensures frames { self.new.frames ≡ self.old.frames }
         ensures lanes { self.new.lanes ≡ other.now.lanes }
         ensures room { room_of self.new ≡ room_of self.old }
-        ensures values { (lane m : ℕ) → lane < other.now.lanes → m < quantum → at self.new lane m ≡ scaled (at other.now lane m) gain }
+        ensures values { (lane m : ℕ) → lane < other.now.lanes → m < self.old.frames → at self.new lane m ≡ scaled (at other.now lane m) gain }
     {
         self.lanes = other.lanes();
         match other.held() {
@@ -460,21 +513,23 @@ impl Block {
             }
             Held::Moving(values) => {
                 self.steady = false;
-                scale_all(&mut self.values[0..self.lanes * QUANTUM], values, gain);
+                scale_all(&mut self.values[0..self.lanes * self.frames], values, gain);
             }
         }
     }
 
     fn scale_by_frame(&mut self, other: &Block, gains: &[Fix])
-        requires room { other.now.lanes * quantum ≤ room_of self.old }
-        requires gains { length gains.now ≡ quantum }
+        requires room { other.now.lanes * self.old.frames ≤ room_of self.old }
+        requires gains { length gains.now ≡ self.old.frames }
+        requires frames { other.now.frames ≡ self.old.frames }
+        ensures frames { self.new.frames ≡ self.old.frames }
         ensures lanes { self.new.lanes ≡ other.now.lanes }
         ensures room { room_of self.new ≡ room_of self.old }
-        ensures values { (lane m : ℕ) → lane < other.now.lanes → m < quantum → at self.new lane m ≡ scaled (at other.now lane m) (slice_index_or gains.now m (pos 0)) }
+        ensures values { (lane m : ℕ) → lane < other.now.lanes → m < self.old.frames → at self.new lane m ≡ scaled (at other.now lane m) (slice_index_or gains.now m (pos 0)) }
     {
         self.lanes = other.lanes();
         self.steady = false;
-        let values = &mut self.values[0..self.lanes * QUANTUM];
+        let values = &mut self.values[0..self.lanes * self.frames];
         match other.held() {
             Held::Steady(held) => scale_steady(values, held, gains),
             Held::Moving(heard) => scale_channels(values, self.lanes, heard, gains),
@@ -483,11 +538,13 @@ impl Block {
 
     /// Becomes what another block is, shaped by a curve.
     pub fn shape(&mut self, other: &Block, curve: &Option<Samples>)
-        requires room { other.now.lanes * quantum ≤ room_of self.old }
+        requires room { other.now.lanes * self.old.frames ≤ room_of self.old }
         requires curve { IsCurve curve.now }
+        requires frames { other.now.frames ≡ self.old.frames }
+        ensures frames { self.new.frames ≡ self.old.frames }
         ensures lanes { self.new.lanes ≡ other.now.lanes }
         ensures room { room_of self.new ≡ room_of self.old }
-        ensures values { (lane m : ℕ) → lane < other.now.lanes → m < quantum → at self.new lane m ≡ shaper_value curve.now (at other.now lane m ∷ []) }
+        ensures values { (lane m : ℕ) → lane < other.now.lanes → m < self.old.frames → at self.new lane m ≡ shaper_value curve.now (at other.now lane m ∷ []) }
     {
         self.lanes = other.lanes();
         match other.held() {
@@ -497,7 +554,7 @@ impl Block {
             }
             Held::Moving(values) => {
                 self.steady = false;
-                shape_all(curve, values, &mut self.values[0..self.lanes * QUANTUM]);
+                shape_all(curve, values, &mut self.values[0..self.lanes * self.frames]);
             }
         }
     }

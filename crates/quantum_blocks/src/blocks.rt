@@ -1,7 +1,7 @@
 ghost use Rattle.std.specs.Prelude.{◌≡◌, ◌<◌, ◌*◌, ℕ, length, slice_index_or, OnOk};
 ghost use Rattle.wa_base.specs.declared.graph_names.End.{End as an_end};
 ghost use Rattle.meaning.specs.Validity.{IsValid};
-ghost use Rattle.quantum_blocks.specs.Blocks.{slot as slot_of, lanes_of, IsSilent, Writes};
+ghost use Rattle.quantum_blocks.specs.Blocks.{slot as slot_of, lanes_of, frames_of, IsSilent, Writes};
 ghost use Rattle.quantum_blocks.specs.Fits.{AreInRange, AreFit};
 
 use crate::block::Block;
@@ -10,7 +10,8 @@ use meaning::World;
 use std::alloc::Global;
 use wa_base::{End, NoMemory, NodeId};
 
-/// Makes two blocks for each node, with the lanes of its ends. Their values may be any.
+/// Makes two blocks for each node, with the lanes of its ends and the frames of the world's quanta.
+/// Their values may be any.
 pub fn fit_blocks(
     alloc: Global,
     blocks: &mut Vec<Block>,
@@ -21,9 +22,10 @@ pub fn fit_blocks(
     requires range { AreInRange world.now counts.now }
     ensures { OnOk result (AreFit world.now counts.now blocks.new.items) }
 {
+    let frames = world.spec.quantum as usize;
     blocks.truncate(counts.len());
     for _ in blocks.len()..counts.len() {
-        blocks.push(Block::empty(alloc))?;
+        blocks.push(Block::empty(alloc, frames))?;
     }
     fit_each(blocks.as_mut_slice(), world, counts)
 }
@@ -34,9 +36,10 @@ fn fit_each(blocks: &mut [Block], world: &World, counts: &[u32]) -> Result<(), N
     requires range { AreInRange world.now counts.now }
     ensures { OnOk result (AreFit world.now counts.now blocks.new) }
 {
+    let frames = world.spec.quantum as usize;
     for (i, block) in blocks.iter_mut().enumerate() {
         let outputs = world.nodes.kind(NodeId(i as u32 / 2)).row().outputs;
-        block.fit(outputs as usize * counts[i] as usize)?;
+        block.fit(outputs as usize * counts[i] as usize, frames)?;
     }
     Ok(())
 }
@@ -45,6 +48,7 @@ fn fit_each(blocks: &mut [Block], world: &World, counts: &[u32]) -> Result<(), N
 pub fn hush(blocks: &mut [Block], muted: &[End])
     requires { (i : ℕ) (d : an_end) → i < length muted.now → slot_of (slice_index_or muted.now i d) < length blocks.old }
     ensures lanes { lanes_of blocks.new ≡ lanes_of blocks.old }
+    ensures frames { frames_of blocks.new ≡ frames_of blocks.old }
     ensures silent { (i : ℕ) (d : an_end) → i < length muted.now → IsSilent blocks.new (slice_index_or muted.now i d) }
 {
     for end in muted {

@@ -1,4 +1,4 @@
-//! The blocks of a render quantum: the values that the ends of a graph carry over 128 frames.
+//! The blocks of a render quantum: the values that the ends of a graph carry over the frames of one.
 #![tactic(auto)]
 
 mod block;
@@ -11,7 +11,7 @@ mod playing;
 mod spans;
 mod sums;
 
-pub use block::{Block, QUANTUM};
+pub use block::Block;
 pub use blocks::{fit_blocks, hush};
 pub use ends::{reader, slot, writer};
 pub use held::Held;

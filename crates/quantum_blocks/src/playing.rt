@@ -1,12 +1,11 @@
 ghost use Rattle.std.specs.Prelude.{◌≡◌, ◌≤◌, ◌<◌, ◌+◌, ◌*◌, ◌^◌, ℕ, length, pos, Some, slice_index_or};
 ghost use Rattle.sched_source.specs.Schedule.{played};
 ghost use Rattle.mix_rules.specs.Blocks.{sample};
+ghost use Rattle.wa_base.specs.Contexts.{IsQuantumSize};
 ghost use Rattle.meaning.specs.Validity.{IsValid};
 ghost use Rattle.meaning.specs.World.{channels_in, samples_in};
-ghost use Rattle.quantum_blocks.specs.Blocks.{quantum};
 ghost use Rattle.quantum_blocks.specs.Heard.{heard_source};
 
-use crate::block::QUANTUM;
 use crate::kernels::fill;
 use crate::places::play_place;
 use buffer_store::Store;
@@ -41,7 +40,7 @@ pub fn sounding(world: &World, node: NodeId, near: usize, first: u64) -> Option<
 {
     let place = play_place(world, node, near)?;
     let play = world.scheds.at(place);
-    if !play.sched.plays_in(first, QUANTUM as u32) {
+    if !play.sched.plays_in(first, world.spec.quantum) {
         return None;
     }
     let buffer = play.buffer?;
@@ -61,19 +60,20 @@ impl Source<'_> {
         self.store.shape(self.buffer).channels
     }
 
-    // Writes what it plays in the quantum that begins at `first`, lane after lane. A lane past its
-    // channels is silent.
-    pub(crate) fn play(&self, out: &mut [Fix], lanes: usize, first: u64)
+    // Writes what it plays in the quantum of so many frames that begins at `first`, lane after lane. A
+    // lane past its channels is silent.
+    pub(crate) fn play(&self, out: &mut [Fix], lanes: usize, frames: usize, first: u64)
         requires few { lanes ≤ 32 }
-        requires length { length out.old ≡ lanes * quantum }
+        requires frames { IsQuantumSize frames }
+        requires length { length out.old ≡ lanes * frames }
         requires time { first ≤ 2 ^ 62 }
         ensures length { length out.new ≡ length out.old }
-        ensures values { (lane m : ℕ) → lane < lanes → lane < channels_in self.now.store (Some self.now.buffer) → m < quantum →
-            sample quantum out.new lane m ≡ played self.now.sched (samples_in self.now.store (Some self.now.buffer) lane) (first + m) }
+        ensures values { (lane m : ℕ) → lane < lanes → lane < channels_in self.now.store (Some self.now.buffer) → m < frames →
+            sample frames out.new lane m ≡ played self.now.sched (samples_in self.now.store (Some self.now.buffer) lane) (first + m) }
     {
         for lane in 0..lanes {
             self.play_lane(
-                &mut out[lane * QUANTUM..lane * QUANTUM + QUANTUM],
+                &mut out[lane * frames..lane * frames + frames],
                 lane as u32,
                 first,
             );
@@ -81,10 +81,10 @@ impl Source<'_> {
     }
 
     fn play_lane(&self, out: &mut [Fix], lane: u32, first: u64)
-        requires length { length out.old ≡ quantum }
+        requires frames { IsQuantumSize (length out.old) }
         requires time { first ≤ 2 ^ 62 }
         ensures length { length out.new ≡ length out.old }
-        ensures values { lane < channels_in self.now.store (Some self.now.buffer) → (m : ℕ) → m < quantum →
+        ensures values { lane < channels_in self.now.store (Some self.now.buffer) → (m : ℕ) → m < length out.old →
             slice_index_or out.new m (pos 0) ≡ played self.now.sched (samples_in self.now.store (Some self.now.buffer) lane) (first + m) }
     {
         if lane < self.channels() {

@@ -1,15 +1,16 @@
 ghost use Rattle.std.specs.Prelude.{◌≡◌, ◌≤◌, ◌<◌, ◌+◌, ◌*◌, ◌+ℤ◌, ℕ, pos, length, slice_index_or, map, filter, if◌then◌else◌, take, IfOk, IfSome};
 ghost use Rattle.mix_rules.specs.Blocks.{sample, frame_at};
+ghost use Rattle.wa_base.specs.Contexts.{IsQuantumSize};
 ghost use Rattle.wa_base.specs.Numbers.{sat as saturated};
 ghost use Rattle.mix_rules.specs.Mixing.{mix, total};
 ghost use Rattle.meaning.specs.declared.world.World.{World as world};
 ghost use Rattle.meaning.specs.Values.{part};
-ghost use Rattle.quantum_blocks.specs.Blocks.{quantum, frame_of};
+ghost use Rattle.quantum_blocks.specs.Blocks.{frame_of};
 ghost use Rattle.quantum_blocks.specs.Connections.{leads_to};
 ghost use Rattle.quantum_blocks.specs.Fits.{IsSource, AreSources};
 ghost use Rattle.quantum_blocks.specs.Sums.{sum_at};
 
-use crate::block::{Block, QUANTUM};
+use crate::block::Block;
 use crate::ends::{reader, slot};
 use crate::held::Held;
 use crate::kernels::{clear_unless, each_level, each_level_on, fill, settle};
@@ -27,6 +28,7 @@ pub const CHANNELS: usize = 32;
 #[derive(Drop)]
 pub struct Sums {
     count: usize,
+    frames: usize,
     added: usize,
     // What is the same at all frames, a sum for each channel.
     held: Vec<i64>,
@@ -41,9 +43,9 @@ impl Model for Sums {
 
     ghost Value = { SumsView };
 
-    ghost view = { λ s. record { count = s.count; added = s.added; held = take s.count s.held.items; moving = moving_sums s.moves s.count s.moving.items } };
+    ghost view = { λ s. record { count = s.count; frames = s.frames; added = s.added; held = take s.count s.held.items; moving = moving_sums s.frames s.moves s.count s.moving.items } };
 
-    ghost invariant = { λ s. AreSums s.count s.added s.moves s.held.items s.moving.items };
+    ghost invariant = { λ s. AreSums s.count s.frames s.added s.moves s.held.items s.moving.items };
 }
 
 /// How an input or a parameter takes what connections carry.
@@ -55,16 +57,18 @@ pub struct Inlet {
 }
 
 impl Sums {
-    /// One channel, to which nothing is added yet.
-    pub fn new(alloc: Global) -> Result<Sums, NoMemory>
-        ensures { IfOk result (λ sums. (sums.count ≡ 1) × (sums.added ≡ 0) × ((m : ℕ) → m < quantum → sum_at sums 0 m ≡ pos 0)) }
+    /// One channel of so many frames, to which nothing is added yet.
+    pub fn new(alloc: Global, frames: usize) -> Result<Sums, NoMemory>
+        requires { IsQuantumSize frames }
+        ensures { IfOk result (λ sums. (sums.count ≡ 1) × (sums.frames ≡ frames) × (sums.added ≡ 0) × ((m : ℕ) → m < frames → sum_at sums 0 m ≡ pos 0)) }
     {
         Ok(Sums {
             count: 1,
+            frames,
             added: 0,
             held: vec![in alloc; 0; CHANNELS]?,
             moves: false,
-            moving: vec![in alloc; 0; CHANNELS * QUANTUM]?,
+            moving: vec![in alloc; 0; CHANNELS * frames]?,
         })
     }
 
@@ -79,7 +83,7 @@ impl Sums {
 
     // The sum of each channel, where it is the same at all frames.
     pub(crate) fn steady(&self) -> Option<&[i64]>
-        ensures { IfSome result (λ held. (length held.now ≡ self.now.count) × (1 ≤ length held.now) × ((c m : ℕ) → c < self.now.count → m < quantum → sum_at self.now c m ≡ slice_index_or held.now c (pos 0))) }
+        ensures { IfSome result (λ held. (length held.now ≡ self.now.count) × (1 ≤ length held.now) × ((c m : ℕ) → c < self.now.count → m < self.now.frames → sum_at self.now c m ≡ slice_index_or held.now c (pos 0))) }
     {
         if self.moves {
             None
@@ -90,26 +94,26 @@ impl Sums {
 
     // Writes all sums, saturated.
     pub(crate) fn settle(&self, values: &mut [Fix])
-        requires { length values.old ≡ self.now.count * quantum }
+        requires { length values.old ≡ self.now.count * self.now.frames }
         ensures length { length values.new ≡ length values.old }
-        ensures values { (c m : ℕ) → c < self.now.count → m < quantum → sample quantum values.new c m ≡ saturated (sum_at self.now c m) }
+        ensures values { (c m : ℕ) → c < self.now.count → m < self.now.frames → sample self.now.frames values.new c m ≡ saturated (sum_at self.now c m) }
     {
         for channel in 0..self.count() {
-            let first = channel * QUANTUM;
-            self.settle_channel(channel, &mut values[first..first + QUANTUM]);
+            let first = channel * self.frames;
+            self.settle_channel(channel, &mut values[first..first + self.frames]);
         }
     }
 
     fn settle_channel(&self, channel: usize, values: &mut [Fix])
         requires channel { channel < self.now.count }
-        requires length { length values.old ≡ quantum }
+        requires length { length values.old ≡ self.now.frames }
         ensures length { length values.new ≡ length values.old }
         ensures values { (m : ℕ) → m < length values.old → slice_index_or values.new m (pos 0) ≡ saturated (sum_at self.now channel m) }
     {
         let held = self.held[channel];
         if self.moves {
-            let first = channel * QUANTUM;
-            settle(values, held, &self.moving[first..first + QUANTUM]);
+            let first = channel * self.frames;
+            settle(values, held, &self.moving[first..first + self.frames]);
         } else {
             fill(values, sat(held));
         }
@@ -118,14 +122,14 @@ impl Sums {
     // Adds to each level the sum of a channel there, saturated before and after.
     pub(crate) fn add_to(&self, levels: &mut [Fix], channel: usize)
         requires channel { channel < self.now.count }
-        requires length { length levels.old ≡ quantum }
+        requires length { length levels.old ≡ self.now.frames }
         ensures length { length levels.new ≡ length levels.old }
         ensures values { (m : ℕ) → m < length levels.old → slice_index_or levels.new m (pos 0) ≡ saturated (slice_index_or levels.old m (pos 0) +ℤ saturated (sum_at self.now channel m)) }
     {
         let held = self.held[channel];
         if self.moves {
-            let first = channel * QUANTUM;
-            each_level(levels, held, &self.moving[first..first + QUANTUM]);
+            let first = channel * self.frames;
+            each_level(levels, held, &self.moving[first..first + self.frames]);
         } else {
             each_level_on(levels, held);
         }
@@ -135,9 +139,10 @@ impl Sums {
     fn clear(&mut self, count: usize)
         requires low { 1 ≤ count }
         requires high { count ≤ 32 }
+        ensures frames { self.new.frames ≡ self.old.frames }
         ensures count { self.new.count ≡ count }
         ensures added { self.new.added ≡ 0 }
-        ensures sums { (c m : ℕ) → c < count → m < quantum → sum_at self.new c m ≡ pos 0 }
+        ensures sums { (c m : ℕ) → c < count → m < self.old.frames → sum_at self.new c m ≡ pos 0 }
     {
         self.count = count;
         self.added = 0;
@@ -147,9 +152,10 @@ impl Sums {
 
     fn add_steady(&mut self, held: &[Fix], interp: Interp)
         requires added { self.old.added < 8192 }
+        ensures frames { self.new.frames ≡ self.old.frames }
         ensures count { self.new.count ≡ self.old.count }
         ensures added { self.new.added ≡ self.old.added + 1 }
-        ensures sums { (c m : ℕ) → c < self.old.count → m < quantum →
+        ensures sums { (c m : ℕ) → c < self.old.count → m < self.old.frames →
             sum_at self.new c m ≡ sum_at self.old c m +ℤ mix interp (length held.now) self.old.count (λ i. slice_index_or held.now i (pos 0)) c }
     {
         let sums = &mut self.held[0..self.count];
@@ -159,13 +165,14 @@ impl Sums {
 
     fn add_moving(&mut self, values: &[Fix], from: usize, interp: Interp)
         requires added { self.old.added < 8192 }
-        requires length { length values.now ≡ from * quantum }
+        requires length { length values.now ≡ from * self.old.frames }
+        ensures frames { self.new.frames ≡ self.old.frames }
         ensures count { self.new.count ≡ self.old.count }
         ensures added { self.new.added ≡ self.old.added + 1 }
-        ensures sums { (c m : ℕ) → c < self.old.count → m < quantum →
-            sum_at self.new c m ≡ sum_at self.old c m +ℤ mix interp from self.old.count (frame_at quantum values.now m) c }
+        ensures sums { (c m : ℕ) → c < self.old.count → m < self.old.frames →
+            sum_at self.new c m ≡ sum_at self.old c m +ℤ mix interp from self.old.count (frame_at self.old.frames values.now m) c }
     {
-        let sums = &mut self.moving[0..self.count * QUANTUM];
+        let sums = &mut self.moving[0..self.count * self.frames];
         clear_unless(sums, self.moves);
         mix_add(sums, self.count, values, from, interp);
         self.moves = true;
@@ -176,10 +183,11 @@ impl Sums {
     fn hear(&mut self, blocks: &[Block], counts: &[u32], edge: &Edge, inlet: Inlet)
         requires added { self.old.added < 8192 }
         requires count { self.old.count ≡ inlet.count }
-        requires source { IsSource counts.now blocks.now edge.now }
+        requires source { IsSource self.old.frames counts.now blocks.now edge.now }
+        ensures frames { self.new.frames ≡ self.old.frames }
         ensures count { self.new.count ≡ inlet.count }
         ensures added { self.new.added ≤ self.old.added + 1 }
-        ensures sums { (w : world) (c m : ℕ) → c < inlet.count → m < quantum →
+        ensures sums { (w : world) (c m : ℕ) → c < inlet.count → m < self.old.frames →
             sum_at self.new c m ≡ sum_at self.old c m +ℤ (if leads_to inlet.target edge.now then part (frame_of w blocks.now counts.now m) inlet.interp inlet.count c edge.now else pos 0) }
     {
         if inlet.target.is_same(edge.to) {
@@ -198,9 +206,10 @@ impl Sums {
         requires low { 1 ≤ inlet.count }
         requires high { inlet.count ≤ 32 }
         requires few { length into.now ≤ 8192 }
-        requires sources { AreSources counts.now blocks.now into.now }
+        requires sources { AreSources self.old.frames counts.now blocks.now into.now }
+        ensures frames { self.new.frames ≡ self.old.frames }
         ensures count { self.new.count ≡ inlet.count }
-        ensures sums { (w : world) (c m : ℕ) → c < inlet.count → m < quantum →
+        ensures sums { (w : world) (c m : ℕ) → c < inlet.count → m < self.old.frames →
             sum_at self.new c m ≡ total (map (part (frame_of w blocks.now counts.now m) inlet.interp inlet.count c) (filter (leads_to inlet.target) into.now)) }
     {
         self.clear(inlet.count);

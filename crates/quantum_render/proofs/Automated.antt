@@ -4,6 +4,7 @@ use Rattle.std.specs.Prelude.{if◌then◌else◌, ◌==◌, ◌&&◌}
 use Rattle.std.specs.Option.{option_map_or}
 use Rattle.std.proofs.lemmas.List.{get_or_past}
 use Rattle.std.proofs.lemmas.Bool.Decides.{nat_tests}
+use Rattle.wa_base.specs.Contexts.{quantum_of}
 use Rattle.wa_base.specs.declared.graph_names.ParamId.{ParamId}
 use Rattle.wa_base.specs.declared.graph_names.ParamName.{ParamName}
 use Rattle.wa_base.specs.declared.graph_names.Rate.{Rate}
@@ -51,7 +52,7 @@ taken_by : (rate : Rate) (m : ℕ) → taken_at rate m ≡ (if is_k rate then 0 
 taken_by A m = refl
 taken_by K m = refl
 
-module _ (w : World) (valid : IsValid w) (first : ℕ) (levels : List LevelView) (are : AreLevels w.params.items first levels) (id : ParamId) (there : IsIn id (param_ids w)) where
+module _ (w : World) (valid : IsValid w) (first : ℕ) (levels : List LevelView) (are : AreLevels (quantum_of w.spec) w.params.items first levels) (id : ParamId) (there : IsIn id (param_ids w)) where
   found : (p : Param) × IsIn p w.params.items × (p.id ≡ id)
   found = with_id w.params.items id there
 
@@ -61,13 +62,13 @@ module _ (w : World) (valid : IsValid w) (first : ℕ) (levels : List LevelView)
   abbrev pub level : LevelView
   level = level_of levels id.node.0
 
-  own : IsLevelOf p first level
-  own = subst (λ (i : ParamId). IsLevelOf p first (level_of levels i.node.0)) found.2 (are p found.1)
+  own : IsLevelOf (quantum_of w.spec) p first level
+  own = subst (λ (i : ParamId). IsLevelOf (quantum_of w.spec) p first (level_of levels i.node.0)) found.2 (are p found.1)
 
   is_found : find_param w.params.items id ≡ Some p
   is_found = found_param w valid id p found.1 (subst (λ (i : ParamId). same_param i id ≡ true) (sym found.2) (same_self id))
 
-  pub has_room : HasRoom level
+  pub has_room : HasRoom (quantum_of w.spec) level
   has_room = own.room
 
   pub level_within : id.node.0 < length levels
@@ -80,14 +81,14 @@ module _ (w : World) (valid : IsValid w) (first : ℕ) (levels : List LevelView)
       by_place (inl l) = l
       by_place (inr past) =
           let none : level ≡ no_level = get_or_past levels id.node.0 no_level past in
-          let room : length level.values ≡ 128 = has_room in
+          let room : length level.values ≡ quantum_of w.spec = has_room in
           let empty : length level.values ≡ 0 = ap (λ (v : LevelView). length v.values) none in
-          absurd (omega arith)
+          let low = valid.spec.quantum.low in absurd (omega (arith, low, room, empty))
 
   pub rate_is : is_k_rate (sounding w) id ≡ is_k level.rate
   rate_is = k_rate_sounding w id ∙ ap (λ o. option_map_or (λ (q : Param). is_k q.rate) o false) is_found ∙ ap is_k (sym own.rate)
 
-  pub intrinsic_is : (m : ℕ) → m < 128 → intrinsic_value (sounding w) id (first + taken_in (sounding w) id m) ≡ level_at level m
+  pub intrinsic_is : (m : ℕ) → m < quantum_of w.spec → intrinsic_value (sounding w) id (first + taken_in (sounding w) id m) ≡ level_at level m
   intrinsic_is m low =
       intrinsic_sounding w id (first + taken_in (sounding w) id m)
       ∙ ap (λ o. option_map_or (λ (q : Param). value_at q.line.base q.line.events (first + taken_in (sounding w) id m)) o (pos 0)) is_found

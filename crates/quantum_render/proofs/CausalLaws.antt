@@ -4,6 +4,7 @@ use Rattle.std.specs.Prelude.{if◌then◌else◌, nat_lt, ◌==◌}
 use Rattle.std.proofs.lemmas.Bool.{cases_lt}
 use Rattle.std.proofs.lemmas.Bool.Decides.{nat_tests}
 use Rattle.std.proofs.lemmas.List.{get_or-take, get_or_past, length-take-le}
+use Rattle.wa_base.specs.Contexts.{quantum_of}
 use Rattle.mix_rules.specs.Blocks.{sample}
 use Rattle.node_table.specs.Equations.{equation_value}
 use Rattle.node_table.specs.Frames.{item}
@@ -26,23 +27,24 @@ use Rattle.quantum_render.specs.Sites.{SiteView, IsSite}
 use Rattle.quantum_render.specs.declared.memory.Memory.{Memory}
 use Rattle.quantum_render.specs.Renders.{IsReadyFor, past_of, here_of}
 use Rattle.quantum_render.proofs.Listening.{heard_like}
+use Rattle.law_base.proofs.Rows.{rows_up, place_in}
 use Rattle.quantum_render.proofs.SiteLaws.{site_slot}
 
 -- a widened block has its lanes, and is silent past them
-pub widened : (x : List ℤ) (heard : BlockView) (lanes c k : ℕ) → IsWidened heard lanes x → heard.lanes ≤ lanes → k < 128 → item x (c * 128 + k) ≡ shown heard k c
+pub widened : (x : List ℤ) (heard : BlockView) (lanes c k : ℕ) → IsWidened heard lanes x → heard.lanes ≤ lanes → k < heard.frames → item x (c * heard.frames + k) ≡ shown heard k c
 widened x heard lanes c k is within now = elim (cases_lt c lanes) [
   | inl low ↦ is.values c k low now
-  | inr past ↦ get_or_past x (c * 128 + k) (pos 0) (let all = is.length in omega arith) ∙ sym (nothing past)
+  | inr past ↦ get_or_past x (c * heard.frames + k) (pos 0) (let all = is.length in let rows = rows_up heard.frames lanes c past in omega (arith, all, rows)) ∙ sym (nothing past)
 ]
   where
     nothing : lanes ≤ c → shown heard k c ≡ pos 0
     nothing past = ap (λ b. if b then at heard c k else pos 0) (let no : nat_lt c heard.lanes ≡ false = grind (arith, nat_tests) in no)
 
 -- the front of what a block was written to
-pub widened_front : (wide : List ℤ) (heard : BlockView) (lanes : ℕ) → lanes * 128 ≤ length wide → ((c m : ℕ) → c < lanes → m < 128 → sample 128 wide c m ≡ shown heard m c) → IsWidened heard lanes (take (lanes * 128) wide)
+pub widened_front : (wide : List ℤ) (heard : BlockView) (lanes : ℕ) → lanes * heard.frames ≤ length wide → ((c m : ℕ) → c < lanes → m < heard.frames → sample heard.frames wide c m ≡ shown heard m c) → IsWidened heard lanes (take (lanes * heard.frames) wide)
 widened_front wide heard lanes room each = record {
-  length = length-take-le (lanes * 128) wide room;
-  values = λ c m low now. get_or-take (lanes * 128) wide (c * 128 + m) (pos 0) (omega arith) ∙ each c m low now;
+  length = length-take-le (lanes * heard.frames) wide room;
+  values = λ c m low now. get_or-take (lanes * heard.frames) wide (c * heard.frames + m) (pos 0) (place_in heard.frames c lanes m low now) ∙ each c m low now;
 }
 
 module _ (s : SiteView) (site : IsSite s.world s.end s.into s.counts s.levels s.first) (equation : Equation) (kind : kind_of s.world s.end.node.0 ≡ Causal equation) where
@@ -73,6 +75,9 @@ module _ (s : SiteView) (site : IsSite s.world s.end s.into s.counts s.levels s.
   abbrev n : ℕ
   n = s.end.node.0
 
+  abbrev q : ℕ
+  q = quantum_of s.world.spec
+
   -- what the node takes in, by the frames before and the blocks
   abbrev pub takes : ℕ → ℕ → ℤ
   takes g c = taken_in (past_of s old before g) n c
@@ -97,11 +102,12 @@ module _ (s : SiteView) (site : IsSite s.world s.end s.into s.counts s.levels s.
 
   -- the block that the node hears brings the quantum
   pub brings : (channels lanes : ℕ) (x : List ℤ) (heard : BlockView) → IsWidened heard lanes x → heard.lanes ≡ channels → channels ≤ lanes → channels ≡ input_channels (sounding s.world) (counts_in s.counts) n 0
-      → ((c m : ℕ) → c < channels → m < 128 → at heard c m ≡ input_value (here_of s old m) n 0 c)
-      → Brings s.first x takes
+      → heard.frames ≡ q → ((c m : ℕ) → c < channels → m < q → at heard c m ≡ input_value (here_of s old m) n 0 c)
+      → Brings q s.first x takes
   unfolding input_value
-  brings channels lanes x heard is count within counted input c k now =
-      takes_now k c ∙ by_test (nat_lt c channels) refl ∙ sym (widened x heard lanes c k is (subst (λ m. m ≤ lanes) (sym count) within) now)
+  brings channels lanes x heard is count within counted frames input c k now =
+      takes_now k c ∙ by_test (nat_lt c channels) refl
+      ∙ sym (subst (λ n. item x (c * n + k) ≡ shown heard k c) frames (widened x heard lanes c k is (subst (λ m. m ≤ lanes) (sym count) within) (subst (λ n. k < n) (sym frames) now)))
     where
       by_test : (b : Bool) → nat_lt c channels ≡ b → input_value (here_of s old k) n 0 c ≡ shown heard k c
       by_test true t =
@@ -119,17 +125,18 @@ module _ (s : SiteView) (site : IsSite s.world s.end s.into s.counts s.levels s.
       by_test g true t = let here : g ≡ s.first + m = grind (arith, nat_tests) in ap (past_of s old before) here ∙ past_now m
       by_test g false t = refl
 
-  module _ (x y : List ℤ) (bank' : BankView) (hears : Hears bank bank' n x y) (bring : Brings s.first x takes) (early : s.first ≤ 2 ^ 62) where
+  module _ (x y : List ℤ) (bank' : BankView) (hears : Hears bank bank' n x y) (same : bank.quantum ≡ q) (bring : Brings q s.first x takes) (early : s.first ≤ 2 ^ 62) where
     abbrev f : HeardView
     f = has_heard.causal
 
-    bring' : Brings f.time x takes
-    bring' = subst (λ t. Brings t x takes) (sym has_heard.time) bring
+    bring' : Brings bank.quantum f.time x takes
+    bring' = subst (λ k. Brings k f.time x takes) (sym same) (subst (λ t. Brings q t x takes) (sym has_heard.time) bring)
 
     -- what it puts out
-    pub puts_out : (c m : ℕ) → c < causal_room f → m < 128 → item y (c * 128 + m) ≡ equation_value equation (frames_heard (s.first + m) (past_of s old before) (here_of s old m) n c)
+    pub puts_out : (c m : ℕ) → c < causal_room f → m < q → item y (c * q + m) ≡ equation_value equation (frames_heard (s.first + m) (past_of s old before) (here_of s old m) n c)
     puts_out c m low now =
-        hears.values f has_heard.there takes has_heard.heard bring' c m low now
+        ap (λ k. item y (c * k + m)) (sym same)
+        ∙ hears.values f has_heard.there takes has_heard.heard bring' c m low (subst (λ k. m < k) (sym same) now)
         ∙ has_heard.outputs _
         ∙ ap (equation_value equation)
         (ap (λ b. since (λ g. takes g c) b (f.time + m + 1 - b)) has_heard.birth
@@ -137,7 +144,7 @@ module _ (s : SiteView) (site : IsSite s.world s.end s.into s.counts s.levels s.
         ∙ all_taken m c)
 
     -- and it has heard the quantum
-    pub hears_on : IsHeard (heard_at bank' n) equation (node_at s.world n).attrs.birth (s.first + 128) takes
+    pub hears_on : IsHeard (heard_at bank' n) equation (node_at s.world n).attrs.birth (s.first + q) takes
     hears_on =
         let next = hears.heard f has_heard.there (subst (λ t. t ≤ 2 ^ 62) (sym has_heard.time) early) takes has_heard.heard bring' in
         record {
@@ -145,6 +152,6 @@ module _ (s : SiteView) (site : IsSite s.world s.end s.into s.counts s.levels s.
           there = next.there;
           outputs = λ frames. next.outputs frames ∙ has_heard.outputs frames;
           birth = next.birth ∙ has_heard.birth;
-          time = next.time ∙ ap (λ t. t + 128) has_heard.time;
+          time = next.time ∙ ap (λ t. t + bank.quantum) has_heard.time ∙ ap (λ k. s.first + k) same;
           heard = next.heard;
         }

@@ -4,6 +4,7 @@ use Rattle.std.specs.Prelude.{if◌then◌else◌, ◌==◌}
 use Rattle.std.proofs.Math.ListN.{drop_of_length-le}
 use Rattle.std.proofs.lemmas.List.{get_or-set_same, get_or-set_other, length-set}
 use Rattle.std.proofs.lemmas.Bool.Decides.{nat_tests}
+use Rattle.wa_base.specs.Contexts.{quantum_of}
 use Rattle.wa_base.specs.declared.graph_names.End.{End}
 use Rattle.law_base.specs.Members.{IsIn}
 use Rattle.node_table.specs.declared.rows.Channels.TheVariants.{Always}
@@ -25,7 +26,7 @@ use Rattle.quantum_render.specs.Listening.{HasKept}
 use Rattle.quantum_render.specs.Plans.{AreMost, AreCounted}
 use Rattle.quantum_render.proofs.ReaderCounts.{are_most}
 use Rattle.quantum_blocks.proofs.Orders.{no_end, next_in_order}
-use Rattle.quantum_render.proofs.Ports.{outputs_few}
+use Rattle.quantum_render.proofs.Ports.{some_frames, outputs_few}
 use Rattle.quantum_blocks.proofs.Slots.{slot_low, slot_apart, slot-half, not_same}
 use Rattle.quantum_blocks.proofs.Sources.{end_low}
 
@@ -44,7 +45,7 @@ pub record Counting (w : World) (delays : DelayBank) (first : ℕ) (order : List
   pub done : List End
   pub legal : IsLegalAfter w.graph.value done (drop i order)
   pub range : AreInRange w counts
-  pub known : (tape : List World) → first ≡ 128 * length tape → HasKept delays w tape first → (d : End) → IsIn d (ends w.graph.value) → IsKnown w.graph.value done d → counts_in counts d ≡ count 128 (tape ++ w ∷ []) (length tape) d
+  pub known : (tape : List World) → first ≡ quantum_of w.spec * length tape → HasKept delays w tape first → (d : End) → IsIn d (ends w.graph.value) → IsKnown w.graph.value done d → counts_in counts d ≡ count (quantum_of w.spec) (tape ++ w ∷ []) (length tape) d
 
 pub counting_begins : (w : World) → IsValid w → (delays : DelayBank) (first : ℕ) (order : List End) → IsLegalOrder w.graph.value order → (counts : List ℕ) → length counts ≡ 2 * length w.nodes
     → ((k : ℕ) → k < length counts → slice_index_or counts k 1 ≡ 1) → Counting w delays first order 0 counts
@@ -53,7 +54,7 @@ counting_begins w valid delays first order legal counts places ones = record {
   legal = legal;
   range = one_each w valid counts places ones;
   known = λ tape time kept d in_d k. elim k [
-    | inl m ↦ ones (slot d) (subst (λ n. slot d < n) (sym places) (slot_low d (length w.nodes) (end_low w valid d in_d))) ∙ sym (muted_one 128 (omega arith) w (joined w valid) tape d in_d m)
+    | inl m ↦ ones (slot d) (subst (λ n. slot d < n) (sym places) (slot_low d (length w.nodes) (end_low w valid d in_d))) ∙ sym (muted_one (quantum_of w.spec) (some_frames w valid) w (joined w valid) tape d in_d m)
     | inr none ↦ absurd none
   ];
 }
@@ -68,26 +69,26 @@ module _ (w : World) (valid : IsValid w) (delays : DelayBank) (first : ℕ) (ord
   pub next_slot : slot x < length counts
   next_slot = subst (λ n. slot x < n) (sym c.range.places) (slot_low x (length w.nodes) (end_low w valid x next.0))
 
-  module _ (v : ℕ) (is : (j : ℕ) (earlier : ℕ → Counts) → first ≡ 128 * j → AreMost delays w j earlier → v ≡ count_by_kind 128 (sounding w) j earlier (counts_in counts) (kind_of w x.node.0) x) where
-    own_count : (tape : List World) → first ≡ 128 * length tape → HasKept delays w tape first → v ≡ count 128 (tape ++ w ∷ []) (length tape) x
+  module _ (same : delays.quantum ≡ quantum_of w.spec) (v : ℕ) (is : (j : ℕ) (earlier : ℕ → Counts) → first ≡ quantum_of w.spec * j → AreMost delays w j earlier → v ≡ count_by_kind (quantum_of w.spec) (sounding w) j earlier (counts_in counts) (kind_of w x.node.0) x) where
+    own_count : (tape : List World) → first ≡ quantum_of w.spec * length tape → HasKept delays w tape first → v ≡ count (quantum_of w.spec) (tape ++ w ∷ []) (length tape) x
     unfolding count_rule
     own_count tape time kept =
-        is (length tape) (counts_before 128 (tape ++ w ∷ []) (length tape)) time (are_most delays w tape first time kept)
-        ∙ ap (λ b. if b then 1 else count_by_kind 128 (sounding w) (length tape) (counts_before 128 (tape ++ w ∷ []) (length tape)) (counts_in counts) (kind_of w x.node.0) x) (sym next.1)
-        ∙ count_right 128 (omega arith) w (joined w valid) tape (counts_before 128 (tape ++ w ∷ []) (length tape)) (λ n k delay low high. refl) (counts_in counts) x next.0
+        is (length tape) (counts_before (quantum_of w.spec) (tape ++ w ∷ []) (length tape)) time (are_most delays w (some_frames w valid) same tape first time kept)
+        ∙ ap (λ b. if b then 1 else count_by_kind (quantum_of w.spec) (sounding w) (length tape) (counts_before (quantum_of w.spec) (tape ++ w ∷ []) (length tape)) (counts_in counts) (kind_of w x.node.0) x) (sym next.1)
+        ∙ count_right (quantum_of w.spec) (some_frames w valid) w (joined w valid) tape (counts_before (quantum_of w.spec) (tape ++ w ∷ []) (length tape)) (λ n k delay low high. refl) (counts_in counts) x next.0
         (λ d in_d a. c.known tape time kept d in_d (known_source w.graph.value c.done x next.3 d in_d a))
 
-    counted_more : (tape : List World) → first ≡ 128 * length tape → HasKept delays w tape first → (d : End) → IsIn d (ends w.graph.value) → IsKnown w.graph.value (x ∷ c.done) d
-        → counts_in (slice_set counts (slot x) v) d ≡ count 128 (tape ++ w ∷ []) (length tape) d
+    counted_more : (tape : List World) → first ≡ quantum_of w.spec * length tape → HasKept delays w tape first → (d : End) → IsIn d (ends w.graph.value) → IsKnown w.graph.value (x ∷ c.done) d
+        → counts_in (slice_set counts (slot x) v) d ≡ count (quantum_of w.spec) (tape ++ w ∷ []) (length tape) d
     counted_more tape time kept d in_d known = by_test (same_end d x) refl
       where
-        by_test : (b : Bool) → same_end d x ≡ b → slice_index_or (slice_set counts (slot x) v) (slot d) 1 ≡ count 128 (tape ++ w ∷ []) (length tape) d
+        by_test : (b : Bool) → same_end d x ≡ b → slice_index_or (slice_set counts (slot x) v) (slot d) 1 ≡ count (quantum_of w.spec) (tape ++ w ∷ []) (length tape) d
         by_test true t =
             let same : d ≡ x = same_end_is d x t in
             ap (λ (e : End). slice_index_or (slice_set counts (slot x) v) (slot e) 1) same
             ∙ get_or-set_same counts (slot x) v 1 next_slot
             ∙ own_count tape time kept
-            ∙ ap (count 128 (tape ++ w ∷ []) (length tape)) (sym same)
+            ∙ ap (count (quantum_of w.spec) (tape ++ w ∷ []) (length tape)) (sym same)
         by_test false t =
             get_or-set_other counts (slot x) (slot d) v 1 (slot_apart d x (not_same d x t)) ∙ c.known tape time kept d in_d (known_before w.graph.value x c.done d known t)
 
@@ -116,7 +117,7 @@ module _ (w : World) (valid : IsValid w) (delays : DelayBank) (first : ℕ) (ord
       known = counted_more;
     }
 
-pub counting_ends : (w : World) (delays : DelayBank) (first : ℕ) (order : List End) (i : ℕ) (counts : List ℕ) → Counting w delays first order i counts → length order ≤ i → (tape : List World) → first ≡ 128 * length tape → HasKept delays w tape first → AreCounted 128 w counts tape
+pub counting_ends : (w : World) (delays : DelayBank) (first : ℕ) (order : List End) (i : ℕ) (counts : List ℕ) → Counting w delays first order i counts → length order ≤ i → (tape : List World) → first ≡ quantum_of w.spec * length tape → HasKept delays w tape first → AreCounted (quantum_of w.spec) w counts tape
 counting_ends w delays first order i counts c l tape time kept d in_d =
     let legal : IsLegalAfter w.graph.value c.done [] = subst (IsLegalAfter w.graph.value c.done) (drop_of_length-le order l) c.legal in
     c.known tape time kept d in_d (all_known w.graph.value c.done legal d in_d)

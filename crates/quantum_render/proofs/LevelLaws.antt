@@ -2,11 +2,10 @@
 use Rattle.std.specs.Option.{option_map_or}
 use Rattle.std.proofs.Common.{ℕ, ℤ, pos, negsuc, ◌≡◌, ◌+◌, ◌-◌, ◌*◌, ◌/◌, ◌<◌, ◌+ℤ◌, List, [], ◌∷◌, map, filter, Bool, true, false, cond, ◌||◌, refl, sym, ◌∙◌, ap, arith, Some}
 use Rattle.std.specs.Prelude.{if◌then◌else◌, nat_lt, ◌==◌}
-use Rattle.std.proofs.Math.Nat.{mul_comm}
-use Rattle.std.proofs.lemmas.Nat.{div-mul-add}
 use Rattle.std.proofs.lemmas.Bool.Decides.{nat_tests}
 use Rattle.std.proofs.lemmas.Int.{ints}
 use Rattle.std.specs.List.{list_any}
+use Rattle.wa_base.specs.Contexts.{quantum_of}
 use Rattle.wa_base.specs.Numbers.{sat, IsFix}
 use Rattle.wa_base.specs.declared.graph_names.Interp.TheVariants.{Speakers}
 use Rattle.wa_base.specs.declared.graph_names.ParamId.{ParamId}
@@ -27,6 +26,7 @@ use Rattle.quantum_blocks.specs.Connections.{into, leads_to}
 use Rattle.quantum_render.specs.Parameters.{unclamped_value}
 use Rattle.quantum_render.specs.Sites.{IsBegun}
 use Rattle.quantum_blocks.proofs.Sources.{param_sources}
+use Rattle.law_base.proofs.Rows.{quantum_at}
 
 -- the frame of the quantum at which a parameter is taken: at k-rate the first one
 abbrev pub taken_at : World → ParamId → ℕ → ℕ
@@ -38,23 +38,23 @@ level_of w blocks counts id first m =
     let k = taken_at w id m in
     sat (intrinsic_value w id (first + k) +ℤ mixed_sum (frame_of w blocks counts k) Speakers 1 0 (edges_to_param w.graph.value id))
 
-taken_low : (w : World) (id : ParamId) (m : ℕ) → m < 128 → taken_at w id m < 128
-taken_low w id m l = by_rate (is_k_rate w id)
+taken_low : (q : ℕ) (w : World) (id : ParamId) (m : ℕ) → m < q → taken_at w id m < q
+taken_low q w id m l = by_rate (is_k_rate w id)
   where
-    by_rate : (b : Bool) → (if b then 0 else m) < 128
+    by_rate : (b : Bool) → (if b then 0 else m) < q
     by_rate true = omega arith
     by_rate false = l
 
 -- from one sum for each frame, of which the one that is taken is used
-pub level_is : (w : World) (blocks : List BlockView) (counts : List ℕ) (id : ParamId) (first m : ℕ) (edges : List Edge) (sums : ℕ → ℤ) (value : ℤ) (b : Bool) → m < 128
+pub level_is : (w : World) (blocks : List BlockView) (counts : List ℕ) (id : ParamId) (first m : ℕ) (edges : List Edge) (sums : ℕ → ℤ) (value : ℤ) (b : Bool) → m < quantum_of w.spec
     → edges ≡ into w.graph.value id.node.0
     → intrinsic_value w id (first + taken_at w id m) ≡ value
     → is_k_rate w id ≡ b
-    → ((k : ℕ) → k < 128 → sums k ≡ total (map (part (frame_of w blocks counts k) Speakers 1 0) (filter (leads_to (Param id)) edges)))
+    → ((k : ℕ) → k < quantum_of w.spec → sums k ≡ total (map (part (frame_of w blocks counts k) Speakers 1 0) (filter (leads_to (Param id)) edges)))
     → sat (value +ℤ sat (sums (if b then 0 else m))) ≡ level_of w blocks counts id first m
 level_is w blocks counts id first m edges sums value b l here intrinsic rate each =
     let k : ℕ = taken_at w id m in
-    let carried = each k (taken_low w id m l) in
+    let carried = each k (taken_low (quantum_of w.spec) w id m l) in
     let sources = ap (λ es. filter (leads_to (Param id)) es) here ∙ param_sources w.graph.value id in
     ap (λ (r : Bool). sat (value +ℤ sat (sums (if r then 0 else m)))) (sym rate)
     ∙ ap (λ x. sat (value +ℤ sat x)) (carried ∙ ap (λ es. total (map (part (frame_of w blocks counts k) Speakers 1 0) es)) sources)
@@ -70,7 +70,7 @@ unreached target (e ∷ es) h = by_test (leads_to target e) h (unreached target 
     by_test false k below = below k
 
 -- then the level is the intrinsic value
-pub level_unreached : (w : World) (blocks : List BlockView) (counts : List ℕ) (id : ParamId) (first m : ℕ) (edges : List Edge) (value : ℤ) (b : Bool) → m < 128
+pub level_unreached : (w : World) (blocks : List BlockView) (counts : List ℕ) (id : ParamId) (first m : ℕ) (edges : List Edge) (value : ℤ) (b : Bool) → m < quantum_of w.spec
     → edges ≡ into w.graph.value id.node.0
     → intrinsic_value w id (first + taken_at w id m) ≡ value
     → is_k_rate w id ≡ b
@@ -82,17 +82,18 @@ level_unreached w blocks counts id first m edges value b l here intrinsic rate n
 
 -- ---- the level is the parameter's value before it is clamped, whatever the frames before the quantum were
 
-module _ (w : World) (blocks : List BlockView) (counts : List ℕ) (before : ℕ → Frame) (first m : ℕ) (begun : IsBegun first) (l : m < 128) where
+module _ (w : World) (blocks : List BlockView) (counts : List ℕ) (before : ℕ → Frame) (first m : ℕ) (begun : IsBegun (quantum_of w.spec) first) (l : m < quantum_of w.spec) where
+  abbrev q : ℕ
+  q = quantum_of w.spec
+
   abbrev past : ℕ → Frame
   past = with_drafts before first w (counts_in counts) (drafts_of blocks counts)
 
   abbrev here : Frame
   here = frame_of w blocks counts m
 
-  quantum_first : 128 * ((first + m) / 128) ≡ first
-  quantum_first =
-      let j : ℕ = first / 128 in
-      ap (λ f. 128 * ((f + m) / 128)) (sym begun.whole ∙ mul_comm 128 j) ∙ ap (λ k. 128 * k) (div-mul-add j 128 m l) ∙ begun.whole
+  quantum_first : q * ((first + m) / q) ≡ first
+  quantum_first = ap (λ f. q * ((f + m) / q)) (sym begun.whole) ∙ ap (λ k. q * k) (quantum_at q (first / q) m l) ∙ begun.whole
 
   -- the first frame of the quantum, as frame m of it sees it
   seen_first : seen (first + m) past here first ≡ frame_of w blocks counts 0
@@ -112,7 +113,7 @@ module _ (w : World) (blocks : List BlockView) (counts : List ℕ) (before : ℕ
       same : (first + m == first + m) ≡ true
       same = grind (arith, nat_tests)
 
-  pub unclamped_is : (id : ParamId) → level_of w blocks counts id first m ≡ unclamped_value 128 (first + m) past here id
+  pub unclamped_is : (id : ParamId) → level_of w blocks counts id first m ≡ unclamped_value q (first + m) past here id
   unfolding unclamped_value
   unclamped_is id = by_rate (is_k_rate w id)
     where
@@ -120,7 +121,7 @@ module _ (w : World) (blocks : List BlockView) (counts : List ℕ) (before : ℕ
       at g x = sat (intrinsic_value w id g +ℤ mixed_sum x Speakers 1 0 (edges_to_param w.graph.value id))
 
       by_rate : (b : Bool) → at (first + (if b then 0 else m)) (frame_of w blocks counts (if b then 0 else m))
-          ≡ (let g : ℕ = if b then 128 * ((first + m) / 128) else first + m in at g (seen (first + m) past here g))
+          ≡ (let g : ℕ = if b then q * ((first + m) / q) else first + m in at g (seen (first + m) past here g))
       by_rate true =
           ap (λ g. at g (frame_of w blocks counts 0)) (let e : first + 0 ≡ first = omega arith in e)
           ∙ ap (at first) (sym seen_first)
@@ -135,22 +136,22 @@ up_to_of_sat (pos most) (pos x) is = let high = is.1 in ap pos (omega (arith, in
 up_to_of_sat (pos most) (negsuc x) is = refl
 up_to_of_sat (negsuc most) x is = refl
 
-module _ (f : ℕ) (past : ℕ → Frame) (here : Frame) (id : ParamId) where
+module _ (q f : ℕ) (past : ℕ → Frame) (here : Frame) (id : ParamId) where
   abbrev reached : ℤ
   reached =
-      let g = if is_k_rate here.world id then 128 * (f / 128) else f in
+      let g = if is_k_rate here.world id then q * (f / q) else f in
       intrinsic_value here.world id g +ℤ mixed_sum (seen f past here g) Speakers 1 0 (edges_to_param here.world.graph.value id)
 
   -- by the row of its node
-  nominal_is : (p : ParamRow) → (row (kind_of here.world id.node.0)).param ≡ Some p → in_range p.range reached ≡ computed_value 128 f past here id
+  nominal_is : (p : ParamRow) → (row (kind_of here.world id.node.0)).param ≡ Some p → in_range p.range reached ≡ computed_value q f past here id
   unfolding computed_value
   nominal_is p is = sym (ap (λ o. option_map_or (λ (p : ParamRow). in_range p.range reached) o (pos 0)) is)
 
-  pub computed_is : (p : ParamRow) → (row (kind_of here.world id.node.0)).param ≡ Some p → p.range ≡ Any → unclamped_value 128 f past here id ≡ computed_value 128 f past here id
+  pub computed_is : (p : ParamRow) → (row (kind_of here.world id.node.0)).param ≡ Some p → p.range ≡ Any → unclamped_value q f past here id ≡ computed_value q f past here id
   unfolding unclamped_value
   computed_is p is any = sym (ap (λ r. in_range r reached) any) ∙ nominal_is p is
 
   pub limited_is : (p : ParamRow) → (row (kind_of here.world id.node.0)).param ≡ Some p → (most : ℤ) → p.range ≡ UpTo most → IsFix most
-      → up_to most (unclamped_value 128 f past here id) ≡ computed_value 128 f past here id
+      → up_to most (unclamped_value q f past here id) ≡ computed_value q f past here id
   unfolding unclamped_value
   limited_is p is most limited fix = up_to_of_sat most reached fix ∙ sym (ap (λ r. in_range r reached) limited) ∙ nominal_is p is

@@ -20,3 +20,4 @@ pub mod CausalLaws
 pub mod Remembering
 pub mod Kept
 pub mod Following
+pub mod Standing

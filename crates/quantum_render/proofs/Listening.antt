@@ -2,10 +2,12 @@
 use Rattle.std.proofs.Common.{ℕ, ℤ, ◌≡◌, ◌+◌, ◌-◌, ◌*◌, ◌<◌, ◌≤◌, length, List, [], ◌∷◌, ◌++◌, Bool, true, false, ◌||◌, Option, Some, None, inl, inr, refl, sym, ◌∙◌, ap, arith, subst}
 use Rattle.std.specs.Prelude.{if◌then◌else◌, nat_lt}
 use Rattle.std.proofs.lemmas.Bool.Decides.{nat_tests}
+use Rattle.wa_base.specs.Contexts.{quantum_of}
 use Rattle.wa_base.specs.declared.graph_names.End.{End}
 use Rattle.law_base.specs.Members.{IsIn}
 use Rattle.filter_bank.specs.States.{stands}
 use Rattle.node_table.specs.declared.equation.Equation.{Equation}
+use Rattle.node_table.specs.Equations.{equation_value}
 use Rattle.node_table.specs.Kinds.{is_delay_kind}
 use Rattle.node_table.specs.declared.kinds.Kind.{Kind}
 use Rattle.node_table.specs.declared.kinds.Kind.TheVariants.{Causal}
@@ -40,6 +42,18 @@ heard_like found equation birth now at at' same is = record {
   where
     within : (g : ℕ) → is.causal.birth ≤ g → g < is.causal.birth + (is.causal.time - is.causal.birth) → g < now
     within g low high = let t = is.time in omega arith
+
+-- and has heard it by an equation with the same outputs
+heard_as : (found : Option HeardView) (equation equation' : Equation) (birth birth' now : ℕ) (at : ℕ → ℕ → ℤ) → ((frames : List ℤ) → equation_value equation frames ≡ equation_value equation' frames) → birth ≡ birth'
+    → IsHeard found equation birth now at → IsHeard found equation' birth' now at
+heard_as found equation equation' birth birth' now at outputs born is = record {
+  causal = is.causal;
+  there = is.there;
+  outputs = λ frames. is.outputs frames ∙ outputs frames;
+  birth = is.birth ∙ born;
+  time = is.time;
+  heard = is.heard;
+}
 
 -- whether an end is among those that are done
 abbrev pub is_among : List End → End → Bool
@@ -84,44 +98,48 @@ other_among done x e apart = by_test (same_end e x) refl
 abbrev pub is_done : List End → ℕ → Bool
 is_done done n = is_among done (reader_of n)
 
--- up to which frame a causal node has heard its input, by the ends that are done
-abbrev pub heard_until : List End → ℕ → ℕ → ℕ
-heard_until done first n = if is_done done n then first + 128 else first
+-- up to which frame a causal node has heard its input, by the ends that are done in a quantum of q frames
+abbrev pub heard_until : ℕ → List End → ℕ → ℕ → ℕ
+heard_until q done first n = if is_done done n then first + q else first
 
 -- each causal node of a world has heard its input, as far as the ends are done
 abbrev pub AreHeardBy : BankView → World → List World → ℕ → List End → Type 0
 AreHeardBy bank w tape first done = (n : ℕ) (equation : Equation) → n < length w.nodes → kind_of w n ≡ Causal equation
-    → IsHeard (heard_at bank n) equation (node_at w n).attrs.birth (heard_until done first n) (λ g c. taken_in (frame 128 (tape ++ w ∷ []) g) n c)
+    → IsHeard (heard_at bank n) equation (node_at w n).attrs.birth (heard_until (quantum_of w.spec) done first n) (λ g c. taken_in (frame (quantum_of w.spec) (tape ++ w ∷ []) g) n c)
 
 -- what a kind that remembers nothing renders, it renders whatever is remembered
 pub with_memory : (s : SiteView) (memory : Memory) (blocks : List BlockView) (block : BlockView) (kind : Kind) → Renders s blocks block kind → RendersWith s memory blocks block kind
 with_memory s memory blocks block kind renders = record {
   lanes = renders.lanes;
+  frames = renders.frames;
   values = λ j earlier begins counted before ready. renders.values j earlier begins counted before;
 }
 
 -- ---- one more end of an order
 
-module _ (w : World) (joined : IsJoined (sounding w)) (tape : List World) (blocks : List BlockView) (counts : List ℕ)
-    (counted : HasCounts 128 (tape ++ w ∷ []) (length tape) w (counts_in counts)) (done : List End) (right : AreRight 128 (tape ++ w ∷ []) (length tape) w (drafts_of blocks counts) done)
+module _ (w : World) (some : 0 < quantum_of w.spec) (joined : IsJoined (sounding w)) (tape : List World) (blocks : List BlockView) (counts : List ℕ)
+    (counted : HasCounts (quantum_of w.spec) (tape ++ w ∷ []) (length tape) w (counts_in counts)) (done : List End) (right : AreRight (quantum_of w.spec) (tape ++ w ∷ []) (length tape) w (drafts_of blocks counts) done)
     (x : End) (in_x : IsIn x (ends w.graph.value)) (sources : HasSources w done x) (plain_x : x ≡ input_end w.graph.value x.node.0) where
+  abbrev q : ℕ
+  q = quantum_of w.spec
+
   abbrev longer : List World
   longer = tape ++ w ∷ []
 
   abbrev first : ℕ
-  first = 128 * length tape
+  first = q * length tape
 
   -- what its node takes in, by the blocks and by the tape
-  pub takes_in : (g c : ℕ) → g < first + 128 → taken_in (with_drafts (frame 128 longer) first (sounding w) (counts_in counts) (drafts_of blocks counts) g) x.node.0 c ≡ taken_in (frame 128 longer g) x.node.0 c
+  pub takes_in : (g c : ℕ) → g < first + q → taken_in (with_drafts (frame q longer) first (sounding w) (counts_in counts) (drafts_of blocks counts) g) x.node.0 c ≡ taken_in (frame q longer g) x.node.0 c
   takes_in g c low = by_test (nat_lt g first) refl
     where
-      by_test : (b : Bool) → nat_lt g first ≡ b → taken_in (if b then frame 128 longer g else drafted (sounding w) (counts_in counts) (drafts_of blocks counts (g - first))) x.node.0 c ≡ taken_in (frame 128 longer g) x.node.0 c
+      by_test : (b : Bool) → nat_lt g first ≡ b → taken_in (if b then frame q longer g else drafted (sounding w) (counts_in counts) (drafts_of blocks counts (g - first))) x.node.0 c ≡ taken_in (frame q longer g) x.node.0 c
       by_test true t = refl
       by_test false t =
           let high : first ≤ g = grind (arith, nat_tests) in
           let back : first + (g - first) ≡ g = omega arith in
-          taken_right 128 (omega arith) w joined tape (counts_in counts) counted (drafts_of blocks counts) done right x in_x plain_x sources (g - first) (omega arith) c
-          ∙ ap (λ k. taken_in (frame 128 longer k) x.node.0 c) back
+          taken_right q some w joined tape (counts_in counts) counted (drafts_of blocks counts) done right x in_x plain_x sources (g - first) (omega arith) c
+          ∙ ap (λ k. taken_in (frame q longer k) x.node.0 c) back
 
   -- of the ends that are done, x is none yet, and then it is one
   module _ (kind : is_delay_kind (kind_of w x.node.0) ≡ false) (new : IsIn x done → ⊥) where
@@ -141,10 +159,10 @@ other_done x done n apart = other_among done x (reader_of n) (λ e. apart (ap (�
 -- ---- after the last end
 
 -- a causal node that is muted hears silence, and the others have heard the quantum
-pub rested_heard : (w : World) → IsJoined (sounding w) → (tape : List World) (first : ℕ) → first ≡ 128 * length tape → (done : List End) → IsLegalAfter w.graph.value done [] → (n : ℕ) → IsIn (reader_of n) (ends w.graph.value)
-    → (equation : Equation) → is_delay_kind (kind_of w n) ≡ false → (birth : ℕ) (old new : Option HeardView) → IsHeard old equation birth (heard_until done first n) (λ g c. taken_in (frame 128 (tape ++ w ∷ []) g) n c)
-    → IsRestedIfThere first old new → IsHeard new equation birth (first + 128) (λ g c. taken_in (frame 128 (tape ++ w ∷ []) g) n c)
-rested_heard w joined tape first begins done legal n in_n equation no_delay birth old new is rested = by_test (is_done done n) refl is
+pub rested_heard : (w : World) → 0 < quantum_of w.spec → IsJoined (sounding w) → (tape : List World) (first : ℕ) → first ≡ quantum_of w.spec * length tape → (done : List End) → IsLegalAfter w.graph.value done [] → (n : ℕ) → IsIn (reader_of n) (ends w.graph.value)
+    → (equation : Equation) → is_delay_kind (kind_of w n) ≡ false → (birth : ℕ) (old new : Option HeardView) → IsHeard old equation birth (heard_until (quantum_of w.spec) done first n) (λ g c. taken_in (frame (quantum_of w.spec) (tape ++ w ∷ []) g) n c)
+    → IsRestedIfThere (quantum_of w.spec) first old new → IsHeard new equation birth (first + quantum_of w.spec) (λ g c. taken_in (frame (quantum_of w.spec) (tape ++ w ∷ []) g) n c)
+rested_heard w some joined tape first begins done legal n in_n equation no_delay birth old new is rested = by_test (is_done done n) refl is
   where
     -- an end that is not done is muted
     quiet : is_done done n ≡ false → muted w.graph.value (input_end w.graph.value n) ≡ true
@@ -155,25 +173,18 @@ rested_heard w joined tape first begins done legal n in_n equation no_delay birt
         by_mute false m = let yes : is_done done n ≡ true = in_among done (reader_of n) (legal (reader_of n) in_n m) in absurd (let no = sym t ∙ yes in cc)
 
     -- a causal node that was there has rested
-    there : (f : HeardView) (old new : Option HeardView) → old ≡ Some f → IsRestedIfThere first old new → (g : HeardView) × (new ≡ Some g) × IsRested first f g
+    there : (f : HeardView) (old new : Option HeardView) → old ≡ Some f → IsRestedIfThere (quantum_of w.spec) first old new → (g : HeardView) × (new ≡ Some g) × IsRested (quantum_of w.spec) first f g
     there f None new at rested = absurd (let e = at in cc)
     there f (Some x) None at rested = absurd rested
-    there f (Some x) (Some g) at rested = (g, refl, subst (λ y. IsRested first y g) (let e : x ≡ f = cc in e) rested)
+    there f (Some x) (Some g) at rested = (g, refl, subst (λ y. IsRested (quantum_of w.spec) first y g) (let e : x ≡ f = cc in e) rested)
 
-    by_test : (b : Bool) → is_done done n ≡ b → IsHeard old equation birth (if b then first + 128 else first) (λ g c. taken_in (frame 128 (tape ++ w ∷ []) g) n c)
-        → IsHeard new equation birth (first + 128) (λ g c. taken_in (frame 128 (tape ++ w ∷ []) g) n c)
+    by_test : (b : Bool) → is_done done n ≡ b → IsHeard old equation birth (if b then first + quantum_of w.spec else first) (λ g c. taken_in (frame (quantum_of w.spec) (tape ++ w ∷ []) g) n c)
+        → IsHeard new equation birth (first + quantum_of w.spec) (λ g c. taken_in (frame (quantum_of w.spec) (tape ++ w ∷ []) g) n c)
     by_test true t is =
         let after = there is.causal old new is.there rested in
-        let kept : after.0 ≡ is.causal = after.2.kept (λ e. let time = is.time in absurd (omega arith)) in
-        subst (λ o. IsHeard o equation birth (first + 128) (λ g c. taken_in (frame 128 (tape ++ w ∷ []) g) n c)) (is.there ∙ sym (after.1 ∙ ap (λ x. Some x) kept)) is
+        let kept : after.0 ≡ is.causal = after.2.kept (λ e. let time = is.time in absurd (omega (arith, some, e, time))) in
+        subst (λ o. IsHeard o equation birth (first + quantum_of w.spec) (λ g c. taken_in (frame (quantum_of w.spec) (tape ++ w ∷ []) g) n c)) (is.there ∙ sym (after.1 ∙ ap (λ x. Some x) kept)) is
     by_test false t is =
         let after = there is.causal old new is.there rested in
-        let made = after.2.heard is.time (λ g c. taken_in (frame 128 (tape ++ w ∷ []) g) n c) is.heard (λ c k now. ap (λ f. taken_in (frame 128 (tape ++ w ∷ []) (f + k)) n c) begins ∙ taken_muted 128 (omega arith) w joined tape n (quiet t) k now c) in
-        record {
-          causal = made.causal;
-          there = after.1 ∙ made.there;
-          outputs = λ frames. made.outputs frames ∙ is.outputs frames;
-          birth = made.birth ∙ is.birth;
-          time = made.time;
-          heard = made.heard;
-        }
+        let made = after.2.heard is.time (λ g c. taken_in (frame (quantum_of w.spec) (tape ++ w ∷ []) g) n c) is.heard (λ c k now. ap (λ f. taken_in (frame (quantum_of w.spec) (tape ++ w ∷ []) (f + k)) n c) begins ∙ taken_muted (quantum_of w.spec) some w joined tape n (quiet t) k now c) in
+        subst (λ o. IsHeard o equation birth (first + quantum_of w.spec) (λ g c. taken_in (frame (quantum_of w.spec) (tape ++ w ∷ []) g) n c)) (sym after.1) (heard_as _ _ equation _ birth _ _ is.outputs is.birth made)

@@ -1,6 +1,7 @@
 -- What the destination carries is what is rendered.
 use Rattle.std.proofs.Common.{ℕ, ℤ, pos, ◌≡◌, ◌+◌, ◌*◌, ◌<◌, length, List, [], ◌∷◌, ◌++◌, Bool, true, false, refl, sym, ◌∙◌, ap, arith, subst}
 use Rattle.std.specs.Prelude.{if◌then◌else◌, nat_lt}
+use Rattle.wa_base.specs.Contexts.{quantum_of}
 use Rattle.wa_base.specs.declared.graph_names.End.{End}
 use Rattle.law_base.specs.Members.{IsIn}
 use Rattle.mix_rules.specs.Blocks.{sample as channel_sample}
@@ -26,11 +27,15 @@ destination_lanes w valid blocks counts fit =
     ∙ ap (λ k. outputs k * counts_in counts (reader_of 0)) valid.nodes.first.kind
     ∙ (let n : ℕ = counts_in counts (reader_of 0) in let e : 1 * n ≡ n = omega arith in e)
 
-pub out_is : (w : World) → IsValid w → (tape : List World) (blocks : List BlockView) (counts : List ℕ) (out : List ℤ) (c m : ℕ) → AreCounted 128 w counts tape
-    → ((m : ℕ) (d : End) → m < 128 → IsIn d (ends w.graph.value) → drafts_of blocks counts m d ≡ value 128 (tape ++ w ∷ []) (128 * length tape + m) d)
-    → ((c m : ℕ) → c < w.spec.channels → m < 128 → channel_sample 128 out c m ≡ shown (block_of blocks (reader_of 0)) m c)
+-- it has the frames of the world's quanta
+pub destination_frames : (w : World) → IsValid w → (blocks : List BlockView) (counts : List ℕ) → AreFit w counts blocks → (block_of blocks (reader_of 0)).frames ≡ quantum_of w.spec
+destination_frames w valid blocks counts fit = fit.frames (reader_of 0) (destination_is w valid)
+
+pub out_is : (w : World) → IsValid w → (tape : List World) (blocks : List BlockView) (counts : List ℕ) (out : List ℤ) (c m : ℕ) → AreCounted (quantum_of w.spec) w counts tape
+    → ((m : ℕ) (d : End) → m < quantum_of w.spec → IsIn d (ends w.graph.value) → drafts_of blocks counts m d ≡ value (quantum_of w.spec) (tape ++ w ∷ []) (quantum_of w.spec * length tape + m) d)
+    → ((c m : ℕ) → c < w.spec.channels → m < quantum_of w.spec → channel_sample (quantum_of w.spec) out c m ≡ shown (block_of blocks (reader_of 0)) m c)
     → (block_of blocks (reader_of 0)).lanes ≡ counts_in counts (reader_of 0)
-    → c < w.spec.channels → m < 128 → channel_sample 128 out c m ≡ sample 128 (tape ++ w ∷ []) (128 * length tape + m) c
+    → c < w.spec.channels → m < quantum_of w.spec → channel_sample (quantum_of w.spec) out c m ≡ sample (quantum_of w.spec) (tape ++ w ∷ []) (quantum_of w.spec * length tape + m) c
 out_is w valid tape blocks counts out c m counted values copied lanes few now =
     copied c m few now
     ∙ by_tests (nat_lt c (counts_in counts (reader_of 0))) refl

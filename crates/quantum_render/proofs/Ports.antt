@@ -1,5 +1,6 @@
 -- What holds of the ports of every node, and how the inputs of splitters and mergers are mixed.
 use Rattle.std.proofs.Common.{ℕ, zero, suc, ◌≡◌, ◌<◌, ◌≤◌, length, List, true, false, refl, ◌∙◌, ap, arith}
+use Rattle.wa_base.specs.Contexts.{quantum_of}
 use Rattle.wa_base.specs.declared.graph_names.Mode.{Mode}
 use Rattle.wa_base.specs.declared.graph_names.Mode.TheVariants.{Explicit}
 use Rattle.mix_rules.specs.Counts.{input_count}
@@ -12,6 +13,10 @@ use Rattle.meaning.specs.World.{sounding, node_at, kind_of}
 use Rattle.meaning.specs.Validity.{IsValid}
 use Rattle.meaning.specs.Counts.{Counts, input_channels}
 use Rattle.meaning.proofs.NodeKinds.{row_there}
+
+-- a quantum has frames
+pub some_frames : (w : World) → IsValid w → 0 < quantum_of w.spec
+some_frames w valid = let low = valid.spec.quantum.low in omega (arith, low)
 
 -- no node has more than 32 outputs
 pub outputs_few : (w : World) → IsValid w → (i : ℕ) → outputs (kind_of w i) ≤ 32

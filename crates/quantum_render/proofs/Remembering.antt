@@ -3,6 +3,7 @@ use Rattle.std.proofs.Common.{ℕ, zero, suc, pos, ◌≡◌, ◌+◌, ◌-◌, 
 use Rattle.std.specs.Prelude.{if◌then◌else◌, ◌&&◌, nat_lt, nat_le}
 use Rattle.std.proofs.lemmas.Bool.{cases_lt}
 use Rattle.std.proofs.lemmas.Bool.Decides.{nat_tests}
+use Rattle.wa_base.specs.Contexts.{quantum_of}
 use Rattle.law_base.proofs.Tests.{and_both}
 use Rattle.node_table.specs.Kinds.{remembers, lasting}
 use Rattle.node_table.specs.declared.kinds.Kind.TheVariants.{Causal}
@@ -20,7 +21,10 @@ use Rattle.filter_bank.specs.Banks.{BankView, heard_at, AreHeard, AreNew}
 use Rattle.quantum_render.specs.Listening.{HasHeard}
 use Rattle.quantum_render.proofs.Listening.{heard_like}
 
-module _ (w : World) (tape : List World) (regular : IsRegular 128 (tape ++ w ∷ [])) where
+module _ (w : World) (some : 0 < quantum_of w.spec) (tape : List World) (regular : IsRegular (quantum_of w.spec) (tape ++ w ∷ [])) where
+  abbrev q : ℕ
+  q = quantum_of w.spec
+
   abbrev longer : List World
   longer = tape ++ w ∷ []
 
@@ -54,7 +58,7 @@ module _ (w : World) (tape : List World) (regular : IsRegular 128 (tape ++ w ∷
       by_count (suc k) e = let there = (stays_last k (omega arith)).there in omega arith
 
   -- a node that the last world lacks was born at the first frame of the quantum
-  pub born_now : (n : ℕ) → n < length w.nodes → length (last_world tape).nodes ≤ n → (node_at w n).attrs.birth ≡ 128 * length tape
+  pub born_now : (n : ℕ) → n < length w.nodes → length (last_world tape).nodes ≤ n → (node_at w n).attrs.birth ≡ q * length tape
   born_now n low high = ap (λ (x : World). (node_at x n).attrs.birth) (sym now) ∙ regular.born (length tape) n (omega (arith, long)) (subst (λ (x : World). n < length x.nodes) (sym now) low, before (length tape) refl)
     where
       before : (k : ℕ) → length tape ≡ k → (length tape ≡ 0) ⊎ (length (world_in longer (length tape - 1)).nodes ≤ n)
@@ -62,19 +66,19 @@ module _ (w : World) (tape : List World) (regular : IsRegular 128 (tape ++ w ∷
       before (suc k) e = inr (subst (λ (x : World). length x.nodes ≤ n) (sym (world_before tape w (length tape - 1) (omega arith))) high)
 
   -- what the causal nodes remember of the tape is what they have heard
-  pub remembered : (bank : BankView) (time : ℕ) → time ≡ 128 * length tape → bank.known ≡ length (last_world tape).nodes → AreHeard bank (last_world tape) time (past 128 tape).heard → AreNew bank w → HasHeard bank w tape time
+  pub remembered : (bank : BankView) (time : ℕ) → time ≡ q * length tape → bank.known ≡ length (last_world tape).nodes → AreHeard bank (last_world tape) time (past q tape).heard → AreNew bank w → HasHeard bank w tape time
   remembered bank time begins known old fresh n equation low is = elim (cases_lt n (length (last_world tape).nodes)) [
     | inl there ↦
         let stays = stays_last n there in
         let kind : kind_of (last_world tape) n ≡ Causal equation = lasting_equation _ equation (sym stays.kind ∙ ap lasting is) in
-        subst (λ b. IsHeard (heard_at bank n) equation b time (λ g c. taken_in (frame 128 longer g) n c)) (sym stays.birth)
-        (heard_like _ equation _ time ((past 128 tape).heard n) _ (λ g c from to.
-        past_heard 128 (omega arith) w tape regular n g c (ap remembers is) (subst (λ b. b ≤ g) (sym stays.birth) from) (subst (λ t. g < t) begins to)
-        ∙ ap (λ x. taken_in x n c) (sym (frame_before 128 (omega arith) tape w g (subst (λ t. g < t) begins to))))
+        subst (λ b. IsHeard (heard_at bank n) equation b time (λ g c. taken_in (frame q longer g) n c)) (sym stays.birth)
+        (heard_like _ equation _ time ((past q tape).heard n) _ (λ g c from to.
+        past_heard q some w tape regular n g c (ap remembers is) (subst (λ b. b ≤ g) (sym stays.birth) from) (subst (λ t. g < t) begins to)
+        ∙ ap (λ x. taken_in x n c) (sym (frame_before q some tape w g (subst (λ t. g < t) begins to))))
         (old n equation there kind))
     | inr new ↦
         let birth : (node_at w n).attrs.birth ≡ time = born_now n low new ∙ sym begins in
-        subst (λ t. IsHeard (heard_at bank n) equation (node_at w n).attrs.birth t (λ g c. taken_in (frame 128 longer g) n c)) birth
+        subst (λ t. IsHeard (heard_at bank n) equation (node_at w n).attrs.birth t (λ g c. taken_in (frame q longer g) n c)) birth
         (heard_like _ equation _ (node_at w n).attrs.birth (λ g c. pos 0) _ (λ g c from to. absurd (omega arith))
         (fresh n equation (subst (λ k. k ≤ n) (sym known) new) low is))
   ]
@@ -83,9 +87,9 @@ module _ (w : World) (tape : List World) (regular : IsRegular 128 (tape ++ w ∷
   last_now = world_after tape w (length longer - 1) (omega (arith, long))
 
   -- and what they have heard they remember
-  pub remembers_on : (bank : BankView) (time : ℕ) → time ≡ 128 * length longer → HasHeard bank w tape time → AreHeard bank (last_world longer) time (past 128 longer).heard
-  remembers_on bank time ends heard_all = subst (λ x. AreHeard bank x time (past 128 longer).heard) (sym last_now) (λ n equation low is.
-      heard_like _ equation _ time (λ g c. taken_in (frame 128 longer g) n c) _ (λ g c from to. sym (lived n g c (ap remembers is) from (subst (λ t. g < t) ends to))) (heard_all n equation low is))
+  pub remembers_on : (bank : BankView) (time : ℕ) → time ≡ q * length longer → HasHeard bank w tape time → AreHeard bank (last_world longer) time (past q longer).heard
+  remembers_on bank time ends heard_all = subst (λ x. AreHeard bank x time (past q longer).heard) (sym last_now) (λ n equation low is.
+      heard_like _ equation _ time (λ g c. taken_in (frame q longer g) n c) _ (λ g c from to. sym (lived n g c (ap remembers is) from (subst (λ t. g < t) ends to))) (heard_all n equation low is))
     where
       at_least : (a b : ℕ) → a ≤ b → nat_le a b ≡ true
       at_least a b l = grind (arith, nat_tests)
@@ -93,7 +97,7 @@ module _ (w : World) (tape : List World) (regular : IsRegular 128 (tape ++ w ∷
       below : (a b : ℕ) → a < b → nat_lt a b ≡ true
       below a b l = grind (arith, nat_tests)
 
-      lived : (n g c : ℕ) → remembers (kind_of w n) ≡ true → (node_at w n).attrs.birth ≤ g → g < 128 * length longer → (past 128 longer).heard n g c ≡ taken_in (frame 128 longer g) n c
+      lived : (n g c : ℕ) → remembers (kind_of w n) ≡ true → (node_at w n).attrs.birth ≤ g → g < q * length longer → (past q longer).heard n g c ≡ taken_in (frame q longer g) n c
       lived n g c is from to =
-          ap (λ x. if remembers (node_at x n).kind && (nat_le (node_at x n).attrs.birth g && nat_lt g (128 * length longer)) then heard 128 longer n g c else pos 0) last_now
-          ∙ ap (λ b. if b then heard 128 longer n g c else pos 0) (and_both _ _ is (and_both _ _ (at_least (node_at w n).attrs.birth g from) (below g (128 * length longer) to)))
+          ap (λ x. if remembers (node_at x n).kind && (nat_le (node_at x n).attrs.birth g && nat_lt g (q * length longer)) then heard q longer n g c else pos 0) last_now
+          ∙ ap (λ b. if b then heard q longer n g c else pos 0) (and_both _ _ is (and_both _ _ (at_least (node_at w n).attrs.birth g from) (below g (q * length longer) to)))

@@ -1,5 +1,6 @@
 -- What the block of an end has once it is rendered.
 use Rattle.std.proofs.Common.{ℕ, ◌≡◌, ◌+◌, ◌*◌, ◌<◌, ◌≤◌, length, List, true, false, refl, sym, ◌∙◌, ap, arith, subst}
+use Rattle.wa_base.specs.Contexts.{quantum_of}
 use Rattle.wa_base.specs.declared.graph_names.End.{End}
 use Rattle.node_table.specs.declared.rows.Channels.TheVariants.{Always}
 use Rattle.node_table.specs.Kinds.{row, outputs, is_delay_kind}
@@ -41,8 +42,8 @@ pub mono_own : (s : SiteView) → IsSite s.world s.end s.into s.counts s.levels 
 mono_own s site is = site.quantum.range.mono (slot s.end) (site_slot s.world s.end s.into s.counts s.levels s.first site) (subst (λ n. (row (kind_of s.world n)).channels ≡ Always 1) (sym (slot-half s.end)) is)
 
 -- there is room for so many lanes as a block has
-pub room_for : (block : BlockView) (n : ℕ) → n ≡ block.lanes → n * 128 ≤ room_of block
-room_for block n same = omega arith
+pub room_for : (block : BlockView) (n : ℕ) → n ≡ block.lanes → n * block.frames ≤ room_of block
+room_for block n same = let all : n * block.frames ≡ block.lanes * block.frames = ap (λ k. k * block.frames) same in omega (arith, all)
 
 -- of one output they are the end's channels
 module _ (s : SiteView) (kind : Kind) (is : kind_of s.world s.end.node.0 ≡ kind) (single : outputs kind ≡ 1) where
@@ -52,28 +53,33 @@ module _ (s : SiteView) (kind : Kind) (is : kind_of s.world s.end.node.0 ≡ kin
   pub lanes_own : (block : BlockView) → HasLanes s block → block.lanes ≡ counts_in s.counts s.end
   lanes_own block has = has ∙ all_lanes
 
-  pub own_room : (block : BlockView) → HasLanes s block → (n : ℕ) → n ≡ counts_in s.counts s.end → n * 128 ≤ room_of block
+  pub own_room : (block : BlockView) → HasLanes s block → (n : ℕ) → n ≡ counts_in s.counts s.end → n * block.frames ≤ room_of block
   own_room block has n same = room_for block n (same ∙ sym (lanes_own block has))
 
-  module _ (blocks : List BlockView) (block : BlockView) (lanes : block.lanes ≡ counts_in s.counts s.end) where
-    first_output : (before : ℕ → Frame) (o c m : ℕ) → o < outputs kind → at block c m ≡ value_by_kind 128 (s.first + m) (past_of s blocks before) (here_of s blocks m) kind s.end 0 c
-        → at block (o * counts_in s.counts s.end + c) m ≡ value_by_kind 128 (s.first + m) (past_of s blocks before) (here_of s blocks m) kind s.end o c
+  module _ (blocks : List BlockView) (block : BlockView) (lanes : block.lanes ≡ counts_in s.counts s.end) (frames : block.frames ≡ quantum_of s.world.spec) where
+    abbrev q : ℕ
+    q = quantum_of s.world.spec
+
+    first_output : (before : ℕ → Frame) (o c m : ℕ) → o < outputs kind → at block c m ≡ value_by_kind q (s.first + m) (past_of s blocks before) (here_of s blocks m) kind s.end 0 c
+        → at block (o * counts_in s.counts s.end + c) m ≡ value_by_kind q (s.first + m) (past_of s blocks before) (here_of s blocks m) kind s.end o c
     first_output before o c m output each =
         let first : o < 1 = subst (λ n. o < n) single output in
         let zeroth : 0 ≡ o = omega arith in
-        ap (λ lane. at block lane m) (lane-only o (counts_in s.counts s.end) c first) ∙ each ∙ ap (λ k. value_by_kind 128 (s.first + m) (past_of s blocks before) (here_of s blocks m) kind s.end k c) zeroth
+        ap (λ lane. at block lane m) (lane-only o (counts_in s.counts s.end) c first) ∙ each ∙ ap (λ k. value_by_kind q (s.first + m) (past_of s blocks before) (here_of s blocks m) kind s.end k c) zeroth
 
-    pub renders_own : ((j : ℕ) (earlier : ℕ → Counts) → s.first ≡ 128 * j → HasCount s j earlier kind → (before : ℕ → Frame) (c m : ℕ) → c < counts_in s.counts s.end → m < 128
-        → at block c m ≡ value_by_kind 128 (s.first + m) (past_of s blocks before) (here_of s blocks m) kind s.end 0 c) → Renders s blocks block (kind_of s.world s.end.node.0)
+    pub renders_own : ((j : ℕ) (earlier : ℕ → Counts) → s.first ≡ q * j → HasCount s j earlier kind → (before : ℕ → Frame) (c m : ℕ) → c < counts_in s.counts s.end → m < q
+        → at block c m ≡ value_by_kind q (s.first + m) (past_of s blocks before) (here_of s blocks m) kind s.end 0 c) → Renders s blocks block (kind_of s.world s.end.node.0)
     renders_own each = subst (Renders s blocks block) (sym is) (record {
       lanes = lanes ∙ sym all_lanes;
+      frames = frames;
       values = λ j earlier begins counted before o c m output low now. first_output before o c m output (each j earlier begins counted before c m low now);
     })
 
-    pub renders_with_own : (memory : Memory) → ((j : ℕ) (earlier : ℕ → Counts) → s.first ≡ 128 * j → HasCount s j earlier kind → (before : ℕ → Frame) → IsReadyFor s memory blocks before → (c m : ℕ) → c < counts_in s.counts s.end → m < 128
-        → at block c m ≡ value_by_kind 128 (s.first + m) (past_of s blocks before) (here_of s blocks m) kind s.end 0 c) → RendersWith s memory blocks block (kind_of s.world s.end.node.0)
+    pub renders_with_own : (memory : Memory) → ((j : ℕ) (earlier : ℕ → Counts) → s.first ≡ q * j → HasCount s j earlier kind → (before : ℕ → Frame) → IsReadyFor s memory blocks before → (c m : ℕ) → c < counts_in s.counts s.end → m < q
+        → at block c m ≡ value_by_kind q (s.first + m) (past_of s blocks before) (here_of s blocks m) kind s.end 0 c) → RendersWith s memory blocks block (kind_of s.world s.end.node.0)
     renders_with_own memory each = subst (RendersWith s memory blocks block) (sym is) (record {
       lanes = lanes ∙ sym all_lanes;
+      frames = frames;
       values = λ j earlier begins counted before ready o c m output low now. first_output before o c m output (each j earlier begins counted before ready c m low now);
     })
 

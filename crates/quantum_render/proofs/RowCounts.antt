@@ -25,11 +25,11 @@ pub lanes_of : (w : World) → IsValid w → (n : ℕ) (c : Channels) → (row (
 lanes_of w valid n c is = subst (λ x. HasLanes x (outputs (kind_of w n))) is (row_there w valid n).lanes
 
 -- an end that is no reader of a delay has them as its row says
-pub counted_by_row : (w w' : World) (j : ℕ) (earlier : ℕ → Counts) (now : Counts) (e : End) (c : Channels) → (row (kind_of w' e.node.0)).channels ≡ c
-    → (not e.writer ≡ false) ⊎ (is_delay_kind (kind_of w' e.node.0) ≡ false) → output_channels 128 w j now c e.node.0 ≡ count_by_kind 128 w j earlier now (kind_of w' e.node.0) e
-counted_by_row w w' j earlier now e c is plain =
-    sym (ap (λ x. output_channels 128 w j now x e.node.0) is)
-    ∙ sym (ap (λ b. if b then reader_channels 128 w j earlier now e.node.0 else output_channels 128 w j now (row (kind_of w' e.node.0)).channels e.node.0) (no_reader (is_delay_kind (kind_of w' e.node.0)) e.writer plain))
+pub counted_by_row : (q : ℕ) (w w' : World) (j : ℕ) (earlier : ℕ → Counts) (now : Counts) (e : End) (c : Channels) → (row (kind_of w' e.node.0)).channels ≡ c
+    → (not e.writer ≡ false) ⊎ (is_delay_kind (kind_of w' e.node.0) ≡ false) → output_channels q w j now c e.node.0 ≡ count_by_kind q w j earlier now (kind_of w' e.node.0) e
+counted_by_row q w w' j earlier now e c is plain =
+    sym (ap (λ x. output_channels q w j now x e.node.0) is)
+    ∙ sym (ap (λ b. if b then reader_channels q w j earlier now e.node.0 else output_channels q w j now (row (kind_of w' e.node.0)).channels e.node.0) (no_reader (is_delay_kind (kind_of w' e.node.0)) e.writer plain))
   where
     no_reader : (d writer : Bool) → (not writer ≡ false) ⊎ (d ≡ false) → (d && not writer) ≡ false
     no_reader false writer plain = refl

@@ -1,5 +1,6 @@
 -- The connections of a site come from ends that are there, and are not too many; and its end has its place.
 use Rattle.std.proofs.Common.{ℕ, ◌≡◌, ◌+◌, ◌*◌, ◌<◌, ◌≤◌, length, List, slice_index_or, sym, arith, subst}
+use Rattle.wa_base.specs.Contexts.{quantum_of}
 use Rattle.wa_base.specs.declared.graph_names.End.{End}
 use Rattle.node_table.specs.Kinds.{outputs}
 use Rattle.conn_graph.specs.declared.edges.Edge.{Edge}
@@ -26,9 +27,9 @@ pub source_slot : (w : World) (e : End) (edges : List Edge) (counts : List ℕ) 
     → slot (reader_of (slice_index_or edges i d).from.0) < length counts
 source_slot w e edges counts levels first site i d l = into_slots w site.quantum.valid e.node.0 counts site.quantum.range.places edges site.into i d l
 
--- and from outputs that their blocks have
+-- and from outputs that their blocks have, with the frames of the world's quanta
 pub source_is : (w : World) (e : End) (edges : List Edge) (counts : List ℕ) (levels : List LevelView) (first : ℕ) (blocks : List BlockView) → IsSite w e edges counts levels first → AreFit w counts blocks
-    → AreSources counts blocks edges
+    → AreSources (quantum_of w.spec) counts blocks edges
 source_is w e edges counts levels first blocks site fit i d l =
     let x : Edge = slice_index_or edges i d in
     let source : End = reader_of x.from.0 in
@@ -44,6 +45,7 @@ source_is w e edges counts levels first blocks site fit i d l =
       high = site.quantum.range.high (slot source) there;
       lanes = subst (λ n. x.output * counts_in counts source + counts_in counts source ≤ n) (sym (fit.lanes source (has_end w.graph.value x.from.0 place.from)))
           (output_low x.output (outputs (kind_of w x.from.0)) (counts_in counts source) (subst (λ n. x.output < n) (outputs_are w site.quantum.valid x.from.0 node) place.output));
+      frames = fit.frames source (has_end w.graph.value x.from.0 place.from);
     }
 
 pub site_few : (w : World) (e : End) (edges : List Edge) (counts : List ℕ) (levels : List LevelView) (first : ℕ) → IsSite w e edges counts levels first → length edges ≤ 8192

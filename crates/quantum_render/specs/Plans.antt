@@ -1,5 +1,6 @@
 -- What a world is rendered by: an order of its ends, the connections to each node, and the channels of each end.
 use Rattle.std.specs.Prelude.{ℕ, ℤ, ◌-◌, ◌/◌, ◌^◌, ◌≤◌, Option, Some, Bool, false, ◌&&◌, ◌≡◌, ◌<◌, List, [], ◌∷◌, ◌++◌, length, slice_index_or, true}
+use Rattle.wa_base.specs.Contexts.{quantum_of}
 use Rattle.wa_base.specs.declared.graph_names.End.{End}
 use Rattle.wa_base.specs.declared.graph_names.Tie.{Tie}
 use Rattle.law_base.specs.Members.{IsIn}
@@ -56,16 +57,16 @@ IsUnedited planned g = (planned ≡ Some g.edits) × (g.edits < 2 ^ 64 - 1)
 abbrev pub IsPlan : World → List End → List End → List (List Edge) → Type 0
 IsPlan w order mute sources = IsPlanOf w.graph.value order mute sources
 
--- the most channels that something had in a quantum from a birth up to quantum j, where its counts are given
-pub record HasMost (found : Option DelayView) (birth j : ℕ) (at : ℕ → ℕ) : Type 0 where
+-- the most channels that something had in a quantum of q frames from a birth up to quantum j, where its counts are given
+pub record HasMost (q : ℕ) (found : Option DelayView) (birth j : ℕ) (at : ℕ → ℕ) : Type 0 where
   pub delay : DelayView
   pub there : found ≡ Some delay
-  pub lived : birth / 128 ≤ j
-  pub most : delay.most ≡ greatest (since at (birth / 128) (j - birth / 128))
+  pub lived : birth / q ≤ j
+  pub most : delay.most ≡ greatest (since at (birth / q) (j - birth / q))
 
 -- so it is of the writer of each delay
 abbrev pub AreMost : DelayBank → World → ℕ → (ℕ → Counts) → Type 0
-AreMost bank w j earlier = (n : ℕ) (longest time : ℤ) (capacity : ℕ) → n < length w.nodes → kind_of w n ≡ Delay longest time capacity → HasMost (delay_at bank n) (node_at w n).attrs.birth j (λ k. earlier k (writer_of n))
+AreMost bank w j earlier = (n : ℕ) (longest time : ℤ) (capacity : ℕ) → n < length w.nodes → kind_of w n ≡ Delay longest time capacity → HasMost (quantum_of w.spec) (delay_at bank n) (node_at w n).attrs.birth j (λ k. earlier k (writer_of n))
 
 -- the channels of each end are those of the quantum after a tape
 abbrev pub AreCounted : ℕ → World → List ℕ → List World → Type 0

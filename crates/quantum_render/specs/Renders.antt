@@ -1,5 +1,6 @@
 -- What an end carries in a quantum: the meaning of a frame, over the blocks of the ends before it in an order.
 use Rattle.std.specs.Prelude.{ℕ, ℤ, ◌+◌, ◌-◌, ◌*◌, ◌/◌, ◌≡◌, ◌<◌, ◌≤◌, ◌⊎◌, length, List, true, false}
+use Rattle.wa_base.specs.Contexts.{quantum_of}
 use Rattle.node_table.specs.declared.equation.Equation.{Equation}
 use Rattle.node_table.specs.Kinds.{outputs}
 use Rattle.node_table.specs.declared.kinds.Kind.{Kind}
@@ -29,7 +30,7 @@ here_of s blocks m = frame_of (sounding s.world) blocks s.counts m
 
 -- The number of channels of a site's end is what its kind asks for, in quantum j and with these channels in the quanta before.
 abbrev pub HasCount : SiteView → ℕ → (ℕ → Counts) → Kind → Type 0
-HasCount s j earlier kind = counts_in s.counts s.end ≡ count_by_kind 128 (sounding s.world) j earlier (counts_in s.counts) kind s.end
+HasCount s j earlier kind = counts_in s.counts s.end ≡ count_by_kind (quantum_of s.world.spec) (sounding s.world) j earlier (counts_in s.counts) kind s.end
 
 -- the block of a site's end has the channels of the end, once for each output
 abbrev pub HasLanes : SiteView → BlockView → Type 0
@@ -38,23 +39,24 @@ HasLanes s block = block.lanes ≡ outputs (kind_of s.world s.end.node.0) * coun
 -- The block of a site's end has in quantum j the values of its kind, whatever the frames before the quantum were. `blocks` are those of all ends; what stands there for its own is not asked.
 pub record Renders (s : SiteView) (blocks : List BlockView) (block : BlockView) (kind : Kind) : Type 0 where
   pub lanes : HasLanes s block
-  pub values : (j : ℕ) (earlier : ℕ → Counts) → s.first ≡ 128 * j → HasCount s j earlier kind → (before : ℕ → Frame) (o c m : ℕ) → o < outputs kind → c < counts_in s.counts s.end → m < 128 →
-      at block (o * counts_in s.counts s.end + c) m ≡ value_by_kind 128 (s.first + m) (past_of s blocks before) (here_of s blocks m) kind s.end o c
+  pub frames : block.frames ≡ quantum_of s.world.spec
+  pub values : (j : ℕ) (earlier : ℕ → Counts) → s.first ≡ quantum_of s.world.spec * j → HasCount s j earlier kind → (before : ℕ → Frame) (o c m : ℕ) → o < outputs kind → c < counts_in s.counts s.end → m < quantum_of s.world.spec →
+      at block (o * counts_in s.counts s.end + c) m ≡ value_by_kind (quantum_of s.world.spec) (s.first + m) (past_of s blocks before) (here_of s blocks m) kind s.end o c
 
 -- The delay of a site's node keeps what its writer wrote before the quantum, and in the quantum too once the writer was rendered.
 pub record IsFed (s : SiteView) (bank : DelayBank) (old : List BlockView) (before : ℕ → Frame) (longest : ℤ) (capacity : ℕ) : Type 0 where
   pub now : ℕ
-  pub kept : IsKept (delay_at bank s.end.node.0) capacity (node_at s.world s.end.node.0).attrs.birth now (writer_in before s.end.node.0)
-  pub written : (now ≡ s.first) ⊎ (now ≡ s.first + 128)
-  pub in_time : s.end.writer ≡ false → in_cycle s.world.graph.value s.end.node.0 ≡ false → now ≡ s.first + 128
-  pub born : 128 * ((node_at s.world s.end.node.0).attrs.birth / 128) ≡ (node_at s.world s.end.node.0).attrs.birth
-  pub whole : capacity ≡ delay_capacity 128 longest s.world.spec.rate
+  pub kept : IsKept (quantum_of s.world.spec) (delay_at bank s.end.node.0) capacity (node_at s.world s.end.node.0).attrs.birth now (writer_in (quantum_of s.world.spec) before s.end.node.0)
+  pub written : (now ≡ s.first) ⊎ (now ≡ s.first + quantum_of s.world.spec)
+  pub in_time : s.end.writer ≡ false → in_cycle s.world.graph.value s.end.node.0 ≡ false → now ≡ s.first + quantum_of s.world.spec
+  pub born : quantum_of s.world.spec * ((node_at s.world s.end.node.0).attrs.birth / quantum_of s.world.spec) ≡ (node_at s.world s.end.node.0).attrs.birth
+  pub whole : capacity ≡ delay_capacity (quantum_of s.world.spec) longest s.world.spec.rate
   -- what the equations see of the writer is what it wrote
-  pub counts : (g : ℕ) → g < s.first + 128 → (past_of s old before g).counts (writer_of s.end.node.0) ≡ (writer_in before s.end.node.0).counts (g / 128)
-  pub values : (g : ℕ) → g < now → (past_of s old before g).values (writer_of s.end.node.0) 0 ≡ (writer_in before s.end.node.0).frames g
+  pub counts : (g : ℕ) → g < s.first + quantum_of s.world.spec → (past_of s old before g).counts (writer_of s.end.node.0) ≡ (writer_in (quantum_of s.world.spec) before s.end.node.0).counts (g / quantum_of s.world.spec)
+  pub values : (g : ℕ) → g < now → (past_of s old before g).values (writer_of s.end.node.0) 0 ≡ (writer_in (quantum_of s.world.spec) before s.end.node.0).frames g
   -- a reader has no fewer channels than what it may ask for
-  pub few : s.end.writer ≡ false → (d k : ℕ) → k < 128 → (in_cycle s.world.graph.value s.end.node.0 ≡ true → 128 ≤ d) → (node_at s.world s.end.node.0).attrs.birth + d ≤ s.first + k
-      → (writer_in before s.end.node.0).counts ((s.first + k - d) / 128) ≤ counts_in s.counts (reader_of s.end.node.0)
+  pub few : s.end.writer ≡ false → (d k : ℕ) → k < quantum_of s.world.spec → (in_cycle s.world.graph.value s.end.node.0 ≡ true → quantum_of s.world.spec ≤ d) → (node_at s.world s.end.node.0).attrs.birth + d ≤ s.first + k
+      → (writer_in (quantum_of s.world.spec) before s.end.node.0).counts ((s.first + k - d) / quantum_of s.world.spec) ≤ counts_in s.counts (reader_of s.end.node.0)
 
 -- The end of a site is not muted, and its node, if it is causal or a delay, has heard or kept the frames before the quantum.
 pub record IsReadyFor (s : SiteView) (memory : Memory) (old : List BlockView) (before : ℕ → Frame) : Type 0 where
@@ -65,21 +67,22 @@ pub record IsReadyFor (s : SiteView) (memory : Memory) (old : List BlockView) (b
 -- The same, where the memory is that of the frames before the quantum.
 pub record RendersWith (s : SiteView) (memory : Memory) (blocks : List BlockView) (block : BlockView) (kind : Kind) : Type 0 where
   pub lanes : HasLanes s block
-  pub values : (j : ℕ) (earlier : ℕ → Counts) → s.first ≡ 128 * j → HasCount s j earlier kind → (before : ℕ → Frame) → IsReadyFor s memory blocks before → (o c m : ℕ) → o < outputs kind → c < counts_in s.counts s.end → m < 128 →
-      at block (o * counts_in s.counts s.end + c) m ≡ value_by_kind 128 (s.first + m) (past_of s blocks before) (here_of s blocks m) kind s.end o c
+  pub frames : block.frames ≡ quantum_of s.world.spec
+  pub values : (j : ℕ) (earlier : ℕ → Counts) → s.first ≡ quantum_of s.world.spec * j → HasCount s j earlier kind → (before : ℕ → Frame) → IsReadyFor s memory blocks before → (o c m : ℕ) → o < outputs kind → c < counts_in s.counts s.end → m < quantum_of s.world.spec →
+      at block (o * counts_in s.counts s.end + c) m ≡ value_by_kind (quantum_of s.world.spec) (s.first + m) (past_of s blocks before) (here_of s blocks m) kind s.end o c
 
 -- The node of a site, if it is causal, hears the quantum; no other does.
 pub record Listens (s : SiteView) (old : List BlockView) (memory memory' : Memory) : Type 0 where
   pub known : memory'.causal.known ≡ memory.causal.known
   pub count : length memory'.causal.nodes ≡ length memory.causal.nodes
   pub others : (n : ℕ) → (n ≡ s.end.node.0 → ⊥) → heard_at memory'.causal n ≡ heard_at memory.causal n
-  pub own : (equation : Equation) → kind_of s.world s.end.node.0 ≡ Causal equation → (j : ℕ) (earlier : ℕ → Counts) → s.first ≡ 128 * j → HasCount s j earlier (Causal equation) → (before : ℕ → Frame) → IsReadyFor s memory old before →
-      IsHeard (heard_at memory'.causal s.end.node.0) equation (node_at s.world s.end.node.0).attrs.birth (s.first + 128) (λ g c. taken_in (past_of s old before g) s.end.node.0 c)
+  pub own : (equation : Equation) → kind_of s.world s.end.node.0 ≡ Causal equation → (j : ℕ) (earlier : ℕ → Counts) → s.first ≡ quantum_of s.world.spec * j → HasCount s j earlier (Causal equation) → (before : ℕ → Frame) → IsReadyFor s memory old before →
+      IsHeard (heard_at memory'.causal s.end.node.0) equation (node_at s.world s.end.node.0).attrs.birth (s.first + quantum_of s.world.spec) (λ g c. taken_in (past_of s old before g) s.end.node.0 c)
 
 -- a writer writes in the quantum what its block has
 pub record IsWritten (s : SiteView) (block : BlockView) (writer : Writer) : Type 0 where
-  pub count : writer.counts (s.first / 128) ≡ counts_in s.counts s.end
-  pub frames : (c k : ℕ) → c < counts_in s.counts s.end → k < 128 → writer.frames (s.first + k) c ≡ at block c k
+  pub count : writer.counts (s.first / quantum_of s.world.spec) ≡ counts_in s.counts s.end
+  pub frames : (c k : ℕ) → c < counts_in s.counts s.end → k < quantum_of s.world.spec → writer.frames (s.first + k) c ≡ at block c k
 
 -- The delay of a site's node keeps the quantum where the end is its writer; no other does.
 pub record Stores (s : SiteView) (block : BlockView) (bank bank' : DelayBank) : Type 0 where
@@ -87,7 +90,7 @@ pub record Stores (s : SiteView) (block : BlockView) (bank bank' : DelayBank) : 
   pub count : length bank'.delays ≡ length bank.delays
   pub others : (n : ℕ) → (n ≡ s.end.node.0 → ⊥) → delay_at bank' n ≡ delay_at bank n
   pub read : s.end.writer ≡ false → delay_at bank' s.end.node.0 ≡ delay_at bank s.end.node.0
-  pub own : s.end.writer ≡ true → (longest born : ℕ) (writer : Writer) → IsKept (delay_at bank s.end.node.0) longest born s.first writer → IsWritten s block writer → IsKept (delay_at bank' s.end.node.0) longest born (s.first + 128) writer
+  pub own : s.end.writer ≡ true → (longest born : ℕ) (writer : Writer) → IsKept (quantum_of s.world.spec) (delay_at bank s.end.node.0) longest born s.first writer → IsWritten s block writer → IsKept (quantum_of s.world.spec) (delay_at bank' s.end.node.0) longest born (s.first + quantum_of s.world.spec) writer
 
 -- An end was rendered. While its block was out, another one with as many lanes stood in its place.
 pub record IsRendered (s : SiteView) (old new : List BlockView) (memory memory' : Memory) : Type 0 where

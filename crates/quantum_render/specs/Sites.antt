@@ -1,5 +1,6 @@
 -- An end in its world, at a quantum.
 use Rattle.std.specs.Prelude.{ℕ, ◌≡◌, ◌≤◌, ◌^◌, ◌*◌, ◌/◌, List, [], ◌∷◌, Bool, true, ◌&&◌}
+use Rattle.wa_base.specs.Contexts.{quantum_of}
 use Rattle.wa_base.specs.declared.graph_names.End.{End}
 use Rattle.law_base.specs.Members.{IsIn}
 use Rattle.conn_graph.specs.declared.edges.Edge.{Edge}
@@ -36,17 +37,17 @@ pub record SiteView : Type 0 where
 abbrev pub site_in : QuantumView → End → SiteView
 site_in q e = record { world = q.world; end = e; into = leads_into q.world.graph.value e.node.0; counts = q.counts; levels = q.levels; first = q.first }
 
--- a quantum begins at a multiple of its frames
-pub record IsBegun (begin : ℕ) : Type 0 where
-  pub whole : 128 * (begin / 128) ≡ begin
+-- a quantum of q frames begins at a multiple of them
+pub record IsBegun (q begin : ℕ) : Type 0 where
+  pub whole : q * (begin / q) ≡ begin
   pub time : begin ≤ 2 ^ 62
 
 -- what holds of every quantum
 pub record IsQuantum (w : World) (counts : List ℕ) (automated : List LevelView) (begin : ℕ) : Type 0 where
   pub valid : IsValid w
   pub range : AreInRange w counts
-  pub begun : IsBegun begin
-  pub levels : AreLevels w.params.items begin automated
+  pub begun : IsBegun (quantum_of w.spec) begin
+  pub levels : AreLevels (quantum_of w.spec) w.params.items begin automated
 
 -- what holds of every site
 pub record IsSite (w : World) (e : End) (edges : List Edge) (counts : List ℕ) (automated : List LevelView) (begin : ℕ) : Type 0 where

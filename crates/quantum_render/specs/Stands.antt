@@ -1,6 +1,6 @@
 -- What a renderer stands for.
 use Rattle.std.specs.Prelude.{ℕ, ℤ, Option, ◌≡◌, ◌<◌, ◌≤◌, ◌^◌, ◌+◌, ◌-◌, ◌*◌, ◌++◌, ◌∷◌, [], List, Bool, length, max}
-use Rattle.wa_base.specs.Contexts.{quantum_of}
+use Rattle.wa_base.specs.Contexts.{quantum_of, IsQuantumSize}
 use Rattle.wa_base.specs.declared.contexts.ContextSpec.{ContextSpec}
 use Rattle.wa_base.specs.declared.graph_names.End.{End}
 use Rattle.wa_base.specs.declared.graph_names.Tie.{Tie}
@@ -99,8 +99,13 @@ pub record IsGrown (r : RendererView) (w : World) : Type 0 where
   pub causal_rooms : HaveRoom r.memory.causal r.counts
   pub delay_rooms : HaveDelayRoom r.memory.delays r.counts
 
--- what holds of every renderer
-pub record IsWhole (most number : ℕ) (last : List ℤ) : Type 0 where
-  pub channels : most ≤ 32
-  pub time : number ≤ 2 ^ 56
-  pub out : length last ≡ 4096
+-- what holds of every renderer: all parts are for quanta of the context's size
+pub record IsWhole (context : ContextSpec) (number : ℕ) (automated : AutomationView) (remembered : Memory) (frames : ℕ) (last : List ℤ) : Type 0 where
+  pub channels : context.channels ≤ 32
+  pub size : IsQuantumSize (quantum_of context)
+  pub time : quantum_of context * number ≤ 2 ^ 62 + 2 ^ 10
+  pub automation : automated.quantum ≡ quantum_of context
+  pub causal : remembered.causal.quantum ≡ quantum_of context
+  pub delays : remembered.delays.quantum ≡ quantum_of context
+  pub bench : frames ≡ quantum_of context
+  pub out : length last ≡ 32 * quantum_of context

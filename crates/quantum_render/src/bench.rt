@@ -1,5 +1,6 @@
-ghost use Rattle.std.specs.Prelude.{◌≡◌, ◌≤◌, ◌<◌, ◌+◌, ◌*◌, ◌/◌, ◌^◌, ℕ, ℤ, List, Some, length, slice_index_or, max, IfSome, FitsSigned};
+ghost use Rattle.std.specs.Prelude.{◌≡◌, ◌≤◌, ◌<◌, ◌+◌, ◌*◌, ◌/◌, ◌^◌, ℕ, ℤ, List, Some, length, slice_index_or, max, IfOk, IfSome, FitsSigned};
 ghost use Rattle.std.specs.Int.{w32};
+ghost use Rattle.wa_base.specs.Contexts.{quantum_of, IsQuantumSize};
 ghost use Rattle.meaning.specs.World.{sounding, node_at, kind_of, param_id};
 ghost use Rattle.node_table.specs.Kinds.{param_name};
 ghost use Rattle.node_table.specs.Delays.{frames_of as whole_frames};
@@ -27,9 +28,7 @@ use conn_graph::{Edge, Target};
 use delay_bank::{Delays, Reading};
 use filter_bank::CausalNodes;
 use node_table::Range;
-use quantum_blocks::{
-    Block, CHANNELS, Held, Inlet, QUANTUM, Sums, reader, slot, span_all, span_each,
-};
+use quantum_blocks::{Block, CHANNELS, Held, Inlet, Sums, reader, slot, span_all, span_each};
 use std::alloc::Global;
 use std::marker::Model;
 use wa_base::{Fix, Interp, NoMemory, NodeId, ParamId, ParamName, Rate};
@@ -55,33 +54,40 @@ impl Model for Bench {
 
     ghost Value = { BenchView };
 
-    ghost view = { λ b. record { heard = b.heard; levels = b.levels; merged = b.merged; wide = length b.wide.items; given = length b.given.items; spans = b.spans.items } };
+    ghost view = { λ b. record { frames = length b.spans.items; heard = b.heard; levels = b.levels; merged = b.merged; wide = length b.wide.items; given = length b.given.items; spans = b.spans.items; summed = b.sums.frames } };
 
-    ghost invariant = { λ b. IsBench (record { heard = b.heard; levels = b.levels; merged = b.merged; wide = length b.wide.items; given = length b.given.items; spans = b.spans.items }) };
+    ghost invariant = { λ b. IsBench (record { frames = length b.spans.items; heard = b.heard; levels = b.levels; merged = b.merged; wide = length b.wide.items; given = length b.given.items; spans = b.spans.items; summed = b.sums.frames }) };
 }
 
 impl Bench {
-    pub(crate) fn new(alloc: Global) -> Result<Bench, NoMemory> {
+    // A bench for quanta of so many frames.
+    pub(crate) fn new(alloc: Global, quantum: usize) -> Result<Bench, NoMemory>
+        requires { IsQuantumSize quantum }
+        ensures { IfOk result (λ bench. bench.frames ≡ quantum) }
+    {
         Ok(Bench {
-            heard: Block::new(alloc, CHANNELS)?,
-            levels: Block::new(alloc, 1)?,
-            merged: Block::new(alloc, CHANNELS)?,
-            wide: vec![in alloc; 0; CHANNELS * QUANTUM]?,
-            given: vec![in alloc; 0; CHANNELS * QUANTUM]?,
-            spans: vec![in alloc; 0; QUANTUM]?,
-            sums: Sums::new(alloc)?,
+            heard: Block::new(alloc, CHANNELS, quantum)?,
+            levels: Block::new(alloc, 1, quantum)?,
+            merged: Block::new(alloc, CHANNELS, quantum)?,
+            wide: vec![in alloc; 0; CHANNELS * quantum]?,
+            given: vec![in alloc; 0; CHANNELS * quantum]?,
+            spans: vec![in alloc; 0; quantum]?,
+            sums: Sums::new(alloc, quantum)?,
         })
     }
 
     // Hears what an input carries, mixed to so many channels.
     pub(crate) fn take_input(&mut self, blocks: &[Block], site: &Site, input: u32, channels: usize)
+        requires frames { self.old.frames ≡ quantum_of site.now.world.spec }
         requires low { 1 ≤ channels }
         requires high { channels ≤ 32 }
         requires fit { AreFit site.now.world site.now.counts blocks.now }
+        ensures frames { self.new.frames ≡ self.old.frames }
         ensures merged { self.new.merged ≡ self.old.merged }
         ensures lanes { self.new.heard.lanes ≡ channels }
+        ensures heard_frames { self.new.heard.frames ≡ self.old.frames }
         ensures input { channels ≡ input_channels (sounding site.now.world) (counts_in site.now.counts) site.now.end.node.0 input →
-            (c m : ℕ) → c < channels → m < 128 → at self.new.heard c m ≡ input_value (here_of site.now blocks.now m) site.now.end.node.0 input c }
+            (c m : ℕ) → c < channels → m < quantum_of site.now.world.spec → at self.new.heard c m ≡ input_value (here_of site.now blocks.now m) site.now.end.node.0 input c }
     {
         let node = site.end.node;
         let inlet = Inlet {
@@ -101,11 +107,13 @@ impl Bench {
 
     // Hears what each of so many inputs carries, mixed to one channel.
     pub(crate) fn take_inputs(&mut self, blocks: &[Block], site: &Site, inputs: usize)
+        requires frames { self.old.frames ≡ quantum_of site.now.world.spec }
         requires few { inputs ≤ 32 }
         requires fit { AreFit site.now.world site.now.counts blocks.now }
+        ensures frames { self.new.frames ≡ self.old.frames }
         ensures lanes { self.new.merged.lanes ≡ inputs }
         ensures inputs { ((i : ℕ) → i < inputs → 1 ≡ input_channels (sounding site.now.world) (counts_in site.now.counts) site.now.end.node.0 i) →
-            (i m : ℕ) → i < inputs → m < 128 → at self.new.merged i m ≡ input_value (here_of site.now blocks.now m) site.now.end.node.0 i 0 }
+            (i m : ℕ) → i < inputs → m < quantum_of site.now.world.spec → at self.new.merged i m ≡ input_value (here_of site.now blocks.now m) site.now.end.node.0 i 0 }
     {
         self.merged.begin(inputs);
         for input in 0..inputs {
@@ -116,11 +124,13 @@ impl Bench {
 
     // Takes the computed values of the parameter that the kind of the end's node has.
     pub(crate) fn take_levels(&mut self, blocks: &[Block], site: &Site, name: ParamName)
+        requires frames { self.old.frames ≡ quantum_of site.now.world.spec }
         requires fit { AreFit site.now.world site.now.counts blocks.now }
         requires there { param_name (kind_of site.now.world site.now.end.node.0) ≡ Some name }
+        ensures frames { self.new.frames ≡ self.old.frames }
         ensures heard { self.new.heard ≡ self.old.heard }
-        ensures levels { (before : ℕ → a_frame) (m : ℕ) → m < 128 →
-            at self.new.levels 0 m ≡ computed_value 128 (site.now.first + m) (past_of site.now blocks.now before) (here_of site.now blocks.now m) (param_id site.now.end.node.0 name) }
+        ensures levels { (before : ℕ → a_frame) (m : ℕ) → m < quantum_of site.now.world.spec →
+            at self.new.levels 0 m ≡ computed_value (quantum_of site.now.world.spec) (site.now.first + m) (past_of site.now blocks.now before) (here_of site.now blocks.now m) (param_id site.now.end.node.0 name) }
     {
         self.take_sums(blocks, site, name);
         if let Some(param) = site.kind().row().param {
@@ -133,11 +143,13 @@ impl Bench {
 
     // Takes the values of a parameter before they are clamped to its nominal range.
     fn take_sums(&mut self, blocks: &[Block], site: &Site, name: ParamName)
+        requires frames { self.old.frames ≡ quantum_of site.now.world.spec }
         requires fit { AreFit site.now.world site.now.counts blocks.now }
         requires there { param_name (kind_of site.now.world site.now.end.node.0) ≡ Some name }
+        ensures frames { self.new.frames ≡ self.old.frames }
         ensures heard { self.new.heard ≡ self.old.heard }
-        ensures levels { (before : ℕ → a_frame) (m : ℕ) → m < 128 →
-            at self.new.levels 0 m ≡ unclamped_value 128 (site.now.first + m) (past_of site.now blocks.now before) (here_of site.now blocks.now m) (param_id site.now.end.node.0 name) }
+        ensures levels { (before : ℕ → a_frame) (m : ℕ) → m < quantum_of site.now.world.spec →
+            at self.new.levels 0 m ≡ unclamped_value (quantum_of site.now.world.spec) (site.now.first + m) (past_of site.now blocks.now before) (here_of site.now blocks.now m) (param_id site.now.end.node.0 name) }
     {
         let id = ParamId {
             node: site.end.node,
@@ -164,9 +176,10 @@ impl Bench {
 
     // Takes how many frames a delay of so many seconds as the levels say lasts, and at least so many.
     pub(crate) fn take_spans(&mut self, rate: u32, least: u64)
+        ensures frames { self.new.frames ≡ self.old.frames }
         ensures heard { self.new.heard ≡ self.old.heard }
         ensures merged { self.new.merged ≡ self.old.merged }
-        ensures spans { (m : ℕ) → m < 128 → slice_index_or self.new.spans m 0 ≡ max least (whole_frames (at self.old.levels 0 m) rate) }
+        ensures spans { (m : ℕ) → m < self.old.frames → slice_index_or self.new.spans m 0 ≡ max least (whole_frames (at self.old.levels 0 m) rate) }
     {
         match self.levels.held() {
             Held::Steady(held) => span_all(self.spans.as_mut_slice(), held[0], rate, least),
@@ -183,19 +196,22 @@ impl Bench {
         causal: &mut CausalNodes,
         node: NodeId,
     )
+        requires frames { (block.old.frames ≡ self.old.frames) × (causal.old.quantum ≡ self.old.frames) }
         requires few { lanes ≤ 32 }
         requires within { self.old.heard.lanes ≤ lanes }
         requires own { block.old.lanes ≤ lanes }
         requires there { node.0 < length causal.old.nodes }
         requires wide { (f : a_node) → heard_at causal.old node.0 ≡ Some f → lanes ≡ causal_room f }
+        ensures frames { self.new.frames ≡ self.old.frames }
         ensures lanes { block.new.lanes ≡ block.old.lanes }
+        ensures block_frames { block.new.frames ≡ block.old.frames }
         ensures hears { (x : List ℤ) × (y : List ℤ) × IsWidened self.old.heard lanes x × AreLanes block.new y × Hears causal.old causal.new node.0 x y }
     {
         match self.heard.plain(lanes) {
             Some(heard) => causal_block(block, heard, causal, node, self.given.as_mut_slice()),
             None => {
                 self.heard.copy_out(self.wide.as_mut_slice(), lanes);
-                let wide = &self.wide[..lanes * QUANTUM];
+                let wide = &self.wide[..lanes * self.spans.len()];
                 causal_block(block, wide, causal, node, self.given.as_mut_slice());
             }
         }
@@ -204,11 +220,16 @@ impl Bench {
     // Makes of an end's block what the reader of its node's delay gives, where `spans` has the delay of
     // each frame.
     pub(crate) fn read_delay(&mut self, block: &mut Block, delays: &Delays, site: &Site)
+        requires frames { self.old.frames ≡ quantum_of site.now.world.spec }
+        requires delay_frames { delays.now.quantum ≡ quantum_of site.now.world.spec }
+        requires block_frames { block.old.frames ≡ quantum_of site.now.world.spec }
         requires lanes { block.old.lanes ≡ counts_in site.now.counts site.now.end }
+        ensures frames { self.new.frames ≡ self.old.frames }
         ensures lanes { block.new.lanes ≡ block.old.lanes }
-        ensures values { (d : a_delay) (longest born now : ℕ) (writer : Writer) → delay_at delays.now site.now.end.node.0 ≡ Some d → HasKept d longest born now writer → IsAsked site.now.first now longest self.old.spans →
-            AreFew born writer block.old.lanes site.now.first self.old.spans → 128 * (born / 128) ≡ born → (c m : ℕ) → c < block.old.lanes → m < 128 →
-            at block.new c m ≡ read_back born writer (node_at site.now.world site.now.end.node.0).attrs.interp block.old.lanes (site.now.first + m) (frames_back self.old.spans m) c }
+        ensures block_frames { block.new.frames ≡ block.old.frames }
+        ensures values { (d : a_delay) (longest born now : ℕ) (writer : Writer) → delay_at delays.now site.now.end.node.0 ≡ Some d → HasKept (quantum_of site.now.world.spec) d longest born now writer → IsAsked (quantum_of site.now.world.spec) site.now.first now longest self.old.spans →
+            AreFew (quantum_of site.now.world.spec) born writer block.old.lanes site.now.first self.old.spans → quantum_of site.now.world.spec * (born / (quantum_of site.now.world.spec)) ≡ born → (c m : ℕ) → c < block.old.lanes → m < quantum_of site.now.world.spec →
+            at block.new c m ≡ read_back (quantum_of site.now.world.spec) born writer (node_at site.now.world site.now.end.node.0).attrs.interp block.old.lanes (site.now.first + m) (frames_back self.old.spans m) c }
     {
         let node = site.end.node;
         let lanes = block.lanes();
@@ -223,9 +244,11 @@ impl Bench {
 
     // The writer of a node's delay writes what is heard in the quantum that begins at `first`.
     pub(crate) fn write_heard(&mut self, delays: &mut Delays, node: NodeId, first: u64)
+        requires frames { delays.old.quantum ≡ self.old.frames }
         requires there { node.0 < length delays.old.delays }
         requires room { (d : a_delay) → delay_at delays.old node.0 ≡ Some d → self.old.heard.lanes ≤ delay_room d }
         requires time { first ≤ 2 ^ 62 }
+        ensures frames { self.new.frames ≡ self.old.frames }
         ensures heard { self.new.heard ≡ self.old.heard }
         ensures writes { (x : List ℤ) × IsWidened self.old.heard self.old.heard.lanes x × DelayWrites delays.old delays.new node.0 first self.old.heard.lanes x }
     {
@@ -234,7 +257,7 @@ impl Bench {
             Some(heard) => delays.write(node, heard, lanes as u32, first),
             None => {
                 self.heard.copy_out(self.wide.as_mut_slice(), lanes);
-                let wide = &self.wide[..lanes * QUANTUM];
+                let wide = &self.wide[..lanes * self.spans.len()];
                 delays.write(node, wide, lanes as u32, first);
             }
         }
@@ -243,12 +266,14 @@ impl Bench {
 
 // Makes of a block one lane with the values of a level.
 fn take_level(block: &mut Block, level: &Level)
-    requires room { 128 ≤ room_of block.old }
-    requires level { HasRoom level.now }
+    requires room { block.old.frames ≤ room_of block.old }
+    requires size { IsQuantumSize block.old.frames }
+    requires level { HasRoom block.old.frames level.now }
+    ensures frames { block.new.frames ≡ block.old.frames }
     ensures lanes { block.new.lanes ≡ 1 }
     ensures room { room_of block.new ≡ room_of block.old }
-    ensures values { (m : ℕ) → m < 128 → at block.new 0 m ≡ level_at level.now m }
-    ensures fit { (m : ℕ) → m < 128 → FitsSigned w32 (level_at level.now m) }
+    ensures values { (m : ℕ) → m < block.old.frames → at block.new 0 m ≡ level_at level.now m }
+    ensures fit { (m : ℕ) → m < block.old.frames → FitsSigned w32 (level_at level.now m) }
 {
     match level.values() {
         Values::Steady(value) => block.hold(value),
@@ -266,9 +291,11 @@ fn causal_block(
     given: &mut [Fix],
 )
     requires there { node.0 < length causal.old.nodes }
-    requires heard { (f : a_node) → heard_at causal.old node.0 ≡ Some f → length heard.now ≡ causal_room f * 128 }
+    requires heard { (f : a_node) → heard_at causal.old node.0 ≡ Some f → length heard.now ≡ causal_room f * causal.old.quantum }
+    requires frames { block.old.frames ≡ causal.old.quantum }
     requires given { length heard.now ≤ length given.old }
-    requires lanes { block.old.lanes * 128 ≤ length heard.now }
+    requires lanes { block.old.lanes * causal.old.quantum ≤ length heard.now }
+    ensures frames { block.new.frames ≡ block.old.frames }
     ensures lanes { block.new.lanes ≡ block.old.lanes }
     ensures given { length given.new ≡ length given.old }
     ensures hears { (y : List ℤ) × AreLanes block.new y × Hears causal.old causal.new node.0 heard.now y }
@@ -276,7 +303,7 @@ fn causal_block(
     let lanes = block.lanes();
     let given = &mut given[..heard.len()];
     causal.hear(node, heard, given);
-    block.copy_moving(&given[..lanes * QUANTUM], lanes);
+    block.copy_moving(&given[..lanes * block.frames()], lanes);
 }
 
 // A node's reader reads a quantum into the front of `given`, and a block becomes that.
@@ -288,16 +315,18 @@ fn read_block(
     given: &mut [Fix],
 )
     requires lanes { asked.channels ≡ block.old.lanes }
-    requires given { block.old.lanes * 128 ≤ length given.old }
-    requires delays { length asked.delays.now ≡ 128 }
+    requires frames { block.old.frames ≡ delays.now.quantum }
+    requires given { block.old.lanes * delays.now.quantum ≤ length given.old }
+    requires delays { length asked.delays.now ≡ delays.now.quantum }
     requires time { asked.first ≤ 2 ^ 62 }
+    ensures frames { block.new.frames ≡ block.old.frames }
     ensures lanes { block.new.lanes ≡ block.old.lanes }
     ensures given { length given.new ≡ length given.old }
-    ensures values { (d : a_delay) (longest born now : ℕ) (writer : Writer) → delay_at delays.now node.0 ≡ Some d → HasKept d longest born now writer → IsAsked asked.entry.first now longest asked.entry.delays.now → AreFew born writer block.old.lanes asked.entry.first asked.entry.delays.now → 128 * (born / 128) ≡ born →
-        (c m : ℕ) → c < block.old.lanes → m < 128 → at block.new c m ≡ read_back born writer asked.entry.interp block.old.lanes (asked.entry.first + m) (frames_back asked.entry.delays.now m) c }
+    ensures values { (d : a_delay) (longest born now : ℕ) (writer : Writer) → delay_at delays.now node.0 ≡ Some d → HasKept delays.now.quantum d longest born now writer → IsAsked delays.now.quantum asked.entry.first now longest asked.entry.delays.now → AreFew delays.now.quantum born writer block.old.lanes asked.entry.first asked.entry.delays.now → delays.now.quantum * (born / delays.now.quantum) ≡ born →
+        (c m : ℕ) → c < block.old.lanes → m < delays.now.quantum → at block.new c m ≡ read_back delays.now.quantum born writer asked.entry.interp block.old.lanes (asked.entry.first + m) (frames_back asked.entry.delays.now m) c }
 {
     let lanes = block.lanes();
-    let given = &mut given[..lanes * QUANTUM];
+    let given = &mut given[..lanes * asked.delays.len()];
     delays.read(node, given, asked);
     block.copy_moving(given, lanes);
 }

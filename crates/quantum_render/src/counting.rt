@@ -1,4 +1,5 @@
 ghost use Rattle.std.specs.Prelude.{ℤ, ◌≡◌, ◌≤◌, ◌<◌, ◌*◌, ◌^◌, ℕ, List, length, map, filter, slice_index_or, max, if◌then◌else◌, All, true};
+ghost use Rattle.wa_base.specs.Contexts.{quantum_of};
 ghost use Rattle.mix_rules.specs.Counts.{greatest as greatest_of};
 ghost use Rattle.law_base.specs.Members.{IsIn};
 ghost use Rattle.node_table.specs.declared.rows.Channels.TheVariants.{Always};
@@ -43,9 +44,10 @@ pub(crate) fn count_channels(counts: &mut [u32], order: &[End], census: Census<'
     requires plan { (muted : List an_end) × IsPlan census.world.now order.now muted census.into.now }
     requires cycles { AreCycles census.world.now.graph.value census.cycles.now }
     requires time { census.first ≤ 2 ^ 62 }
+    requires delays { census.delays.now.quantum ≡ quantum_of census.world.now.spec }
     requires places { length counts.old ≡ 2 * length census.world.now.nodes }
     ensures range { AreInRange census.entry.world.now counts.new }
-    ensures counted { (tape : List a_world) → census.entry.first ≡ 128 * length tape → HasKept census.entry.delays.now census.entry.world.now tape census.entry.first → AreCounted 128 census.entry.world.now counts.new tape }
+    ensures counted { (tape : List a_world) → census.entry.first ≡ quantum_of census.entry.world.now.spec * length tape → HasKept census.entry.delays.now census.entry.world.now tape census.entry.first → AreCounted (quantum_of census.entry.world.now.spec) census.entry.world.now counts.new tape }
 {
     counts.fill(1);
     for end in order {
@@ -62,7 +64,7 @@ fn count_of(counts: &[u32], census: Census<'_>, end: End, into: &[Edge]) -> u32
     requires into { into.now ≡ leads_into census.world.now.graph.value end.node.0 }
     requires cycles { AreCycles census.world.now.graph.value census.cycles.now }
     requires time { census.first ≤ 2 ^ 62 }
-    ensures value { (j : ℕ) (earlier : ℕ → some_counts) → census.entry.first ≡ 128 * j → AreMost census.entry.delays.now census.entry.world.now j earlier → result ≡ count_by_kind 128 (sounding census.entry.world.now) j earlier (counts_in counts.now) (kind_of census.entry.world.now end.node.0) end }
+    ensures value { (j : ℕ) (earlier : ℕ → some_counts) → census.entry.first ≡ quantum_of census.entry.world.now.spec * j → AreMost census.entry.delays.now census.entry.world.now j earlier → result ≡ count_by_kind (quantum_of census.entry.world.now.spec) (sounding census.entry.world.now) j earlier (counts_in counts.now) (kind_of census.entry.world.now end.node.0) end }
     ensures range { (1 ≤ result) × (result ≤ 32) }
     ensures lanes { outputs (kind_of census.entry.world.now end.node.0) * result ≤ 32 }
     ensures mono { (row_of (kind_of census.entry.world.now end.node.0)).channels ≡ Always 1 → result ≡ 1 }
@@ -89,7 +91,7 @@ fn reader_count(counts: &[u32], census: Census<'_>, node: NodeId) -> u32
     requires node { node.0 < length census.world.now.nodes }
     requires delay { is_delay_kind (kind_of census.world.now node.0) ≡ true }
     requires cycles { AreCycles census.world.now.graph.value census.cycles.now }
-    ensures value { (j : ℕ) (earlier : ℕ → some_counts) → AreMost census.entry.delays.now census.entry.world.now j earlier → result ≡ reader_channels 128 (sounding census.entry.world.now) j earlier (counts_in counts.now) node.0 }
+    ensures value { (j : ℕ) (earlier : ℕ → some_counts) → AreMost census.entry.delays.now census.entry.world.now j earlier → result ≡ reader_channels (quantum_of census.entry.world.now.spec) (sounding census.entry.world.now) j earlier (counts_in counts.now) node.0 }
     ensures range { (1 ≤ result) × (result ≤ 32) }
 {
     let most = census.delays.most(node);
@@ -104,7 +106,7 @@ fn reader_count(counts: &[u32], census: Census<'_>, node: NodeId) -> u32
 fn played_count(world: &World, node: NodeId, near: usize, first: u64) -> u32
     requires valid { IsValid world.now }
     requires time { first ≤ 2 ^ 62 }
-    ensures value { result ≡ played_channels world.now node.0 128 first }
+    ensures value { result ≡ played_channels world.now node.0 (quantum_of world.now.spec) first }
     ensures range { (1 ≤ result) × (result ≤ 32) }
 {
     match sounding(world, node, near, first) {

@@ -1,4 +1,5 @@
 ghost use Rattle.std.specs.Prelude.{◌≡◌, ◌<◌, ◌≤◌, ◌-◌, ◌^◌, ℕ, ℤ, Bool, List, length, true, false, Some};
+ghost use Rattle.wa_base.specs.Contexts.{quantum_of};
 ghost use Rattle.node_table.specs.Curves.{IsCurve};
 ghost use Rattle.node_table.specs.declared.equation.Equation.{Equation as an_equation};
 ghost use Rattle.sched_source.specs.Schedule.{is_between};
@@ -32,9 +33,11 @@ impl Bench {
         memory: &mut Memory,
         site: &Site,
     )
+        requires frames { (self.old.frames ≡ quantum_of site.now.world.spec) × (block.old.frames ≡ quantum_of site.now.world.spec) }
         requires fit { AreFit site.now.world site.now.counts blocks.now }
         requires lanes { HasLanes site.now block.old }
         requires rooms { HasRooms memory.old site.now.world site.now.counts }
+        ensures frames { self.new.frames ≡ self.old.frames }
         ensures renders { RendersWith site.now memory.old blocks.now block.new (kind_of site.now.world site.now.end.node.0) }
         ensures listens { Listens site.now blocks.now memory.old memory.new }
         ensures stores { Stores site.now block.new memory.old.delays memory.new.delays }
@@ -49,13 +52,15 @@ impl Bench {
 
     // Renders an end of a node that remembers nothing.
     fn render_plain(&mut self, block: &mut Block, blocks: &[Block], site: &Site, kind: &Kind)
+        requires frames { (self.old.frames ≡ quantum_of site.now.world.spec) × (block.old.frames ≡ quantum_of site.now.world.spec) }
         requires fit { AreFit site.now.world site.now.counts blocks.now }
         requires lanes { HasLanes site.now block.old }
         requires kind { kind.now ≡ kind_of site.now.world site.now.end.node.0 }
         requires limits { IsInLimits kind.now }
         requires no_delay { (longest time : ℤ) (capacity : ℕ) → kind.now ≡ Delay longest time capacity → ⊥ }
         requires not_causal { (equation : an_equation) → kind.now ≡ Causal equation → ⊥ }
-        ensures { Renders site.now blocks.now block.new (kind_of site.now.world site.now.end.node.0) }
+        ensures frames { self.new.frames ≡ self.old.frames }
+        ensures renders { Renders site.now blocks.now block.new (kind_of site.now.world site.now.end.node.0) }
     {
         match kind {
             Kind::Destination => self.render_destination(block, blocks, site),
@@ -71,20 +76,24 @@ impl Bench {
     }
 
     fn render_destination(&mut self, block: &mut Block, blocks: &[Block], site: &Site)
+        requires frames { (self.old.frames ≡ quantum_of site.now.world.spec) × (block.old.frames ≡ quantum_of site.now.world.spec) }
         requires fit { AreFit site.now.world site.now.counts blocks.now }
         requires lanes { HasLanes site.now block.old }
         requires kind { kind_of site.now.world site.now.end.node.0 ≡ Destination }
-        ensures { Renders site.now blocks.now block.new (kind_of site.now.world site.now.end.node.0) }
+        ensures frames { self.new.frames ≡ self.old.frames }
+        ensures renders { Renders site.now blocks.now block.new (kind_of site.now.world site.now.end.node.0) }
     {
         self.take_input(blocks, site, 0, site.channels());
         block.copy(&self.heard);
     }
 
     fn render_constant(&mut self, block: &mut Block, blocks: &[Block], site: &Site)
+        requires frames { (self.old.frames ≡ quantum_of site.now.world.spec) × (block.old.frames ≡ quantum_of site.now.world.spec) }
         requires fit { AreFit site.now.world site.now.counts blocks.now }
         requires lanes { HasLanes site.now block.old }
         requires kind { (offset : ℤ) × (kind_of site.now.world site.now.end.node.0 ≡ Constant offset) }
-        ensures { Renders site.now blocks.now block.new (kind_of site.now.world site.now.end.node.0) }
+        ensures frames { self.new.frames ≡ self.old.frames }
+        ensures renders { Renders site.now blocks.now block.new (kind_of site.now.world site.now.end.node.0) }
     {
         self.take_levels(blocks, site, ParamName::Offset);
         let (start, end) = span(site);
@@ -93,10 +102,12 @@ impl Bench {
     }
 
     fn render_gain(&mut self, block: &mut Block, blocks: &[Block], site: &Site)
+        requires frames { (self.old.frames ≡ quantum_of site.now.world.spec) × (block.old.frames ≡ quantum_of site.now.world.spec) }
         requires fit { AreFit site.now.world site.now.counts blocks.now }
         requires lanes { HasLanes site.now block.old }
         requires kind { (gain : ℤ) × (kind_of site.now.world site.now.end.node.0 ≡ Gain gain) }
-        ensures { Renders site.now blocks.now block.new (kind_of site.now.world site.now.end.node.0) }
+        ensures frames { self.new.frames ≡ self.old.frames }
+        ensures renders { Renders site.now blocks.now block.new (kind_of site.now.world site.now.end.node.0) }
     {
         self.take_input(blocks, site, 0, site.channels());
         self.take_levels(blocks, site, ParamName::Gain);
@@ -105,10 +116,12 @@ impl Bench {
 
     // The channels of its input, one on each output.
     fn render_splitter(&mut self, block: &mut Block, blocks: &[Block], site: &Site)
+        requires frames { (self.old.frames ≡ quantum_of site.now.world.spec) × (block.old.frames ≡ quantum_of site.now.world.spec) }
         requires fit { AreFit site.now.world site.now.counts blocks.now }
         requires lanes { HasLanes site.now block.old }
         requires kind { (ports : ℕ) × (kind_of site.now.world site.now.end.node.0 ≡ Splitter ports) }
-        ensures { Renders site.now blocks.now block.new (kind_of site.now.world site.now.end.node.0) }
+        ensures frames { self.new.frames ≡ self.old.frames }
+        ensures renders { Renders site.now blocks.now block.new (kind_of site.now.world site.now.end.node.0) }
     {
         self.take_input(blocks, site, 0, site.outputs() as usize);
         block.copy(&self.heard);
@@ -116,10 +129,12 @@ impl Bench {
 
     // Its inputs, one on each channel.
     fn render_merger(&mut self, block: &mut Block, blocks: &[Block], site: &Site)
+        requires frames { (self.old.frames ≡ quantum_of site.now.world.spec) × (block.old.frames ≡ quantum_of site.now.world.spec) }
         requires fit { AreFit site.now.world site.now.counts blocks.now }
         requires lanes { HasLanes site.now block.old }
         requires kind { (ports : ℕ) × (kind_of site.now.world site.now.end.node.0 ≡ Merger ports) }
-        ensures { Renders site.now blocks.now block.new (kind_of site.now.world site.now.end.node.0) }
+        ensures frames { self.new.frames ≡ self.old.frames }
+        ensures renders { Renders site.now blocks.now block.new (kind_of site.now.world site.now.end.node.0) }
     {
         self.take_inputs(blocks, site, site.channels());
         block.copy(&self.merged);
@@ -133,11 +148,13 @@ impl Bench {
         site: &Site,
         curve: &Option<Samples>,
     )
+        requires frames { (self.old.frames ≡ quantum_of site.now.world.spec) × (block.old.frames ≡ quantum_of site.now.world.spec) }
         requires fit { AreFit site.now.world site.now.counts blocks.now }
         requires lanes { HasLanes site.now block.old }
         requires kind { (was_set : Bool) × (kind_of site.now.world site.now.end.node.0 ≡ Shaper curve.now was_set) }
         requires curve { IsCurve curve.now }
-        ensures { Renders site.now blocks.now block.new (kind_of site.now.world site.now.end.node.0) }
+        ensures frames { self.new.frames ≡ self.old.frames }
+        ensures renders { Renders site.now blocks.now block.new (kind_of site.now.world site.now.end.node.0) }
     {
         self.take_input(blocks, site, 0, site.channels());
         block.shape(&self.heard, curve);
@@ -151,13 +168,16 @@ impl Bench {
         memory: &mut Memory,
         site: &Site,
     )
+        requires frames { (self.old.frames ≡ quantum_of site.now.world.spec) × (block.old.frames ≡ quantum_of site.now.world.spec) }
         requires fit { AreFit site.now.world site.now.counts blocks.now }
         requires lanes { HasLanes site.now block.old }
         requires kind { (equation : an_equation) × (kind_of site.now.world site.now.end.node.0 ≡ Causal equation) }
         requires rooms { HasRooms memory.old site.now.world site.now.counts }
+        ensures frames { self.new.frames ≡ self.old.frames }
         ensures renders { RendersWith site.now memory.old blocks.now block.new (kind_of site.now.world site.now.end.node.0) }
         ensures listens { Listens site.now blocks.now memory.old memory.new }
         ensures delays { memory.new.delays ≡ memory.old.delays }
+        ensures quantum { memory.new.causal.quantum ≡ memory.old.causal.quantum }
         ensures room { HaveRoom memory.new.causal site.now.counts }
     {
         let node = site.end.node;
@@ -175,13 +195,16 @@ impl Bench {
         memory: &mut Memory,
         site: &Site,
     )
+        requires frames { (self.old.frames ≡ quantum_of site.now.world.spec) × (block.old.frames ≡ quantum_of site.now.world.spec) }
         requires fit { AreFit site.now.world site.now.counts blocks.now }
         requires lanes { HasLanes site.now block.old }
         requires kind { (longest : ℤ) × (time : ℤ) × (capacity : ℕ) × (kind_of site.now.world site.now.end.node.0 ≡ Delay longest time capacity) }
         requires rooms { HasRooms memory.old site.now.world site.now.counts }
+        ensures frames { self.new.frames ≡ self.old.frames }
         ensures renders { RendersWith site.now memory.old blocks.now block.new (kind_of site.now.world site.now.end.node.0) }
         ensures stores { Stores site.now block.new memory.old.delays memory.new.delays }
         ensures causal { memory.new.causal ≡ memory.old.causal }
+        ensures quantum { memory.new.delays.quantum ≡ memory.old.delays.quantum }
         ensures room { HaveDelayRoom memory.new.delays site.now.counts }
     {
         if site.end.writer {
@@ -199,14 +222,18 @@ impl Bench {
         delays: &mut Delays,
         site: &Site,
     )
+        requires frames { (self.old.frames ≡ quantum_of site.now.world.spec) × (block.old.frames ≡ quantum_of site.now.world.spec) }
+        requires delay_frames { delays.old.quantum ≡ quantum_of site.now.world.spec }
         requires fit { AreFit site.now.world site.now.counts blocks.now }
         requires lanes { HasLanes site.now block.old }
         requires kind { (longest : ℤ) × (time : ℤ) × (capacity : ℕ) × (kind_of site.now.world site.now.end.node.0 ≡ Delay longest time capacity) }
         requires writer { site.now.end.writer ≡ true }
         requires count { length site.now.world.nodes ≤ length delays.old.delays }
         requires room { HaveDelayRoom delays.old site.now.counts }
+        ensures frames { self.new.frames ≡ self.old.frames }
         ensures renders { Renders site.now blocks.now block.new (kind_of site.now.world site.now.end.node.0) }
         ensures stores { Stores site.now block.new delays.old delays.new }
+        ensures quantum { delays.new.quantum ≡ delays.old.quantum }
         ensures room { HaveDelayRoom delays.new site.now.counts }
     {
         self.take_input(blocks, site, 0, site.channels());
@@ -216,11 +243,14 @@ impl Bench {
 
     // What was written so many frames before each frame.
     fn render_reader(&mut self, block: &mut Block, blocks: &[Block], delays: &Delays, site: &Site)
+        requires frames { (self.old.frames ≡ quantum_of site.now.world.spec) × (block.old.frames ≡ quantum_of site.now.world.spec) }
+        requires delay_frames { delays.now.quantum ≡ quantum_of site.now.world.spec }
         requires fit { AreFit site.now.world site.now.counts blocks.now }
         requires lanes { HasLanes site.now block.old }
         requires kind { (longest : ℤ) × (time : ℤ) × (capacity : ℕ) × (kind_of site.now.world site.now.end.node.0 ≡ Delay longest time capacity) }
         requires reader { site.now.end.writer ≡ false }
-        ensures { (memory : a_memory) → memory.delays ≡ delays.now → RendersWith site.now memory blocks.now block.new (kind_of site.now.world site.now.end.node.0) }
+        ensures frames { self.new.frames ≡ self.old.frames }
+        ensures renders { (memory : a_memory) → memory.delays ≡ delays.now → RendersWith site.now memory blocks.now block.new (kind_of site.now.world site.now.end.node.0) }
     {
         self.take_levels(blocks, site, ParamName::DelayTime);
         self.take_spans(site.world.spec.rate, site.least_delay());
@@ -230,6 +260,7 @@ impl Bench {
 
 // What a buffer source plays. Where it does not sound in the quantum, it has one silent channel.
 fn render_buffer(block: &mut Block, site: &Site)
+    requires frames { block.old.frames ≡ quantum_of site.now.world.spec }
     requires lanes { HasLanes site.now block.old }
     requires kind { (rate : ℕ) × (kind_of site.now.world site.now.end.node.0 ≡ Buffer rate) }
     ensures { (blocks : List a_block) → Renders site.now blocks block.new (kind_of site.now.world site.now.end.node.0) }

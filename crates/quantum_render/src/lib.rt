@@ -1,4 +1,4 @@
-//! Renders one quantum of 128 frames after another.
+//! Renders one quantum after another.
 #![tactic(auto)]
 
 mod bench;

@@ -1,5 +1,6 @@
 ghost use Rattle.std.specs.Prelude.{◌≡◌, ◌<◌, ◌+◌, ◌*◌, ◌++◌, ◌∷◌, [], ℕ, List, length};
 ghost use Rattle.wa_base.specs.declared.graph_names.End.{End as an_end};
+ghost use Rattle.wa_base.specs.Contexts.{quantum_of};
 ghost use Rattle.law_base.specs.Members.{IsIn};
 ghost use Rattle.conn_graph.specs.Ends.{ends};
 ghost use Rattle.meaning.specs.declared.world.World.{World as a_world};
@@ -26,13 +27,16 @@ pub(crate) fn render_quantum<'a>(
 )
     requires plan { IsPlan quantum.now.world plan.now.order plan.now.muted plan.now.into }
     requires cycles { AreCycles quantum.now.world.graph.value plan.now.cycles }
+    requires frames { stage.old ≡ quantum_of quantum.now.world.spec }
     requires fit { AreFit quantum.now.world quantum.now.counts blocks.old }
     requires rooms { HasRooms memory.old quantum.now.world quantum.now.counts }
+    ensures frames { stage.new ≡ stage.old }
+    ensures quanta { (memory.new.causal.quantum ≡ memory.old.causal.quantum) × (memory.new.delays.quantum ≡ memory.old.delays.quantum) }
     ensures fit { AreFit quantum.now.world quantum.now.counts blocks.new }
-    ensures values { (tape : List a_world) → quantum.now.first ≡ 128 * length tape → AreCounted 128 quantum.now.world quantum.now.counts tape → IsTimely quantum.now.world → IsMemory memory.old quantum.now.world tape quantum.now.first → (m : ℕ) (d : an_end) → m < 128 → IsIn d (ends quantum.now.world.graph.value) →
-        drafts_of blocks.new quantum.now.counts m d ≡ value 128 (tape ++ quantum.now.world ∷ []) (128 * length tape + m) d }
-    ensures memory { (tape : List a_world) → quantum.now.first ≡ 128 * length tape → AreCounted 128 quantum.now.world quantum.now.counts tape → IsTimely quantum.now.world → IsMemory memory.old quantum.now.world tape quantum.now.first →
-        IsMemory memory.new quantum.now.world tape (quantum.now.first + 128) }
+    ensures values { (tape : List a_world) → quantum.now.first ≡ quantum_of quantum.now.world.spec * length tape → AreCounted (quantum_of quantum.now.world.spec) quantum.now.world quantum.now.counts tape → IsTimely quantum.now.world → IsMemory memory.old quantum.now.world tape quantum.now.first → (m : ℕ) (d : an_end) → m < quantum_of quantum.now.world.spec → IsIn d (ends quantum.now.world.graph.value) →
+        drafts_of blocks.new quantum.now.counts m d ≡ value (quantum_of quantum.now.world.spec) (tape ++ quantum.now.world ∷ []) (quantum_of quantum.now.world.spec * length tape + m) d }
+    ensures memory { (tape : List a_world) → quantum.now.first ≡ quantum_of quantum.now.world.spec * length tape → AreCounted (quantum_of quantum.now.world.spec) quantum.now.world quantum.now.counts tape → IsTimely quantum.now.world → IsMemory memory.old quantum.now.world tape quantum.now.first →
+        IsMemory memory.new quantum.now.world tape (quantum.now.first + quantum_of quantum.now.world.spec) }
     ensures known { (memory.new.causal.known ≡ length memory.old.causal.nodes) × (memory.new.delays.known ≡ length memory.old.delays.delays) }
 {
     let first = quantum.first;

@@ -21,13 +21,14 @@ use automation::Automation;
 use delay_bank::Delays;
 use filter_bank::CausalNodes;
 use meaning::World;
-use quantum_blocks::{Block, CHANNELS, QUANTUM, fit_blocks, reader, slot};
+use quantum_blocks::{Block, CHANNELS, fit_blocks, reader, slot};
 use std::alloc::Global;
 use std::marker::Model;
 use std::sync::ledger::Ledger;
 use wa_base::{ContextSpec, Fix, NoMemory, NodeId, Steps, Tie};
 
-/// Renders one quantum of 128 frames after another (the rendering loop of the recommendation).
+/// Renders one quantum after another (the rendering loop of the recommendation). A quantum has as
+/// many frames as the context asks for.
 ///
 /// A quantum takes four calls over one unchanged world: `prepare`, `counts`, `grow` and `pass`.
 /// Contracts say for which tapes of worlds a renderer stands: those whose quanta it went through.
@@ -66,7 +67,7 @@ impl Model for Renderer {
       out = r.out.items;
     } };
 
-    ghost invariant = { λ r. IsWhole r.spec.channels r.quanta r.out.items };
+    ghost invariant = { λ r. IsWhole r.spec r.quanta r.automation r.memory r.stage r.out.items };
 }
 
 impl Renderer {
@@ -78,18 +79,19 @@ impl Renderer {
         ensures tie { IfOk result (λ r. r.tie ≡ tie) }
         ensures planned { IfOk result (λ r. r.planned ≡ None) }
     {
-        let out = vec![in alloc; 0; CHANNELS * QUANTUM]?;
-        let causal = CausalNodes::new(alloc)?;
-        let stage = Stage::new(alloc)?;
+        let quantum = spec.quantum as usize;
+        let out = vec![in alloc; 0; CHANNELS * quantum]?;
+        let causal = CausalNodes::new(alloc, quantum)?;
+        let stage = Stage::new(alloc, quantum)?;
         Ok(Renderer {
             alloc,
             spec,
             quanta: 0,
             plan: Plan::new(alloc, tie),
-            automation: Automation::new(alloc),
+            automation: Automation::new(alloc, quantum),
             memory: Memory {
                 causal,
-                delays: Delays::new(alloc),
+                delays: Delays::new(alloc, quantum),
             },
             counts: Vec::new(alloc),
             blocks: Vec::new(alloc),
@@ -134,7 +136,7 @@ impl Renderer {
         self.memory.delays.follow(world)?;
         let nodes = world.nodes.len() as usize;
         self.counts.resize(2 * nodes, 1)?;
-        let first = self.quanta * QUANTUM as u64;
+        let first = self.quanta * u64::from(self.spec.quantum);
         self.automation
             .prepare(world.params.as_slice(), nodes, first, steps)?;
         self.plan.follow(self.alloc, world, steps)?;
@@ -199,7 +201,7 @@ impl Renderer {
         ensures spec { self.new.spec ≡ self.old.spec }
         ensures plan { plan_of self.new ≡ plan_of self.old }
         ensures quanta { self.new.quanta ≡ self.old.quanta + 1 }
-        ensures cost { steps.new ≤ steps.old + sum_by (looks_at first) world.now.params.items }
+        ensures cost { steps.new ≤ steps.old + sum_by (looks_at (quantum_of self.old.spec) first) world.now.params.items }
     {
         self.automation.take(world.params.as_slice(), first, steps);
         let quantum = Quantum {
@@ -231,7 +233,8 @@ impl Renderer {
         ensures values { (tape : List a_world) → Shows self.now tape → (m : ℕ) → m < quantum_of self.now.spec →
             slice_index_or result.now m (pos 0) ≡ sample (quantum_of self.now.spec) tape (quantum_of self.now.spec * (length tape - 1) + m) channel }
     {
-        let first = channel as usize * QUANTUM;
-        &self.out[first..first + QUANTUM]
+        let quantum = self.spec.quantum as usize;
+        let first = channel as usize * quantum;
+        &self.out[first..first + quantum]
     }
 }

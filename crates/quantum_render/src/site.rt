@@ -1,4 +1,5 @@
 ghost use Rattle.std.specs.Prelude.{◌≡◌, ◌≤◌, true, if◌then◌else◌};
+ghost use Rattle.wa_base.specs.Contexts.{quantum_of};
 ghost use Rattle.node_table.specs.Kinds.{outputs as outputs_of, IsInLimits};
 ghost use Rattle.conn_graph.specs.Ends.{is_delay, in_cycle as cycle_of};
 ghost use Rattle.meaning.specs.World.{kind_of};
@@ -9,7 +10,7 @@ use automation::Level;
 use conn_graph::Edge;
 use meaning::World;
 use node_table::Kind;
-use quantum_blocks::{QUANTUM, slot};
+use quantum_blocks::slot;
 use std::marker::Model;
 use wa_base::End;
 
@@ -91,8 +92,12 @@ impl Site<'_> {
 
     // The least number of frames that a delay lasts: in a cycle those of a quantum.
     pub(crate) fn least_delay(&self) -> u64
-        ensures { is_delay self.now.world.graph.value self.now.end.node.0 ≡ true → result ≡ (if cycle_of self.now.world.graph.value self.now.end.node.0 then 128 else 0) }
+        ensures { is_delay self.now.world.graph.value self.now.end.node.0 ≡ true → result ≡ (if cycle_of self.now.world.graph.value self.now.end.node.0 then quantum_of self.now.world.spec else 0) }
     {
-        if self.in_cycle { QUANTUM as u64 } else { 0 }
+        if self.in_cycle {
+            u64::from(self.world.spec.quantum)
+        } else {
+            0
+        }
     }
 }

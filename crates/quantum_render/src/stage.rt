@@ -1,3 +1,5 @@
+ghost use Rattle.std.specs.Prelude.{◌≡◌, IfOk};
+ghost use Rattle.wa_base.specs.Contexts.{quantum_of, IsQuantumSize};
 ghost use Rattle.quantum_blocks.specs.Fits.{AreFit};
 ghost use Rattle.quantum_render.specs.Listening.{HasRooms};
 ghost use Rattle.quantum_render.specs.Renders.{IsRendered};
@@ -20,29 +22,35 @@ pub(crate) struct Stage {
 }
 
 impl Model for Stage {
-    ghost use Rattle.std.specs.Prelude.{◌≡◌};
-    ghost use Rattle.quantum_blocks.specs.Blocks.{BlockView, room_of};
+    ghost use Rattle.std.specs.Prelude.{◌≡◌, ◌*◌, ℕ};
+    ghost use Rattle.quantum_blocks.specs.Blocks.{room_of};
 
-    ghost Value = { BlockView };
+    ghost Value = { ℕ };
 
-    ghost view = { λ s. s.stand_in };
+    ghost view = { λ s. s.bench.frames };
 
-    ghost invariant = { λ s. room_of s.stand_in ≡ 4096 };
+    ghost invariant = { λ s. (room_of s.stand_in ≡ 32 * s.bench.frames) × (s.stand_in.frames ≡ s.bench.frames) };
 }
 
 impl Stage {
-    pub(crate) fn new(alloc: Global) -> Result<Stage, NoMemory> {
+    // A stage for quanta of so many frames.
+    pub(crate) fn new(alloc: Global, quantum: usize) -> Result<Stage, NoMemory>
+        requires { IsQuantumSize quantum }
+        ensures { IfOk result (λ stage. stage ≡ quantum) }
+    {
         Ok(Stage {
-            bench: Bench::new(alloc)?,
-            stand_in: Block::new(alloc, CHANNELS)?,
+            bench: Bench::new(alloc, quantum)?,
+            stand_in: Block::new(alloc, CHANNELS, quantum)?,
         })
     }
 
     // Renders an end for one quantum, from the blocks of the ends that are connected to it.
     pub(crate) fn render(&mut self, blocks: &mut [Block], memory: &mut Memory, site: &Site)
+        requires frames { self.old ≡ quantum_of site.now.world.spec }
         requires fit { AreFit site.now.world site.now.counts blocks.old }
         requires rooms { HasRooms memory.old site.now.world site.now.counts }
-        ensures { IsRendered site.now blocks.old blocks.new memory.old memory.new }
+        ensures frames { self.new ≡ self.old }
+        ensures rendered { IsRendered site.now blocks.old blocks.new memory.old memory.new }
     {
         let place = slot(site.end);
         self.stand_in.begin(blocks[place].lanes());

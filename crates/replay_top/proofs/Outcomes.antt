@@ -44,7 +44,7 @@ ranges_of spec holds = record {
   rate_low = grind (arith, nat_tests);
   rate_high = grind (arith, nat_tests);
   samples_high = grind (arith, nat_tests);
-  quantum = grind (arith, nat_tests);
+  quantum = record { low = grind (arith, nat_tests); high = grind (arith, nat_tests) };
 }
 
 -- what a session leaves that ended so, by whether it has audio

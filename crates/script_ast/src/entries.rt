@@ -6,6 +6,7 @@ use crate::fields::Field;
 use crate::left_out::LeftOutName;
 use crate::operations::Oversample;
 use crate::param_ops::ParamOpName;
+use wa_base::DEFAULT_QUANTUM;
 
 /// What the JSON value of a field has to be.
 #[derive(Clone, Copy, PartialEq, Eq)]
@@ -97,7 +98,7 @@ pub const CONTEXT_FIELDS: [Row; 4] = [
     row!(Channels, Count, Needed),
     row!(Length, Count, Needed),
     row!(Rate, Count, Needed),
-    row!(RenderQuantum, Count, Count(128)),
+    row!(RenderQuantum, Count, Count(DEFAULT_QUANTUM)),
 ];
 
 pub const SCRIPT_TAIL: [Row; 1] = [row!(Calls, Calls, Needed)];

@@ -1,8 +1,9 @@
 -- What a session leaves at its end.
-use Rattle.std.proofs.Common.{ℕ, ◌*◌, ◌/◌, length, arith, ℤ, ◌≡◌, List, Bool, true, false, ◌&&◌, Option, Some, None, refl, ◌∙◌, ap}
+use Rattle.std.proofs.Common.{ℕ, ◌<◌, ◌*◌, ◌/◌, length, arith, ℤ, ◌≡◌, List, Bool, true, false, ◌&&◌, Option, Some, None, refl, ◌∙◌, ap}
 use Rattle.std.specs.Prelude.{IsSome, IfSome, is_some, if◌then◌else◌}
 use Rattle.wa_base.specs.Contexts.{IsSupported, quantum_of}
 use Rattle.wa_base.specs.declared.contexts.ContextSpec.{ContextSpec}
+use Rattle.law_base.proofs.Rows.{quantum_from}
 use Rattle.transcript.specs.declared.lines.EndWord.TheVariants.{Completed, Stalled, Idle}
 use Rattle.meaning.specs.declared.world.World.{World}
 use Rattle.session.specs.declared.rendered.Rendered.{Rendered}
@@ -42,8 +43,8 @@ left_supported true spec samples supported = supported
 left_supported false spec samples supported = tt
 
 -- as many quanta as the tape has worlds
-quanta_of_tape : (n time : ℕ) → time ≡ 128 * n → time / 128 ≡ n
-quanta_of_tape n time is = omega (arith, is)
+quanta_of_tape : (q n time : ℕ) → 0 < q → time ≡ q * n → time / q ≡ n
+quanta_of_tape q n time some is = ap (λ t. t / q) is ∙ quantum_from q n some
 
 pub outcome_is : (view : SessionView) (tape : List World) (outcome : Outcome) → IsSupported view.told.machine.world.spec → Stands view tape → (is_closed view.told.machine.context.state ≡ true → IsSome view.told.machine.context.started)
     → outcome.lines.items ≡ lines_at_end view.told → outcome.end ≡ end_of view.told.machine.context
@@ -53,7 +54,7 @@ pub outcome_is : (view : SessionView) (tape : List World) (outcome : Outcome) �
 outcome_is view tape outcome supported stands begun lines end quanta rendered = record {
   lines = lines;
   end = end;
-  quanta = quanta ∙ quanta_of_tape (length tape) view.told.machine.context.time stands.time;
+  quanta = quanta ∙ quanta_of_tape (quantum_of view.told.machine.world.spec) (length tape) view.told.machine.context.time (let low = supported.quantum.low in omega (arith, low)) stands.time;
   rendered = rendered_is view tape stands begun outcome.rendered rendered;
   supported = rw rendered (left_supported (view.audio && is_closed view.told.machine.context.state) view.told.machine.world.spec view.samples supported);
 }

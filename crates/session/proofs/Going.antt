@@ -1,7 +1,8 @@
 -- A session that goes on turn by turn.
-use Rattle.std.proofs.Common.{◌≡◌, ◌<◌, ◌≤◌, ◌∷◌, ◌++◌, [], List, ℕ, suc, length, Bool, true, false, refl, sym, ap, ◌∙◌, subst, arith}
+use Rattle.std.proofs.Common.{◌≡◌, ◌<◌, ◌≤◌, ◌+◌, ◌∷◌, ◌++◌, [], List, ℕ, suc, length, Bool, true, false, refl, sym, ap, ◌∙◌, subst, arith}
 use Rattle.std.specs.Prelude.{IsTrue, IsSome}
 use Rattle.io_edge.specs.Paths.{Paths, SamePaths}
+use Rattle.wa_base.specs.Contexts.{quantum_of, IsQuantumSize}
 use Rattle.wa_base.specs.declared.contexts.State.{State}
 use Rattle.wa_base.specs.declared.contexts.State.TheVariants as state
 use Rattle.wa_base.specs.declared.contexts.State.TheVariants.{Running}
@@ -52,6 +53,8 @@ at_start tells paths calls start running begun stands = record {
 pub record Advances (old new : SessionView) : Type 0 where
   pub told : new.told ≡ after_turn old.told
   pub left : old.told.machine.context.time < old.told.machine.world.spec.length
+  pub time : new.told.machine.context.time ≡ old.told.machine.context.time + quantum_of old.told.machine.world.spec
+  pub size : IsQuantumSize (quantum_of old.told.machine.world.spec)
   pub audio : new.audio ≡ old.audio
   pub stands : (tape : List World) → Stands old tape → Stands new (tape ++ old.told.machine.world ∷ [])
 
@@ -89,6 +92,9 @@ running_is Running is = refl
 running_is state.Closed is = absurd cc
 
 module _ (tells : Bool) (paths : Paths) (calls : List Call) (start now next : SessionView) (way : IsOnItsWay tells paths calls start now) (turn : Advances now next) where
+  some : 0 < quantum_of now.told.machine.world.spec
+  some = let low = turn.size.low in omega (arith, low)
+
   pub begun_next : IsSome next.told.machine.context.started
   begun_next = subst IsSome (sym (ap (λ t. t.machine.context.started) turn.told ∙ turned_started now.told.machine.context)) way.begun
 
@@ -96,7 +102,7 @@ module _ (tells : Bool) (paths : Paths) (calls : List Call) (start now next : Se
   pub goes_on : turn_of now.told.machine.context ≡ Went → IsTurned Went now.told.machine next.told.machine → IsOnItsWay tells paths calls start next
   goes_on went turned =
       let long = longer_after now.told next.told turn.told in
-      let more = more_left now.told next.told turn.told turned.1 in
+      let more = more_left now.told next.told some turn.told turn.time turned.1 in
       let early : (other : Folder) → AgreeBetween (length start.told.lines) (length next.told.lines) way.folder other → AgreeBetween (length start.told.lines) (length now.told.lines) way.folder other =
       λ other agree n from before. agree n from (omega (arith, long)) in
       record {
@@ -160,12 +166,12 @@ module _ (tells : Bool) (paths : Paths) (calls : List Call) (start now next : Se
 
     -- the length is reached
     pub ends_closed : turn_of now.told.machine.context ≡ Done ordinal → IsTurned (Done ordinal) now.told.machine next.told.machine → IsPlayed tells paths calls start last
-    ends_closed done turned = played (λ other agree. turns_done other calls now.told way.tape ordinal done (one_left now.told next.told turn.left turn.told turned.1))
+    ends_closed done turned = played (λ other agree. turns_done other calls now.told way.tape ordinal done (one_left now.told next.told some turn.left turn.time turned.1))
 
     -- a suspension is due
     module _ (due : turn_of now.told.machine.context ≡ Due ordinal) (turned : next.told.machine.context.time < next.told.machine.world.spec.length) where
       more : quanta_left now.told.machine ≡ suc (quanta_left last.told.machine)
-      more = more_left now.told next.told turn.told turned ∙ ap suc (sym (as_many_left next.told.machine last.told.machine list.spec list.time))
+      more = more_left now.told next.told some turn.told turn.time turned ∙ ap suc (sym (as_many_left next.told.machine last.told.machine list.spec list.time))
 
       state_is : (other : Folder) → AgreeBetween (length start.told.lines) (length last.told.lines) joined other → (b : Bool) → is_running last.told.machine.context.state ≡ b
           → is_running (after_list other calls (after_turn now.told) ordinal).machine.context.state ≡ b
@@ -204,12 +210,12 @@ module _ (tells : Bool) (paths : Paths) (calls : List Call) (start now next : Se
     decodes_due due turned = record {
       folder = way.folder;
       of = way.of;
-      decodes = λ other agree. way.decodes other (reached other agree) (decode_due other calls now.told way.tape (quanta_left next.told.machine) ordinal due (more_left now.told next.told turn.told turned) has);
+      decodes = λ other agree. way.decodes other (reached other agree) (decode_due other calls now.told way.tape (quanta_left next.told.machine) ordinal due (more_left now.told next.told some turn.told turn.time turned) has);
     }
 
     pub decodes_done : turn_of now.told.machine.context ≡ Done ordinal → IsTurned (Done ordinal) now.told.machine next.told.machine → ComesToDecode tells paths calls start last
     decodes_done done turned = record {
       folder = way.folder;
       of = way.of;
-      decodes = λ other agree. way.decodes other (reached other agree) (decode_done other calls now.told way.tape ordinal done (one_left now.told next.told turn.left turn.told turned.1) has);
+      decodes = λ other agree. way.decodes other (reached other agree) (decode_done other calls now.told way.tape ordinal done (one_left now.told next.told some turn.left turn.time turned.1) has);
     }

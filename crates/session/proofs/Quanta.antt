@@ -1,7 +1,11 @@
 -- How many quanta are left, and what each turn leads to.
-use Rattle.std.proofs.Common.{◌≡◌, ◌<◌, ◌≤◌, ◌+◌, ◌∷◌, ◌++◌, [], ◌⊎◌, List, ℕ, zero, suc, length, true, false, inl, inr, refl, ap, ◌∙◌, sym, subst, arith}
+use Rattle.std.proofs.Common.{◌≡◌, ◌<◌, ◌≤◌, ◌+◌, ◌-◌, ◌*◌, ◌/◌, ◌∷◌, ◌++◌, [], ◌⊎◌, List, ℕ, zero, suc, length, true, false, inl, inr, refl, ap, ◌∙◌, sym, subst, arith}
 use Rattle.std.specs.Prelude.{if◌then◌else◌, IsTrue}
 use Rattle.std.proofs.lemmas.List.{length-append}
+use Rattle.std.proofs.lemmas.Nat.{div-mul-add}
+use Rattle.std.proofs.Math.Nat.{add-div_right}
+use Rattle.wa_base.specs.Contexts.{quantum_of}
+use Rattle.wa_base.specs.declared.contexts.ContextSpec.{ContextSpec}
 use Rattle.script_ast.specs.declared.call_list.Call.{Call}
 use Rattle.ctx_state.specs.Context.{turn_of}
 use Rattle.ctx_state.specs.declared.context.Turn.{Turn}
@@ -9,27 +13,39 @@ use Rattle.ctx_state.specs.declared.context.Turn.TheVariants.{Went, Due, Done}
 use Rattle.meaning.specs.declared.world.World.{World}
 use Rattle.session.specs.Folders.{Folder}
 use Rattle.control_side.specs.Machine.{Machine}
-use Rattle.session.specs.Session.{Told, Played, lines_after, after_turn, after_list, held_by, is_running, quanta_left, finished, by_turn, turns, HasDecode, ByTurn, TurnsDecode}
+use Rattle.session.specs.Session.{Told, Played, lines_after, after_turn, after_list, held_by, is_running, quanta_from, quanta_left, finished, by_turn, turns, HasDecode, ByTurn, TurnsDecode}
 use Rattle.control_side.proofs.Stepping.{turned_time}
 
-pub time_after : (old new : Told) → new ≡ after_turn old → new.machine.context.time ≡ old.machine.context.time + 128
-time_after old new is = ap (λ told. told.machine.context.time) is ∙ turned_time old.machine.context
+-- a quantum later, by the numbers of the world
+pub time_after : (old new : Told) (spec : ContextSpec) → new ≡ after_turn old → spec ≡ old.machine.context.spec → spec ≡ old.machine.world.spec
+    → new.machine.context.time ≡ old.machine.context.time + quantum_of old.machine.world.spec
+time_after old new spec is of_context of_world =
+    ap (λ told. told.machine.context.time) is ∙ turned_time old.machine.context ∙ ap (λ (s : ContextSpec). old.machine.context.time + quantum_of s) (sym of_context ∙ of_world)
 
 pub spec_after : (old new : Told) → new ≡ after_turn old → new.machine.world.spec ≡ old.machine.world.spec
 spec_after old new is = ap (λ told. told.machine.world.spec) is
 
 -- the last quantum
-pub one_left : (old new : Told) → old.machine.context.time < old.machine.world.spec.length → new ≡ after_turn old → old.machine.world.spec.length ≤ new.machine.context.time → quanta_left old.machine ≡ 1
-one_left old new left is reached =
-    let time = time_after old new is in
-    omega arith
+pub one_left : (old new : Told) → 0 < quantum_of old.machine.world.spec → old.machine.context.time < old.machine.world.spec.length
+    → new.machine.context.time ≡ old.machine.context.time + quantum_of old.machine.world.spec → old.machine.world.spec.length ≤ new.machine.context.time → quanta_left old.machine ≡ 1
+one_left old new some left time reached =
+    let q = quantum_of old.machine.world.spec in
+    let frames = old.machine.world.spec.length - old.machine.context.time in
+    let whole : frames + (q - 1) ≡ 1 * q + (frames - 1) = omega arith in
+    ap (λ n. n / q) whole ∙ div-mul-add 1 q (frames - 1) (omega arith)
 
 -- one of more
-pub more_left : (old new : Told) → new ≡ after_turn old → new.machine.context.time < new.machine.world.spec.length → quanta_left old.machine ≡ suc (quanta_left new.machine)
-more_left old new is left =
-    let time = time_after old new is in
-    let long : new.machine.world.spec.length ≡ old.machine.world.spec.length = ap (λ told. told.machine.world.spec.length) is in
-    omega arith
+pub more_left : (old new : Told) → 0 < quantum_of old.machine.world.spec → new ≡ after_turn old
+    → new.machine.context.time ≡ old.machine.context.time + quantum_of old.machine.world.spec → new.machine.context.time < new.machine.world.spec.length
+    → quanta_left old.machine ≡ suc (quanta_left new.machine)
+more_left old new some is time left =
+    let q = quantum_of old.machine.world.spec in
+    let spec = spec_after old new is in
+    let long : new.machine.world.spec.length ≡ old.machine.world.spec.length = ap (λ (s : ContextSpec). s.length) spec in
+    let rest = old.machine.world.spec.length - new.machine.context.time + (q - 1) in
+    let whole : old.machine.world.spec.length - old.machine.context.time + (q - 1) ≡ rest + q = omega arith in
+    let next : (n : ℕ) → n + 1 ≡ suc n = λ n. omega arith in
+    ap (λ n. n / q) whole ∙ add-div_right rest some ∙ next (rest / q) ∙ ap (λ (s : ContextSpec). suc (quanta_from new.machine.context.time s)) (sym spec)
 
 -- a call list leaves as many
 pub as_many_left : (old new : Machine) → new.world.spec ≡ old.world.spec → new.context.time ≡ old.context.time → quanta_left new ≡ quanta_left old

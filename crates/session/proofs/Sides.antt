@@ -1,7 +1,9 @@
 -- The side that renders, through messages and quanta, where there is one.
 use Rattle.std.proofs.Common.{◌≡◌, ◌≤◌, ◌<◌, ◌+◌, ◌*◌, ◌++◌, ◌∷◌, [], ℕ, ℤ, List, length, Option, Some, None, refl, sym, ap, ◌∙◌, subst}
 use Rattle.std.specs.Prelude.{IfSome, is_some, option_map}
+use Rattle.wa_base.specs.Contexts.{quantum_of}
 use Rattle.wa_base.specs.declared.contexts.ContextSpec.{ContextSpec}
+use Rattle.ctx_state.specs.Context.{next}
 use Rattle.control_msgs.specs.declared.message.Message.{Message}
 use Rattle.control_msgs.specs.declared.message.Message.TheVariants.{Change as of_change, Slots, Ended}
 use Rattle.control_msgs.specs.Messages.{ended_marked, after_message}
@@ -143,9 +145,9 @@ call_audio change a b d made hears = same_audio (Hears change) b d hears ∙ sam
 -- what a turn does to a side
 pub record Turned (first last : ℕ) (old_samples new_samples : List ℤ) (old new : SideView) : Type 0 where
   pub world : sent new ≡ ended_marked last (sent old)
-  pub at : IsAt (sent old).spec (first + 128) new.renderer
-  pub renders : (tape : List World) → Renders tape old.renderer → IsRegular 128 (tape ++ sent old ∷ []) → Renders (tape ++ sent old ∷ []) new.renderer
-  pub samples : (tape : List World) → Renders tape old.renderer → IsRegular 128 (tape ++ sent old ∷ []) → first ≡ 128 * length tape
+  pub at : IsAt (sent old).spec (first + quantum_of (sent old).spec) new.renderer
+  pub renders : (tape : List World) → Renders tape old.renderer → IsRegular (quantum_of (sent old).spec) (tape ++ sent old ∷ []) → Renders (tape ++ sent old ∷ []) new.renderer
+  pub samples : (tape : List World) → Renders tape old.renderer → IsRegular (quantum_of (sent old).spec) (tape ++ sent old ∷ []) → first ≡ quantum_of (sent old).spec * length tape
       → old_samples ≡ samples_of tape (sent old).spec → new_samples ≡ samples_of (tape ++ sent old ∷ []) (sent old).spec
 
 module _ (first last : ℕ) (samples new_samples : List ℤ) where
@@ -155,7 +157,7 @@ module _ (first last : ℕ) (samples new_samples : List ℤ) where
       let renderer : z.renderer ≡ v.renderer = sym ended.renderer in
       record {
         world = ended.world ∙ ap (λ w. after_message w (Ended last)) goes_on.world;
-        at = subst (IsAt (sent x).spec (first + 128)) renderer goes_on.at;
+        at = subst (IsAt (sent x).spec (first + quantum_of (sent x).spec)) renderer goes_on.at;
         renders = λ tape renders regular. subst (Renders (tape ++ sent x ∷ [])) renderer (goes_on.renders tape renders regular);
         samples = goes_on.samples;
       }
@@ -171,13 +173,15 @@ module _ (first last : ℕ) (samples new_samples : List ℤ) where
   turned_sides (Some x) (Some y) (Some z) None made goes ended = absurd ended
 
 -- it keeps up with the machine
-pub turned_keeps : (old new : Machine) (samples new_samples : List ℤ) (x y : SideView) → new.world ≡ ended_marked (old.context.time + 128) old.world → new.context.time ≡ old.context.time + 128
-    → Turned old.context.time (old.context.time + 128) samples new_samples x y → KeepsUp old x → KeepsUp new y
-turned_keeps old new samples new_samples x y world time turned keeps = record {
+pub turned_keeps : (old new : Machine) (samples new_samples : List ℤ) (x y : SideView) → old.context.spec ≡ old.world.spec → new.world ≡ ended_marked (next old.context) old.world → new.context.time ≡ next old.context
+    → Turned old.context.time (next old.context) samples new_samples x y → KeepsUp old x → KeepsUp new y
+turned_keeps old new samples new_samples x y whole world time turned keeps = record {
   renderer =
-      let spec : (sent x).spec ≡ new.world.spec = ap (λ (w : World). w.spec) keeps.world ∙ sym (ap (λ (w : World). w.spec) world) in
-      subst (λ t. IsAt new.world.spec t y.renderer) (sym time) (subst (λ (s : ContextSpec). IsAt s (old.context.time + 128) y.renderer) spec turned.at);
-  world = turned.world ∙ ap (ended_marked (old.context.time + 128)) keeps.world ∙ sym world;
+      let same : new.world.spec ≡ old.world.spec = ap (λ (w : World). w.spec) world in
+      let spec : (sent x).spec ≡ new.world.spec = ap (λ (w : World). w.spec) keeps.world ∙ sym same in
+      let later = time ∙ ap (λ (s : ContextSpec). old.context.time + quantum_of s) (whole ∙ sym same) in
+      subst (λ t. IsAt new.world.spec t y.renderer) (sym later) (subst (λ (s : ContextSpec). IsAt s (old.context.time + quantum_of s) y.renderer) spec turned.at);
+  world = turned.world ∙ ap (ended_marked (next old.context)) keeps.world ∙ sym world;
 }
 
 -- ---- what a turn asks for

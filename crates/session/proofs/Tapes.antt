@@ -4,6 +4,7 @@ use Rattle.std.proofs.lemmas.Bool.{cases_lt}
 use Rattle.std.proofs.lemmas.List.{get_or_append_left, get_or-map, length-map}
 use Rattle.std.proofs.lemmas.List.Elements.{All-append, All-cons}
 use Rattle.std.proofs.Math.Seq.{get_or-append_seam}
+use Rattle.wa_base.specs.Contexts.{quantum_of}
 use Rattle.wa_base.specs.declared.contexts.ContextSpec.{ContextSpec}
 use Rattle.node_table.specs.Kinds.{lasting}
 use Rattle.node_table.specs.declared.kinds.Kind.{Kind}
@@ -183,7 +184,7 @@ capacity_lasts : (q : ℕ) (spec : ContextSpec) (a b : Kind) → lasting a ≡ l
 capacity_lasts q spec = holds_by_lasting (HasCapacity q spec) (λ curve curve' was_set was_set' holds. holds)
 
 -- a call leaves the next world of a tape the next one
-next_grown : (tape : List World) (w w' : World) → IsNext 128 tape w → Grows (128 * length tape) w w' → IsNext 128 tape w'
+next_grown : (tape : List World) (w w' : World) → IsNext (quantum_of w.spec) tape w → Grows (quantum_of w.spec * length tape) w w' → IsNext (quantum_of w.spec) tape w'
 next_grown tape w w' next grows = record {
   valid = grows.valid next.valid;
   spec = λ some. grows.spec ∙ next.spec some;
@@ -198,13 +199,15 @@ next_grown tape w w' next grows = record {
   capacity = λ i. elim (cases_lt i (length w.nodes)) [
     | inl low ↦
         let stays = grows.stays i low in
-        subst (λ (s : ContextSpec). HasCapacity 128 s (node_at w' i).kind) (sym grows.spec) (capacity_lasts 128 w.spec _ _ (sym stays.kind) (next.capacity i))
-    | inr high ↦ grows.capacity i high
+        subst (λ (s : ContextSpec). HasCapacity (quantum_of w.spec) s (node_at w' i).kind) (sym grows.spec) (capacity_lasts (quantum_of w.spec) w.spec _ _ (sym stays.kind) (next.capacity i))
+    | inr high ↦ subst (λ (s : ContextSpec). HasCapacity (quantum_of s) w'.spec (node_at w' i).kind) grows.spec (grows.capacity i high)
   ];
 }
 
-pub regular_grown : (tape : List World) (w w' : World) → IsRegular 128 (tape ++ w ∷ []) → Grows (128 * length tape) w w' → IsRegular 128 (tape ++ w' ∷ [])
-regular_grown tape w w' regular grows = regular_more 128 tape w' (regular_front 128 tape w regular) (next_grown tape w w' (next_of 128 tape w regular) grows)
+pub regular_grown : (tape : List World) (w w' : World) → IsRegular (quantum_of w.spec) (tape ++ w ∷ []) → Grows (quantum_of w.spec * length tape) w w' → IsRegular (quantum_of w'.spec) (tape ++ w' ∷ [])
+regular_grown tape w w' regular grows =
+    let q = quantum_of w.spec in
+    subst (λ (s : ContextSpec). IsRegular (quantum_of s) (tape ++ w' ∷ [])) (sym grows.spec) (regular_more q tape w' (regular_front q tape w regular) (next_grown tape w w' (next_of q tape w regular) grows))
 
 -- the world after a quantum, with the same nodes
 pub regular_after : (q : ℕ) (tape : List World) (w w' : World) → IsRegular q (tape ++ w ∷ []) → IsValid w' → w'.spec ≡ w.spec → w'.nodes ≡ w.nodes
@@ -251,3 +254,7 @@ regular_first q spec valid = regular_more q [] (first_world spec)
       born = λ i below is. let first : i ≡ 0 = omega arith in rw first (omega arith);
       capacity = first_capacity q spec;
     })
+
+-- a quantum of a regular tape has frames
+pub some_frames : (q : ℕ) (tape : List World) (w : World) → IsRegular q (tape ++ w ∷ []) → 0 < quantum_of w.spec
+some_frames q tape w regular = let low = (next_of q tape w regular).valid.spec.quantum.low in omega (arith, low)

@@ -1,6 +1,9 @@
 -- A turn of a session, put together from its steps.
 use Rattle.std.proofs.Common.{◌≡◌, ◌+◌, ◌*◌, ◌++◌, ◌∷◌, [], ℕ, ℤ, List, length, Option, Some, None, refl, sym, ap, ◌∙◌, subst}
 use Rattle.std.specs.Prelude.{IfSome, IsTrue, IsSome, is_some, option_map}
+use Rattle.wa_base.specs.Contexts.{quantum_of}
+use Rattle.wa_base.specs.declared.contexts.ContextSpec.{ContextSpec}
+use Rattle.ctx_state.specs.Context.{next}
 use Rattle.control_msgs.specs.declared.message.Message.TheVariants.{Ended}
 use Rattle.meaning.specs.declared.world.World.{World}
 use Rattle.meaning.specs.Validity.{IsValid}
@@ -18,20 +21,25 @@ abbrev pub seen : Machine → List Line → List ℤ → Option SideView → Ses
 seen machine lines samples side = record { told = record { machine = machine; lines = lines }; audio = is_some side; samples = samples; renderer = option_map (λ s. s.renderer) side }
 
 module _ (old new : Machine) (samples lent new_samples : List ℤ) (a b c e : Option SideView) (first : ℕ)
+    (spec : ContextSpec) (of_context : spec ≡ old.context.spec) (of_world : spec ≡ old.world.spec)
     (is_first : first ≡ old.context.time) (machine : new ≡ gone_on old) (is_lent : lent ≡ samples)
-    (made : Follows (MakesRoom 1) a b) (goes : Follows (GoesOn first lent new_samples) b c) (ended : Follows (Gets (Ended (first + 128))) c e) where
-  turned : Follows (Turned old.context.time (old.context.time + 128) samples new_samples) a e
+    (made : Follows (MakesRoom 1) a b) (goes : Follows (GoesOn first lent new_samples) b c) (ended : Follows (Gets (Ended (first + quantum_of spec))) c e) where
+  whole : old.context.spec ≡ old.world.spec
+  whole = sym of_context ∙ of_world
+
+  turned : Follows (Turned old.context.time (next old.context) samples new_samples) a e
   turned =
-      subst (λ n. Follows (Turned n (n + 128) samples new_samples) a e) is_first
-      (subst (λ xs. Follows (Turned first (first + 128) xs new_samples) a e) is_lent (turned_sides first (first + 128) lent new_samples a b c e made goes ended))
+      subst (λ (s : ContextSpec). Follows (Turned old.context.time (old.context.time + quantum_of s) samples new_samples) a e) of_context
+      (subst (λ n. Follows (Turned n (n + quantum_of spec) samples new_samples) a e) is_first
+      (subst (λ xs. Follows (Turned first (first + quantum_of spec) xs new_samples) a e) is_lent (turned_sides first (first + quantum_of spec) lent new_samples a b c e made goes ended)))
 
   pub audio_stays : is_some e ≡ is_some a
   audio_stays = same_audio _ a e turned
 
   pub keeps_up : IfSome a (KeepsUp old) → IfSome e (KeepsUp new)
   keeps_up kept =
-      carried (Turned old.context.time (old.context.time + 128) samples new_samples) (KeepsUp old) (KeepsUp new) a e
-      (λ x y. turned_keeps old new samples new_samples x y (ap (λ (m : Machine). m.world) machine) (ap (λ (m : Machine). m.context.time) machine ∙ turned_time old.context)) turned kept
+      carried (Turned old.context.time (next old.context) samples new_samples) (KeepsUp old) (KeepsUp new) a e
+      (λ x y. turned_keeps old new samples new_samples x y whole (ap (λ (m : Machine). m.world) machine) (ap (λ (m : Machine). m.context.time) machine ∙ turned_time old.context)) turned kept
 
   pub has_room : length new_samples ≡ length samples → HasRoom (is_some a) old samples → HasRoom (is_some e) new new_samples
   has_room long room = λ on begun.
@@ -43,7 +51,7 @@ module _ (old new : Machine) (samples lent new_samples : List ℤ) (a b c e : Op
   pub stands_next : (behind : Option ℕ) (lines more : List Line) (tape : List World) → IfSome a (KeepsUp old) → IsValid new.world → Stands (seen (caught_up behind old) lines samples a) tape
       → Stands (seen (caught_up (Some first) new) more new_samples e) (tape ++ world_caught_up behind old.world ∷ [])
   stands_next behind lines more tape kept valid stands =
-      turn_stands old (seen (caught_up behind old) lines samples a) (seen (caught_up (Some first) new) more new_samples e) tape a e (caught_up_sounds behind old.world) refl refl refl refl kept turned
+      turn_stands old (seen (caught_up behind old) lines samples a) (seen (caught_up (Some first) new) more new_samples e) tape a e (caught_up_sounds behind old.world) refl refl refl refl kept (whole ∙ ap (λ (w : World). w.spec) (caught_up_sounds behind old.world)) turned
       (caught_up_after behind old new first is_first machine) (caught_up_valid (Some first) new.world valid) stands
 
 -- with audio, there are samples to render into

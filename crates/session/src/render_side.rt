@@ -15,7 +15,7 @@ use quantum_render::Renderer;
 use std::alloc::Global;
 use std::marker::{Brand, Model};
 use std::sync::ledger::{Blank, Ledger};
-use wa_base::{ContextSpec, Fix, NoMemory, QUANTUM, Steps, Tie};
+use wa_base::{ContextSpec, Fix, NoMemory, Steps, Tie};
 
 /// The side of a session that renders: a world of its own, which hears of each change by a message,
 /// and the renderer.
@@ -95,7 +95,7 @@ fn render_quantum(renderer: &mut Renderer, world: &World, first: u64) -> Result<
     requires valid { IsValid world.now }
     requires spec { world.now.spec ≡ renderer.old.spec }
     requires first { first ≡ quantum_of renderer.old.spec * renderer.old.quanta }
-    requires time { first ≤ 33554560 }
+    requires time { first ≤ 33555456 }
     requires planned { PlansFor (plan_of renderer.old) world.now.graph }
     ensures stands { (tape : List a_world) → StandsFor renderer.old tape → IsRegular (quantum_of world.now.spec) (tape ++ world.now ∷ []) → OnOk result (StandsFor renderer.new (tape ++ world.now ∷ [])) }
     ensures shows { (tape : List a_world) → StandsFor renderer.old tape → IsRegular (quantum_of world.now.spec) (tape ++ world.now ∷ []) → OnOk result (Shows renderer.new (tape ++ world.now ∷ [])) }
@@ -120,7 +120,7 @@ fn render_counted<L: Ledger>(
     requires valid { IsValid world.now }
     requires spec { world.now.spec ≡ renderer.old.spec }
     requires first { first ≡ quantum_of renderer.old.spec * renderer.old.quanta }
-    requires time { first ≤ 33554560 }
+    requires time { first ≤ 33555456 }
     requires planned { PlansFor (plan_of renderer.old) world.now.graph }
     ensures stands { (tape : List a_world) → StandsFor renderer.old tape → IsRegular (quantum_of world.now.spec) (tape ++ world.now ∷ []) → OnOk result (StandsFor renderer.new (tape ++ world.now ∷ [])) }
     ensures shows { (tape : List a_world) → StandsFor renderer.old tape → IsRegular (quantum_of world.now.spec) (tape ++ world.now ∷ []) → OnOk result (Shows renderer.new (tape ++ world.now ∷ [])) }
@@ -148,7 +148,7 @@ fn copy_out(renderer: &Renderer, spec: ContextSpec, first: u64, samples: &mut [F
     ensures { (tape : List a_world) → Shows renderer.now tape → first + quantum_of spec ≡ quantum_of spec * length tape
         → WritesBelow samples.old samples.new spec tape first (first + quantum_of spec) spec.channels }
 {
-    let count = QUANTUM.min(spec.length - first) as usize;
+    let count = u64::from(spec.quantum).min(spec.length - first) as usize;
     for channel in 0..spec.channels {
         let start = (u64::from(channel) * spec.length + first) as usize;
         samples[start..start + count].copy_from_slice(&renderer.out(channel)[..count]);

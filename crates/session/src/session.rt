@@ -1,9 +1,9 @@
-ghost use Rattle.std.specs.Prelude.{◌≡◌, ◌↔◌, ◌≤◌, ◌<◌, ◌*◌, ◌/◌, Some, None, is_some, ◌⊎◌, ◌∷◌, ◌++◌, [], List, true, false, length, replicate, pos, IsTrue, IsSome, IsNone, IfOk, IfSome, IfErr, IsErrOf, OnOk, OnErr, Ok, ◌&&◌, if◌then◌else◌};
+ghost use Rattle.std.specs.Prelude.{◌≡◌, ◌↔◌, ◌≤◌, ◌<◌, ◌+◌, ◌*◌, ◌/◌, Some, None, is_some, ◌⊎◌, ◌∷◌, ◌++◌, [], List, true, false, length, replicate, pos, IsTrue, IsSome, IsNone, IfOk, IfSome, IfErr, IsErrOf, OnOk, OnErr, Ok, ◌&&◌, if◌then◌else◌};
 ghost use Rattle.io_edge.specs.Faults.{Rose};
 ghost use Rattle.io_edge.specs.Paths.{Paths, SamePaths};
 ghost use Rattle.script_ast.specs.Operations.{IsInRange};
 ghost use Rattle.ctx_state.specs.Context.{IsInState, turn_of, is_closed};
-ghost use Rattle.wa_base.specs.Contexts.{IsSupported, quantum_of};
+ghost use Rattle.wa_base.specs.Contexts.{IsQuantumSize, IsSupported, quantum_of};
 ghost use Rattle.control_msgs.specs.Messages.{IsAcceptedBy};
 ghost use Rattle.meaning.specs.Changes.{Accepts};
 ghost use Rattle.session.specs.Session.{after_call, after_turn, end_of, lines_at_end};
@@ -29,7 +29,7 @@ use script_ast::{Call, Op};
 use std::alloc::Global;
 use std::marker::Model;
 use transcript::{EndWord, Line, Lines};
-use wa_base::{ContextSpec, Exc, Fix, NoMemory, QUANTUM, Refusal, Samples, State, Tie};
+use wa_base::{ContextSpec, Exc, Fix, NoMemory, Refusal, Samples, State, Tie};
 
 /// How a session is run.
 #[derive(Clone, Copy, Debug, PartialEq, Eq)]
@@ -137,6 +137,8 @@ impl Session {
         ensures turn { IfOk result (λ turn. turn ≡ turn_of self.old.told.machine.context) }
         ensures told { OnOk result (self.new.told ≡ after_turn self.old.told) }
         ensures left { OnOk result (self.old.told.machine.context.time < self.old.told.machine.world.spec.length) }
+        ensures time { OnOk result (self.new.told.machine.context.time ≡ self.old.told.machine.context.time + quantum_of self.old.told.machine.world.spec) }
+        ensures size { OnOk result (IsQuantumSize (quantum_of self.old.told.machine.world.spec)) }
         ensures state { IfOk result (λ turn. IsTurned turn self.old.told.machine self.new.told.machine) }
         ensures audio { self.new.audio ≡ self.old.audio }
         ensures stands { (tape : List World) → Stands self.old tape → OnOk result (Stands self.new (tape ++ self.old.told.machine.world ∷ [])) }
@@ -146,10 +148,14 @@ impl Session {
         self.lines.reserve(ended.len() + 2)?;
         reserve(&mut self.side, 1)?;
         let first = self.control.now();
+        let spec = self.control.spec();
         render(&mut self.side, first, self.samples.as_mut_slice())?;
         let turn = self.control.turn();
         self.behind = Some(first);
-        post(&mut self.side, Message::Ended(first + QUANTUM));
+        post(
+            &mut self.side,
+            Message::Ended(first + u64::from(spec.quantum)),
+        );
         self.lines.append_reserved(ended);
         match turn {
             Turn::Went => {}
@@ -197,7 +203,8 @@ impl Session {
     {
         let end = self.end();
         let completed = self.is_closed();
-        let quanta = self.control.now() / QUANTUM;
+        let spec = self.control.spec();
+        let quanta = self.control.now() / u64::from(spec.quantum);
         let Session {
             control,
             mut lines,
@@ -205,7 +212,6 @@ impl Session {
             samples,
             ..
         } = self;
-        let spec = control.spec();
         let audio = side.is_some();
         drop(control);
         drop(side);

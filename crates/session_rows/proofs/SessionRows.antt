@@ -78,6 +78,17 @@ completed : Tells (played (spec 1 128) (main 1 op.StartRendering ∷ [])) (says 
 unfolding played
 completed = ((refl, refl, refl), (refl, refl, refl))
 
+-- the same of quanta of other sizes: so many as reach the length, and a suspension is due at one of their boundaries
+abbrev sized : ℕ → ContextSpec → ContextSpec
+sized quantum context = record context { quantum = quantum }
+
+other_quanta : Tells (played (sized 32 (spec 1 130)) (main 1 (suspend 33) ∷ held 1 2 op.ReadTime ∷ held 1 3 op.Resume ∷ main 4 op.StartRendering ∷ []))
+    (says 1 Pending ∷ says 4 Pending ∷ line.Resolved 1 ∷ says 2 (Time 64) ∷ says 3 ResolvedNow ∷ line.Resolved 4 ∷ line.Complete 130 ∷ []) Completed 5
+    × Tells (played (sized 1024 (spec 1 1025)) (main 1 (suspend 1) ∷ main 2 op.StartRendering ∷ [])) (says 1 Pending ∷ says 2 Pending ∷ line.Resolved 1 ∷ []) (Stalled 1024) 1
+    × Tells (played (sized 100 (spec 1 128)) (main 1 op.StartRendering ∷ [])) [] (Refused (NotSupported None)) 0
+unfolding played
+other_quanta = ((refl, refl, refl), (refl, refl, refl), (refl, refl, refl))
+
 -- the main list is run whole at frame 0, also behind startRendering, and rendering is started once
 started_once : Tells (played (spec 1 129) (main 1 op.StartRendering ∷ main 2 op.StartRendering ∷ main 3 op.ReadTime ∷ main 4 op.ReadState ∷ main 5 op.Resume ∷ []))
     (says 1 Pending ∷ says 2 rejected ∷ says 3 (Time 0) ∷ says 4 (State Running) ∷ says 5 ResolvedNow ∷ line.Resolved 1 ∷ line.Complete 129 ∷ []) Completed 2

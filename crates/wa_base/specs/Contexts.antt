@@ -1,5 +1,5 @@
 -- The words of a context's states, and the ranges in which a context can be rendered.
-use Rattle.std.specs.Prelude.{ℕ, List, codes, ◌≤◌, ◌≡◌, ◌*◌, ◌&&◌, nat_le, nat_eq, Bool}
+use Rattle.std.specs.Prelude.{ℕ, List, codes, ◌≤◌, ◌*◌, ◌&&◌, ◌||◌, nat_le, nat_eq, Bool}
 use Rattle.wa_base.specs.declared.contexts.ContextSpec.{ContextSpec}
 use Rattle.wa_base.specs.declared.contexts.State.{State}
 use Rattle.wa_base.specs.declared.contexts.State.TheVariants.{Suspended, Running, Closed}
@@ -14,7 +14,12 @@ state_word Closed = codes "closed"
 
 -- the number of frames of a render quantum
 abbrev pub quantum_of : ContextSpec → ℕ
-quantum_of spec = 128
+quantum_of spec = spec.quantum
+
+-- a render quantum has so many frames
+pub record IsQuantumSize (frames : ℕ) : Type 0 where
+  pub low : 32 ≤ frames
+  pub high : frames ≤ 1024
 
 -- ---- ranges
 
@@ -27,9 +32,8 @@ has_length spec = nat_le 1 spec.length && nat_le spec.length 33554432
 abbrev pub has_rate : ContextSpec → Bool
 has_rate spec = nat_le 8000 spec.rate && nat_le spec.rate 96000
 
--- quanta of other sizes are not rendered
 abbrev pub has_quantum : ContextSpec → Bool
-has_quantum spec = nat_eq spec.quantum 128
+has_quantum spec = nat_eq spec.quantum 32 || nat_eq spec.quantum 64 || nat_eq spec.quantum 128 || nat_eq spec.quantum 256 || nat_eq spec.quantum 512 || nat_eq spec.quantum 1024
 
 -- a context that can be rendered
 unfoldable pub is_supported : ContextSpec → Bool
@@ -44,4 +48,4 @@ pub record IsSupported (spec : ContextSpec) : Type 0 where
   pub rate_low : 8000 ≤ spec.rate
   pub rate_high : spec.rate ≤ 96000
   pub samples_high : spec.channels * spec.length ≤ 67108864
-  pub quantum : spec.quantum ≡ 128
+  pub quantum : IsQuantumSize spec.quantum

@@ -1,9 +1,9 @@
 ghost use Rattle.std.specs.Prelude.{◌≡◌, ◌≤◌, ◌*◌, nat_le, true};
-ghost use Rattle.wa_base.specs.Contexts.{state_word, IsSupported};
+ghost use Rattle.wa_base.specs.Contexts.{state_word, IsQuantumSize, IsSupported};
 ghost use Rattle.wa_base.specs.Contexts as contexts;
 
-/// The size of a render quantum, in frames.
-pub const QUANTUM: u64 = 128;
+/// The size of a render quantum where none is asked for, in frames.
+pub const DEFAULT_QUANTUM: u32 = 128;
 
 const MAX_LENGTH: u64 = 33_554_432;
 
@@ -45,7 +45,8 @@ pub struct ContextSpec {
 
 impl ContextSpec {
     /// Whether the context can be rendered: 1 to 32 channels, 1 to 33,554,432 frames, a rate of
-    /// 8,000 to 96,000, at most 67,108,864 samples, and render quanta of 128 frames.
+    /// 8,000 to 96,000, at most 67,108,864 samples, and render quanta of 32, 64, 128, 256, 512 or
+    /// 1,024 frames.
     #[tactic(auto, unfolding(crate::specs::Contexts::is_supported))]
     pub fn is_supported(self) -> bool
         ensures value { result ≡ contexts.is_supported self }
@@ -88,8 +89,8 @@ impl ContextSpec {
 
     fn has_quantum(self) -> bool
         ensures value { result ≡ contexts.has_quantum self }
-        ensures range { result ≡ true → self.quantum ≡ 128 }
+        ensures range { result ≡ true → IsQuantumSize self.quantum }
     {
-        u64::from(self.quantum) == QUANTUM
+        matches!(self.quantum, 32 | 64 | 128 | 256 | 512 | 1_024)
     }
 }

@@ -12,7 +12,7 @@ mod memory;
 mod numbers;
 mod steps;
 
-pub use contexts::{ContextSpec, QUANTUM, State};
+pub use contexts::{ContextSpec, DEFAULT_QUANTUM, State};
 pub use exceptions::{Exc, Refusal};
 pub use features::Feature;
 pub use graph_names::{BufId, End, Interp, Mode, Name, NodeId, ParamId, ParamName, Rate, Tie};

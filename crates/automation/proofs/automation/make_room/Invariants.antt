@@ -7,5 +7,5 @@ use Rattle.automation.proofs.automation.make_room.Given as goal
 abbrev pub invariant-loop-param : goal.invariant-loop-param
 invariant-loop-param l = record {
   long : length l.levels ≡ length l.fn.levels;
-  room : (j : ℕ) (p : Param) → j < l.param-index → HasRoom (level_of l.levels (slice_index_or l.params j p).id.node.0);
+  room : (j : ℕ) (p : Param) → j < l.param-index → HasRoom l.frames (level_of l.levels (slice_index_or l.params j p).id.node.0);
 }

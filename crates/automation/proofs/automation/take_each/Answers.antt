@@ -11,7 +11,7 @@ use Rattle.automation.proofs.automation.take_each.Goals as goal
 
 -- the parameter at hand is one of all
 here : (params : List Param) (i : ℕ) (p : Param) → i < length params → p ≡ slice_index_or params i p → IsIn p params
-here params i p low is = subst (λ (q : Param). IsIn q params) (sym is) (in_list params i p low)
+here params i p low is = subst (λ (x : Param). IsIn x params) (sym is) (in_list params i p low)
 
 pub bounds-levels-node : goal.bounds-levels-node
 bounds-levels-node g c = (c.loop-i.invariant.room c.index-params-i.result (here c.args.params.now c.loop-i.i c.index-params-i.result c.loop-i-test.true c.index-params-i.is)).0
@@ -19,7 +19,7 @@ bounds-levels-node g c = (c.loop-i.invariant.room c.index-params-i.result (here 
 pub take-requires-clause-room : goal.take-requires-clause-room
 take-requires-clause-room g c =
     let room = c.loop-i.invariant.room c.index-params-i.result (here c.args.params.now c.loop-i.i c.index-params-i.result c.loop-i-test.true c.index-params-i.is) in
-    subst HasRoom (get_or_default c.loop-i.levels c.index-params-i.result.id.node.0 no_level c.index-levels-node.result room.0) room.1
+    subst (HasRoom c.args.frames) (get_or_default c.loop-i.levels c.index-params-i.result.id.node.0 no_level c.index-levels-node.result room.0) room.1
 
 pub loop-i-preserved : goal.loop-i-preserved
 loop-i-preserved g c =
@@ -30,15 +30,15 @@ loop-i-preserved g c =
     let room = inv.room p (here params i p c.loop-i-test.true c.index-params-i.is) in
     record {
       cursors = length-set c.loop-i.cursors i c.take.new.cursor ∙ inv.cursors;
-      taken = taken_more c.loop-i.levels p.id.node.0 c.take.new.self room.0 params c.args.first i p c.requires.nodes.1.order (ap (λ (q : Param). q.id.node.0) c.index-params-i.is)
-          (subst (λ (q : Param). IsLevelOf q c.args.first c.take.new.self) c.index-params-i.is c.take.ensures.level) inv.taken c.loop-i-test.true;
-      room = λ q is.
-          let old = inv.room q is in
-          (omega (arith, old.0, length-set c.loop-i.levels p.id.node.0 c.take.new.self), room_stays c.loop-i.levels p.id.node.0 c.take.new.self room.0 c.take.ensures.level.room q.id.node.0 old.1);
-      stands = λ j q later low.
-          get_or-set_other c.loop-i.cursors i j c.take.new.cursor 0 (λ e. let k : j ≡ i = e in omega arith) ∙ inv.stands j q (omega arith) low;
+      taken = taken_more c.args.frames c.loop-i.levels p.id.node.0 c.take.new.self room.0 params c.args.first i p c.requires.nodes.1.order (ap (λ (x : Param). x.id.node.0) c.index-params-i.is)
+          (subst (λ (x : Param). IsLevelOf c.args.frames x c.args.first c.take.new.self) c.index-params-i.is c.take.ensures.level) inv.taken c.loop-i-test.true;
+      room = λ x is.
+          let old = inv.room x is in
+          (omega (arith, old.0, length-set c.loop-i.levels p.id.node.0 c.take.new.self), room_stays c.args.frames c.loop-i.levels p.id.node.0 c.take.new.self room.0 c.take.ensures.level.room x.id.node.0 old.1);
+      stands = λ j x later low.
+          get_or-set_other c.loop-i.cursors i j c.take.new.cursor 0 (λ e. let k : j ≡ i = e in omega arith) ∙ inv.stands j x (omega arith) low;
       cost =
-          let more = sum_by_more (looks_at c.args.first) params i p c.loop-i-test.true ∙ ap (λ q. sum_by (looks_at c.args.first) (take i params) + looks_at c.args.first q) (sym c.index-params-i.is) in
+          let more = sum_by_more (looks_at c.args.frames c.args.first) params i p c.loop-i-test.true ∙ ap (λ x. sum_by (looks_at c.args.frames c.args.first) (take i params) + looks_at c.args.frames c.args.first x) (sym c.index-params-i.is) in
           let cost = c.take.ensures.cost in
           omega (arith, more, cost, inv.cost);
     }
@@ -46,4 +46,4 @@ loop-i-preserved g c =
 pub returns-clause-levels : goal.returns-clause-levels
 returns-clause-levels g c p is =
     let found = place_of c.args.params.now p is in
-    subst (λ (q : Param). IsLevelOf q c.args.first (level_of c.loop-i.levels q.id.node.0)) (found.2 p) (c.loop-i.invariant.taken found.0 p (omega (arith, found.1, c.loop-i-test.false)))
+    subst (λ (x : Param). IsLevelOf c.args.frames x c.args.first (level_of c.loop-i.levels x.id.node.0)) (found.2 p) (c.loop-i.invariant.taken found.0 p (omega (arith, found.1, c.loop-i-test.false)))

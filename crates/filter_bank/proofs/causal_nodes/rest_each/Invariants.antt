@@ -1,4 +1,4 @@
-use Rattle.std.proofs.Common.{ℕ, ◌≡◌, ◌<◌, ◌≤◌, length, slice_index_or, None}
+use Rattle.std.proofs.Common.{ℕ, ◌≡◌, ◌<◌, ◌≤◌, ◌*◌, length, slice_index_or, None}
 use Rattle.filter_bank.specs.Banks.{IsRestedIfThere}
 use Rattle.filter_bank.proofs.causal_nodes.rest_each.Given as goal
 
@@ -6,7 +6,7 @@ use Rattle.filter_bank.proofs.causal_nodes.rest_each.Given as goal
 abbrev pub invariant-loop-causal : goal.invariant-loop-causal
 invariant-loop-causal l = record {
   long : length l.nodes ≡ length l.initial.nodes;
-  scratch : length l.scratch ≡ 4096;
-  rested : (n : ℕ) → n < l.causal-index → IsRestedIfThere l.first (slice_index_or l.initial.nodes n None) (slice_index_or l.nodes n None);
+  scratch : length l.scratch ≡ 32 * l.frames;
+  rested : (n : ℕ) → n < l.causal-index → IsRestedIfThere l.frames l.first (slice_index_or l.initial.nodes n None) (slice_index_or l.nodes n None);
   others : (n : ℕ) → l.causal-index ≤ n → slice_index_or l.nodes n None ≡ slice_index_or l.initial.nodes n None;
 }

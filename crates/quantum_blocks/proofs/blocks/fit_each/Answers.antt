@@ -16,4 +16,7 @@ returns c =
           let low = slot_low e (length c.args.world.now.nodes) (end_low c.args.world.now c.requires.valid e is) in
           c.loop-i.invariant.each (slot e) (let end = c.loop-i-test.false in omega arith)
           ∙ ap (λ n. outputs (kind_of c.args.world.now n) * counts_in c.args.counts.now e) (slot-half e);
+      frames = λ e is.
+          let low = slot_low e (length c.args.world.now.nodes) (end_low c.args.world.now c.requires.valid e is) in
+          c.loop-i.invariant.frames (slot e) (let end = c.loop-i-test.false in omega arith);
     }

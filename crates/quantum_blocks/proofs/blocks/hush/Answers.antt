@@ -7,5 +7,6 @@ pub loop-end-preserved : goal.loop-end-preserved
 loop-end-preserved c = record {
   length = search rules;
   lanes = c.hush_end.ensures.writes.lanes ∙ c.loop-end.invariant.lanes;
+  frames = c.hush_end.ensures.writes.frames ∙ c.loop-end.invariant.frames;
   silent = silent_more c.loop-end.blocks c.hush_end.new.blocks c.args.muted.now c.loop-end.end-index no_end c.hush_end.ensures.writes c.hush_end.ensures.silent c.loop-end-test.true c.loop-end.invariant.silent;
 }

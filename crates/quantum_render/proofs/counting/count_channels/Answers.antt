@@ -33,7 +33,7 @@ bounds-counts-slot c =
 pub loop-end-preserved : goal.loop-end-preserved
 loop-end-preserved c =
     subst (λ k. Counting c.args.census.world.now c.args.census.delays.now c.args.census.first c.args.order.now (c.loop-end.end-index + 1) (slice_set c.loop-end.counts k c.count_of.result)) (sym c.slot.ensures)
-    (counting_goes_on c.args.census.world.now c.requires.valid c.args.census.delays.now c.args.census.first c.args.order.now c.loop-end.end-index c.loop-end.counts c.loop-end.invariant c.loop-end-test.true
+    (counting_goes_on c.args.census.world.now c.requires.valid c.args.census.delays.now c.args.census.first c.args.order.now c.loop-end.end-index c.loop-end.counts c.loop-end.invariant c.loop-end-test.true c.requires.delays
     c.count_of.result c.count_of.ensures.value c.count_of.ensures.range.0 c.count_of.ensures.range.1 c.count_of.ensures.lanes c.count_of.ensures.mono)
 
 pub returns-clause-counted : goal.returns-clause-counted

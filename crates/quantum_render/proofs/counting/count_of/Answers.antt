@@ -1,5 +1,6 @@
 use Rattle.std.specs.Prelude.{not}
 use Rattle.std.proofs.Common.{false, ◌≡◌, ◌⊎◌, inl, inr, sym, ◌∙◌, ap, arith}
+use Rattle.wa_base.specs.Contexts.{quantum_of}
 use Rattle.node_table.specs.declared.rows.Row.{Row}
 use Rattle.node_table.specs.declared.rows.Channels.TheVariants.{Always, OfInput, OfBuffer}
 use Rattle.node_table.specs.Kinds.{is_delay_kind}
@@ -48,7 +49,7 @@ returns-in-OfInput-clause-value c j earlier begins most =
       | else-is_written-via-else-is_written w ↦ inr (ap (λ (r : Row). is_written r.keeps) own ∙ sym c.is_written.ensures ∙ w.if-is_written.false)
     ] in
     c.input_count.ensures.value
-    ∙ counted_by_row (sounding c.args.census.world.now) c.args.census.world.now j earlier (counts_in c.args.counts.now) c.args.end OfInput channels plain
+    ∙ counted_by_row (quantum_of c.args.census.world.now.spec) (sounding c.args.census.world.now) c.args.census.world.now j earlier (counts_in c.args.counts.now) c.args.end OfInput channels plain
 
 pub returns-in-OfInput-clause-lanes : goal.returns-in-OfInput-clause-lanes
 returns-in-OfInput-clause-lanes c =
@@ -76,8 +77,8 @@ returns-in-OfBuffer-clause-value c j earlier begins most =
       | else-is_written-via-then-is_written+else-not-end w ↦ inl w.if-not-end.false
       | else-is_written-via-else-is_written w ↦ inr (ap (λ (r : Row). is_written r.keeps) own ∙ sym c.is_written.ensures ∙ w.if-is_written.false)
     ] in
-    c.played_count.ensures.value ∙ ap (played_channels c.args.census.world.now c.args.end.node.0 128) begins
-    ∙ counted_by_row (sounding c.args.census.world.now) c.args.census.world.now j earlier (counts_in c.args.counts.now) c.args.end OfBuffer channels plain
+    c.played_count.ensures.value ∙ ap (played_channels c.args.census.world.now c.args.end.node.0 (quantum_of c.args.census.world.now.spec)) begins
+    ∙ counted_by_row (quantum_of c.args.census.world.now.spec) (sounding c.args.census.world.now) c.args.census.world.now j earlier (counts_in c.args.counts.now) c.args.end OfBuffer channels plain
 
 pub returns-in-OfBuffer-clause-lanes : goal.returns-in-OfBuffer-clause-lanes
 returns-in-OfBuffer-clause-lanes c =

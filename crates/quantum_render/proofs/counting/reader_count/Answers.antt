@@ -1,6 +1,7 @@
 use Rattle.std.proofs.Common.{ℕ, ◌≡◌, ◌*◌, ◌<◌, length, List, Bool, true, false, slice_index_or, sym, ◌∙◌, ap, ap₂, subst, arith}
 use Rattle.std.specs.Prelude.{if◌then◌else◌, max, ◌&&◌}
 use Rattle.std.proofs.lemmas.List.{get_or_default}
+use Rattle.wa_base.specs.Contexts.{quantum_of}
 use Rattle.node_table.specs.Kinds.{is_delay_kind}
 use Rattle.node_table.proofs.Lasting.{the_delay}
 use Rattle.conn_graph.specs.Ends.{writer_of, in_cycle}
@@ -36,8 +37,8 @@ returns-then-census-node-clause-value c j earlier most =
     let cycle = mark_is w c.requires.valid c.args.census.cycles.now c.requires.cycles n low c.requires.delay _ true (sym c.if-census-node.true) in
     c.most-most.ensures.most had.delay had.there
     ∙ had.most
-    ∙ ap (λ b. if b then most_before (sounding w) n j earlier now had.lived else max (most_before (sounding w) n j earlier now had.lived) (now (writer_of n))) cycle
-    ∙ sym (reader_split (sounding w) n j earlier now had.lived)
+    ∙ ap (λ b. if b then most_before (quantum_of w.spec) (sounding w) n j earlier now had.lived else max (most_before (quantum_of w.spec) (sounding w) n j earlier now had.lived) (now (writer_of n))) cycle
+    ∙ sym (reader_split (quantum_of w.spec) (sounding w) n j earlier now had.lived)
 
 -- what the writer has in the quantum
 written : (c : goal.After-greater) → slice_index_or c.args.counts.now c.slot.result 1 ≡ counts_in c.args.counts.now (writer_of c.args.node.0)
@@ -59,8 +60,8 @@ returns-else-census-node-clause-value c j earlier most =
     let cycle = mark_is w c.requires.valid c.args.census.cycles.now c.requires.cycles n low c.requires.delay _ false (sym c.if-census-node.false) in
     c.greater.ensures
     ∙ ap₂ max (c.most-most.ensures.most had.delay had.there ∙ had.most) (get_or_default c.args.counts.now c.slot.result _ 1 (within c) ∙ written c)
-    ∙ ap (λ b. if b then most_before (sounding w) n j earlier now had.lived else max (most_before (sounding w) n j earlier now had.lived) (now (writer_of n))) cycle
-    ∙ sym (reader_split (sounding w) n j earlier now had.lived)
+    ∙ ap (λ b. if b then most_before (quantum_of w.spec) (sounding w) n j earlier now had.lived else max (most_before (quantum_of w.spec) (sounding w) n j earlier now had.lived) (now (writer_of n))) cycle
+    ∙ sym (reader_split (quantum_of w.spec) (sounding w) n j earlier now had.lived)
 
 pub returns-else-census-node-clause-range : goal.returns-else-census-node-clause-range
 returns-else-census-node-clause-range c =

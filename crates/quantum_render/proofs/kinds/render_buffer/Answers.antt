@@ -1,5 +1,6 @@
 use Rattle.std.proofs.Common.{◌≡◌, ◌+◌, ◌<◌, Some, None, sym, ◌∙◌, ap, refl, subst}
 use Rattle.std.specs.Option.{option_map_or}
+use Rattle.wa_base.specs.Contexts.{quantum_of}
 use Rattle.sched_source.specs.Schedule.{played}
 use Rattle.meaning.specs.World.{channels_in, samples_in, played_channels}
 use Rattle.quantum_blocks.specs.Blocks.{counts_in}
@@ -16,10 +17,10 @@ returns-in-Some c blocks =
     let own = lanes_own s _ c.requires.kind.1 refl c.args.block.now c.requires.lanes in
     let source : SourceView = c.in-Some.source in
     let found : heard_source s.world s.end.node.0 s.first ≡ Some source = sym (c.sounding.ensures ∙ ap (λ (x : SiteView). heard_source x.world x.end.node.0 x.first) c.site.view_is) ∙ c.in-Some.is in
-    renders_own s _ c.requires.kind.1 refl blocks c.play.new.self (c.play.ensures.lanes ∙ own) (λ j earlier begins counted before channel m low now.
+    renders_own s _ c.requires.kind.1 refl blocks c.play.new.self (c.play.ensures.lanes ∙ own) (c.play.ensures.frames ∙ c.requires.frames) (λ j earlier begins counted before channel m low now.
     let channels : counts_in s.counts s.end ≡ channels_in source.store (Some source.buffer) =
-    counted ∙ ap (played_channels s.world s.end.node.0 128) (sym begins) ∙ heard_channels s.world s.end.node.0 s.first ∙ ap (λ o. option_map_or (λ (x : SourceView). channels_in x.store (Some x.buffer)) o 1) found in
-    c.play.ensures.values channel m (subst (λ n. channel < n) (sym own) low) (subst (λ n. channel < n) channels low) now
+    counted ∙ ap (played_channels s.world s.end.node.0 (quantum_of s.world.spec)) (sym begins) ∙ heard_channels s.world s.end.node.0 s.first ∙ ap (λ o. option_map_or (λ (x : SourceView). channels_in x.store (Some x.buffer)) o 1) found in
+    c.play.ensures.values channel m (subst (λ n. channel < n) (sym own) low) (subst (λ n. channel < n) channels low) (subst (λ n. m < n) (sym c.requires.frames) now)
     ∙ ap (λ (x : SiteView). played source.sched (samples_in source.store (Some source.buffer) channel) (x.first + m)) c.site.view_is
     ∙ sym (heard s.world s.end.node.0 s.first source found channel (s.first + m)))
 
@@ -29,6 +30,6 @@ returns-in-None c blocks =
     let s : SiteView = c.args.site.now in
     let own = lanes_own s _ c.requires.kind.1 refl c.args.block.now c.requires.lanes in
     let none : heard_source s.world s.end.node.0 s.first ≡ None = sym (c.sounding.ensures ∙ ap (λ (x : SiteView). heard_source x.world x.end.node.0 x.first) c.site.view_is) ∙ c.in-None.is in
-    renders_own s _ c.requires.kind.1 refl blocks c.silence.new.self (c.silence.ensures.lanes ∙ own) (λ j earlier begins counted before channel m low now.
-    c.silence.ensures.values channel m (subst (λ n. channel < n) (sym own) low) now
+    renders_own s _ c.requires.kind.1 refl blocks c.silence.new.self (c.silence.ensures.lanes ∙ own) (c.silence.ensures.frames ∙ c.requires.frames) (λ j earlier begins counted before channel m low now.
+    c.silence.ensures.values channel m (subst (λ n. channel < n) (sym own) low) (subst (λ n. m < n) (sym c.requires.frames) now)
     ∙ sym (unheard s.world s.end.node.0 s.first none channel m now))

@@ -1,4 +1,5 @@
-use Rattle.std.proofs.Common.{ℕ, ◌<◌, ◌≤◌, List, length, slice_index_or, sym, ◌∙◌, ap, subst}
+use Rattle.std.proofs.Common.{ℕ, ◌≡◌, ◌<◌, ◌≤◌, List, length, slice_index_or, refl, sym, ◌∙◌, ap, subst}
+use Rattle.wa_base.specs.Contexts.{quantum_of}
 use Rattle.wa_base.specs.declared.graph_names.End.{End}
 use Rattle.law_base.specs.Members.{IsIn}
 use Rattle.conn_graph.specs.Ends.{ends}
@@ -11,6 +12,7 @@ use Rattle.quantum_render.specs.Listening.{HasRooms}
 use Rattle.quantum_render.specs.Renders.{IsRendered}
 use Rattle.quantum_blocks.proofs.Orders.{no_end}
 use Rattle.quantum_render.proofs.Passing.{still_fit, passing_begins, next, passing_rendered, passing_ends, all_remembered, mute_there}
+use Rattle.quantum_render.proofs.Ports.{some_frames}
 use Rattle.quantum_render.proofs.Rendering.{quantum_is}
 use Rattle.quantum_render.proofs.pass.render_quantum.Goals as goal
 
@@ -23,11 +25,12 @@ hush-requires c =
 
 pub loop-end-init : goal.loop-end-init
 loop-end-init c = record {
+  frames = refl;
   passing =
       let q : QuantumView = c.args.quantum.now in
       let valid = (quantum_is q _ _ _ _ c.quantum.invariant c.quantum.view_is).valid in
-      passing_begins q.world (joined q.world valid) c.args.plan.now.order c.args.plan.now.muted c.args.plan.now.into c.requires.plan
-      q.counts q.first c.args.memory.now c.requires.rooms c.hush.new.blocks (still_fit q.world q.counts c.args.blocks.now c.hush.new.blocks c.hush.ensures.lanes c.requires.fit)
+      passing_begins q.world (some_frames q.world valid) (joined q.world valid) c.args.plan.now.order c.args.plan.now.muted c.args.plan.now.into c.requires.plan
+      q.counts q.first c.args.memory.now c.requires.rooms c.hush.new.blocks (still_fit q.world q.counts c.args.blocks.now c.hush.new.blocks c.hush.ensures.lanes c.hush.ensures.frames c.requires.fit)
       (subst (λ (ms : List End). (i : ℕ) (d : End) → i < length ms → IsSilent c.hush.new.blocks (slice_index_or ms i d)) c.muted.ensures c.hush.ensures.silent);
 }
 
@@ -43,11 +46,12 @@ pub render-requires : goal.render-requires
 render-requires c =
     let passing = c.loop-end.invariant.passing in
     subst (λ (x : SiteView). record {
+      frames : c.loop-end.stage ≡ quantum_of x.world.spec;
       fit : AreFit x.world x.counts c.loop-end.blocks;
       rooms : HasRooms c.loop-end.memory x.world x.counts;
     })
     (sym c.site-site.ensures)
-    (record { fit = passing.fit; rooms = passing.rooms })
+    (record { frames = c.loop-end.invariant.frames ∙ c.requires.frames; fit = passing.fit; rooms = passing.rooms })
 
 pub loop-end-preserved : goal.loop-end-preserved
 loop-end-preserved c =
@@ -56,9 +60,10 @@ loop-end-preserved c =
     let place = c.order-end-items.ensures in
     let here = c.site-site.ensures ∙ ap (λ (order : List End). site_in q (slice_index_or order c.loop-end.end-index no_end)) place in
     record {
+      frames = c.render.ensures.frames ∙ c.loop-end.invariant.frames;
       passing = passing_rendered q.world valid c.args.plan.now.order c.loop-end.end-index q.counts q.first c.args.memory.now c.loop-end.memory c.render.new.memory c.loop-end.blocks c.render.new.blocks c.loop-end.invariant.passing
           (subst (λ (order : List End). c.loop-end.end-index < length order) place c.loop-end-test.true) _ q.levels
-          (subst (λ (x : SiteView). IsRendered x c.loop-end.blocks c.render.new.blocks c.loop-end.memory c.render.new.memory) here c.render.ensures);
+          (subst (λ (x : SiteView). IsRendered x c.loop-end.blocks c.render.new.blocks c.loop-end.memory c.render.new.memory) here c.render.ensures.rendered);
     }
 
 pub returns : goal.returns
@@ -66,11 +71,16 @@ returns c =
     let q : QuantumView = c.args.quantum.now in
     let valid = (quantum_is q _ _ _ _ c.quantum.invariant c.quantum.view_is).valid in
     let past = subst (λ (order : List End). length order ≤ c.loop-end.end-index) c.order-end-items.ensures c.loop-end-test.false in
+    let rooms = c.loop-end.invariant.passing.rooms in
     record {
+      frames = c.loop-end.invariant.frames;
+      quanta = (c.rest.ensures.quantum ∙ rooms.causal_quantum ∙ sym c.requires.rooms.causal_quantum, c.end_quantum.ensures.quantum ∙ rooms.delay_quantum ∙ sym c.requires.rooms.delay_quantum);
       fit = c.loop-end.invariant.passing.fit;
       values = passing_ends q.world valid c.args.plan.now.order c.loop-end.end-index q.counts q.first c.args.memory.now c.loop-end.memory c.loop-end.blocks c.loop-end.invariant.passing past;
       memory = λ tape begins counted timely ready. all_remembered q.world valid c.args.plan.now.order c.loop-end.end-index q.counts q.first c.args.memory.now c.loop-end.memory c.loop-end.blocks c.loop-end.invariant.passing past
           tape begins counted timely ready (record { causal = c.rest.new.self; delays = c.end_quantum.new.self })
-          (subst (λ (x : QuantumView). (n : ℕ) → IsRestedIfThere x.first (heard_at c.loop-end.memory.causal n) (heard_at c.rest.new.self n)) c.quantum.view_is c.rest.ensures.each) c.end_quantum.ensures.delays;
+          (subst (λ k. (n : ℕ) → IsRestedIfThere k q.first (heard_at c.loop-end.memory.causal n) (heard_at c.rest.new.self n)) rooms.causal_quantum
+          (subst (λ (x : QuantumView). (n : ℕ) → IsRestedIfThere c.loop-end.memory.causal.quantum x.first (heard_at c.loop-end.memory.causal n) (heard_at c.rest.new.self n)) c.quantum.view_is c.rest.ensures.each))
+          c.end_quantum.ensures.delays c.end_quantum.ensures.quantum;
       known = (c.rest.ensures.known ∙ c.loop-end.invariant.passing.causal, c.end_quantum.ensures.known ∙ c.loop-end.invariant.passing.delays);
     }

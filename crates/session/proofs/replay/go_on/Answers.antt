@@ -25,7 +25,7 @@ loop-ordinal-preserved-in-Went g c =
     let went = sym turn.turn ∙ c.in-Went.is in
     let turned = subst (λ t. IsTurned t c.loop-ordinal.session.told.machine c.advance.new.self.told.machine) c.in-Went.is turn.state in (
       goes_on (g.F.Files.tells c.args.files.now) (g.F.Files.paths c.args.files.now) c.args.calls.now c.args.session.now c.loop-ordinal.session c.advance.new.self inv.0
-          (record { told = turn.told; left = turn.left; audio = turn.audio; stands = turn.stands }) went turned,
+          (record { told = turn.told; left = turn.left; time = turn.time; size = turn.size; audio = turn.audio; stands = turn.stands }) went turned,
       inv.1,
       inv.2,
       inv.3,
@@ -45,7 +45,7 @@ returns-in_err-call_list-in-Due-clause-cause g c = λ fault.
     let cause = c.in_err-call_list-in-Due.ensures.cause (subst (λ (e : Stop). IsErrOf {T = Unit {0}} (Err e) AssetFault) failed.2 here) in (
       rose_later _ _ _ inv.3 cause.0,
       decodes_due (g.F.Files.tells c.args.files.now) (g.F.Files.paths c.args.files.now) c.args.calls.now c.args.session.now c.loop-ordinal.session c.advance.new.self inv.0
-          (record { told = turn.told; left = turn.left; audio = turn.audio; stands = turn.stands }) c.in-Due.ordinal c.call_list.new.session c.in_err-call_list-in-Due.ensures.longer cause.1 due turned,
+          (record { told = turn.told; left = turn.left; time = turn.time; size = turn.size; audio = turn.audio; stands = turn.stands }) c.in-Due.ordinal c.call_list.new.session c.in_err-call_list-in-Due.ensures.longer cause.1 due turned,
     )
 
 pub returns-then-not-is_running-clause-ok : goal.returns-then-not-is_running-clause-ok
@@ -59,7 +59,7 @@ returns-then-not-is_running-clause-ok g c =
     found.0 found.1 found.2 c.call_list.ensures.longer c.call_list.ensures.audio c.call_list.ensures.kept c.call_list.ensures.started c.call_list.ensures.stands in
     let waits = ap is_running (sym c.state.ensures) ∙ sym c.is_running.ensures ∙ c.if-not-is_running.true in
     ends_stalled (g.F.Files.tells c.args.files.now) (g.F.Files.paths c.args.files.now) c.args.calls.now c.args.session.now c.loop-ordinal.session c.advance.new.self inv.0
-    (record { told = turn.told; left = turn.left; audio = turn.audio; stands = turn.stands }) c.in-Due.ordinal c.call_list.new.session list due turned waits
+    (record { told = turn.told; left = turn.left; time = turn.time; size = turn.size; audio = turn.audio; stands = turn.stands }) c.in-Due.ordinal c.call_list.new.session list due turned waits
 
 pub returns-then-not-is_running-clause-started : goal.returns-then-not-is_running-clause-started
 returns-then-not-is_running-clause-started g c =
@@ -71,7 +71,7 @@ returns-then-not-is_running-clause-started g c =
     let list = lists_of (g.F.Files.tells c.args.files.now) (g.F.Files.tells c.loop-ordinal.files) (g.F.Files.paths c.args.files.now) (g.F.Files.paths c.loop-ordinal.files) (held_by c.in-Due.ordinal c.args.calls.now) c.advance.new.self c.call_list.new.session inv.1 inv.2
     found.0 found.1 found.2 c.call_list.ensures.longer c.call_list.ensures.audio c.call_list.ensures.kept c.call_list.ensures.started c.call_list.ensures.stands in
     was_started (g.F.Files.tells c.args.files.now) (g.F.Files.paths c.args.files.now) c.args.calls.now c.args.session.now c.loop-ordinal.session c.advance.new.self inv.0
-    (record { told = turn.told; left = turn.left; audio = turn.audio; stands = turn.stands }) c.in-Due.ordinal c.call_list.new.session list
+    (record { told = turn.told; left = turn.left; time = turn.time; size = turn.size; audio = turn.audio; stands = turn.stands }) c.in-Due.ordinal c.call_list.new.session list
 
 pub loop-ordinal-preserved : goal.loop-ordinal-preserved
 loop-ordinal-preserved g c =
@@ -84,7 +84,7 @@ loop-ordinal-preserved g c =
     found.0 found.1 found.2 c.call_list.ensures.longer c.call_list.ensures.audio c.call_list.ensures.kept c.call_list.ensures.started c.call_list.ensures.stands in
     let runs = ap is_running (sym c.state.ensures) ∙ sym c.is_running.ensures ∙ c.if-not-is_running.false in (
       is_resumed (g.F.Files.tells c.args.files.now) (g.F.Files.paths c.args.files.now) c.args.calls.now c.args.session.now c.loop-ordinal.session c.advance.new.self inv.0
-          (record { told = turn.told; left = turn.left; audio = turn.audio; stands = turn.stands }) c.in-Due.ordinal c.call_list.new.session list due turned runs,
+          (record { told = turn.told; left = turn.left; time = turn.time; size = turn.size; audio = turn.audio; stands = turn.stands }) c.in-Due.ordinal c.call_list.new.session list due turned runs,
       c.call_list.ensures.tells ∙ inv.1,
       (λ told q. c.call_list.ensures.paths (subst IsTrue (sym inv.1) told) q ∙ inv.2 told q),
       omega (arith, inv.3, c.call_list.ensures.later),
@@ -103,14 +103,14 @@ returns-in-Done-clause-ok g c =
     let list = lists_of (g.F.Files.tells c.args.files.now) (g.F.Files.tells c.loop-ordinal.files) (g.F.Files.paths c.args.files.now) (g.F.Files.paths c.loop-ordinal.files) (held_by c.in-Done.ordinal c.args.calls.now) c.advance.new.self c.call_list-in-Done.new.session inv.1 inv.2
     found.0 found.1 found.2 c.call_list-in-Done.ensures.longer c.call_list-in-Done.ensures.audio c.call_list-in-Done.ensures.kept c.call_list-in-Done.ensures.started c.call_list-in-Done.ensures.stands in
     ends_closed (g.F.Files.tells c.args.files.now) (g.F.Files.paths c.args.files.now) c.args.calls.now c.args.session.now c.loop-ordinal.session c.advance.new.self inv.0
-    (record { told = turn.told; left = turn.left; audio = turn.audio; stands = turn.stands }) c.in-Done.ordinal c.call_list-in-Done.new.session list done turned) c.call_list-in-Done.ensures.told
+    (record { told = turn.told; left = turn.left; time = turn.time; size = turn.size; audio = turn.audio; stands = turn.stands }) c.in-Done.ordinal c.call_list-in-Done.new.session list done turned) c.call_list-in-Done.ensures.told
 
 pub returns-in-Done-clause-started : goal.returns-in-Done-clause-started
 returns-in-Done-clause-started g c =
     let inv = c.loop-ordinal.invariant in
     let turn = c.in_ok-advance.ensures in
     IfOk-weaker c.call_list-in-Done.result _ _ (λ v found. c.call_list-in-Done.ensures.started (begun_next (g.F.Files.tells c.args.files.now) (g.F.Files.paths c.args.files.now) c.args.calls.now c.args.session.now c.loop-ordinal.session c.advance.new.self inv.0
-    (record { told = turn.told; left = turn.left; audio = turn.audio; stands = turn.stands }))) c.call_list-in-Done.ensures.told
+    (record { told = turn.told; left = turn.left; time = turn.time; size = turn.size; audio = turn.audio; stands = turn.stands }))) c.call_list-in-Done.ensures.told
 
 pub returns-in-Done-clause-cause : goal.returns-in-Done-clause-cause
 returns-in-Done-clause-cause g c = λ fault.
@@ -121,5 +121,5 @@ returns-in-Done-clause-cause g c = λ fault.
     let cause = c.call_list-in-Done.ensures.cause fault in (
       rose_later _ _ _ inv.3 cause.0,
       decodes_done (g.F.Files.tells c.args.files.now) (g.F.Files.paths c.args.files.now) c.args.calls.now c.args.session.now c.loop-ordinal.session c.advance.new.self inv.0
-          (record { told = turn.told; left = turn.left; audio = turn.audio; stands = turn.stands }) c.in-Done.ordinal c.call_list-in-Done.new.session c.call_list-in-Done.ensures.longer cause.1 done turned,
+          (record { told = turn.told; left = turn.left; time = turn.time; size = turn.size; audio = turn.audio; stands = turn.stands }) c.in-Done.ordinal c.call_list-in-Done.new.session c.call_list-in-Done.ensures.longer cause.1 done turned,
     )

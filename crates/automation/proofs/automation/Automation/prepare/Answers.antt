@@ -9,7 +9,7 @@ returns-clause-ready g c =
     let levels = rewritten _ c.make_room.new.levels _ (c.in_ok-make_room.ensures.length ∙ c.as_mut_slice.ensures.len) in
     record {
       stands = cursors ∙ c.seek.ensures.stands;
-      room = λ p is. subst (λ (xs : List LevelView). (p.id.node.0 < length xs) × HasRoom (level_of xs p.id.node.0)) (sym levels) (omega (arith, c.requires.there p is, c.in_ok-extend.ensures, c.in_ok-make_room.ensures.length, ap length c.as_mut_slice.ensures.value), c.in_ok-make_room.ensures.room p is);
+      room = λ p is. subst (λ (xs : List LevelView). (p.id.node.0 < length xs) × HasRoom c.self.inside.quantum (level_of xs p.id.node.0)) (sym levels) (omega (arith, c.requires.there p is, c.in_ok-extend.ensures, c.in_ok-make_room.ensures.length, ap length c.as_mut_slice.ensures.value), c.in_ok-make_room.ensures.room p is);
     }
 
 pub make_room-requires : goal.make_room-requires

@@ -20,7 +20,7 @@ pub invariant_of-self : goal.invariant_of-self
 invariant_of-self c =
     steady_turned c.self.inside.context c.turn-turn.new.self c.self.inside.world c.mark_ended.new.world c.self.inside.book c.now.result c.mark_ended.ensures.marked (valid c)
     (ap (λ (x : ContextView). x.spec) c.turn-turn.ensures.context ∙ turned_spec c.self.inside.context)
-    (subst (λ n. n ≤ 33554560) c.now.ensures.now c.now.ensures.short) c.self.invariant
+    (subst (λ n. n ≤ 33555456) c.now.ensures.now c.now.ensures.short) c.self.invariant
 
 pub returns-clause-machine : goal.returns-clause-machine
 returns-clause-machine c =

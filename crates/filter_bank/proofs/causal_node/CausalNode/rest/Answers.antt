@@ -21,11 +21,11 @@ returns-clause-rested c =
         there = refl;
         outputs = c.hear.ensures.outputs;
         birth = c.hear.ensures.birth;
-        time = c.hear.ensures.time (early here) ∙ ap (λ n. n + 128) here;
+        time = c.hear.ensures.time (early here) ∙ ap (λ n. n + c.args.frames) here;
         heard = c.hear.ensures.heard (early here) at heard (λ channel k now.
             ap (λ g. at (g + k) channel) here
             ∙ silent channel k now
-            ∙ sym (zeros_part (c.room-values.result * 128) c.args.zeros.now c.requires.silent (channel * 128 + k)));
+            ∙ sym (zeros_part (c.room.result * c.args.frames) c.args.zeros.now c.requires.silent (channel * c.args.frames + k)));
       };
       kept = λ other. absurd (other (ap (λ (f : HeardView). f.time) (sym c.self.view_is) ∙ c.if-self-first.false));
     }

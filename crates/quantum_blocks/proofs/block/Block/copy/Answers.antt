@@ -7,4 +7,5 @@ copy_steady-requires-clause-few c = let held = c.in-Steady.ensures.0 in let lane
 pub returns-in-Steady-clause-values : goal.returns-in-Steady-clause-values
 returns-in-Steady-clause-values c lane m low now =
     let held = c.in-Steady.ensures in
-    c.copy_steady.ensures.values lane m (subst (λ n. lane < n) (sym held.0) low) now ∙ sym (held.1 lane m low now)
+    let heard = subst (λ k. m < k) (sym c.requires.frames) now in
+    c.copy_steady.ensures.values lane m (subst (λ n. lane < n) (sym held.0) low) now ∙ sym (held.1 lane m low heard)

@@ -7,6 +7,6 @@ use Rattle.quantum_blocks.proofs.playing.Source.play.Given as goal
 -- the lanes so far
 abbrev pub invariant-loop-lane : goal.invariant-loop-lane
 invariant-loop-lane l = record {
-  length : length l.out ≡ l.lanes * 128;
-  so_far : (k m : ℕ) → k < l.lane → k < channels_in l.self.store (Some l.self.buffer) → m < 128 → sample 128 l.out k m ≡ played l.self.sched (samples_in l.self.store (Some l.self.buffer) k) (l.first + m);
+  length : length l.out ≡ l.lanes * l.frames;
+  so_far : (k m : ℕ) → k < l.lane → k < channels_in l.self.store (Some l.self.buffer) → m < l.frames → sample l.frames l.out k m ≡ played l.self.sched (samples_in l.self.store (Some l.self.buffer) k) (l.first + m);
 }

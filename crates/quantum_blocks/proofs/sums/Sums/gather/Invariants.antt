@@ -10,9 +10,10 @@ use Rattle.quantum_blocks.proofs.sums.Sums.gather.Given as goal
 -- what the sums have, and what is left to be added, are the whole
 abbrev pub invariant-loop-edge : goal.invariant-loop-edge
 invariant-loop-edge l = record {
+  frames : l.self.frames ≡ l.initial.self.frames;
   count : l.self.count ≡ l.inlet.count;
   added : l.self.added ≤ l.edge-index;
-  sums : (w : World) (c m : ℕ) → c < l.inlet.count → m < 128 →
+  sums : (w : World) (c m : ℕ) → c < l.inlet.count → m < l.initial.self.frames →
       sum_at l.self c m +ℤ total (map (part (frame_of w l.blocks l.counts m) l.inlet.interp l.inlet.count c) (filter (leads_to l.inlet.target) (drop l.edge-index l.into)))
       ≡ total (map (part (frame_of w l.blocks l.counts m) l.inlet.interp l.inlet.count c) (filter (leads_to l.inlet.target) l.into));
 }

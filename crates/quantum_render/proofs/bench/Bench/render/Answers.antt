@@ -21,7 +21,7 @@ render_delay-requires-clause-kind c = (c.in-Delay.longest, c.in-Delay.time, c.in
 
 pub returns-in_default-clause-renders : goal.returns-in_default-clause-renders
 returns-in_default-clause-renders c =
-    with_memory c.args.site.now c.args.memory.now c.args.blocks.now c.render_plain.new.block (kind_of c.args.site.now.world c.args.site.now.end.node.0) c.render_plain.ensures
+    with_memory c.args.site.now c.args.memory.now c.args.blocks.now c.render_plain.new.block (kind_of c.args.site.now.world c.args.site.now.end.node.0) c.render_plain.ensures.renders
 
 no_delay : (kind : Kind) → ((longest time : ℤ) (capacity : ℕ) → kind ≡ Delay longest time capacity → ⊥) → is_delay_kind kind ≡ false
 no_delay kind not = by_test (is_delay_kind kind) refl
@@ -57,6 +57,8 @@ returns-in-Causal-clause-rooms c =
       delays = subst (λ (b : DelayBank). length c.args.site.now.world.nodes ≤ length b.delays) (sym c.render_causal.ensures.delays) rooms.delays;
       causal_rooms = c.render_causal.ensures.room;
       delay_rooms = subst (λ (b : DelayBank). HaveDelayRoom b c.args.site.now.counts) (sym c.render_causal.ensures.delays) rooms.delay_rooms;
+      causal_quantum = c.render_causal.ensures.quantum ∙ rooms.causal_quantum;
+      delay_quantum = ap (λ (b : DelayBank). b.quantum) c.render_causal.ensures.delays ∙ rooms.delay_quantum;
     }
 
 pub returns-in-Delay-clause-rooms : goal.returns-in-Delay-clause-rooms
@@ -67,6 +69,8 @@ returns-in-Delay-clause-rooms c =
       delays = subst (λ n. length c.args.site.now.world.nodes ≤ n) (sym c.render_delay.ensures.stores.count) rooms.delays;
       causal_rooms = subst (λ (b : BankView). HaveRoom b c.args.site.now.counts) (sym c.render_delay.ensures.causal) rooms.causal_rooms;
       delay_rooms = c.render_delay.ensures.room;
+      causal_quantum = ap (λ (b : BankView). b.quantum) c.render_delay.ensures.causal ∙ rooms.causal_quantum;
+      delay_quantum = c.render_delay.ensures.quantum ∙ rooms.delay_quantum;
     }
 
 pub returns-in-Delay-clause-listens : goal.returns-in-Delay-clause-listens

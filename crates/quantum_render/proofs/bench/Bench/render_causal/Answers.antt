@@ -1,4 +1,6 @@
 use Rattle.std.proofs.Common.{ℕ, ℤ, ◌≡◌, ◌<◌, ◌≤◌, ◌+◌, ◌*◌, length, List, Some, slice_index_or, inl, inr, refl, sym, ◌∙◌, ap, arith, subst}
+use Rattle.wa_base.specs.Contexts.{quantum_of}
+use Rattle.node_table.specs.Frames.{item}
 use Rattle.node_table.specs.declared.equation.Equation.{Equation}
 use Rattle.node_table.specs.declared.kinds.Kind.TheVariants.{Causal}
 use Rattle.meaning.specs.World.{sounding, kind_of}
@@ -36,16 +38,19 @@ input_of c = c.causal_heard.ensures.hears.0
 abbrev output_of : goal.After-causal_heard → List ℤ
 output_of c = c.causal_heard.ensures.hears.1
 
+heard_frames : (c : goal.After-causal_heard) → c.take_input.new.self.heard.frames ≡ quantum_of c.args.site.now.world.spec
+heard_frames c = c.take_input.ensures.heard_frames ∙ c.requires.frames.0
+
 -- what is heard is what the input carries
 heard_brings : (c : goal.After-causal_heard) (equation : Equation) → (is : kind_of c.args.site.now.world c.args.site.now.end.node.0 ≡ Causal equation) → (before : ℕ → Frame) → (ready : IsReadyFor c.args.site.now c.args.memory.now c.args.blocks.now before)
     → counts_in c.args.site.now.counts c.args.site.now.end ≡ input_channels (sounding c.args.site.now.world) (counts_in c.args.site.now.counts) c.args.site.now.end.node.0 0
-    → Brings c.args.site.now.first (input_of c) (takes c.args.site.now (site_is c.args.site.now _ _ _ _ _ _ c.site.invariant.0 c.site.view_is) c.args.memory.now c.args.blocks.now equation is before ready)
+    → Brings (quantum_of c.args.site.now.world.spec) c.args.site.now.first (input_of c) (takes c.args.site.now (site_is c.args.site.now _ _ _ _ _ _ c.site.invariant.0 c.site.view_is) c.args.memory.now c.args.blocks.now equation is before ready)
 heard_brings c equation is before ready counted =
     let s : SiteView = c.args.site.now in
     let site = site_is s _ _ _ _ _ _ c.site.invariant.0 c.site.view_is in
     let channels : c.channels-channels.result ≡ counts_in s.counts s.end = c.channels-channels.ensures.count in
     brings s site c.args.memory.now c.args.blocks.now equation is before ready c.channels-channels.result c.max-room.result (input_of c) c.take_input.new.self.heard
-    c.causal_heard.ensures.hears.2 c.take_input.ensures.lanes (within c) (channels ∙ counted)
+    c.causal_heard.ensures.hears.2 c.take_input.ensures.lanes (within c) (channels ∙ counted) (heard_frames c)
     (λ k m low now. c.take_input.ensures.input (channels ∙ counted) k m low now)
   where
     within : (c : goal.After-causal_heard) → c.channels-channels.result ≤ c.max-room.result
@@ -62,13 +67,15 @@ returns-clause-renders c =
     let site = site_is s _ _ _ _ _ _ c.site.invariant.0 c.site.view_is in
     let causal : BankView = c.args.memory.now.causal in
     let channels : c.channels-channels.result ≡ counts_in s.counts s.end = c.channels-channels.ensures.count in
-    renders_with_own s _ is refl c.args.blocks.now c.causal_heard.new.block (c.causal_heard.ensures.lanes ∙ lanes_own s _ is refl c.args.block.now c.requires.lanes) c.args.memory.now (λ j earlier begins counted before ready channel m low now.
+    renders_with_own s _ is refl c.args.blocks.now c.causal_heard.new.block (c.causal_heard.ensures.lanes ∙ lanes_own s _ is refl c.args.block.now c.requires.lanes) (c.causal_heard.ensures.block_frames ∙ c.requires.frames.1) c.args.memory.now (λ j earlier begins counted before ready channel m low now.
     let own = has_heard s site c.args.memory.now c.args.blocks.now equation is before ready in
     let there : heard_at causal c.site.inside.end.node.0 ≡ Some own.causal = subst (λ k. heard_at causal k ≡ Some own.causal) (sym (ap (λ (x : SiteView). x.end.node.0) c.site.view_is)) own.there in
     let lanes : c.max-room.result ≡ causal_room own.causal = lanes_are s site equation is causal c.requires.rooms.causal_rooms own.causal own.there c.room.result c.channels-channels.result c.max-room.result (c.room.ensures.room own.causal there) channels c.max-room.ensures in
     let low' : channel < c.channels-channels.result = subst (λ k. channel < k) (sym channels) low in
-    c.causal_heard.ensures.hears.3 channel m (subst (λ k. channel < k) (sym (c.causal_heard.ensures.lanes ∙ lanes_own s _ is refl c.args.block.now c.requires.lanes)) low) now
-    ∙ puts_out s site c.args.memory.now c.args.blocks.now equation is before ready (input_of c) (output_of c) c.causal_heard.new.causal (hears_own c) (heard_brings c equation is before ready counted) site.quantum.begun.time channel m
+    let frames = c.causal_heard.ensures.block_frames ∙ c.requires.frames.1 in
+    c.causal_heard.ensures.hears.3 channel m (subst (λ k. channel < k) (sym (c.causal_heard.ensures.lanes ∙ lanes_own s _ is refl c.args.block.now c.requires.lanes)) low) (subst (λ k. m < k) (sym frames) now)
+    ∙ ap (λ k. item (output_of c) (channel * k + m)) frames
+    ∙ puts_out s site c.args.memory.now c.args.blocks.now equation is before ready (input_of c) (output_of c) c.causal_heard.new.causal (hears_own c) c.requires.rooms.causal_quantum (heard_brings c equation is before ready counted) site.quantum.begun.time channel m
     (subst (λ k. channel < k) lanes (lower c channel low')) now)
   where
     lower : (c : goal.After-causal_heard) → (k : ℕ) → k < c.channels-channels.result → k < c.max-room.result
@@ -82,7 +89,7 @@ returns-clause-listens c = record {
   own = λ equation is j earlier begins counted before ready.
       let s : SiteView = c.args.site.now in
       let site = site_is s _ _ _ _ _ _ c.site.invariant.0 c.site.view_is in
-      hears_on s site c.args.memory.now c.args.blocks.now equation is before ready (input_of c) (output_of c) c.causal_heard.new.causal (hears_own c) (heard_brings c equation is before ready counted) site.quantum.begun.time;
+      hears_on s site c.args.memory.now c.args.blocks.now equation is before ready (input_of c) (output_of c) c.causal_heard.new.causal (hears_own c) c.requires.rooms.causal_quantum (heard_brings c equation is before ready counted) site.quantum.begun.time;
 }
 
 pub returns-clause-room : goal.returns-clause-room

@@ -8,4 +8,4 @@ returns-then-site-clause-renders c =
     with_memory c.args.site.now c.args.memory.now c.args.blocks.now c.render_writer.new.block (kind_of c.args.site.now.world c.args.site.now.end.node.0) c.render_writer.ensures.renders
 
 pub returns-else-site-clause-renders : goal.returns-else-site-clause-renders
-returns-else-site-clause-renders c = c.render_reader.ensures c.args.memory.now refl
+returns-else-site-clause-renders c = c.render_reader.ensures.renders c.args.memory.now refl

@@ -28,5 +28,5 @@ render_shaper-requires-clause-kind c = (c.in-Shaper.was_set, sym c.requires.kind
 pub render_shaper-requires-clause-curve : goal.render_shaper-requires-clause-curve
 render_shaper-requires-clause-curve c = curve_allowed _ false (subst IsInLimits c.in-Shaper.is c.requires.limits)
 
-pub returns-in-Buffer : goal.returns-in-Buffer
-returns-in-Buffer c = c.render_buffer.ensures c.args.blocks.now
+pub returns-in-Buffer-clause-renders : goal.returns-in-Buffer-clause-renders
+returns-in-Buffer-clause-renders c = c.render_buffer.ensures c.args.blocks.now

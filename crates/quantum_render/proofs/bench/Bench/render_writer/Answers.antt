@@ -1,7 +1,9 @@
-use Rattle.std.proofs.Common.{List, ℤ, pos, ◌≡◌, ◌+◌, ◌*◌, ◌<◌, ◌≤◌, length, Bool, true, Some, slice_index_or, inl, inr, refl, sym, ◌∙◌, ap, arith, subst}
+use Rattle.std.proofs.Common.{ℕ, List, ℤ, pos, ◌≡◌, ◌+◌, ◌*◌, ◌<◌, ◌≤◌, length, Bool, true, Some, slice_index_or, inl, inr, refl, sym, ◌∙◌, ap, arith, subst}
 use Rattle.std.specs.Prelude.{if◌then◌else◌, nat_lt, not}
 use Rattle.std.proofs.lemmas.Bool.Decides.{nat_tests}
-use Rattle.delay_bank.specs.Kept.{room_of as delay_room}
+use Rattle.wa_base.specs.Contexts.{quantum_of}
+use Rattle.mix_rules.specs.Blocks.{sample}
+use Rattle.delay_bank.specs.Kept.{room_of as delay_room, IsKept, Brings}
 use Rattle.meaning.specs.World.{sounding}
 use Rattle.meaning.specs.Counts.{input_channels, reader_channels}
 use Rattle.meaning.specs.Values.{input_value, delayed}
@@ -16,8 +18,12 @@ use Rattle.quantum_render.proofs.SiteLaws.{site_slot}
 use Rattle.quantum_render.proofs.Rendering.{site_is, own_room, renders_own}
 use Rattle.quantum_render.proofs.bench.Bench.render_writer.Goals as goal
 
-pub copy-requires : goal.copy-requires
-copy-requires c =
+pub copy-requires-clause-frames : goal.copy-requires-clause-frames
+copy-requires-clause-frames c =
+    c.self.invariant.heard_frames ∙ ap (λ (b : BenchView). b.frames) c.self.view_is ∙ c.write_heard.ensures.frames ∙ c.take_input.ensures.frames ∙ c.requires.frames.0 ∙ sym c.requires.frames.1
+
+pub copy-requires-clause-room : goal.copy-requires-clause-room
+copy-requires-clause-room c =
     let heard : c.self.inside.heard ≡ c.take_input.new.self.heard = ap (λ (b : BenchView). b.heard) c.self.view_is ∙ c.write_heard.ensures.heard in
     own_room c.args.site.now _ c.requires.kind.3 refl c.args.block.now c.requires.lanes _ (ap (λ (b : BlockView). b.lanes) heard ∙ c.take_input.ensures.lanes ∙ c.channels.ensures.count)
 
@@ -46,13 +52,13 @@ returns-clause-renders c =
     let heard : c.self.inside.heard ≡ c.take_input.new.self.heard = ap (λ (b : BenchView). b.heard) c.self.view_is ∙ c.write_heard.ensures.heard in
     let channels : c.channels.result ≡ counts_in s.counts s.end = c.channels.ensures.count in
     let lanes : c.self.inside.heard.lanes ≡ c.channels.result = ap (λ (b : BlockView). b.lanes) heard ∙ c.take_input.ensures.lanes in
-    renders_own s _ c.requires.kind.3 refl c.args.blocks.now c.copy.new.self (c.copy.ensures.lanes ∙ lanes ∙ channels) (λ j earlier begins counted before channel m low now.
-    let own = counted ∙ ap (λ b. if not b then reader_channels 128 (sounding s.world) j earlier (counts_in s.counts) s.end.node.0 else input_channels (sounding s.world) (counts_in s.counts) s.end.node.0 0) c.requires.writer in
+    renders_own s _ c.requires.kind.3 refl c.args.blocks.now c.copy.new.self (c.copy.ensures.lanes ∙ lanes ∙ channels) (c.copy.ensures.frames ∙ c.requires.frames.1) (λ j earlier begins counted before channel m low now.
+    let own = counted ∙ ap (λ b. if not b then reader_channels (quantum_of s.world.spec) (sounding s.world) j earlier (counts_in s.counts) s.end.node.0 else input_channels (sounding s.world) (counts_in s.counts) s.end.node.0 0) c.requires.writer in
     let low' : channel < c.channels.result = subst (λ n. channel < n) (sym channels) low in
-    c.copy.ensures.values channel m (subst (λ n. channel < n) (sym lanes) low') now
+    c.copy.ensures.values channel m (subst (λ n. channel < n) (sym lanes) low') (subst (λ n. m < n) (sym c.requires.frames.1) now)
     ∙ ap (λ (b : BlockView). at b channel m) heard
     ∙ c.take_input.ensures.input (channels ∙ own) channel m low' now
-    ∙ ap (λ b. if b then input_value (here_of s c.args.blocks.now m) s.end.node.0 0 channel else delayed 128 (s.first + m) (past_of s c.args.blocks.now before) (here_of s c.args.blocks.now m) s.end.node.0 channel) (sym c.requires.writer))
+    ∙ ap (λ b. if b then input_value (here_of s c.args.blocks.now m) s.end.node.0 0 channel else delayed (quantum_of s.world.spec) (s.first + m) (past_of s c.args.blocks.now before) (here_of s c.args.blocks.now m) s.end.node.0 channel) (sym c.requires.writer))
 
 -- the lanes of the input, which are written
 abbrev input_of : goal.After-copy → List ℤ
@@ -71,20 +77,27 @@ returns-clause-stores c =
     let channels : c.channels.result ≡ counts_in s.counts s.end = c.channels.ensures.count in
     let lanes : c.self.inside.heard.lanes ≡ c.channels.result = ap (λ (b : BlockView). b.lanes) heard ∙ c.take_input.ensures.lanes in
     let wrote = writes_it c in
+    let q : ℕ = quantum_of s.world.spec in
+    let frames : c.take_input.new.self.heard.frames ≡ q = c.take_input.ensures.heard_frames ∙ c.requires.frames.0 in
+    let same : c.args.delays.now.quantum ≡ q = c.requires.delay_frames in
     record {
       known = wrote.known;
       count = wrote.count;
       others = wrote.others;
       read = λ reader. absurd (let no = sym c.requires.writer ∙ reader in cc);
-      own = λ writer longest born by kept is. wrote.own longest born by kept (record {
-        count = is.count ∙ sym channels;
-        frames = λ k m low now.
-            is.frames k m (subst (λ n. k < n) channels low) now
-            ∙ c.copy.ensures.values k m (subst (λ n. k < n) (sym lanes) low) now
-            ∙ ap (λ b. if b then at c.self.inside.heard k m else pos 0) (let within : k < c.self.inside.heard.lanes = subst (λ n. k < n) (sym lanes) low in let is_within : true ≡ nat_lt k c.self.inside.heard.lanes = grind (arith, nat_tests) in is_within)
-            ∙ ap (λ (b : BlockView). shown b m k) heard
-            ∙ sym (c.write_heard.ensures.writes.1.values k m (let e = c.take_input.ensures.lanes in let own = subst (λ n. k < n) channels low in omega arith) now);
-      });
+      own = λ writer longest born by kept is.
+          let brings : Brings q s.first c.channels.result (input_of c) by = record {
+            count = is.count ∙ sym channels;
+            frames = λ k m low now.
+                is.frames k m (subst (λ n. k < n) channels low) now
+                ∙ c.copy.ensures.values k m (subst (λ n. k < n) (sym lanes) low) (subst (λ n. m < n) (sym c.requires.frames.1) now)
+                ∙ ap (λ b. if b then at c.self.inside.heard k m else pos 0) (let within : k < c.self.inside.heard.lanes = subst (λ n. k < n) (sym lanes) low in let is_within : true ≡ nat_lt k c.self.inside.heard.lanes = grind (arith, nat_tests) in is_within)
+                ∙ ap (λ (b : BlockView). shown b m k) heard
+                ∙ sym (c.write_heard.ensures.writes.1.values k m (let e = c.take_input.ensures.lanes in let own = subst (λ n. k < n) channels low in omega arith) (subst (λ n. m < n) (sym frames) now))
+                ∙ ap (λ n. sample n (input_of c) k m) frames;
+          } in
+          subst (λ n. IsKept n (delay_at c.write_heard.new.delays s.end.node.0) longest born (s.first + n) by) same
+          (wrote.own longest born by (subst (λ n. IsKept n (delay_at c.args.delays.now s.end.node.0) longest born s.first by) (sym same) kept) (subst (λ n. Brings n s.first c.channels.result (input_of c) by) (sym same) brings));
     }
 
 pub returns-clause-room : goal.returns-clause-room

@@ -1,5 +1,6 @@
 use Rattle.std.proofs.Common.{◌≡◌, ◌+◌, ◌*◌, ◌<◌, ◌≤◌, ◌∷◌, [], List, length, map, filter, slice_index_or, true, Some, sym, ◌∙◌, ap, arith, subst}
 use Rattle.std.proofs.lemmas.List.{get_or_default}
+use Rattle.wa_base.specs.Contexts.{quantum_of}
 use Rattle.mix_rules.specs.Mixing.{total}
 use Rattle.node_table.specs.declared.nodes.Attrs.{Attrs}
 use Rattle.node_table.specs.Nodes.{attrs_at}
@@ -10,9 +11,11 @@ use Rattle.meaning.specs.Values.{part}
 use Rattle.meaning.specs.World.{sounding}
 use Rattle.quantum_blocks.specs.Blocks.{BlockView, no_block, slot, block_of, carried, frame_of}
 use Rattle.quantum_blocks.specs.Connections.{into, leads_to, no_edge}
-use Rattle.quantum_blocks.specs.Fits.{AreFit, IsSource}
+use Rattle.quantum_blocks.specs.Fits.{AreFit, IsSource, AreSources}
 use Rattle.quantum_blocks.specs.Sums.{sum_at}
+use Rattle.quantum_render.specs.Benches.{BenchView}
 use Rattle.quantum_render.specs.Sites.{SiteView, IsSite, IsLone}
+use Rattle.law_base.proofs.Rows.{rows_up}
 use Rattle.quantum_blocks.proofs.Sources.{end_low}
 use Rattle.quantum_render.proofs.SiteLaws.{source_is, site_few}
 use Rattle.meaning.proofs.NodeKinds.{attrs_are}
@@ -24,10 +27,10 @@ pub attrs-requires : goal.attrs-requires
 attrs-requires c = end_low c.site.inside.world.now c.site.invariant.0.quantum.valid c.site.inside.end c.site.invariant.0.there
 
 -- the lone connection is the first of the site
-source_of : (s : SiteView) → IsSite s.world s.end s.into s.counts s.levels s.first → (blocks : List BlockView) → AreFit s.world s.counts blocks → (e : Edge) → into s.world.graph.value s.end.node.0 ≡ e ∷ [] → IsSource s.counts blocks e
+source_of : (s : SiteView) → IsSite s.world s.end s.into s.counts s.levels s.first → (blocks : List BlockView) → AreFit s.world s.counts blocks → (e : Edge) → into s.world.graph.value s.end.node.0 ≡ e ∷ [] → IsSource (quantum_of s.world.spec) s.counts blocks e
 source_of s site blocks fit e only =
     let one : s.into ≡ e ∷ [] = site.into ∙ only in
-    subst (λ (es : List Edge). IsSource s.counts blocks (slice_index_or es 0 no_edge)) one
+    subst (λ (es : List Edge). IsSource (quantum_of s.world.spec) s.counts blocks (slice_index_or es 0 no_edge)) one
     (source_is s.world s.end s.into s.counts s.levels s.first blocks site fit 0 no_edge (rw one (omega arith)))
 
 pub bounds-blocks-slot : goal.bounds-blocks-slot
@@ -45,11 +48,33 @@ copy_output-requires-clause-output c =
     subst (λ (b : BlockView). c.in-Some.edge.output * c.args.channels + c.args.channels ≤ b.lanes) (sym block)
     (subst (λ n. c.in-Some.edge.output * n + n ≤ (block_of c.args.blocks.now (reader_of c.in-Some.edge.from.0)).lanes) c.in-Some.ensures.count source.lanes)
 
+pub copy_output-requires-clause-frames : goal.copy_output-requires-clause-frames
+copy_output-requires-clause-frames c =
+    let site = site_is c.args.site.now _ _ _ _ _ _ c.site.invariant.0 c.site.view_is in
+    let source = source_of c.args.site.now site c.args.blocks.now c.requires.fit c.in-Some.edge c.in-Some.ensures.only in
+    let place = c.slot.ensures ∙ ap slot c.reader.ensures in
+    let block = c.index-blocks-slot.is ∙ get_or_default c.args.blocks.now c.slot.result c.index-blocks-slot.result no_block (rw place source.block) ∙ ap (λ k. slice_index_or c.args.blocks.now k no_block) place in
+    ap (λ (b : BlockView). b.frames) block ∙ source.frames ∙ sym (c.self.invariant.heard_frames ∙ ap (λ (b : BenchView). b.frames) c.self.view_is ∙ c.requires.frames)
+
+-- there is room for all channels
+pub copy_output-requires-clause-room : goal.copy_output-requires-clause-room
+copy_output-requires-clause-room c =
+    let up = rows_up c.self.inside.heard.frames c.args.channels 32 c.requires.high in
+    omega (arith, up, c.self.invariant.heard, c.self.invariant.heard_frames)
+
+pub saturate-requires-clause-room : goal.saturate-requires-clause-room
+saturate-requires-clause-room c =
+    let few : c.gather.new.self.count ≤ 32 = subst (λ n. n ≤ 32) (sym c.gather.ensures.count) c.requires.high in
+    let up = rows_up c.self.inside.heard.frames c.gather.new.self.count 32 few in
+    omega (arith, up, c.self.invariant.heard, c.self.invariant.heard_frames)
+
 pub gather-requires-clause-few : goal.gather-requires-clause-few
 gather-requires-clause-few c = site_few _ _ _ _ _ _ c.site.invariant.0
 
 pub gather-requires-clause-sources : goal.gather-requires-clause-sources
-gather-requires-clause-sources c = source_is _ _ _ _ _ _ c.args.blocks.now c.site.invariant.0 (subst (λ (x : SiteView). AreFit x.world x.counts c.args.blocks.now) (sym c.site.view_is) c.requires.fit)
+gather-requires-clause-sources c =
+    subst (λ n. AreSources n c.site.inside.counts.now c.args.blocks.now c.site.inside.into.now) (ap (λ (x : SiteView). quantum_of x.world.spec) c.site.view_is ∙ sym (c.self.invariant.summed ∙ ap (λ (b : BenchView). b.frames) c.self.view_is ∙ c.requires.frames))
+    (source_is _ _ _ _ _ _ c.args.blocks.now c.site.invariant.0 (subst (λ (x : SiteView). AreFit x.world x.counts c.args.blocks.now) (sym c.site.view_is) c.requires.fit))
 
 pub returns-in-Some-clause-input : goal.returns-in-Some-clause-input
 returns-in-Some-clause-input c channels channel m low now =
@@ -60,10 +85,11 @@ returns-in-Some-clause-input c channels channel m low now =
     let source = source_of s site c.args.blocks.now c.requires.fit e lone.only in
     let place = c.slot.ensures ∙ ap slot c.reader.ensures in
     let block = c.index-blocks-slot.is ∙ get_or_default c.args.blocks.now c.slot.result c.index-blocks-slot.result no_block (rw place source.block) ∙ ap (λ k. slice_index_or c.args.blocks.now k no_block) place in
-    c.copy_output.ensures.values channel m low now
+    let now' : m < c.self.inside.heard.frames = subst (λ n. m < n) (sym (c.self.invariant.heard_frames ∙ ap (λ (b : BenchView). b.frames) c.self.view_is ∙ c.requires.frames)) now in
+    c.copy_output.ensures.values channel m low now'
     ∙ lone_input s.world c.args.blocks.now s.counts s.end.node.0 c.args.input channel m c.args.channels low s.into site.into channels e (carried c.index-blocks-slot.result c.args.channels e.output m channel)
     (site.into ∙ lone.only) (subst (λ (x : SiteView). leads_to (Input (record { 0 = x.end.node.0 }) c.args.input) e ≡ true) c.site.view_is lone.leads) lone.count
-    (c.copy_output.ensures.fit channel m low now) (ap (λ (b : BlockView). carried b c.args.channels e.output m channel) block)
+    (c.copy_output.ensures.fit channel m low now') (ap (λ (b : BlockView). carried b c.args.channels e.output m channel) block)
 
 pub returns-clause-input : goal.returns-clause-input
 returns-clause-input c channels channel m low now =
@@ -71,8 +97,9 @@ returns-clause-input c channels channel m low now =
     let site = site_is s _ _ _ _ _ _ c.site.invariant.0 c.site.view_is in
     let blocks : List BlockView = c.args.blocks.now in
     let low' : channel < c.gather.new.self.count = subst (λ n. channel < n) (sym c.gather.ensures.count) low in
-    c.saturate.ensures.values channel m low' now
+    let frames = ap (λ (b : BenchView). b.frames) c.self.view_is ∙ c.requires.frames in
+    c.saturate.ensures.values channel m low' (subst (λ n. m < n) (sym (c.self.invariant.heard_frames ∙ frames)) now)
     ∙ input_is s.world blocks s.counts s.end.node.0 c.args.input channel m c.args.channels low s.into site.into channels c.attrs.result.interp (sum_at c.gather.new.self channel m)
     (ap (λ (a : Attrs). a.interp) (attrs_are s.world s.end.node.0 c.attrs.result (end_low s.world site.quantum.valid s.end site.there) (subst (λ (x : SiteView). attrs_at x.world.nodes x.end.node.0 ≡ Some c.attrs.result) c.site.view_is c.attrs.ensures.value)))
     (subst (λ (x : SiteView). sum_at c.gather.new.self channel m ≡ total (map (part (frame_of (sounding s.world) blocks x.counts m) c.attrs.result.interp c.args.channels channel) (filter (leads_to (Input (record { 0 = x.end.node.0 }) c.args.input)) x.into))) c.site.view_is
-    (c.gather.ensures.sums (sounding s.world) channel m low now))
+    (c.gather.ensures.sums (sounding s.world) channel m low (subst (λ n. m < n) (sym (c.self.invariant.summed ∙ frames)) now)))

@@ -16,24 +16,28 @@ pub returns-in-Steady-clause-spans : goal.returns-in-Steady-clause-spans
 returns-in-Steady-clause-spans c m now =
     let held = c.in-Steady.ensures in
     let mono = c.self.invariant.mono in
+    let seen = ap (λ (b : BenchView). b.frames) c.self.view_is in
+    let own = c.self.invariant.levels_frames in
     let many = c.self.invariant.spans in
     let whole = c.as_mut_slice.ensures.len in
     let same = ap length c.as_mut_slice.ensures.value in
     let long = c.span_all.ensures.length in
     let level : FitsSigned w32 (slice_index_or c.in-Steady.held.now 0 (pos 0)) = search rules in
-    written_over c.self.inside.spans.len c.span_all.new.spans _ m (omega arith) (omega arith)
-    ∙ c.span_all.ensures.spans m (omega arith)
-    ∙ ap (λ x. max c.args.least (frames_of x c.args.rate)) (to_z-of_z _ _ level ∙ sym (held.1 0 m (omega arith) now) ∙ ap (λ (b : BenchView). at b.levels 0 m) c.self.view_is)
+    written_over c.self.inside.spans.len c.span_all.new.spans _ m (omega (arith, seen, many, whole, same, long, now)) (omega (arith, seen, many, whole, same, long))
+    ∙ c.span_all.ensures.spans m (omega (arith, seen, many, whole, same, long, now))
+    ∙ ap (λ x. max c.args.least (frames_of x c.args.rate)) (to_z-of_z _ _ level ∙ sym (held.1 0 m (omega (arith, mono)) (omega (arith, own, seen, now))) ∙ ap (λ (b : BenchView). at b.levels 0 m) c.self.view_is)
 
 pub returns-in-Moving-clause-spans : goal.returns-in-Moving-clause-spans
 returns-in-Moving-clause-spans c m now =
     let held = c.in-Moving.ensures in
     let mono = c.self.invariant.mono in
+    let seen = ap (λ (b : BenchView). b.frames) c.self.view_is in
+    let own = c.self.invariant.levels_frames in
     let many = c.self.invariant.spans in
     let whole = c.as_mut_slice-in-Moving.ensures.len in
     let same = ap length c.as_mut_slice-in-Moving.ensures.value in
     let long = c.span_each.ensures.length in
-    written_over c.self.inside.spans.len c.span_each.new.spans _ m (omega arith) (omega arith)
-    ∙ c.span_each.ensures.spans m (omega arith)
+    written_over c.self.inside.spans.len c.span_each.new.spans _ m (omega (arith, seen, many, whole, same, long, now)) (omega (arith, seen, many, whole, same, long))
+    ∙ c.span_each.ensures.spans m (omega (arith, seen, many, whole, same, long, now))
     ∙ ap (λ x. max c.args.least (frames_of x c.args.rate))
-    (ap (λ k. slice_index_or c.in-Moving.levels.now k (pos 0)) (let e : m ≡ 0 * 128 + m = omega arith in e) ∙ sym (held.1 0 m (omega arith) now) ∙ ap (λ (b : BenchView). at b.levels 0 m) c.self.view_is)
+    (ap (λ k. slice_index_or c.in-Moving.levels.now k (pos 0)) (let e : m ≡ 0 * c.self.inside.levels.frames + m = omega arith in e) ∙ sym (held.1 0 m (omega (arith, mono)) (omega (arith, own, seen, now))) ∙ ap (λ (b : BenchView). at b.levels 0 m) c.self.view_is)

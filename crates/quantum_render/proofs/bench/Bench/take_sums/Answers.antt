@@ -1,6 +1,7 @@
 use Rattle.std.proofs.Common.{ℕ, ℤ, ◌≡◌, ◌<◌, ◌+◌, ◌+ℤ◌, slice_index_or, map, filter, Bool, true, false, refl, sym, ◌∙◌, ap, arith, subst, Some}
 use Rattle.std.proofs.Math.IntN.{+ℤ_idr}
 use Rattle.std.proofs.lemmas.List.{get_or_default}
+use Rattle.wa_base.specs.Contexts.{quantum_of}
 use Rattle.wa_base.specs.Numbers.{sat}
 use Rattle.wa_base.specs.declared.graph_names.ParamId.{ParamId}
 use Rattle.wa_base.specs.declared.graph_names.ParamName.{ParamName}
@@ -17,8 +18,9 @@ use Rattle.meaning.specs.World.{sounding, kind_of, is_k, is_k_rate, intrinsic_va
 use Rattle.automation.specs.Levels.{LevelView, HasRoom, level_at, level_of, no_level}
 use Rattle.quantum_blocks.specs.Blocks.{frame_of}
 use Rattle.quantum_blocks.specs.Connections.{leads_to}
-use Rattle.quantum_blocks.specs.Fits.{AreFit}
+use Rattle.quantum_blocks.specs.Fits.{AreFit, AreSources}
 use Rattle.quantum_blocks.specs.Sums.{sum_at}
+use Rattle.quantum_render.specs.Benches.{BenchView}
 use Rattle.quantum_render.specs.Sites.{SiteView, IsSite}
 use Rattle.node_table.specs.Kinds.{param_name}
 use Rattle.quantum_blocks.proofs.Sources.{end_low}
@@ -45,14 +47,17 @@ take_level-requires-clause-level c =
     (is_there c.args.site.now (site_is c.args.site.now _ _ _ _ _ _ c.site.invariant.0 c.site.view_is) c.args.name c.requires.there) in
     let w = c.site.inside.world.now in
     let id = param_id c.site.inside.end.node.0 c.args.name in
-    subst HasRoom (get_or_default c.site.inside.levels.now c.site.inside.end.node.0 no_level c.index-site-site.result (level_within w c.site.invariant.0.quantum.valid c.site.inside.first c.site.inside.levels.now c.site.invariant.0.quantum.levels id there))
-    (has_room w c.site.invariant.0.quantum.valid c.site.inside.first c.site.inside.levels.now c.site.invariant.0.quantum.levels id there)
+    subst (λ n. HasRoom n (slice_index_or c.site.inside.levels.now c.site.inside.end.node.0 c.index-site-site.result)) (ap (λ (x : SiteView). quantum_of x.world.spec) c.site.view_is ∙ sym (c.self.invariant.levels_frames ∙ ap (λ (b : BenchView). b.frames) c.self.view_is ∙ c.requires.frames))
+    (subst (HasRoom (quantum_of w.spec)) (get_or_default c.site.inside.levels.now c.site.inside.end.node.0 no_level c.index-site-site.result (level_within w c.site.invariant.0.quantum.valid c.site.inside.first c.site.inside.levels.now c.site.invariant.0.quantum.levels id there))
+    (has_room w c.site.invariant.0.quantum.valid c.site.inside.first c.site.inside.levels.now c.site.invariant.0.quantum.levels id there))
 
 pub gather-requires-clause-few : goal.gather-requires-clause-few
 gather-requires-clause-few c = site_few _ _ _ _ _ _ c.site.invariant.0
 
 pub gather-requires-clause-sources : goal.gather-requires-clause-sources
-gather-requires-clause-sources c = source_is _ _ _ _ _ _ c.args.blocks.now c.site.invariant.0 (subst (λ (x : SiteView). AreFit x.world x.counts c.args.blocks.now) (sym c.site.view_is) c.requires.fit)
+gather-requires-clause-sources c =
+    subst (λ n. AreSources n c.site.inside.counts.now c.args.blocks.now c.site.inside.into.now) (ap (λ (x : SiteView). quantum_of x.world.spec) c.site.view_is ∙ sym (c.self.invariant.summed ∙ ap (λ (b : BenchView). b.frames) c.self.view_is ∙ c.requires.frames))
+    (source_is _ _ _ _ _ _ c.args.blocks.now c.site.invariant.0 (subst (λ (x : SiteView). AreFit x.world x.counts c.args.blocks.now) (sym c.site.view_is) c.requires.fit))
 
 -- the level that is at hand is that of the site's node
 here : (s : SiteView) → IsSite s.world s.end s.into s.counts s.levels s.first → (name : ParamName) → IsIn (param_id s.end.node.0 name) (param_ids s.world) → (level d : LevelView)
@@ -61,7 +66,7 @@ here s site name there level d is =
     get_or_default s.levels s.end.node.0 no_level d (level_within s.world site.quantum.valid s.first s.levels site.quantum.levels (param_id s.end.node.0 name) there) ∙ sym is
 
 intrinsic : (s : SiteView) → IsSite s.world s.end s.into s.counts s.levels s.first → (name : ParamName) → IsIn (param_id s.end.node.0 name) (param_ids s.world) → (level d : LevelView)
-    → level ≡ slice_index_or s.levels s.end.node.0 d → (m : ℕ) → m < 128 → intrinsic_value (sounding s.world) (param_id s.end.node.0 name) (s.first + taken_at (sounding s.world) (param_id s.end.node.0 name) m) ≡ level_at level m
+    → level ≡ slice_index_or s.levels s.end.node.0 d → (m : ℕ) → m < quantum_of s.world.spec → intrinsic_value (sounding s.world) (param_id s.end.node.0 name) (s.first + taken_at (sounding s.world) (param_id s.end.node.0 name) m) ≡ level_at level m
 intrinsic s site name there level d is m now =
     intrinsic_is s.world site.quantum.valid s.first s.levels site.quantum.levels (param_id s.end.node.0 name) there m now ∙ ap (λ (l : LevelView). level_at l m) (here s site name there level d is)
 
@@ -77,12 +82,14 @@ pub returns-then-not-is_reached-clause-levels : goal.returns-then-not-is_reached
 returns-then-not-is_reached-clause-levels c before m now =
     let s : SiteView = c.args.site.now in
     let site = site_is s _ _ _ _ _ _ c.site.invariant.0 c.site.view_is in
+    let own = c.self.invariant.levels_frames ∙ ap (λ (b : BenchView). b.frames) c.self.view_is ∙ c.requires.frames in
     let d : LevelView = c.index-site-site.result in
     let level : LevelView = slice_index_or c.site.inside.levels.now c.site.inside.end.node.0 d in
     let is = subst (λ (x : SiteView). level ≡ slice_index_or x.levels x.end.node.0 d) c.site.view_is refl in
     let value : ℤ = level_at level m in
-    c.take_level.ensures.values m now
-    ∙ sym (sat_of_fix value (c.take_level.ensures.fit m now))
+    let now' : m < c.self.inside.levels.frames = subst (λ n. m < n) (sym own) now in
+    c.take_level.ensures.values m now'
+    ∙ sym (sat_of_fix value (c.take_level.ensures.fit m now'))
     ∙ ap sat (sym (+ℤ_idr value))
     ∙ level_unreached (sounding s.world) c.args.blocks.now s.counts (param_id s.end.node.0 c.args.name) s.first m s.into value (is_k level.rate) now
     site.into
@@ -95,37 +102,44 @@ pub returns-in-A-clause-levels : goal.returns-in-A-clause-levels
 returns-in-A-clause-levels c before m now =
     let s : SiteView = c.args.site.now in
     let site = site_is s _ _ _ _ _ _ c.site.invariant.0 c.site.view_is in
+    let own = c.self.invariant.levels_frames ∙ ap (λ (b : BenchView). b.frames) c.self.view_is ∙ c.requires.frames in
     let d : LevelView = c.index-site-site.result in
     let level : LevelView = slice_index_or c.site.inside.levels.now c.site.inside.end.node.0 d in
     let is = subst (λ (x : SiteView). level ≡ slice_index_or x.levels x.end.node.0 d) c.site.view_is refl in
-    c.add.ensures.values m now
-    ∙ ap (λ v. sat (v +ℤ sat (sum_at c.gather.new.self 0 m))) (c.take_level.ensures.values m now)
+    let summed = c.self.invariant.summed ∙ ap (λ (b : BenchView). b.frames) c.self.view_is ∙ c.requires.frames in
+    let now' : m < c.self.inside.levels.frames = subst (λ n. m < n) (sym own) now in
+    c.add.ensures.values m (subst (λ n. m < n) (sym c.take_level.ensures.frames) now')
+    ∙ ap (λ v. sat (v +ℤ sat (sum_at c.gather.new.self 0 m))) (c.take_level.ensures.values m now')
     ∙ level_is (sounding s.world) c.args.blocks.now s.counts (param_id s.end.node.0 c.args.name) s.first m s.into (λ k. sum_at c.gather.new.self 0 k) (level_at level m) false now
     site.into
     (intrinsic s site c.args.name (is_there s site c.args.name c.requires.there) level d is m now)
     (rate s site c.args.name (is_there s site c.args.name c.requires.there) level d is ∙ ap is_k (sym c.rate.ensures ∙ c.in-A.is))
     (λ k low.
     subst (λ (x : SiteView). sum_at c.gather.new.self 0 k ≡ total (map (part (frame_of (sounding s.world) c.args.blocks.now x.counts k) Speakers 1 0) (filter (leads_to (Param (param_id x.end.node.0 c.args.name))) x.into))) c.site.view_is
-    (c.gather.ensures.sums (sounding s.world) 0 k (omega arith) low))
+    (c.gather.ensures.sums (sounding s.world) 0 k (omega arith) (subst (λ n. k < n) (sym summed) low)))
     ∙ unclamped_is (sounding s.world) c.args.blocks.now s.counts before s.first m site.quantum.begun now (param_id s.end.node.0 c.args.name)
 
 pub returns-in-K-clause-levels : goal.returns-in-K-clause-levels
 returns-in-K-clause-levels c before m now =
     let s : SiteView = c.args.site.now in
     let site = site_is s _ _ _ _ _ _ c.site.invariant.0 c.site.view_is in
+    let own = c.self.invariant.levels_frames ∙ ap (λ (b : BenchView). b.frames) c.self.view_is ∙ c.requires.frames in
     let d : LevelView = c.index-site-site.result in
     let level : LevelView = slice_index_or c.site.inside.levels.now c.site.inside.end.node.0 d in
     let is = subst (λ (x : SiteView). level ≡ slice_index_or x.levels x.end.node.0 d) c.site.view_is refl in
     let k_rate = rate s site c.args.name (is_there s site c.args.name c.requires.there) level d is ∙ ap is_k (sym c.rate.ensures ∙ c.in-K.is) in
-    c.hold_first.ensures.values m now
-    ∙ c.add.ensures.values 0 (omega arith)
-    ∙ ap (λ v. sat (v +ℤ sat (sum_at c.gather.new.self 0 0))) (c.take_level.ensures.values 0 (omega arith))
+    let summed = c.self.invariant.summed ∙ ap (λ (b : BenchView). b.frames) c.self.view_is ∙ c.requires.frames in
+    let some : 0 < quantum_of s.world.spec = omega (arith, now) in
+    let first : 0 < c.self.inside.levels.frames = subst (λ n. 0 < n) (sym own) some in
+    c.hold_first.ensures.values m (subst (λ n. m < n) (sym (c.add.ensures.frames ∙ c.take_level.ensures.frames ∙ own)) now)
+    ∙ c.add.ensures.values 0 (subst (λ n. 0 < n) (sym c.take_level.ensures.frames) first)
+    ∙ ap (λ v. sat (v +ℤ sat (sum_at c.gather.new.self 0 0))) (c.take_level.ensures.values 0 first)
     ∙ level_is (sounding s.world) c.args.blocks.now s.counts (param_id s.end.node.0 c.args.name) s.first m s.into (λ k. sum_at c.gather.new.self 0 k) (level_at level 0) true now
     site.into
     (subst (λ j. intrinsic_value (sounding s.world) (param_id s.end.node.0 c.args.name) (s.first + j) ≡ level_at level 0)
-    (at_first (sounding s.world) (param_id s.end.node.0 c.args.name) m k_rate) (intrinsic s site c.args.name (is_there s site c.args.name c.requires.there) level d is 0 (omega arith)))
+    (at_first (sounding s.world) (param_id s.end.node.0 c.args.name) m k_rate) (intrinsic s site c.args.name (is_there s site c.args.name c.requires.there) level d is 0 some))
     k_rate
     (λ k low.
     subst (λ (x : SiteView). sum_at c.gather.new.self 0 k ≡ total (map (part (frame_of (sounding s.world) c.args.blocks.now x.counts k) Speakers 1 0) (filter (leads_to (Param (param_id x.end.node.0 c.args.name))) x.into))) c.site.view_is
-    (c.gather.ensures.sums (sounding s.world) 0 k (omega arith) low))
+    (c.gather.ensures.sums (sounding s.world) 0 k (omega arith) (subst (λ n. k < n) (sym summed) low)))
     ∙ unclamped_is (sounding s.world) c.args.blocks.now s.counts before s.first m site.quantum.begun now (param_id s.end.node.0 c.args.name)

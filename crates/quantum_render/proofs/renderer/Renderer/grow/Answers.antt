@@ -1,20 +1,40 @@
-use Rattle.std.proofs.Common.{List, ◌≡◌, ◌≤◌, length, max, refl, sym, ◌∙◌, ap, subst}
+use Rattle.std.proofs.Common.{ℕ, List, ◌≡◌, ◌≤◌, ◌*◌, length, max, refl, sym, ◌∙◌, ap, subst}
+use Rattle.wa_base.specs.Contexts.{quantum_of}
+use Rattle.delay_line.specs.Delays.{Writer}
 use Rattle.meaning.specs.declared.world.World.{World}
-use Rattle.meaning.specs.Pasts.{last_world}
+use Rattle.meaning.specs.World.{node_at}
+use Rattle.meaning.specs.Pasts.{last_world, past}
 use Rattle.filter_bank.specs.Banks.{HaveRoom, AreSame}
-use Rattle.delay_bank.specs.Banks.{HaveRoom as HaveDelayRoom, AreSame as AreSameDelays}
+use Rattle.delay_bank.specs.Kept.{IsKept}
+use Rattle.delay_bank.specs.Banks.{BankView as DelayBank, delay_at, AreKept, AreNew, HaveRoom as HaveDelayRoom, AreSame as AreSameDelays}
 use Rattle.quantum_render.specs.declared.memory.Memory.{Memory}
 use Rattle.law_base.proofs.Places.{on_ok}
 use Rattle.filter_bank.proofs.Same.{still_heard, was_heard, still_new}
 use Rattle.delay_bank.proofs.Same.{same_refl}
 use Rattle.quantum_blocks.specs.Blocks.{BlockView}
 use Rattle.quantum_blocks.specs.Fits.{AreFit}
-use Rattle.quantum_render.specs.Stands.{RendererView, StandsFor, IsCounted, IsGrown}
+use Rattle.quantum_render.specs.Stands.{RendererView, past_writer, StandsFor, IsCounted, IsGrown}
 use Rattle.quantum_render.proofs.renderer.Renderer.grow.Goals as goal
 
 -- a renderer with other blocks, and with a memory that is as it was but for its room
 abbrev grown : Memory → List BlockView → RendererView → RendererView
 grown memory blocks r = record r { memory = memory; blocks = blocks }
+
+-- delays that are as they were keep what they kept
+still_kept : (old new : DelayBank) → AreSameDelays old new → (w : World) (now : ℕ) (writers : ℕ → Writer) → AreKept old w now writers → AreKept new w now writers
+still_kept old new same w now writers are n longest time capacity low is =
+    subst (λ q. IsKept q (delay_at new n) capacity (node_at w n).attrs.birth now (writers n)) (sym same.quantum)
+    ((same.still n capacity (node_at w n).attrs.birth now (writers n)).0 (are n longest time capacity low is))
+
+was_kept : (old new : DelayBank) → AreSameDelays old new → (w : World) (now : ℕ) (writers : ℕ → Writer) → AreKept new w now writers → AreKept old w now writers
+was_kept old new same w now writers are n longest time capacity low is =
+    (same.still n capacity (node_at w n).attrs.birth now (writers n)).1
+    (subst (λ q. IsKept q (delay_at new n) capacity (node_at w n).attrs.birth now (writers n)) same.quantum (are n longest time capacity low is))
+
+new_delays : (old new : DelayBank) → AreSameDelays old new → (w : World) → AreNew old w → AreNew new w
+new_delays old new same w are n longest time capacity high low is writer =
+    subst (λ q. IsKept q (delay_at new n) capacity (node_at w n).attrs.birth (node_at w n).attrs.birth writer) (sym same.quantum)
+    ((same.still n capacity (node_at w n).attrs.birth (node_at w n).attrs.birth writer).0 (are n longest time capacity (subst (λ k. k ≤ n) same.known high) low is writer))
 
 module _ (memory : Memory) (blocks : List BlockView) (r : RendererView) (causal : AreSame r.memory.causal memory.causal) (delays : AreSameDelays r.memory.delays memory.delays) where
   still_stands : (tape : List World) → StandsFor r tape → StandsFor (grown memory blocks r) tape
@@ -22,7 +42,7 @@ module _ (memory : Memory) (blocks : List BlockView) (r : RendererView) (causal 
     quanta = stands.quanta;
     nodes = (causal.known ∙ stands.nodes.0, delays.known ∙ stands.nodes.1);
     causal = still_heard r.memory.causal memory.causal causal (last_world tape) _ _ stands.causal;
-    delays = λ n longest time capacity low is. (delays.still n _ _ _ _).0 (stands.delays n longest time capacity low is);
+    delays = still_kept r.memory.delays memory.delays delays (last_world tape) (quantum_of r.spec * r.quanta) (past_writer (past (quantum_of r.spec) tape)) stands.delays;
   }
 
   stood : (tape : List World) → StandsFor (grown memory blocks r) tape → StandsFor r tape
@@ -30,7 +50,7 @@ module _ (memory : Memory) (blocks : List BlockView) (r : RendererView) (causal 
     quanta = stands.quanta;
     nodes = (sym causal.known ∙ stands.nodes.0, sym delays.known ∙ stands.nodes.1);
     causal = was_heard r.memory.causal memory.causal causal (last_world tape) _ _ stands.causal;
-    delays = λ n longest time capacity low is. (delays.still n _ _ _ _).1 (stands.delays n longest time capacity low is);
+    delays = was_kept r.memory.delays memory.delays delays (last_world tape) (quantum_of r.spec * r.quanta) (past_writer (past (quantum_of r.spec) tape)) stands.delays;
   }
 
   is_grown : (w : World) → IsCounted r w → AreFit w r.counts blocks → HaveRoom memory.causal r.counts → HaveDelayRoom memory.delays r.counts → IsGrown (grown memory blocks r) w
@@ -44,7 +64,7 @@ module _ (memory : Memory) (blocks : List BlockView) (r : RendererView) (causal 
         causal_count = causal.count ∙ are.memory.causal_count ∙ ap (λ k. max k (length w.nodes)) (sym causal.known);
         delay_count = delays.count ∙ are.memory.delay_count ∙ ap (λ k. max k (length w.nodes)) (sym delays.known);
         fresh_causal = still_new r.memory.causal memory.causal causal w are.memory.fresh_causal;
-        fresh_delays = λ n longest time capacity high low is writer. (delays.still n _ _ _ _).0 (are.memory.fresh_delays n longest time capacity (subst (λ k. k ≤ n) delays.known high) low is writer);
+        fresh_delays = new_delays r.memory.delays memory.delays delays w are.memory.fresh_delays;
       };
       counted = λ tape stands regular. are.counted tape (stood tape stands) regular;
     };
@@ -79,7 +99,7 @@ returns-clause-stands c tape =
 pub returns-in_err-grow-clause-stands : goal.returns-in_err-grow-clause-stands
 returns-in_err-grow-clause-stands c tape =
     let memory : Memory = record { causal = c.grow.new.self; delays = c.args.self.now.memory.delays } in
-    let same : AreSameDelays c.args.self.now.memory.delays c.args.self.now.memory.delays = record { known = refl; count = refl; still = λ n. same_refl _ } in (
+    let same : AreSameDelays c.args.self.now.memory.delays c.args.self.now.memory.delays = record { quantum = refl; known = refl; count = refl; still = λ n. same_refl _ _ } in (
       λ stands. subst (λ (r : RendererView). StandsFor (grown (record { causal = c.grow.new.self; delays = r.memory.delays }) c.fit_blocks.new.blocks.items r) tape) (sym c.self.view_is) (still_stands memory c.fit_blocks.new.blocks.items c.args.self.now (subst (λ (r : RendererView). AreSame r.memory.causal c.grow.new.self) c.self.view_is c.grow.ensures.same) same tape stands),
       λ stands. stood memory c.fit_blocks.new.blocks.items c.args.self.now (subst (λ (r : RendererView). AreSame r.memory.causal c.grow.new.self) c.self.view_is c.grow.ensures.same) same tape (subst (λ (r : RendererView). StandsFor (grown (record { causal = c.grow.new.self; delays = r.memory.delays }) c.fit_blocks.new.blocks.items r) tape) c.self.view_is stands),
     )

@@ -1,4 +1,6 @@
-use Rattle.std.proofs.Common.{◌≡◌, ◌+◌, ◌*◌, ◌++◌, ◌∷◌, [], length, sym, ◌∙◌, ap, subst, arith, length-append}
+use Rattle.std.proofs.Common.{ℕ, ◌≡◌, ◌+◌, ◌*◌, ◌++◌, ◌∷◌, [], length, sym, ◌∙◌, ap, subst, arith, length-append}
+use Rattle.law_base.proofs.Rows.{next_quantum}
+use Rattle.wa_base.specs.Contexts.{quantum_of}
 use Rattle.meaning.specs.declared.world.World.{World}
 use Rattle.meaning.specs.World.{plain}
 use Rattle.meaning.specs.Worlds.{IsRegular}
@@ -14,6 +16,10 @@ use Rattle.session.proofs.render_side.RenderSide.render.Goals as goal
 heard : (c : goal.After-samples-1) → plain c.drain_into.new.world ≡ after_messages (plain c.self.inside.world) c.self.inside.queue.messages
 heard c = c.in_ok-drain_into.ensures.ok.1
 
+-- the frames of one quantum more
+next_turn : (q first n more : ℕ) → first ≡ q * n → more ≡ n + 1 → first + q ≡ q * more
+next_turn q first n more is next = ap (λ f. f + q) is ∙ sym (next_quantum q n) ∙ ap (λ k. q * k) (sym next)
+
 pub render_quantum-requires-clause-planned : goal.render_quantum-requires-clause-planned
 render_quantum-requires-clause-planned c = plans_on (plan_of c.self.inside.renderer) c.self.inside.world.graph c.drain_into.new.world.graph c.drain_into.ensures.graph c.self.invariant.plans
 
@@ -24,20 +30,24 @@ returns-clause-ok c =
     let rendered = c.in_ok-render_quantum.ensures in
     let at = rw (← c.self.view_is) at c.requires.at in
     let long = rw (← c.self.view_is) at c.requires.long in
+    let q = quantum_of world.spec in
+    let size : q ≡ quantum_of (after_messages (plain c.self.inside.world) c.self.inside.queue.messages).spec = ap (λ (x : World). quantum_of x.spec) (heard c) in
+    let low = c.drain_into.ensures.valid.spec.quantum.low in
     rw (← c.self.view_is) record {
       world = c.drain_into.ensures.left;
       room = c.drain_into.ensures.room;
-      at = record { context = rendered.spec ∙ at.context; quanta = let quanta = at.quanta in omega (arith, quanta, rendered.quanta) };
+      at = record { context = rendered.spec ∙ at.context; quanta = next_turn _ _ _ _ at.quanta rendered.quanta };
       renders = λ tape before regular.
-          let raw = subst (λ (x : World). IsRegular 128 (tape ++ x ∷ [])) (sym (heard c)) regular in
+          let raw = subst (λ (x : World). IsRegular (quantum_of x.spec) (tape ++ x ∷ [])) (sym (heard c)) regular in
           subst (λ (x : World). Renders (tape ++ x ∷ []) renderer) (heard c)
-          (renders_more tape before.worlds world renderer before.alike (rendered.stands before.worlds before.stands (raw_regular tape before.worlds world before.alike raw)));
+          (renders_more tape before.worlds world renderer before.alike (rendered.stands before.worlds before.stands (raw_regular q tape before.worlds world before.alike raw)));
       samples = λ tape before regular first samples.
-          let raw = subst (λ (x : World). IsRegular 128 (tape ++ x ∷ [])) (sym (heard c)) regular in
-          let shows = rendered.shows before.worlds before.stands (raw_regular tape before.worlds world before.alike raw) in
+          let raw = subst (λ (x : World). IsRegular (quantum_of x.spec) (tape ++ x ∷ [])) (sym (heard c)) regular in
+          let shows = rendered.shows before.worlds before.stands (raw_regular q tape before.worlds world before.alike raw) in
           let count = length_worlds tape before.worlds before.alike in
-          let next : c.args.first + 128 ≡ 128 * length (before.worlds ++ world ∷ []) = omega (arith, first, count, length-append before.worlds (world ∷ [])) in
-          samples_more tape before.worlds world world.spec c.args.samples.now c.copy_out.new.samples c.args.first before.alike first (samples ∙ ap (λ (x : World). samples_of tape x.spec) (sym (heard c)))
-          (c.copy_out.ensures (before.worlds ++ world ∷ []) shows next) c.drain_into.ensures.valid.spec.length_low c.copy_out.auto.samples (long ∙ ap (λ (x : World). x.spec.channels * x.spec.length) (sym (heard c)))
+          let from : c.args.first ≡ q * length tape = first ∙ ap (λ n. n * length tape) (sym size) in
+          let next : c.args.first + q ≡ q * length (before.worlds ++ world ∷ []) = next_turn q c.args.first (length tape) _ from (omega (arith, count, length-append before.worlds (world ∷ []))) in
+          samples_more tape before.worlds world world.spec c.args.samples.now c.copy_out.new.samples c.args.first before.alike from (samples ∙ ap (λ (x : World). samples_of tape x.spec) (sym (heard c)))
+          (c.copy_out.ensures (before.worlds ++ world ∷ []) shows next) c.drain_into.ensures.valid.spec.length_low (omega (arith, low)) c.copy_out.auto.samples (long ∙ ap (λ (x : World). x.spec.channels * x.spec.length) (sym (heard c)))
           ∙ ap (λ (x : World). samples_of (tape ++ x ∷ []) x.spec) (heard c);
     }

@@ -9,6 +9,7 @@ use Rattle.control_side.specs.Turns.{ended_lines}
 use Rattle.session.specs.Session.{promise_lines, lines_after, after_turn}
 use Rattle.session.specs.View.{SessionView, Stands, HasRoom}
 use Rattle.session.proofs.CatchingUp.{told_after}
+use Rattle.session.proofs.Quanta.{time_after}
 use Rattle.session.proofs.Turning.{seen, keeps_up, has_room, stands_next, long_room}
 use Rattle.session.proofs.session.Session.advance.Goals as goal
 
@@ -25,9 +26,9 @@ invariant_of-self-in-Went-1 c =
     record {
       line = omega (arith, c.in_ok-reserve.ensures.room, c.append_reserved.ensures.room, c.len.ensures);
       samples_long = subst (HasRoom (is_some c.post.new.side) c.turn-turn.new.self) (sym items) (has_room c.self.inside.control c.turn-turn.new.self c.self.inside.samples.items c.as_mut_slice.result.now c.render.new.samples c.self.inside.side c.reserve-2.new.side c.render.new.side c.post.new.side
-          c.now-first.result c.now-first.ensures.now c.turn-turn.ensures.machine c.as_mut_slice.ensures.value c.in_ok-reserve-2.ensures.ok c.in_ok-render.ensures.ok c.post.ensures (c.render.auto.samples ∙ ap length c.as_mut_slice.ensures.value) c.self.invariant.samples_long);
+          c.now-first.result c.spec-spec.result c.spec-spec.ensures.context c.spec-spec.ensures.spec c.now-first.ensures.now c.turn-turn.ensures.machine c.as_mut_slice.ensures.value c.in_ok-reserve-2.ensures.ok c.in_ok-render.ensures.ok (rw c.from.ensures at c.post.ensures) (c.render.auto.samples ∙ ap length c.as_mut_slice.ensures.value) c.self.invariant.samples_long);
       side_keeps_up = keeps_up c.self.inside.control c.turn-turn.new.self c.self.inside.samples.items c.as_mut_slice.result.now c.render.new.samples c.self.inside.side c.reserve-2.new.side c.render.new.side c.post.new.side
-          c.now-first.result c.now-first.ensures.now c.turn-turn.ensures.machine c.as_mut_slice.ensures.value c.in_ok-reserve-2.ensures.ok c.in_ok-render.ensures.ok c.post.ensures c.self.invariant.side_keeps_up;
+          c.now-first.result c.spec-spec.result c.spec-spec.ensures.context c.spec-spec.ensures.spec c.now-first.ensures.now c.turn-turn.ensures.machine c.as_mut_slice.ensures.value c.in_ok-reserve-2.ensures.ok c.in_ok-render.ensures.ok (rw c.from.ensures at c.post.ensures) c.self.invariant.side_keeps_up;
     }
 
 pub returns-in-Went-clause-stands : goal.returns-in-Went-clause-stands
@@ -35,7 +36,7 @@ returns-in-Went-clause-stands c = λ tape stands.
     let items = with_items_is c.self.inside.samples c.render.new.samples (c.render.auto.samples ∙ c.as_mut_slice.ensures.len) in
     rw (← c.self.view_is) (subst (λ (xs : List ℤ). Stands (seen (caught_up (Some c.now-first.result) c.turn-turn.new.self) c.append_reserved.new.self.items xs c.post.new.side) (tape ++ world_caught_up c.self.inside.behind c.self.inside.control.world ∷ [])) (sym items)
     (stands_next c.self.inside.control c.turn-turn.new.self c.self.inside.samples.items c.as_mut_slice.result.now c.render.new.samples c.self.inside.side c.reserve-2.new.side c.render.new.side c.post.new.side
-    c.now-first.result c.now-first.ensures.now c.turn-turn.ensures.machine c.as_mut_slice.ensures.value c.in_ok-reserve-2.ensures.ok c.in_ok-render.ensures.ok c.post.ensures c.self.inside.behind c.self.inside.lines.items c.append_reserved.new.self.items tape c.self.invariant.side_keeps_up c.turn-turn.ensures.valid (rw (← c.self.view_is) at stands)))
+    c.now-first.result c.spec-spec.result c.spec-spec.ensures.context c.spec-spec.ensures.spec c.now-first.ensures.now c.turn-turn.ensures.machine c.as_mut_slice.ensures.value c.in_ok-reserve-2.ensures.ok c.in_ok-render.ensures.ok (rw c.from.ensures at c.post.ensures) c.self.inside.behind c.self.inside.lines.items c.append_reserved.new.self.items tape c.self.invariant.side_keeps_up c.turn-turn.ensures.valid (rw (← c.self.view_is) at stands)))
 
 pub returns-in-Went-clause-told : goal.returns-in-Went-clause-told
 returns-in-Went-clause-told c =
@@ -74,9 +75,9 @@ invariant_of-self-in-Due c =
     record {
       line = omega (arith, c.in_ok-reserve.ensures.room, c.append_reserved.ensures.room, c.push_reserved.ensures.room, c.len.ensures);
       samples_long = subst (HasRoom (is_some c.post.new.side) c.turn-turn.new.self) (sym items) (has_room c.self.inside.control c.turn-turn.new.self c.self.inside.samples.items c.as_mut_slice.result.now c.render.new.samples c.self.inside.side c.reserve-2.new.side c.render.new.side c.post.new.side
-          c.now-first.result c.now-first.ensures.now c.turn-turn.ensures.machine c.as_mut_slice.ensures.value c.in_ok-reserve-2.ensures.ok c.in_ok-render.ensures.ok c.post.ensures (c.render.auto.samples ∙ ap length c.as_mut_slice.ensures.value) c.self.invariant.samples_long);
+          c.now-first.result c.spec-spec.result c.spec-spec.ensures.context c.spec-spec.ensures.spec c.now-first.ensures.now c.turn-turn.ensures.machine c.as_mut_slice.ensures.value c.in_ok-reserve-2.ensures.ok c.in_ok-render.ensures.ok (rw c.from.ensures at c.post.ensures) (c.render.auto.samples ∙ ap length c.as_mut_slice.ensures.value) c.self.invariant.samples_long);
       side_keeps_up = keeps_up c.self.inside.control c.turn-turn.new.self c.self.inside.samples.items c.as_mut_slice.result.now c.render.new.samples c.self.inside.side c.reserve-2.new.side c.render.new.side c.post.new.side
-          c.now-first.result c.now-first.ensures.now c.turn-turn.ensures.machine c.as_mut_slice.ensures.value c.in_ok-reserve-2.ensures.ok c.in_ok-render.ensures.ok c.post.ensures c.self.invariant.side_keeps_up;
+          c.now-first.result c.spec-spec.result c.spec-spec.ensures.context c.spec-spec.ensures.spec c.now-first.ensures.now c.turn-turn.ensures.machine c.as_mut_slice.ensures.value c.in_ok-reserve-2.ensures.ok c.in_ok-render.ensures.ok (rw c.from.ensures at c.post.ensures) c.self.invariant.side_keeps_up;
     }
 
 pub returns-in-Due-clause-stands : goal.returns-in-Due-clause-stands
@@ -84,4 +85,16 @@ returns-in-Due-clause-stands c = λ tape stands.
     let items = with_items_is c.self.inside.samples c.render.new.samples (c.render.auto.samples ∙ c.as_mut_slice.ensures.len) in
     rw (← c.self.view_is) (subst (λ (xs : List ℤ). Stands (seen (caught_up (Some c.now-first.result) c.turn-turn.new.self) c.push_reserved.new.self.items xs c.post.new.side) (tape ++ world_caught_up c.self.inside.behind c.self.inside.control.world ∷ [])) (sym items)
     (stands_next c.self.inside.control c.turn-turn.new.self c.self.inside.samples.items c.as_mut_slice.result.now c.render.new.samples c.self.inside.side c.reserve-2.new.side c.render.new.side c.post.new.side
-    c.now-first.result c.now-first.ensures.now c.turn-turn.ensures.machine c.as_mut_slice.ensures.value c.in_ok-reserve-2.ensures.ok c.in_ok-render.ensures.ok c.post.ensures c.self.inside.behind c.self.inside.lines.items c.push_reserved.new.self.items tape c.self.invariant.side_keeps_up c.turn-turn.ensures.valid (rw (← c.self.view_is) at stands)))
+    c.now-first.result c.spec-spec.result c.spec-spec.ensures.context c.spec-spec.ensures.spec c.now-first.ensures.now c.turn-turn.ensures.machine c.as_mut_slice.ensures.value c.in_ok-reserve-2.ensures.ok c.in_ok-render.ensures.ok (rw c.from.ensures at c.post.ensures) c.self.inside.behind c.self.inside.lines.items c.push_reserved.new.self.items tape c.self.invariant.side_keeps_up c.turn-turn.ensures.valid (rw (← c.self.view_is) at stands)))
+
+-- ---- the time
+
+pub returns-in-Went-clause-time : goal.returns-in-Went-clause-time
+returns-in-Went-clause-time c =
+    time_after c.args.self.now.told _ c.spec-spec.result (returns-in-Went-clause-told c) (c.spec-spec.ensures.context ∙ ap (λ (v : SessionView). v.told.machine.context.spec) c.self.view_is)
+    (c.spec-spec.ensures.spec ∙ ap (λ (v : SessionView). v.told.machine.world.spec) c.self.view_is)
+
+pub returns-in-Due-clause-time : goal.returns-in-Due-clause-time
+returns-in-Due-clause-time c =
+    time_after c.args.self.now.told _ c.spec-spec.result (returns-in-Due-clause-told c) (c.spec-spec.ensures.context ∙ ap (λ (v : SessionView). v.told.machine.context.spec) c.self.view_is)
+    (c.spec-spec.ensures.spec ∙ ap (λ (v : SessionView). v.told.machine.world.spec) c.self.view_is)
