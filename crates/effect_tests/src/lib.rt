@@ -1,5 +1,5 @@
-//! Tests of effects over their public calls: wave shapers, IIR filters, convolvers and delay lines. A
-//! crate with tests is proved twice, so they stand apart.
+//! Tests of effects over their public calls: wave shapers, IIR filters, convolvers, processors and delay
+//! lines. A crate with tests is proved twice, so they stand apart.
 #![tactic(auto)]
 
 #[cfg(test)]
@@ -16,6 +16,8 @@ mod delay_lines;
 mod digest;
 #[cfg(test)]
 mod filters;
+#[cfg(test)]
+mod processors;
 #[cfg(test)]
 mod random;
 #[cfg(test)]

@@ -1,5 +1,5 @@
 -- Blocks that are heard.
-use Rattle.std.proofs.Common.{◌≡◌, ◌≢◌, ◌<◌, ◌≤◌, ◌+◌, ◌*◌, ℕ, zero, suc, ℤ, pos, List, ◌∷◌, Option, Some, length, take, drop, set, get_or, ap, ap₂, subst, sym, refl, ◌∙◌, rules, arith, add-one, below_more, get_or-set_same, get_or-set_other, inl, inr}
+use Rattle.std.proofs.Common.{◌≡◌, ◌≢◌, ◌<◌, ◌≤◌, ◌+◌, ◌-◌, ◌*◌, ℕ, zero, suc, ℤ, pos, List, ◌∷◌, Option, Some, length, take, drop, set, get_or, ap, ap₂, subst, sym, refl, ◌∙◌, rules, arith, add-one, below_more, get_or-set_same, get_or-set_other, inl, inr}
 use borrow.Rule.Slice.PartMut.{put_mid}
 use Rattle.std.specs.Prelude.{unwrap_or}
 use Rattle.std.proofs.lemmas.Bool.{cases_lt}
@@ -68,6 +68,25 @@ pub nothing_more : (code : List Instr) (old now new : List ℤ) (k : ℕ) (y : �
     → frame_of code now (pos 0) ≡ Some (record { output = y; cells = new }) → HasHeardNothing code old new (k + 1)
 nothing_more code old now new k y so_far is = λ block start none.
     hears_more code old now new block start k (pos 0) y (so_far block start none) (sym (none k)) is
+
+-- a frame that leaves the cells as they were is followed by frames that do the same
+nothing_rest : (code : List Instr) (old now : List ℤ) (k : ℕ) (y : ℤ) → HasHeardNothing code old now k → frame_of code now (pos 0) ≡ Some (record { output = y; cells = now })
+    → (m : ℕ) → HasHeardNothing code old now (k + m)
+nothing_rest code old now k y so_far is zero = let same : k ≡ k + 0 = omega arith in subst (HasHeardNothing code old now) same so_far
+nothing_rest code old now k y so_far is (suc m) =
+    let same : k + m + 1 ≡ k + suc m = omega arith in
+    subst (HasHeardNothing code old now) same (nothing_more code old now now (k + m) y (nothing_rest code old now k y so_far is m) is)
+
+abbrev made : ℤ → List ℤ → Option Frame
+made y cells = Some (record { output = y; cells = cells })
+
+pub nothing_stays : (code : List Instr) (old now new : List ℤ) (k n : ℕ) (y : ℤ) → new ≡ now → k ≤ n → HasHeardNothing code old now k
+    → frame_of code now (pos 0) ≡ Some (record { output = y; cells = new }) → HasHeardNothing code old new n
+nothing_stays code old now new k n y same l so_far is =
+    let rest : k + (n - k) ≡ n = omega (arith, l) in
+    let stays : frame_of code now (pos 0) ≡ Some (record { output = y; cells = now }) = is ∙ ap (made y) same in
+    subst (λ (v : List ℤ). HasHeardNothing code old v n) (sym same)
+    (subst (λ (m : ℕ). HasHeardNothing code old now m) rest (nothing_rest code old now k y so_far stays (n - k)))
 
 -- ---- channel by channel
 

@@ -1,10 +1,10 @@
-ghost use Rattle.std.specs.Prelude.{◌≡◌, ◌<◌, ◌≤◌, ◌+◌, ◌*◌, ◌∷◌, [], ℕ, ℤ, List, length, max, pos, slice_index_or, OnOk, OnErr};
+ghost use Rattle.std.specs.Prelude.{◌≡◌, ◌<◌, ◌≤◌, ◌+◌, ◌*◌, ◌∷◌, [], ℕ, ℤ, List, length, max, pos, slice_index_or, IsTrue, ◌↔◌, OnOk, OnErr};
 ghost use Rattle.node_table.specs.Frames.{item, heard};
 ghost use Rattle.node_table.specs.Machine.{cells_after, cells_at_birth, program_value};
 ghost use Rattle.worklet.specs.Processor.{ProcessorStands, HasHeard, HasHeardNothing, cells_of};
 
-use crate::machine::frame;
-use crate::rules::CELLS;
+use crate::machine::frame_in;
+use crate::rules::{CELLS, DEPTH};
 use node_table::{Causal, Program};
 use std::alloc::Global;
 use std::marker::Model;
@@ -133,16 +133,29 @@ fn hear_channel(program: &Program, cells: &mut [Fix; CELLS], x: &[Fix], y: &mut 
     ensures heard { HasHeard program.now cells.old cells.new x.now 0 (length x.now) }
     ensures outputs { (k : ℕ) (xs : List ℤ) → k < length x.now → cells.old ≡ cells_after program.now xs → item y.new k ≡ program_value program.now (heard x.now 0 (k + 1) xs) }
 {
+    let mut room = [0; DEPTH];
     for (k, out) in y.iter_mut().enumerate() {
-        *out = frame(program, cells, x[k]);
+        *out = frame_in(program, &mut room, cells, x[k]);
     }
 }
 
-// Hears so many frames that are 0.
+// Hears so many frames that are 0. Where one of them leaves the cells as they were, so do all that
+// follow.
 fn hear_nothing(program: &Program, cells: &mut [Fix; CELLS], frames: usize)
     ensures { HasHeardNothing program.now cells.old cells.new frames }
 {
+    let mut room = [0; DEPTH];
     for _ in 0..frames {
-        frame(program, cells, 0);
+        let before = *cells;
+        frame_in(program, &mut room, cells, 0);
+        if is_same(cells, &before) {
+            return;
+        }
     }
+}
+
+fn is_same(cells: &[Fix; CELLS], others: &[Fix; CELLS]) -> bool
+    ensures { IsTrue result ↔ (cells.now ≡ others.now) }
+{
+    cells == others
 }
