@@ -1,0 +1,11 @@
+pub mod Soundness
+pub mod Members
+pub mod Mixes
+pub mod Lives
+pub mod Agreeing
+pub mod Recalling
+pub mod Hearing
+pub mod Outputs
+pub mod Completeness
+pub mod Rows
+pub mod NeedsRows

@@ -1,0 +1,6 @@
+pub mod Accounts
+pub mod Facts
+pub mod Needs
+pub mod Checked
+pub mod Texts
+pub mod Laws

@@ -1,0 +1,44 @@
+-- Facts as text. Each line ends with one byte 10.
+use Rattle.std.specs.Prelude.{ℕ, ◌≡◌, ◌≤◌, ℤ, length, List, [], ◌++◌, flat_map, codes, decimal, if◌then◌else◌, Option, None, Some}
+use Rattle.std.specs.Fmt.{signed_decimal}
+use Rattle.wa_base.specs.GraphNames.{param_word}
+use Rattle.wa_base.specs.declared.graph_names.End.{End}
+use Rattle.meaning.specs.declared.world.World.{World}
+use Rattle.explain.specs.declared.facts.Key.{Key}
+use Rattle.explain.specs.declared.facts.Key.TheVariants.{Count, Inlet, Par, Hist, Out}
+use Rattle.explain.specs.declared.facts.Fact.{Fact}
+use Rattle.explain.specs.Checked.{IsChecked}
+
+-- an end is its node's number, with a `w` behind it where it is a writer
+abbrev pub end_text : End → List ℕ
+end_text e = decimal e.node.0 ++ (if e.writer then codes "w" else [])
+
+-- the word of a key, and then what it names; numbers have no sign and no zero in front
+unfoldable pub key_text : Key → List ℕ
+key_text (Count j e o) = codes "count " ++ decimal j ++ codes " " ++ end_text e ++ codes " " ++ decimal o
+key_text (Inlet f e i c) = codes "in " ++ decimal f ++ codes " " ++ end_text e ++ codes " " ++ decimal i ++ codes " " ++ decimal c
+key_text (Par f node name) = codes "par " ++ decimal f ++ codes " " ++ decimal node.0 ++ codes " " ++ param_word name
+key_text (Hist f node c) = codes "hist " ++ decimal f ++ codes " " ++ decimal node.0 ++ codes " " ++ decimal c
+key_text (Out f e o c) = codes "out " ++ decimal f ++ codes " " ++ end_text e ++ codes " " ++ decimal o ++ codes " " ++ decimal c
+
+-- a cell with a space in front
+unfoldable pub cell_text : ℤ → List ℕ
+cell_text cell = codes " " ++ signed_decimal cell
+
+-- the cells of a processor
+abbrev pub cells_text : Option (List ℤ) → List ℕ
+cells_text None = []
+cells_text (Some cells) = flat_map cell_text cells
+
+-- a value has a minus sign where it is below 0
+unfoldable pub fact_text : Fact → List ℕ
+fact_text x = key_text x.key ++ codes " = " ++ signed_decimal x.value ++ cells_text x.cells
+
+abbrev pub facts_text : List Fact → List ℕ
+facts_text facts = flat_map (λ x. fact_text x ++ codes "\n") facts
+
+-- A checked text is that of one or more facts that are checked.
+pub record IsCheckedText (q : ℕ) (tape : List World) (text : List ℕ) (facts : List Fact) : Type 0 where
+  pub some : 1 ≤ length facts
+  pub lines : facts_text facts ≡ text
+  pub checked : IsChecked q tape facts

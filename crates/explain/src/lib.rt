@@ -1,0 +1,27 @@
+//! What a sample rests on: facts about a tape of worlds, what each of them needs, and which lists of
+//! facts are checked.
+#![tactic(auto)]
+
+ghost use Rattle.explain.specs.Laws.{CheckedLaw, CheckedTextLaw, NeedsLaw};
+
+mod facts;
+mod printed;
+
+pub use facts::{Fact, Key};
+pub use printed::fact_text;
+
+/// A checked list tells the truth: each of its facts is what the meaning has.
+pub fn checked_law()
+    ensures { CheckedLaw }
+{}
+
+/// A checked text tells the truth.
+pub fn checked_text_law()
+    ensures { CheckedTextLaw }
+{}
+
+/// What a fact needs is all that it rests on: behind a checked list in which that stands, a true fact
+/// makes a checked list.
+pub fn needs_law()
+    ensures { NeedsLaw }
+{}
