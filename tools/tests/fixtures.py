@@ -68,9 +68,9 @@ def wav(channels, rate=48000, bits=24):
     return wav_bytes(Form(len(channels), rate, bits), stored)
 
 
-def script(calls, channels=1, length=128, rate=48000, version=1):
-    """The bytes of a script."""
-    context = {"channels": channels, "length": length, "rate": rate}
+def script(calls, channels=1, length=128, rate=48000, version=1, **more):
+    """The bytes of a script. Its context may have more members."""
+    context = {"channels": channels, "length": length, "rate": rate, **more}
     return json.dumps({"version": version, "context": context, "calls": calls}).encode()
 
 

@@ -11,8 +11,6 @@ from waplay_tools.expecting.nodes import SOURCES
 from waplay_tools.expecting.numbers import ONE, computed_count, mixed, rounded_quotient, saturated
 from waplay_tools.expecting.programs import AT_BIRTH
 
-QUANTUM = 128
-
 
 class World:
     """The nodes and connections that are in force in a quantum. An end is a number and whether it
@@ -52,15 +50,15 @@ def closure(places, arrows):
 
 
 class Meaning:
-    """The values of a tape, which has one world for each quantum."""
+    """The values of a tape, which has one world for each quantum of so many frames."""
 
-    def __init__(self, tape):
-        self.tape = tape
+    def __init__(self, tape, quantum):
+        self.tape, self.quantum = tape, quantum
         self.kept = {}
         self.births = {}
-        for quantum, world in enumerate(tape):
+        for first, world in enumerate(tape):
             for number in range(len(world.nodes)):
-                self.births.setdefault(number, QUANTUM * quantum)
+                self.births.setdefault(number, quantum * first)
 
     def once(self, make, *key):
         key = make.__name__, *key
@@ -69,7 +67,7 @@ class Meaning:
         return self.kept[key]
 
     def world(self, frame):
-        return self.tape[frame // QUANTUM]
+        return self.tape[frame // self.quantum]
 
     def count(self, quantum, number, is_writer=False):
         return self.once(self.count_of, quantum, number, is_writer)
@@ -81,13 +79,14 @@ class Meaning:
         if (number, is_writer) in world.muted or node.kind in ("constant", "splitter"):
             return 1
         if node.kind == "buffer source":
-            plays = any(self.plays(node, QUANTUM * quantum + k) for k in range(QUANTUM))
+            first = self.quantum * quantum
+            plays = any(self.plays(node, first + k) for k in range(self.quantum))
             return node.buffer.channels if plays else 1
         if node.kind == "merger":
             return node.inputs
         if node.kind == "delay" and not is_writer:
             last = quantum if number not in world.in_cycle else quantum - 1
-            quanta = range(self.births[number] // QUANTUM, last + 1)
+            quanta = range(self.births[number] // self.quantum, last + 1)
             return max([1, *(self.count(it, number, True) for it in quanta)])
         return self.input_count(quantum, number, 0)
 
@@ -103,13 +102,13 @@ class Meaning:
 
     def frame_of(self, frame, number, output, is_writer=False):
         """All channels of an output."""
-        count = self.count(frame // QUANTUM, number, is_writer)
+        count = self.count(frame // self.quantum, number, is_writer)
         return [self.value(frame, number, output, channel, is_writer) for channel in range(count)]
 
     def heard(self, frame, number, place, channel):
         """What comes to a channel of an input; nothing where it has no such channel."""
         world = self.world(frame)
-        count = self.input_count(frame // QUANTUM, number, place)
+        count = self.input_count(frame // self.quantum, number, place)
         mixes = [
             mixed(self.frame_of(frame, source, output), count, world.nodes[number].interpretation)
             for source, output in world.edges_to(number, place)
@@ -124,7 +123,7 @@ class Meaning:
         node = world.nodes[number]
         timeline = node.timelines[name]
         if timeline.is_k_rate:
-            frame -= frame % QUANTUM
+            frame -= frame % self.quantum
         mixes = [
             mixed(self.frame_of(frame, source, output), 1, "speakers")
             for source, output in world.edges_to(number, name)
@@ -140,7 +139,7 @@ class Meaning:
         world = self.world(frame)
         node = world.nodes[number]
         if (number, is_writer) in world.muted or channel >= self.count(
-            frame // QUANTUM, number, is_writer
+            frame // self.quantum, number, is_writer
         ):
             return 0
         if node.kind in SOURCES:
@@ -171,11 +170,11 @@ class Meaning:
         node = world.nodes[number]
         delay = rounded_quotient(self.parameter(frame, number, "delayTime") * node.rate, ONE)
         if number in world.in_cycle:
-            delay = max(delay, QUANTUM)
+            delay = max(delay, self.quantum)
         before = frame - delay
         if before < self.births[number]:
             return 0
-        count = self.count(frame // QUANTUM, number)
+        count = self.count(frame // self.quantum, number)
         return mixed(self.frame_of(before, number, 0, True), count, node.interpretation)[channel]
 
     def filtered(self, frame, number, channel):
@@ -226,8 +225,8 @@ def taped():
     rendering = sessions.Rendering
 
     class Taping(rendering):
-        def __init__(self, nodes, edges):
-            super().__init__(nodes, edges)
+        def __init__(self, nodes, edges, quantum):
+            super().__init__(nodes, edges, quantum)
             self.world = World(nodes, edges)
 
         def quanta(self, begin, end):
@@ -246,4 +245,4 @@ def values_of(data, folder):
         _, _, session = sessions.replayed(data, folder)
     if session is None or session.values is None:
         return session, tape, None
-    return session, tape, list(Meaning(tape).frames(session.length))
+    return session, tape, list(Meaning(tape, session.quantum).frames(session.length))

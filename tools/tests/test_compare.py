@@ -19,7 +19,7 @@ from waplay_tools import compare
 from waplay_tools.expecting import reading
 from waplay_tools.expecting.writing import script_text
 from waplay_tools.reporting import checks, runs
-from waplay_tools.reporting.call_changes import changes_of
+from waplay_tools.reporting.call_changes import changes_of, head_of
 from waplay_tools.reporting.checks import Check
 from waplay_tools.reporting.script_reading import script_of
 
@@ -59,6 +59,15 @@ class Calls(unittest.TestCase):
             old = Path(fixtures.EXAMPLES, f"{name}.json").read_bytes()
             scripts = script_of(old), script_of(script_text(reading.script_of(old)))
             self.assertEqual({it.kind for it in changes_of(*scripts)}, {"same"}, name)
+            self.assertEqual(*map(head_of, scripts))
+
+    def test_a_context_of_another_quantum_is_another_one(self):
+        plain, told, other = (
+            head_of(script_of(fixtures.script([], **more)))
+            for more in ({}, {"renderQuantum": 128}, {"renderQuantum": 32})
+        )
+        self.assertEqual(plain, told)
+        self.assertNotEqual(plain, other)
 
     def test_scripts_with_faults(self):
         for calls in ([7], [{"op": []}], [{"op": "no"}], [{}]):

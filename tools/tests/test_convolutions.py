@@ -21,6 +21,7 @@ except ImportError:
 from waplay_tools import wav
 from waplay_tools.expecting.causal import Convolver
 from waplay_tools.expecting.nodes import Buffer
+from waplay_tools.expecting.numbers import QUANTA
 from waplay_tools.places import SHIPPED
 
 PROGRAM = Path(os.environ.get("WAPLAY") or SHIPPED).absolute()
@@ -145,11 +146,13 @@ class Second(unittest.TestCase):
             call = {"op": "createConvolver", "as": "room", "disableNormalization": True}
             node = Convolver(call, buffer, RATE)
             heard: list[int] = []
+            quantum = rng.choice(QUANTA)
             for _ in range(4):
                 block = [
-                    rng.choice([LOW, HIGH, 0, 1, -1, rng.randint(LOW, HIGH)]) for _ in range(128)
+                    rng.choice([LOW, HIGH, 0, 1, -1, rng.randint(LOW, HIGH)])
+                    for _ in range(quantum)
                 ]
-                (found,) = node.filtered([block])
+                (found,) = node.filtered([block], quantum)
                 wanted = []
                 for frame in block:
                     heard.append(frame)

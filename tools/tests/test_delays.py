@@ -3,6 +3,8 @@
 The rules are tried one by one, on sessions whose samples are told by hand, and together on random
 sessions, against a calculation by recursion from one frame to another (meaning.py)."""
 
+import collections
+import functools
 import itertools
 import json
 import os
@@ -19,11 +21,12 @@ import meaning
 from waplay_tools.random_scripts import maker
 from waplay_tools.random_scripts.answers import REFUSALS, answers_of
 from waplay_tools.random_scripts.assets import write_assets
-from waplay_tools.random_scripts.maker import operations, script_of
+from waplay_tools.random_scripts.maker import operations, programs_of, script_of
 from waplay_tools.expecting import automation, delay, graph, numbers, reading, refusals, sessions
 from waplay_tools.expecting.graph import End
+from waplay_tools.expecting.numbers import QUANTA
 
-RATE = 16384  # 1,024 is the time of one frame, and 131,072 that of a quantum
+RATE = 16384  # 1,024 is the time of one frame, and 131,072 that of a quantum by default
 COUNT = int(os.environ.get("DELAY_SESSIONS", "30"))  # random sessions
 READ = [op for op in operations() if op != "createProcessor"]  # which has a shape of its own
 
@@ -82,7 +85,7 @@ def gain(name, **fields):
 # A constant c whose sample at each frame is the frame's number.
 NUMBERS = [
     create("createConstantSource", "c"),
-    *ramp("c", "offset", 1024, 512),
+    *ramp("c", "offset", 8192, 4096),
     call("start", node="c"),
 ]
 
@@ -91,9 +94,9 @@ def mono(*samples):
     return [[sample] for sample in samples]
 
 
-def session_of(calls, channels=1, length=384):
+def session_of(calls, channels=1, length=384, **context):
     """The session of calls, and of startRendering behind them."""
-    script = fixtures.script([*calls, call("startRendering")], channels, length, RATE)
+    script = fixtures.script([*calls, call("startRendering")], channels, length, RATE, **context)
     return sessions.replayed(script)[2]
 
 
@@ -135,20 +138,22 @@ class Creations(unittest.TestCase):
             self.assertEqual(answer_of([create("createDelay", "e", delayTime=time)]), "ok")
 
     def test_the_capacity_is_the_longest_time_and_a_quantum_at_least(self):
-        for longest, rate, wanted in [
+        for longest, rate, frames in [
             (2**24, 48000, 48000),
-            (1, 96000, 128),
+            (1, 96000, 0),
             (2**28, 96000, 1536000),
             (2**28, 8000, 128000),
             (130 * 1024, 16384, 130),
             (130 * 1024 + 511, 16384, 130),
             (130 * 1024 + 512, 16384, 131),
             (128 * 1024 + 512, 16384, 129),
-            (127 * 1024, 16384, 128),
+            (127 * 1024, 16384, 127),
+            (31 * 1024 + 512, 16384, 32),
+            (1025 * 1024, 16384, 1025),
         ]:
-            self.assertEqual(
-                delay.Delay({"as": "d", "maxDelayTime": longest}, rate, 0).capacity, wanted
-            )
+            for quantum in QUANTA:
+                it = delay.Delay({"as": "d", "maxDelayTime": longest}, rate, 0, quantum)
+                self.assertEqual(it.capacity, max(frames, quantum))
 
     def test_what_a_refused_delay_would_have_is_free(self):
         # 128 frames are left, and the last one would have 129.
@@ -157,6 +162,15 @@ class Creations(unittest.TestCase):
         self.assertEqual(answer_of(creations), "throw NotSupportedError profile:delay-limit")
         smaller = create("createDelay", "e", maxDelayTime=131072)
         self.assertEqual(answer_of([*creations, smaller]), "ok")
+
+    def test_the_quantum_counts_for_what_is_left(self):
+        # 16 delays of 262,144 frames have all that there may be, and so have 15 of them and short
+        # ones, which have a quantum each.
+        longest = [2**28] * 15 + [1] * 257
+        creations = [create("createDelay", "d", maxDelayTime=it) for it in longest]
+        lines = session_of(creations, length=1, renderQuantum=1024).lines
+        self.assertEqual(lines[270], "271 ok")
+        self.assertEqual(lines[271], "272 throw NotSupportedError profile:delay-limit")
 
     def test_faults_of_reading_are_those_of_the_fields(self):
         for fields, wanted in [
@@ -267,6 +281,13 @@ class Times(unittest.TestCase):
         self.heard(lambda n: n, *growing)
         self.heard(lambda n: n - n % 128, *growing, edit("d", "setAutomationRate", value="k-rate"))
 
+    def test_a_value_at_k_rate_is_that_of_the_first_frame_of_a_quantum(self):
+        for quantum in QUANTA:
+            at_k_rate = edit("c", "setAutomationRate", "offset", value="k-rate")
+            direct = [*NUMBERS, at_k_rate, connect("c", "destination")]
+            found = samples_of(direct, length=2100, renderQuantum=quantum)
+            self.assertEqual(found, mono(*(n - n % quantum for n in range(2100))))
+
     def test_nodes_that_are_connected(self):
         heard = connect_param("k", "d", "delayTime")
         growing = [*constant("k"), *ramp("k", "offset", 393216, 384), heard]
@@ -352,32 +373,46 @@ class Channels(unittest.TestCase):
             )
 
     def test_what_a_writer_had_its_reader_keeps(self):
-        it = delay.Delay({"as": "d"}, RATE, 256)
-        times, block = [0] * 128, [0] * 128
-        self.assertEqual(len(it.read(256, times, True)), 1)
-        for first, written, in_cycle, in_none in [
-            (256, 1, 1, 1),
-            (384, 4, 1, 4),
-            (512, 2, 4, 4),
-            (640, 6, 4, 6),
-            (768, 1, 6, 6),
-        ]:
-            it.write(first, [block] * written)
-            self.assertEqual(len(it.read(first, times, True)), in_cycle)
-            self.assertEqual(len(it.read(first, times, False)), in_none)
+        for quantum in QUANTA:
+            it = delay.Delay({"as": "d"}, RATE, 2 * quantum, quantum)
+            times, block = [0] * quantum, [0] * quantum
+            self.assertEqual(len(it.read(2 * quantum, times, True)), 1)
+            for number, written, in_cycle, in_none in [
+                (2, 1, 1, 1),
+                (3, 4, 1, 4),
+                (4, 2, 4, 4),
+                (5, 6, 4, 6),
+                (6, 1, 6, 6),
+            ]:
+                first = number * quantum
+                it.write(first, [block] * written)
+                self.assertEqual(len(it.read(first, times, True)), in_cycle)
+                self.assertEqual(len(it.read(first, times, False)), in_none)
 
     def test_what_may_be_asked_for_is_kept_and_no_more(self):
-        for capacity, kept in (128, 3), (129, 4), (200, 4), (256, 4), (257, 5), (1000, 10):
-            it = delay.Delay({"as": "d", "maxDelayTime": 1024 * capacity}, RATE, 0)
-            for first in range(0, 128 * 40, 128):
-                it.write(first, [list(range(first, first + 128))])
-                for frames in 0, 1, 127, 128, capacity - 1, capacity:
-                    found = it.read(first, [1024 * frames] * 128, False)[0]
-                    self.assertEqual(found, [max(0, n - frames) for n in range(first, first + 128)])
+        for quantum, capacity, kept in [
+            (128, 128, 3),
+            (128, 129, 4),
+            (128, 200, 4),
+            (128, 256, 4),
+            (128, 257, 5),
+            (128, 1000, 10),
+            (32, 32, 3),
+            (32, 1000, 34),
+            (1024, 1024, 3),
+            (1024, 1025, 4),
+        ]:
+            it = delay.Delay({"as": "d", "maxDelayTime": 1024 * capacity}, RATE, 0, quantum)
+            for first in range(0, quantum * 40, quantum):
+                frames = range(first, first + quantum)
+                it.write(first, [list(frames)])
+                for late in 0, 1, quantum - 1, quantum, capacity - 1, capacity:
+                    found = it.read(first, [1024 * late] * quantum, False)[0]
+                    self.assertEqual(found, [max(0, n - late) for n in frames])
             self.assertLessEqual(len(it.written), kept)
 
     def test_what_is_mixed_up_goes_by_the_interpretation_when_it_is_read(self):
-        it = delay.Delay({"as": "d"}, RATE, 0)
+        it = delay.Delay({"as": "d"}, RATE, 0, 128)
         it.write(0, [[7] * 128])
         it.write(128, [[1] * 128, [2] * 128])
         for word, wanted in ("speakers", [7, 7]), ("discrete", [7, 0]):
@@ -386,22 +421,27 @@ class Channels(unittest.TestCase):
             self.assertEqual([block[0] for block in it.read(128, [0] * 128, False)], [1, 2])
 
     def test_before_its_birth_a_delay_is_silent(self):
-        it = delay.Delay({"as": "d"}, RATE, 128)
-        it.write(128, [[5] * 128])
-        self.assertEqual(it.read(128, [1024 * 3] * 128, False), [[0, 0, 0] + [5] * 125])
-        self.assertEqual(it.read(128, [1024 * 3] * 128, True), [[0] * 128])
-        self.assertEqual(it.read(256, [1024 * 3] * 128, True), [[5] * 128])
+        for quantum in QUANTA:
+            it = delay.Delay({"as": "d"}, RATE, quantum, quantum)
+            it.write(quantum, [[5] * quantum])
+            times = [1024 * 3] * quantum
+            self.assertEqual(it.read(quantum, times, False), [[0, 0, 0] + [5] * (quantum - 3)])
+            self.assertEqual(it.read(quantum, times, True), [[0] * quantum])
+            self.assertEqual(it.read(2 * quantum, times, True), [[5] * quantum])
 
 
 class Cycles(unittest.TestCase):
     def test_a_delay_in_a_cycle_lasts_a_quantum_at_least(self):
         cycle = [gain("g", gain=0), connect("d", "g"), connect("g", "d")]
-        for frames in 0, 1, 127, 128, 129, 200:
-            calls = [*NUMBERS, *delayed(delayTime=1024 * frames), *cycle]
-            late = mono(*(max(0, n - max(128, frames)) for n in range(384)))
-            self.assertEqual(samples_of(calls), late)
-            found = samples_of([*calls, disconnect("g")])
-            self.assertEqual(found, mono(*(max(0, n - frames) for n in range(384))))
+        for quantum in QUANTA:
+            shape = {"length": 2 * quantum + 128, "renderQuantum": quantum}
+            for frames in 0, 1, quantum - 1, quantum, quantum + 1, quantum + 72:
+                calls = [*NUMBERS, *delayed(delayTime=1024 * frames), *cycle]
+                late = mono(*(max(0, n - max(quantum, frames)) for n in range(shape["length"])))
+                self.assertEqual(samples_of(calls, **shape), late)
+                found = samples_of([*calls, disconnect("g")], **shape)
+                wanted = mono(*(max(0, n - frames) for n in range(shape["length"])))
+                self.assertEqual(found, wanted)
 
     def test_a_cycle_by_a_parameter_is_one(self):
         by_gain = connect_param("d", "g", "gain")
@@ -414,17 +454,19 @@ class Cycles(unittest.TestCase):
             self.assertEqual(found, mono(0) * 128 if is_one else mono(*range(128)), more)
 
     def test_a_cycle_lasts_for_the_quanta_in_which_it_is_there(self):
-        for first, last in itertools.combinations(range(1, 4), 2):
+        places = itertools.combinations(range(1, 4), 2)
+        for quantum, (first, last) in itertools.product((32, 128, 256), places):
             calls = [
                 *NUMBERS,
                 *delayed(),
                 gain("g", gain=0),
-                suspend(128 * first, connect("d", "g"), connect("g", "d")),
-                suspend(128 * last, disconnect("d", to="g")),
+                suspend(quantum * first, connect("d", "g"), connect("g", "d")),
+                suspend(quantum * last, disconnect("d", to="g")),
             ]
-            late = range(128 * first, 128 * last)
-            wanted = mono(*(n - 128 if n in late else n for n in range(512)))
-            self.assertEqual(samples_of(calls, length=512), wanted)
+            late = range(quantum * first, quantum * last)
+            wanted = mono(*(n - quantum if n in late else n for n in range(4 * quantum)))
+            found = samples_of(calls, length=4 * quantum, renderQuantum=quantum)
+            self.assertEqual(found, wanted)
 
     def test_a_muted_delay_is_silent_and_writes(self):
         calls = [
@@ -461,17 +503,36 @@ class Cycles(unittest.TestCase):
 
 
 class Meaning(unittest.TestCase):
-    def scripts(self, count=COUNT):
+    def scripts(self, count=COUNT, quantum=None):
         """Random scripts with delays whose assets stand in a folder of their own."""
         shapes = [(1, "delayed"), (1, "crossed")]
         for number in range(count):
             with unittest.mock.patch.multiple(maker, SHAPES=[], DELAY_SHAPES=shapes):
-                script, assets = script_of(99, number, READ)
+                script, assets = script_of(99, number, READ, quantum)
             if len(script["calls"]) <= 70:
                 folder = tempfile.mkdtemp()
                 self.addCleanup(shutil.rmtree, folder)
                 write_assets(folder, assets)
                 yield number, json.dumps(script).encode(), folder
+
+    def compare(self, session, values, number):
+        """Holds a session against these values of the recursion, and gives them in one list."""
+        samples = [[numbers.sample_of(value) for value in frame] for frame in values]
+        self.assertEqual(session.samples, samples, number)
+        flat = list(itertools.chain(*values))
+        self.assertEqual((session.peak, session.sum), (max(map(abs, flat)), sum(flat)), number)
+        return flat
+
+    def test_random_sessions_of_each_quantum_are_those_of_the_recursion(self):
+        for quantum in QUANTA:
+            compared = 0
+            for number, data, folder in self.scripts(1 + COUNT // 5, quantum):
+                session, _, values = meaning.values_of(data, folder)
+                if values is not None:
+                    self.assertEqual(session.quantum, quantum)
+                    self.compare(session, values, (number, quantum))
+                    compared += 1
+            self.assertGreater(compared, 0)
 
     def test_random_sessions_are_those_of_the_recursion(self):
         compared, moving, cycles, muted = 0, 0, 0, 0
@@ -479,13 +540,7 @@ class Meaning(unittest.TestCase):
             session, tape, values = meaning.values_of(data, folder)
             if values is None:
                 continue
-            self.assertEqual(
-                session.samples,
-                [[numbers.sample_of(value) for value in frame] for frame in values],
-                number,
-            )
-            flat = list(itertools.chain(*values))
-            self.assertEqual((session.peak, session.sum), (max(map(abs, flat)), sum(flat)), number)
+            flat = self.compare(session, values, number)
             compared += 1
             moving += len(set(flat)) > 20
             cycles += any(world.in_cycle for world in tape)
@@ -523,6 +578,28 @@ class Meaning(unittest.TestCase):
 
 
 class RandomScripts(unittest.TestCase):
+    def quanta(self, quantum=None, make=script_of):
+        """How often a context tells each quantum, in scripts of which one may be told. Few have a
+        spoiled context."""
+        contexts = [make(7, number, quantum=quantum)[0].get("context") for number in range(200)]
+        told = [it.get("renderQuantum", 128) for it in contexts if isinstance(it, dict)]
+        return collections.Counter(it for it in told if type(it) is int)
+
+    def test_most_have_quanta_of_128_frames_and_some_each_other_size(self):
+        for make in functools.partial(script_of, read=READ), programs_of:
+            found = self.quanta(make=make)
+            self.assertTrue(100 < found[128] < 180, found)
+            for quantum in QUANTA:
+                self.assertGreater(found[quantum], 2, found)
+            others = sum(count for quantum, count in found.items() if quantum not in QUANTA)
+            self.assertTrue(0 < others < 12, found)
+
+    def test_all_have_the_quantum_that_is_told(self):
+        read = [op for op in READ if op != "suspend"]
+        for make in functools.partial(script_of, read=read), programs_of:
+            for quantum in 32, 128, 1024:
+                self.assertGreater(self.quanta(quantum, make)[quantum], 195)
+
     def test_delays_come_in_many_scripts(self):
         texts = [json.dumps(script_of(3, number, operations())[0]) for number in range(80)]
         found = sum('"createDelay"' in text for text in texts)

@@ -8,6 +8,7 @@ import unittest
 
 import fixtures
 from waplay_tools.expecting import reading, sessions
+from waplay_tools.expecting.numbers import QUANTA
 from waplay_tools.expecting.writing import script_text
 from waplay_tools.random_scripts.answers import REFUSALS
 from waplay_tools.random_scripts.maker import Maker
@@ -32,6 +33,7 @@ def random_script(number, spoiled=False, most=60):
     them have suspensions."""
     read = [op for op in reading.OPERATIONS if op != "suspend" or number % 2 == 0]
     maker = Maker(random.Random("tools %d" % number), read)
+    maker.draw_quantum(random.Random("quantum %d" % number), None)
     script = maker.script()
     script["calls"] = (
         script["calls"][:most] if isinstance(script.get("calls"), list) else script.get("calls")
@@ -373,6 +375,29 @@ class Following(unittest.TestCase):
             [call.ordinal for call in script.calls if call.ordinal not in answered],
             name,
         )
+
+    def test_suspensions_come_at_ends_of_quanta_of_any_size(self):
+        for quantum in QUANTA:
+            calls = [
+                {"op": "suspend", "time": 1, "then": [{"op": "resume"}]},
+                {"op": "suspend", "time": quantum + 1},
+                {"op": "startRendering"},
+            ]
+            data = fixtures.script(calls, length=2 * quantum + 1, renderQuantum=quantum)
+            script = script_reading.script_of(data)
+            lines = transcript_reading.lines_of(sessions.replayed(data)[1].encode(), "t")
+            found = Session(script, lines, ("s", "t"))
+            self.assertEqual(
+                [(mark.kind, mark.low) for mark in found.marks],
+                [("suspended", quantum), ("stalled", 2 * quantum)],
+            )
+
+    def test_the_quantum_of_a_script_is_one_that_there_is(self):
+        for told, wanted in [(32, 32), (1024, 1024), (100, 128), (0, 128), ("x", 128), (None, 128)]:
+            script = script_reading.script_of(fixtures.script([], renderQuantum=told))
+            self.assertEqual(script.quantum(), wanted)
+        self.assertEqual(script_reading.script_of(fixtures.script([])).quantum(), 128)
+        self.assertEqual(script_reading.script_of(b"[]").quantum(), 128)
 
     def test_transcripts_that_do_not_belong_to_their_script(self):
         data, text = fixtures.suspended()

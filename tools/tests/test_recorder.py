@@ -343,9 +343,15 @@ class Programs(unittest.TestCase):
 class Departures(unittest.TestCase):
     """Where Chromium is known to differ, as far as the calls show it."""
 
-    def found(self, *calls: dict, losses: tuple[str, ...] = ()) -> list[str]:
-        script = {"context": {"length": 256}, "calls": list(calls)}
+    def found(self, *calls: dict, losses: tuple[str, ...] = (), **context: int) -> list[str]:
+        script = {"context": {"length": 256, **context}, "calls": list(calls)}
         return departures.known_departures(script, set(losses))
+
+    def test_suspensions_go_by_the_quantum_of_the_context(self) -> None:
+        call = {"op": "suspend", "time": 200}
+        for quantum, is_at_an_edge in [(32, False), (64, True), (128, True), (1024, True)]:
+            found = self.found(call, renderQuantum=quantum)
+            self.assertEqual(bool(found), is_at_an_edge, quantum)
 
     def test_by_calls(self) -> None:
         loop = [{"op": "connect", "from": one, "to": other} for one, other in ("ab", "ba")]

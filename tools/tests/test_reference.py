@@ -11,11 +11,12 @@ from waplay_tools.places import TOP
 
 from waplay_tools.reference import __main__ as command
 from waplay_tools.reference import operations, picture
+from waplay_tools.reference.code import items_of
 from waplay_tools.reference.house import House
 from waplay_tools.reference.links import dead_links
 from waplay_tools.reference.pages import Reference
 from waplay_tools.reference.parts import renewed
-from waplay_tools.reference.scanning import Unreadable
+from waplay_tools.reference.scanning import Source, Unreadable
 
 # A crate of scripts: two operations with the same field, one with a field of its own, one without.
 SCRIPTS = {
@@ -250,6 +251,16 @@ class Pages(MadeUp):
             Path("index.md")
         )  # names the page of operations, which needs the crate of scripts
         self.assertEqual([], [it for it in dead_links(pages, self.top) if "index.md" not in it])
+
+
+class Clauses(unittest.TestCase):
+    def test_what_only_contracts_see_stands_among_the_clauses(self):
+        text = "fn f(a: u64)\n    ghost q: { ℕ }\n    requires low { q ≤ a }\n{\n}\n\nfn g() {}\n"
+        one, two = items_of(Source(Path("f.rt"), text))
+        self.assertEqual(one.head, "fn f(a: u64)")
+        shown = [clause.shown() for clause in one.clauses]
+        self.assertEqual(shown, ["ghost q: { ℕ }", "requires low { q ≤ a }"])
+        self.assertEqual((two.name, two.clauses), ("g", []))
 
 
 class Refusals(MadeUp):

@@ -263,6 +263,16 @@ class Report(unittest.TestCase):
                 "end refused NotSupportedError\n",
                 "A context has from 1 to 32 channels",
             ),
+            (
+                fixtures.script([gain], renderQuantum=100),
+                "end refused NotSupportedError\n",
+                "Render quantum100 frames",
+            ),
+            (
+                fixtures.script([gain], renderQuantum=1024),
+                "1 ok\nend idle\n",
+                "Render quantum1,024 frames",
+            ),
             (b"{", "script: BadJson\n", "The script is no JSON text"),
             (b"\xff", "script: BadJson\n", "byte 0 is not UTF-8"),
             (b"[]", "script: 0 script WrongKind\n", "The script is no object."),

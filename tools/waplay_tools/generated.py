@@ -119,7 +119,7 @@ class Comparison:
         scripts = {bits: Run(self.program, ["--bits", str(bits)], self.script) for bits in WIDTHS}
         lines = [
             b"summary calls %d quanta %d ended %d refused %d"
-            % (calls, session.now // 128, ended, refused)
+            % (calls, session.quanta, ended, refused)
             for calls, ended, refused in [counted(scripts[24].text)]
         ]
         self.look(

@@ -23,6 +23,7 @@ LONG = (
     "test_archive",
     "test_command_lines",
     "test_delays",
+    "test_explaining",
     "test_generated",
     "test_reading",
     "test_report",

@@ -1,6 +1,7 @@
 """Nodes that are made of what their input was up to a frame: wave shapers, IIR filters, convolvers
 and processors."""
 
+import functools
 import itertools
 import operator
 from collections.abc import Sequence
@@ -9,12 +10,11 @@ from typing import Generic, TypeVar
 from waplay_tools.expecting.nodes import Buffer, Node
 from waplay_tools.expecting.numbers import (
     ONE,
-    QUANTUM,
-    SILENCE,
     Block,
     Blocks,
     rounded_quotient,
     saturated,
+    silence,
 )
 from waplay_tools.expecting.programs import AT_BIRTH, Cells, code_of, wrong_of, written
 from waplay_tools.expecting.reading import Call
@@ -77,13 +77,14 @@ class Causal(Node, Generic[History]):
         """What it gives on a channel that hears this in a quantum, and what is kept then."""
         raise NotImplementedError
 
-    def filtered(self, blocks: Blocks) -> Blocks:
-        """What it gives that hears these channels in a quantum. Every other channel is heard as
-        0."""
+    def filtered(self, blocks: Blocks, quantum: int) -> Blocks:
+        """What it gives that hears these channels in a quantum of so many frames. Every other
+        channel is heard as 0."""
         given, histories = [], []
         for block, history in itertools.zip_longest(blocks, self.histories):
             outputs, history = self.passed(
-                SILENCE if block is None else block, self.unheard if history is None else history
+                silence(quantum) if block is None else block,
+                self.unheard if history is None else history,
             )
             given.append(outputs)
             histories.append(history)
@@ -132,24 +133,26 @@ class Filter(Causal[tuple[Frames, Frames]]):
 # is far below 2^79.
 BITS = 80
 HALF_DIGIT = 2 ** (BITS - 1)
-QUANTUM_BITS = BITS * QUANTUM
-HALF_DIGITS = sum(HALF_DIGIT << BITS * place for place in range(QUANTUM))
+
+
+@functools.cache
+def half_digits(count: int) -> int:
+    """The number with so many digits, each of which is the half of a digit's range."""
+    return int.from_bytes(HALF_DIGIT.to_bytes(BITS // 8, "little") * count, "little")
 
 
 def number_of(values: Sequence[int]) -> int:
     """The number with these digits, the first of them the lowest."""
     digits = [(HALF_DIGIT + value).to_bytes(BITS // 8, "little") for value in values]
-    halves = HALF_DIGIT.to_bytes(BITS // 8, "little") * len(digits)
-    return int.from_bytes(b"".join(digits), "little") - int.from_bytes(halves, "little")
+    return int.from_bytes(b"".join(digits), "little") - half_digits(len(digits))
 
 
-def quantum_of(number: int) -> tuple[list[int], int]:
-    """The lowest digits of a number, so many as a quantum has frames, and the number that is left
-    above them."""
-    number += HALF_DIGITS  # so that none of these digits is negative
-    low = (number & (1 << QUANTUM_BITS) - 1).to_bytes(QUANTUM_BITS // 8, "little")
+def lowest_digits(number: int, count: int) -> tuple[list[int], int]:
+    """So many of the lowest digits of a number, and the number that is left above them."""
+    number += half_digits(count)  # so that none of these digits is negative
+    low = (number & (1 << BITS * count) - 1).to_bytes(BITS // 8 * count, "little")
     digits = [low[at : at + BITS // 8] for at in range(0, len(low), BITS // 8)]
-    return [int.from_bytes(it, "little") - HALF_DIGIT for it in digits], number >> QUANTUM_BITS
+    return [int.from_bytes(it, "little") - HALF_DIGIT for it in digits], number >> BITS * count
 
 
 class Convolver(Causal[int]):
@@ -163,12 +166,13 @@ class Convolver(Causal[int]):
         self.mode = "clamped-max"
         if not call.get("disableNormalization", False):
             raise profile("normalization")
-        self.response = number_of(response_of(buffer, rate)) if buffer else 0
+        self.taps = response_of(buffer, rate) if buffer else []
+        self.response = number_of(self.taps)
 
     def passed(self, block: Block, history: int) -> tuple[Block, int]:
         """What it gives of a channel: the sums of the products of the response and what it has
         heard, each of them rounded once."""
-        sums, history = quantum_of(history + number_of(block) * self.response)
+        sums, history = lowest_digits(history + number_of(block) * self.response, len(block))
         return [saturated(rounded_quotient(it, ONE)) for it in sums], history
 
 
@@ -205,10 +209,10 @@ class Processor(Causal[Cells]):
         outputs = self.run(cells, block)
         return outputs, tuple(cells)
 
-    def filtered(self, blocks: Blocks) -> Blocks:
+    def filtered(self, blocks: Blocks, quantum: int) -> Blocks:
         """The same as of any such node."""
-        given = super().filtered(blocks)
+        given = super().filtered(blocks, quantum)
         if not self.is_at_rest:
-            before, self.unheard = self.unheard, self.passed(SILENCE, self.unheard)[1]
+            before, self.unheard = self.unheard, self.passed(silence(quantum), self.unheard)[1]
             self.is_at_rest = self.unheard == before
         return given

@@ -4,7 +4,7 @@ import os
 from collections.abc import Sequence
 
 from waplay_tools.expecting.automation import Timeline
-from waplay_tools.expecting.numbers import FIX, ONE, QUANTUM, SILENCE, Block, Blocks
+from waplay_tools.expecting.numbers import FIX, ONE, Block, Blocks, silence
 from waplay_tools.expecting.reading import Call
 from waplay_tools.expecting.wav_reading import Recording
 
@@ -72,13 +72,13 @@ class Node:
             return None
         return max(self.start, self.stop)
 
-    def played_from(self, first: int) -> range:
-        """The frames in which it plays of the quantum that begins here."""
+    def played_of(self, quantum: range) -> range:
+        """The frames in which it plays, of those of a quantum."""
         end = self.end()
         if self.start is None:
-            return range(first, first)
+            return quantum[:0]
         return range(
-            max(self.start, first), first + QUANTUM if end is None else min(end, first + QUANTUM)
+            max(self.start, quantum.start), quantum.stop if end is None else min(end, quantum.stop)
         )
 
     def times(self, call: Call) -> list[int]:
@@ -89,14 +89,16 @@ class Node:
         """Notes that the source begins at a frame, by this call of start."""
         self.start = frame
 
-    def sound(self, first: int, levels: Levels) -> Blocks:
-        """The channels of a source in the quantum that begins here, in which its parameters have
+    def sound(self, quantum: range, levels: Levels) -> Blocks:
+        """The channels of a source in the quantum of these frames, in which its parameters have
         these values. One that plays in no frame of it has one, which is silent."""
-        played = self.played_from(first)
+        played = self.played_of(quantum)
         if not played:
-            return [SILENCE]
-        before, after = SILENCE[: played.start - first], SILENCE[played.stop - first :]
-        return [[*before, *part, *after] for part in self.content(played, first, levels)]
+            return [silence(len(quantum))]
+        before = [0] * (played.start - quantum.start)
+        after = [0] * (quantum.stop - played.stop)
+        content = self.content(played, quantum.start, levels)
+        return [[*before, *part, *after] for part in content]
 
     def content(self, played: range, first: int, levels: Levels) -> Blocks:
         """What the channels of a source have in the frames in which it plays."""

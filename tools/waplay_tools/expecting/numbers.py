@@ -8,11 +8,22 @@ from collections.abc import Callable, Sequence
 ONE = 2**24
 HALF, QUARTER = ONE // 2, ONE // 4
 FIX = -(2**31), 2**31 - 1  # the ends of the range of values
-QUANTUM = 128
+QUANTA = 32, 64, 128, 256, 512, 1024  # how many frames a quantum may have
+DEFAULT_QUANTUM = 128  # where the context does not say it
 
 Block = Sequence[int]
 Blocks = Sequence[Block]  # of each channel its block
-SILENCE: Block = (0,) * QUANTUM
+
+
+@functools.cache
+def silence(frames: int) -> Block:
+    """The block of so many frames that is silent. It is the same one each time."""
+    return (0,) * frames
+
+
+def is_silence(block: Block) -> bool:
+    """Whether this is that block. One that became 0 otherwise is not."""
+    return block is silence(len(block))
 
 
 def rounded_quotient(a: int, b: int) -> int:
@@ -36,15 +47,15 @@ def bounded(block: Block, low: int, high: int) -> Block:
 def products(block: Block, levels: Block) -> Block:
     """What becomes of a block by a gain of these levels: the rounded quotients of the products and
     1.0, in the range of values."""
-    if block is SILENCE:
-        return SILENCE
+    if is_silence(block):
+        return block
     return bounded([(x * g + HALF) // ONE for x, g in zip(block, levels)], *FIX)
 
 
-def summed(blocks: list[Block]) -> Block:
-    """The exact sum of blocks, saturated once; silence where there is none. Silent ones add
-    nothing."""
-    blocks = [block for block in blocks if block is not SILENCE] or [SILENCE]
+def summed(blocks: list[Block], frames: int) -> Block:
+    """The exact sum of blocks of so many frames, saturated once; silence where there is none.
+    Silent ones add nothing."""
+    blocks = [block for block in blocks if not is_silence(block)] or [silence(frames)]
     total = blocks[0] if len(blocks) == 1 else [sum(values) for values in zip(*blocks)]
     return bounded(total, *FIX)
 
@@ -120,7 +131,8 @@ def mixed_blocks(blocks: Blocks, count: int, interpretation: str) -> Blocks:
     """The same of channels that are blocks."""
     places = moved(len(blocks), count, interpretation)
     if places is not None:
-        return [SILENCE if place is None else blocks[place] for place in places]
+        silent = silence(len(blocks[0]))
+        return [silent if place is None else blocks[place] for place in places]
     return list(zip(*(mixed(list(frame), count, interpretation) for frame in zip(*blocks))))
 
 

@@ -5,7 +5,7 @@ import re
 from collections.abc import Callable, Mapping
 from typing import Any, NoReturn
 
-from waplay_tools.expecting.numbers import ONE, QUANTUM, rounded_quotient
+from waplay_tools.expecting.numbers import DEFAULT_QUANTUM, ONE, rounded_quotient
 from waplay_tools.expecting.programs import cause_of
 
 Call = dict[str, Any]  # a call of a script, by its fields
@@ -126,7 +126,7 @@ CONTEXT: list[Field] = [
     ("channels", "count"),
     ("length", "count"),
     ("rate", "count"),
-    ("renderQuantum", "count", QUANTUM),
+    ("renderQuantum", "count", DEFAULT_QUANTUM),
 ]
 
 # The ranges of the kinds that are whole numbers.

@@ -9,14 +9,13 @@ from waplay_tools.expecting.delay import Delay
 from waplay_tools.expecting.graph import Edge, End, Graph
 from waplay_tools.expecting.nodes import SOURCES, Levels, Node
 from waplay_tools.expecting.numbers import (
-    QUANTUM,
-    SILENCE,
     Block,
     Blocks,
     bounded,
     computed_count,
     mixed_blocks,
     products,
+    silence,
     summed,
 )
 
@@ -24,17 +23,18 @@ Made = TypeVar("Made")
 Output = tuple[int, int]  # a node's number, and the output's
 
 
-def input_of(node: Node, sources: list[Blocks]) -> Blocks:
-    """The channels of an input of a node, to which outputs with these channels are connected."""
+def input_of(node: Node, sources: list[Blocks], quantum: int) -> Blocks:
+    """The channels of an input of a node, to which outputs with these channels are connected, in a
+    quantum of so many frames."""
     count = computed_count(node.mode, node.count, [len(blocks) for blocks in sources])
     mixes = [mixed_blocks(blocks, count, node.interpretation) for blocks in sources]
-    return [summed([mix[c] for mix in mixes]) for c in range(count)]
+    return [summed([mix[c] for mix in mixes], quantum) for c in range(count)]
 
 
 def computed(nominal: tuple[int, int], own: list[int], sources: list[Blocks]) -> Block:
     """The values of a parameter, which are these without what is connected to it, and are to be in
     this range."""
-    added = summed([mixed_blocks(blocks, 1, "speakers")[0] for blocks in sources])
+    added = summed([mixed_blocks(blocks, 1, "speakers")[0] for blocks in sources], len(own))
     return bounded([value + more for value, more in zip(own, added)], *nominal)
 
 
@@ -54,10 +54,10 @@ def outputs_of(node: Node, heard: list[Blocks], levels: Levels) -> list[Blocks]:
 
 class Rendering:
     """A session's nodes and connections, as they are from one frame to another at which they may
-    change."""
+    change. A quantum has so many frames."""
 
-    def __init__(self, nodes: list[Node], edges: set[Edge]) -> None:
-        self.nodes = nodes
+    def __init__(self, nodes: list[Node], edges: set[Edge], quantum: int) -> None:
+        self.nodes, self.quantum = nodes, quantum
         self.graph = Graph(nodes, edges)
         self.connected: list[list[list[Output]]] = [
             [[] for _ in range(node.inputs)] for node in self.nodes
@@ -74,7 +74,8 @@ class Rendering:
         self.muted_hearers = [node for node in muted if isinstance(node, Causal)]
         # Of each node its outputs, and of each output the blocks of its channels. A node that is
         # muted is silent.
-        self.carried: list[list[Blocks]] = [[[SILENCE]] * node.outputs for node in self.nodes]
+        silent = [silence(quantum)]
+        self.carried: list[list[Blocks]] = [[silent] * node.outputs for node in self.nodes]
         self.made: dict[Hashable, tuple[tuple[Any, ...], Any]] = {}
 
     def made_of(self, key: Hashable, make: Callable[..., Made], *inputs: Any) -> Made:
@@ -90,8 +91,9 @@ class Rendering:
 
     def heard(self, number: int) -> list[Blocks]:
         """The channels of each input of a node."""
+        node = self.nodes[number]
         return [
-            self.made_of((number, place), input_of, self.nodes[number], self.sources_of(edges))
+            self.made_of((number, place), input_of, node, self.sources_of(edges), self.quantum)
             for place, edges in enumerate(self.connected[number])
         ]
 
@@ -100,9 +102,9 @@ class Rendering:
         that of all frames."""
         node, sources = self.nodes[number], self.sources_of(self.controls[number][parameter])
         timeline = node.timelines[parameter]
-        own = timeline.values(first, 1 if timeline.is_k_rate else QUANTUM)
+        own = timeline.values(first, 1 if timeline.is_k_rate else self.quantum)
         levels: Block = self.made_of((number, parameter), computed, node.nominal, own, sources)
-        return [*levels] * QUANTUM if timeline.is_k_rate else levels
+        return [*levels] * self.quantum if timeline.is_k_rate else levels
 
     def outputs(self, end: End, first: int) -> list[Blocks]:
         """What each output of an end carries in the quantum that begins here."""
@@ -111,12 +113,12 @@ class Rendering:
             parameter: self.levels(end.node, parameter, first) for parameter in node.timelines
         }
         if node.kind in SOURCES:
-            return [node.sound(first, levels)]
+            return [node.sound(range(first, first + self.quantum), levels)]
         if isinstance(node, Delay):
             return [node.read(first, levels["delayTime"], end.node in self.graph.in_cycle)]
         heard = self.heard(end.node)
         if isinstance(node, Causal):
-            return [node.filtered(heard[0])]
+            return [node.filtered(heard[0], self.quantum)]
         return self.made_of((end.node, "outputs"), outputs_of, node, heard, levels)
 
     def render(self, end: End, first: int) -> None:
@@ -132,9 +134,9 @@ class Rendering:
 
     def quanta(self, begin: int, end: int) -> Iterator[Blocks]:
         """Of each quantum from one frame to another the blocks of the destination's channels."""
-        for first in range(begin, end, QUANTUM):
+        for first in range(begin, end, self.quantum):
             for it in self.graph.order:
                 self.render(it, first)
             for node in self.muted_hearers:  # which hear nothing then
-                node.filtered([])
+                node.filtered([], self.quantum)
             yield self.carried[0][0]

@@ -24,7 +24,7 @@ from waplay_tools.expecting.nodes import (
     Node,
     asset,
 )
-from waplay_tools.expecting.numbers import ONE, QUANTUM, samples_of_channel
+from waplay_tools.expecting.numbers import DEFAULT_QUANTUM, ONE, QUANTA, samples_of_channel
 from waplay_tools.expecting.reading import (
     LEFT_OUT,
     Call,
@@ -64,13 +64,14 @@ class Session:
     def __init__(self, script: dict[str, Any], folder: str, is_checked: bool = False) -> None:
         self.script, context = script, script["context"]
         self.channels, self.length, self.rate = (context[k] for k in ("channels", "length", "rate"))
-        self.quantum = context.get("renderQuantum", QUANTUM)
+        self.quantum = context.get("renderQuantum", DEFAULT_QUANTUM)
         self.folder, self.is_checked = folder, is_checked
         self.nodes = [Node("destination", "destination", self.channels)]
         self.buffers: list[Buffer] = []
         self.names: dict[str, int | Buffer] = {"destination": 0}  # of a node its number
         self.edges: set[Edge] = set()
         self.now, self.state = 0, "suspended"
+        self.quanta = 0  # that were rendered
         # The accepted startRendering, and the suspensions to come by their frames: of each the
         # ordinal and the list.
         self.rendering: tuple[int, list[NumberedCall]] | None = None
@@ -134,7 +135,7 @@ class Session:
 
     def create_delay(self, call: Call) -> str:
         """Makes a delay, where all delays together do not keep too many frames."""
-        delay = Delay(call, self.rate, self.now)
+        delay = Delay(call, self.rate, self.now, self.quantum)
         self.check_node_limit()
         delays = [node for node in [*self.nodes, delay] if isinstance(node, Delay)]
         if sum(it.capacity for it in delays) > DELAY_LIMIT:
@@ -366,7 +367,7 @@ class Session:
     def suspend(self, ordinal: int, call: Call, held: list[NumberedCall]) -> str:
         """Notes a suspension at the next quantum's first frame from a time on; one frame has one at
         most."""
-        frame = -(-call["time"] // QUANTUM) * QUANTUM  # rounded up
+        frame = -(-call["time"] // self.quantum) * self.quantum  # rounded up
         if not self.now < frame < self.length or frame in self.suspensions:
             raise Refused("InvalidStateError")
         self.suspensions[frame] = ordinal, held
@@ -448,7 +449,8 @@ class Session:
 
     def pass_quantum(self) -> None:
         """What comes after each quantum: sources end."""
-        self.now += QUANTUM
+        self.now += self.quantum
+        self.quanta += 1
         for number, node in enumerate(self.nodes):
             end = None if node.ended else node.end()
             if end is not None and end <= self.now:
@@ -462,13 +464,14 @@ class Session:
             self.pass_quantum()
         for node in self.nodes:
             for timeline in node.timelines.values():
-                timeline.slot = timeline.value(self.now - QUANTUM)
+                timeline.slot = timeline.value(self.now - self.quantum)
 
     def rendered(self, end: int) -> list[tuple[int, ...]]:
         """The values from now on up to a frame."""
         values: list[tuple[int, ...]] = []
-        for first, blocks in enumerate(Rendering(self.nodes, self.edges).quanta(self.now, end)):
-            frames = list(zip(*blocks))[: end - self.now - QUANTUM * first]
+        rendering = Rendering(self.nodes, self.edges, self.quantum)
+        for first, blocks in enumerate(rendering.quanta(self.now, end)):
+            frames = list(zip(*blocks))[: end - self.now - self.quantum * first]
             values += frames
             flat = list(itertools.chain(*frames))
             self.peak = max(self.peak, max(flat), -min(flat))
@@ -489,7 +492,7 @@ class Session:
             and 1 <= self.length <= 2**25
             and 8000 <= self.rate <= 96000
             and self.channels * self.length <= 2**26
-            and self.quantum == QUANTUM
+            and self.quantum in QUANTA
         ):
             return "end refused NotSupportedError"
         self.run(calls)
@@ -554,7 +557,7 @@ def summary_of(session: Session) -> str:
     words = [line.split() for line in session.lines]
     numbers = {
         "calls": session.calls_run,
-        "quanta": session.now // QUANTUM,
+        "quanta": session.quanta,
         "ended": sum(first == "ended" for first, *_ in words),
         "refused": sum(second in ("throw", "rejected") for _, second, *_ in words),
     }

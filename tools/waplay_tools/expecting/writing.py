@@ -3,7 +3,7 @@
 import json
 from typing import Any
 
-from waplay_tools.expecting.numbers import QUANTUM, rounded_quotient
+from waplay_tools.expecting.numbers import DEFAULT_QUANTUM, rounded_quotient
 from waplay_tools.expecting.programs import NUMBERS, code_of
 from waplay_tools.expecting.reading import READ, Call
 
@@ -47,7 +47,7 @@ def written_call(call: Call, rate: int) -> Call:
 def script_text(script: dict[str, Any]) -> bytes:
     """The text of a script whose times are frames: version 2, without white space, and the members
     of each object in the order of their bytes."""
-    context = {"renderQuantum": QUANTUM, **script["context"]}
+    context = {"renderQuantum": DEFAULT_QUANTUM, **script["context"]}
     value = {
         "version": 2,
         "context": {

@@ -22,9 +22,9 @@ class Run(NamedTuple):
     words: tuple[str, ...] = ("out.wav",)
 
 
-def script(length: int, *calls: Call) -> bytes:
-    """A script of these calls in one channel, which is rendered."""
-    context = {"channels": 1, "length": length, "rate": 48000}
+def script(length: int, *calls: Call, **more: int) -> bytes:
+    """A script of these calls in one channel, which is rendered. Its context may have more."""
+    context = {"channels": 1, "length": length, "rate": 48000, **more}
     whole = {"version": 1, "context": context, "calls": [*calls, {"op": "startRendering"}]}
     return json.dumps(whole).encode()
 
@@ -139,4 +139,11 @@ RUNS = [
     ),
     Run("a script with a fault", script(128, CONSTANT, {"op": "createFoo"})),
     Run("a command line that has no reading", b"", ("--bits", "8", "out.wav")),
+    *[
+        Run(
+            f"feedback through one delay in quanta of {quantum:,} frames",
+            script(384, *IMPULSE, *joined("s", "destination"), *ECHO, renderQuantum=quantum),
+        )
+        for quantum in (32, 1024)
+    ],
 ]

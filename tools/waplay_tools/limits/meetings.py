@@ -11,7 +11,6 @@ Call = dict[str, Any]
 RATE = 16384  # at it a frame of a delay is 1,024 of its units, so that frames are told exactly
 UNITS_A_FRAME = 2**24 // RATE
 LONGEST_DELAY = 16 * RATE  # frames
-LEAST_DELAY = 128  # frames
 
 
 def script(calls: list[Call], **context: int) -> Members:
@@ -126,17 +125,32 @@ def buffer_samples(number: int) -> Members:
     )
 
 
-def delay_frames(number: int) -> Members:
-    """Delays that keep so many frames in all: longest ones, a shorter one, and a last one."""
-    longest = number // LONGEST_DELAY - 1
-    last = number - longest * LONGEST_DELAY - (LONGEST_DELAY - LEAST_DELAY)
-    lengths = [*[LONGEST_DELAY] * longest, LONGEST_DELAY - LEAST_DELAY, last]
-    return script(
-        [
+def delay_frames(quantum: int) -> Callable[[int], Members]:
+    """Delays that keep the number of frames in all, where a quantum has so many: longest ones, one
+    that is a quantum shorter, and one that has what is left, which is a quantum at least."""
+
+    def made(number: int) -> Members:
+        """The script of the number."""
+        longest = number // LONGEST_DELAY - 1
+        last = number - longest * LONGEST_DELAY - (LONGEST_DELAY - quantum)
+        lengths = [*[LONGEST_DELAY] * longest, LONGEST_DELAY - quantum, last]
+        creations = [
             {"op": "createDelay", "as": "d", "maxDelayTime": length * UNITS_A_FRAME}
             for length in lengths
         ]
-    )
+        return script(creations, renderQuantum=quantum)
+
+    return made
+
+
+def short_delays(number: int) -> Members:
+    """So many delays of a frame, each of which has a quantum of 1,024, behind 15 longest ones."""
+    lengths = [*[LONGEST_DELAY] * 15, *[1] * number]
+    creations = [
+        {"op": "createDelay", "as": "d", "maxDelayTime": length * UNITS_A_FRAME}
+        for length in lengths
+    ]
+    return script(creations, renderQuantum=1024)
 
 
 def response(samples: list[int], **shape: int) -> Members:

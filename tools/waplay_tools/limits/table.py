@@ -6,6 +6,7 @@ from collections.abc import Callable
 from pathlib import Path
 
 from waplay_tools.cases.case import Case, case_of
+from waplay_tools.expecting.numbers import QUANTA
 from waplay_tools.limits import meetings
 from waplay_tools.limits.meetings import Members, calls, context, items, letters
 
@@ -111,10 +112,20 @@ SESSION = [
         "ok",
         THROWS + PROFILE + "buffer-limit",
     ),
+    *[
+        Limit(
+            f"frames in all delays, in quanta of {quantum:,}",
+            2**22,
+            meetings.delay_frames(quantum),
+            "ok",
+            THROWS + PROFILE + "delay-limit",
+        )
+        for quantum in (32, 128, 1024)
+    ],
     Limit(
-        "frames in all delays",
-        2**22,
-        meetings.delay_frames,
+        "delays of a quantum of 1,024 frames, beside 15 longest ones",
+        256,
+        meetings.short_delays,
         "ok",
         THROWS + PROFILE + "delay-limit",
     ),
@@ -135,6 +146,13 @@ SESSION = [
     *both("channels of a context", 1, 32, context("channels"), IDLE, REFUSED),
     *both("frames of a context", 1, 2**25, context("length"), IDLE, REFUSED),
     *both("rate of a context", 8000, 96000, context("rate"), IDLE, REFUSED),
+    *[
+        limit
+        for size in QUANTA
+        for limit in both(
+            f"render quantum near {size:,}", size, size, context("renderQuantum"), IDLE, REFUSED
+        )
+    ],
 ]
 
 # Those of a text.
@@ -220,14 +238,6 @@ NUMBERS = [
         "ok",
         OUT_OF_RANGE.format("code"),
     ),
-    *both(
-        "render quantum of a context",
-        128,
-        128,
-        meetings.context("renderQuantum"),
-        IDLE,
-        "end refused NotSupportedError",
-    ),
     *both("version", 1, 2, meetings.version, IDLE, "script: 0 version OutOfRange"),
     Limit(
         "digits of seconds before the point",
@@ -285,6 +295,16 @@ NUMBERS = [
         REJECTED + "InvalidStateError",
         -1,
     ),
+    *[
+        Limit(
+            f"frame of a suspension, of two quanta of {quantum:,} in all",
+            quantum,
+            calls(last=SUSPEND, field="time", length=2 * quantum, renderQuantum=quantum),
+            "pending",
+            REJECTED + "InvalidStateError",
+        )
+        for quantum in QUANTA
+    ],
 ]
 
 # Those of nodes and buffers.

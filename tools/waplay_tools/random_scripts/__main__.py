@@ -6,7 +6,8 @@ of another rate, links, folders, and paths that lead nowhere or out of the folde
 scripts have suspensions. A script and its assets hang on the seed and its number, and on which
 operations are read: what the program does not read is in no script, and gets a line. With
 --programs the scripts are short ones with sixteen random programs of processors each. With
---version 2 their times are seconds.
+--version 2 their times are seconds. Two thirds of them have render quanta of 128 frames, and the
+others of any size that there is; --quantum gives all of them one size.
 
 A comparison prints a line for each difference, then how often each answer came up and which of
 those that can come up did not, and last how many scripts differ. The status is 0 where none does.
@@ -20,6 +21,7 @@ import sys
 import tempfile
 from pathlib import Path
 
+from waplay_tools.expecting.numbers import QUANTA
 from waplay_tools.places import BUILT
 from waplay_tools.random_scripts.assets import Assets, put_assets, write_assets
 from waplay_tools.random_scripts.comparing import Of, compare, enter, read_by, tell_missing
@@ -65,6 +67,12 @@ def _add_scripts(words: argparse.ArgumentParser) -> None:
         choices=[0, 1, 2],
         default=1,
         help="the version of the scripts, 1 by default; 0: either",
+    )
+    words.add_argument(
+        "--quantum",
+        type=int,
+        choices=QUANTA,
+        help="how many frames a render quantum has in all scripts, any size by default",
     )
 
 
@@ -113,9 +121,9 @@ def give(folder: Path | None, script: dict, assets: Assets) -> None:
 
 def scripts_of(asked: argparse.Namespace, read: list[str]) -> Of:
     """The scripts that are asked for, of which the program reads these operations."""
-    made: Of = functools.partial(script_of, read=read)
+    made: Of = functools.partial(script_of, read=read, quantum=asked.quantum)
     if asked.programs:
-        made = programs_of
+        made = functools.partial(programs_of, quantum=asked.quantum)
     if asked.version != 1:
         made = Versions(made, asked.version)
     return made

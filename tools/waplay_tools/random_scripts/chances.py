@@ -158,6 +158,9 @@ SPOILED: list[Any] = [
     [2**31, 1],
 ]
 
+# What a context may tell of the frames of a render quantum, and is refused for.
+NO_QUANTA = [0, 1, 31, 33, 63, 65, 96, 100, 127, 129, 255, 257, 1000, 1023, 1025, 2048, 2**32 - 1]
+
 # What the program has to read for a shape. Where it does not, a graph is made.
 CHANNELS = ("createChannelSplitter", "createChannelMerger")
 NEEDED = {

@@ -2,6 +2,7 @@
 
 import random
 
+from waplay_tools.expecting.numbers import DEFAULT_QUANTUM
 from waplay_tools.expecting.sessions import ATTRIBUTES
 from waplay_tools.random_scripts.kinds import (
     AUTOMATED,
@@ -42,10 +43,17 @@ class Choices:
         self.now = 0  # the frame at which the calls in the making are to be done
         self.length = self.channels = 1
         self.rate = 48000
+        # The frames of a render quantum, and what the context tells of them.
+        self.quantum = self.told_quantum = DEFAULT_QUANTUM
 
     def may(self, chance: float) -> bool:
         """Whether something is done that has this chance, from 0 to 1."""
         return self.rng.random() < chance
+
+    def near(self, quanta: int) -> list[int]:
+        """The frames around the end of so many quanta."""
+        end = quanta * self.quantum
+        return [end - 1, end, end + 1]
 
     def new_name(self) -> str:
         """A name for an object: now and then that of another one, and some as long as a name may

@@ -51,7 +51,7 @@ class Echoes(Effects):
             calls = self.timeline(name)[: self.rng.choice([2, 4, 8])]
         elif some < 8:
             calls = [self.create_gain()]
-            calls[0]["gain"] = self.seconds(self.rng.choice([1, 10, 128, 400, -40]))
+            calls[0]["gain"] = self.seconds(self.rng.choice([1, 10, self.quantum, 400, -40]))
             calls += [
                 self.joined(self.rng.choice(sources), calls[0]["as"]),
                 self.connect_param(calls[0]["as"], name),
@@ -124,7 +124,7 @@ class Echoes(Effects):
     def for_some_quanta(self, name: str) -> Calls:
         """Suspensions between which a delay is in a cycle, is muted by its own time, or has another
         interpretation."""
-        frames = [128 * k for k in range(1, 6) if 128 * k < self.length]
+        frames = list(range(0, self.length, self.quantum))[1:6]
         gain = {"op": "createGain", "as": "between", "gain": self.rng.randint(-ONE // 2, ONE)}
         control = {"from": name, "to": name, "param": "delayTime"}
         changes: list[tuple[Calls, Calls]] = [
@@ -167,10 +167,11 @@ class Echoes(Effects):
         """The sources start, and most of them are short or move."""
         calls = []
         for name in sources:
-            when = self.rng.choice([0, 0, 0, 1, 127, 128, self.rng.randint(0, self.length)])
+            begins = [0, 0, 0, 1, *self.near(1)[:2], self.rng.randint(0, self.length)]
+            when = self.rng.choice(begins)
             calls.append(self.call("start", [("node", name), ("when", when)]))
             if self.may(0.6):
-                played = self.rng.choice([1, 1, 2, 100, 128, self.rng.randint(1, 300)])
+                played = self.rng.choice([1, 1, 2, 100, self.quantum, self.rng.randint(1, 300)])
                 calls.append(self.call("stop", [("node", name), ("when", when + played)]))
             elif self.names[name].parameter and self.may(0.6):
                 calls += self.timeline(name)[:4]

@@ -207,10 +207,11 @@ class Effects(Graphs):
         if filters and self.suspends:
             calls += self.for_a_while(calls, self.rng.choice(filters))
         for name in sources:
-            when = self.rng.choice([0, 0, 1, 127, 128, self.rng.randint(0, self.length)])
+            begins = [0, 0, 1, *self.near(1)[:2], self.rng.randint(0, self.length)]
+            when = self.rng.choice(begins)
             calls.append(self.call("start", [("node", name), ("when", when)]))
             if self.may(0.6):
-                played = self.rng.choice([1, 1, 2, 128, self.rng.randint(1, 300)])
+                played = self.rng.choice([1, 1, 2, self.quantum, self.rng.randint(1, 300)])
                 calls.append(self.call("stop", [("node", name), ("when", when + played)]))
             elif self.names[name].parameter and self.may(0.5):
                 calls += self.timeline(name)[:4]

@@ -21,7 +21,7 @@ class Limits(Rooms):
             calls.append(
                 {**self.create_delay(), "maxDelayTime": min(16 * ONE, self.seconds(frames) + 1)}
             )
-            capacities += max(frames, 128)
+            capacities += max(frames, self.quantum)
         calls += [self.create_delay() for _ in range(10)] + self.kept_quiet(
             [self.create_constant()]
         )
@@ -79,7 +79,7 @@ class Limits(Rooms):
             for merger in mergers
             for place in range(32)
         ]
-        self.length = min(self.length, 130)
+        self.length = min(self.length, self.quantum + 2)
         calls += [{**self.disconnect(), "from": splitter} for _ in range(self.rng.randint(0, 3))]
         calls.append(self.joined(mergers[0], "destination"))
         calls += [self.connect_param() for _ in range(4) if "connectParam" in self.read_ops]
@@ -90,7 +90,7 @@ class Limits(Rooms):
         count = 1500 if "createDelay" in self.kinds else 1030  # there may not be so many delays
         calls = [self.create_node() for _ in range(count)]
         calls += [self.connect() for _ in range(300)] + [self.start() for _ in range(100)]
-        self.length = min(self.length, 130)
+        self.length = min(self.length, self.quantum + 2)
         return calls + [self.any_call() for _ in range(30)] + [self.start_rendering()]
 
     def tangle(self) -> Calls:
@@ -101,7 +101,7 @@ class Limits(Rooms):
         calls = sources + gains
         calls += [{"op": "connect", "from": a["as"], "to": b["as"]} for a in sources for b in gains]
         calls += [{"op": "start", "node": a["as"]} for a in sources]
-        self.length = min(self.length, 130)
+        self.length = min(self.length, self.quantum + 2)
         return calls + [self.any_call() for _ in range(30)] + [self.start_rendering()]
 
     def faulty(self) -> Calls:

@@ -2,11 +2,24 @@
 
 import json
 import os
+from collections.abc import Callable
 
 from waplay_tools import wav
 from waplay_tools.expecting.reading import OPERATIONS as FIELDS
 from waplay_tools.random_scripts.assets import write_assets
 from waplay_tools.random_scripts.kinds import ONE, Call, Calls, Script
+
+
+def in_quanta(quantum: int, load: Callable[[], Script]) -> Callable[[], Script]:
+    """The same load in render quanta of so many frames."""
+
+    def made() -> Script:
+        """The script."""
+        script = load()
+        script["context"]["renderQuantum"] = quantum
+        return script
+
+    return made
 
 
 def script_with(channels: int, length: int, calls: Calls) -> Script:
@@ -321,7 +334,7 @@ def write_loads(folder: str) -> None:
             write_assets(folder, {name + ".json": text.encode(), **assets})
 
 
-LOADS = {
+LOADS: dict[str, Callable[[], Script]] = {
     "a": pairs_of_constants_and_gains,  # 200 constants into 200 gains, 2 channels, 480,000 frames
     "b": chain_of_gains,  # 400 gains one behind the other, 1 channel, 480,000 frames
     "c": layers_of_gains,  # 30 layers of 30 gains with 9 connections each, 48,000 frames
@@ -342,4 +355,6 @@ LOADS = {
     "r": loop_through_the_longest_room,  # a loop of g through 16,384 taps, 48,000 frames
     "s": loops_through_small_rooms,  # g, each loop through a convolver of 300 taps, 48,000 frames
     "t": loops_through_processors,  # g, each loop through a program of 25 instructions
+    "u": in_quanta(32, voices_with_ramps),  # i in quanta of 32 frames
+    "v": in_quanta(1024, voices_with_ramps),  # i in quanta of 1,024 frames
 }

@@ -69,7 +69,7 @@ class Parameters(Nodes):
                 edits.append(self.any_edit(name))
             edits.append(self.edit(self.rng.choice(events), name, min(TIME, time)))
             time += max(0, edits[-1].get("duration", 0))
-            to_quantum = -time % 128 + self.rng.randint(-1, 1)
+            to_quantum = -time % self.quantum + self.rng.randint(-1, 1)
             time += self.rng.choice(
                 [0, 0, 1, 1, 2, self.rng.randint(1, 40), self.rng.randint(1, 40), to_quantum]
             )

@@ -11,29 +11,31 @@ class Suspensions(Sounds):
     def suspension_time(self) -> int:
         """A time that is rounded up to a frame to come, or now and then one at which there can be
         no suspension."""
-        ahead = range(self.now // 128 * 128 + 128, self.length, 128)
+        quantum, now = self.quantum, self.now
+        last = quantum - 1  # the last frame of the first quantum
+        ahead = range(now // quantum * quantum + quantum, self.length, quantum)
         if ahead and self.may(0.8):
-            return self.rng.choice(ahead) - self.rng.choice(
-                [0, 0, 0, 1, 127, self.rng.randint(0, 127)]
-            )
-        past = self.rng.choice([0, -1, -127, -128, self.now, self.now - 1, self.now - 127, -TIME])
+            early = self.rng.choice([0, 0, 0, 1, last, self.rng.randint(0, last)])
+            return self.rng.choice(ahead) - early
+        past = self.rng.choice([0, -1, -last, -quantum, now, now - 1, now - last, -TIME])
         late = self.rng.choice(
             [
                 self.length,
                 self.length - 1,
                 self.length + 1,
-                -(-self.length // 128) * 128 - 128,
+                (self.length - 1) // quantum * quantum,
                 TIME,
             ]
         )
-        return self.rng.choice([past, late, self.now + 1])
+        return self.rng.choice([past, late, now + 1])
 
     def suspend(self, time: int | None = None) -> Call:
         """A suspension at this time, or mostly at one to come, with a list of changes."""
         time = self.suspension_time() if time is None else time
         call = self.call("suspend", [("time", time)])
         if self.may(0.97):
-            call["then"] = self.changes(max(0, min(-(-time // 128) * 128, self.length)))
+            rounded = -(-time // self.quantum) * self.quantum
+            call["then"] = self.changes(max(0, min(rounded, self.length)))
         return call
 
     def changes(self, frame: int) -> Calls:
@@ -88,9 +90,9 @@ class Suspensions(Sounds):
 
     def suspended(self, calls: Calls) -> Calls:
         """The calls with suspensions between them, which are made in order of time."""
-        calls, ahead = list(calls), range(128, self.length, 128)
+        calls, ahead = list(calls), range(self.quantum, self.length, self.quantum)
         frames = self.rng.sample(ahead, min(len(ahead), self.rng.choice([1, 1, 2, 3, 5])))
-        times = [frame - self.rng.choice([0, 0, 0, 1, 127]) for frame in frames]
+        times = [frame - self.rng.choice([0, 0, 0, 1, self.quantum - 1]) for frame in frames]
         times += [self.suspension_time() for _ in range(self.rng.choice([0, 0, 1, 2]))]
         for call in [self.suspend(time) for time in sorted(times)]:
             calls.insert(self.rng.randint(len(calls) // 2, len(calls)), call)
@@ -99,7 +101,7 @@ class Suspensions(Sounds):
     def for_a_while(self, calls: Calls, name: str) -> Calls:
         """Suspensions that bring a node into a cycle and out of it, or that take something away
         from it which is connected by these calls, and give it back."""
-        frames = [128 * k for k in range(1, 6) if 128 * k < self.length]
+        frames = list(range(0, self.length, self.quantum))[1:6]
         heard = [call for call in calls if call["op"] == "connect" and call["to"] == name]
         changes = self.joined(name, name), {"op": "disconnect", "from": name, "to": name}
         if heard and self.may(0.6):

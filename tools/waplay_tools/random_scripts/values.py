@@ -24,7 +24,7 @@ class Values(Choices):
         if some < 6:
             return self.rng.randint(max(0, self.now - 100), self.length)
         if some < 8:
-            return self.now + self.rng.choice([0, 1, 127, 128, 129, 256])
+            return self.now + self.rng.choice([0, 1, *self.near(1), 2 * self.quantum])
         return self.rng.choice([self.length + self.rng.randint(-1, 130), -1, TIME, -TIME])
 
     def value(self) -> int:
@@ -59,7 +59,7 @@ class Values(Choices):
         """A time of a delay. Most are some quanta at most; some lie where rounding turns, or past
         the ends."""
         some, frames = self.rng.randint(0, 19), self.rng.choice(
-            [0, 1, 2, 127, 128, 129, 255, 256, 257]
+            [0, 1, 2, *self.near(1), *self.near(2)]
         )
         if some < 8:
             frames = self.rng.choice([self.rng.randint(0, 40), self.rng.randint(0, 400)])
@@ -137,7 +137,7 @@ class Values(Choices):
         end to end of what a response may have, and some are small, for the sake of halves. Now and
         then one is too loud."""
         rng, some, most = self.rng, self.rng.randint(0, 19), 2 * ONE
-        length = rng.choice([1, 1, 2, 3, 127, 128, 129, 300, rng.randint(1, 40)])
+        length = rng.choice([1, 1, 2, 3, *self.near(1), 300, rng.randint(1, 40)])
         if self.may(0.4):
             length = rng.randint(1, 300)
         if some < 7:
@@ -166,7 +166,7 @@ class Values(Choices):
             return self.rng.randint(2, 40)
         if some < 17:
             return self.rng.choice(
-                [1, 1, 2, 3, 127, 128, 129, self.rng.randint(1, self.length + 1)]
+                [1, 1, 2, 3, *self.near(1), self.rng.randint(1, self.length + 1)]
             )
         return self.rng.choice(
             [self.length + self.rng.randint(0, 300), TIME, TIME - 1, 2**39, 2**31, 0, -1, -TIME]
@@ -183,7 +183,7 @@ class Values(Choices):
             time = (
                 self.now
                 + self.rng.choice([0, 0, 1, 2, 3])
-                + self.rng.choice([0, 0, 127, 128, 255, 256])
+                + self.rng.choice([0, 0, *self.near(1)[:2], *self.near(2)[:2]])
             )
         else:
             far = [TIME, TIME - self.rng.randint(0, 300), self.length + self.rng.randint(-1, 300)]
@@ -209,4 +209,6 @@ class Values(Choices):
         some = self.rng.randint(0, 19)
         if some < 12:
             return self.rng.randint(1, 12)
-        return self.rng.randint(1, 400) if some < 19 else self.rng.choice([127, 128, 129, 256, 257])
+        if some < 19:
+            return self.rng.randint(1, 400)
+        return self.rng.choice([*self.near(1), *self.near(2)[1:]])

@@ -4,9 +4,10 @@ import itertools
 from collections.abc import Iterable, Iterator
 from typing import Any
 
+from waplay_tools.expecting.numbers import DEFAULT_QUANTUM
 from waplay_tools.recorder.channels import Call, Channels
-from waplay_tools.recorder.hearing import (QUANTUM, Spans, Ways, has_idle_node,
-                                           has_idle_timeline, reached, ways_of)
+from waplay_tools.recorder.hearing import (Spans, Ways, has_idle_node, has_idle_timeline, reached,
+                                           ways_of)
 
 
 def all_calls(calls: list[Call]) -> Iterator[Call]:
@@ -27,9 +28,10 @@ def changes_at_once(call: Call) -> bool:
     return call["op"].startswith(("connect", "disconnect", "setChannel", "setValue"))
 
 
-def is_at_an_edge(time: int, length: int) -> bool:
-    """Whether a suspension is at frame 0, at the length, or rounded up to the length or past it."""
-    return time == 0 or time <= length <= -(-time // QUANTUM) * QUANTUM
+def is_at_an_edge(time: int, length: int, quantum: int) -> bool:
+    """Whether a suspension is at frame 0, at the length, or rounded up by quanta of so many frames
+    to the length or past it."""
+    return time == 0 or time <= length <= -(-time // quantum) * quantum
 
 
 def is_at_its_most(calls: list[Call], delay: Call) -> bool:
@@ -133,14 +135,15 @@ def known_departures(script: dict[str, Any], losses: set[str],
     found = [*graph_departures(calls), *channel_departures(script, of_path or {})]
     found += [text for kind, text in BY_LOSS.items() if kind in losses]
     found += [text for op, text in BY_OPERATION.items() if op in ops]
-    spans = Spans(script["calls"])
+    quantum = script["context"].get("renderQuantum", DEFAULT_QUANTUM)
+    spans = Spans(script["calls"], quantum)
     if has_idle_timeline(script["calls"], spans):
         found.append(IDLE_TIMELINE)
     if has_idle_node(script["calls"], spans):
         found.append(IDLE_NODE)
     suspensions = [call for call in calls if call["op"] == "suspend"]
     length = script["context"]["length"]
-    if any(is_at_an_edge(call["time"], length) for call in suspensions):
+    if any(is_at_an_edge(call["time"], length, quantum) for call in suspensions):
         found.append("a suspension at frame 0 or at the length is accepted by Chromium")
     if any(changes_at_once(inner) for call in suspensions for inner in call.get("then", [])):
         found.append(LATE_CHANGE)

@@ -6,7 +6,6 @@ from collections.abc import Iterable, Iterator
 
 from waplay_tools.recorder.channels import Call
 
-QUANTUM = 128
 NEVER = float("inf")
 MOVING = ("linearRampToValueAtTime", "setValueCurveAtTime")
 MOST_WORK = 5_000_000  # links that are looked at; where there are more, anything may be
@@ -65,12 +64,12 @@ def links_of(calls: list[Call]) -> list[Link]:
     return links
 
 
-def sources_of(calls: list[Call]) -> dict[str, Source]:
-    """The sources that are started."""
+def sources_of(calls: list[Call], quantum: int) -> dict[str, Source]:
+    """The sources that are started, where a quantum has so many frames."""
     found: dict[str, Source] = {}
     for call, now in dated(calls):
         if call["op"] == "start":
-            found[call["node"]] = Source(max(now, call.get("when", 0)) // QUANTUM * QUANTUM)
+            found[call["node"]] = Source(max(now, call.get("when", 0)) // quantum * quantum)
         elif call["op"] == "stop" and call["node"] in found:
             found[call["node"]].until = max(now, call.get("when", 0))
     return found
@@ -115,10 +114,11 @@ GOING_ON = ("createBufferSource", "createDelay", "createIIRFilter", "createConvo
 
 
 class Spans:
-    """What plays or hears something and what is heard, between the frames where that changes."""
+    """What plays or hears something and what is heard, between the frames where that changes. A
+    quantum has so many frames."""
 
-    def __init__(self, calls: list[Call]) -> None:
-        self.links, self.sources = links_of(calls), sources_of(calls)
+    def __init__(self, calls: list[Call], quantum: int) -> None:
+        self.links, self.sources = links_of(calls), sources_of(calls, quantum)
         times = {0.0, NEVER, *(now for _, now in dated(calls))}
         times |= {at for source in self.sources.values() for at in (source.since, source.until)}
         self.bounds = sorted(times)

@@ -18,15 +18,16 @@ QUALIFIERS = re.compile(r"(?:(?:const|unsafe)\s+(?=fn\b))*")
 KIND = re.compile(
     r"(fn|struct|enum|trait|impl|const|static|type|use|mod|ghost|macro_rules!)(?![A-Za-z0-9_])"
 )
-CLAUSE = re.compile(r"(requires|ensures)(\*?)\s*([a-z_][A-Za-z0-9_]*)?\s*(?=\{)")
-CLAUSE_OR_BODY = re.compile(r"(?<![A-Za-z0-9_])(?:requires|ensures)(?![A-Za-z0-9_])|\{|;")
+CLAUSE = re.compile(r"(requires|ensures|ghost)(\*?)\s*([a-z_][A-Za-z0-9_]*:?)?\s*(?=\{)")
+CLAUSE_OR_BODY = re.compile(r"(?<![A-Za-z0-9_])(?:requires|ensures|ghost)(?![A-Za-z0-9_])|\{|;")
 BODY_OR_END = re.compile(r"\{|;")
 END = re.compile(r";")
 
 
 @dataclasses.dataclass
 class Clause:
-    """A clause of a contract: `requires`, `ensures` or `ensures*`, its name and what it says."""
+    """A clause of a contract: `requires`, `ensures` or `ensures*`, its name and what it says; or
+    `ghost`, the name of what only contracts see with a colon, and its type."""
 
     word: str
     name: str

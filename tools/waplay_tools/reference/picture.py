@@ -31,7 +31,7 @@ Rendering
     1 automation      parameter values
     2 delay_bank      all delays
     3 filter_bank     all causal nodes
-    4 quantum_blocks  128 frames each
+    4 quantum_blocks  a quantum each
     5 quantum_render  one pass
 The graph
     0 conn_graph      connections

@@ -10,6 +10,7 @@ import dataclasses
 import difflib
 from typing import Any
 
+from waplay_tools.expecting.numbers import DEFAULT_QUANTUM
 from waplay_tools.reporting import entries
 from waplay_tools.reporting.difference import call_text
 from waplay_tools.reporting.script_reading import Call, Script
@@ -156,7 +157,7 @@ def _find_moved(changes: list[Change]) -> None:
 
 
 def head_of(script: Script) -> dict[str, Any]:
-    """What a script says of its context."""
+    """What a script says of its context. It has a render quantum, also where it tells none."""
     value = script.value if isinstance(script.value, dict) else {}
     context = value.get("context")
-    return context if isinstance(context, dict) else {}
+    return {"renderQuantum": DEFAULT_QUANTUM, **context} if isinstance(context, dict) else {}

@@ -14,7 +14,6 @@ from waplay_tools.expecting.reading import RANGES, Field
 Fields = dict[str, list[Field]]  # of an operation
 
 ONE = 2**24
-QUANTUM = 128
 
 KINDS = (*RANGES, "bool", "list", "name", "param", "new name", "path", "code", "calls", "object")
 

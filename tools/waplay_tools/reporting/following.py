@@ -8,7 +8,7 @@ from typing import Any, NoReturn
 
 from waplay_tools.reporting import entries, programs
 from waplay_tools.reporting.script_reading import Call, Script
-from waplay_tools.reporting.sources import Book, quantum_end
+from waplay_tools.reporting.sources import Book
 from waplay_tools.reporting.text import BadInput, as_it_is, counted, grouped, quoted
 from waplay_tools.reporting.transcript_reading import Line
 
@@ -60,10 +60,14 @@ class Session:
         self.book, self.now, self.at = Book(lengths), 0, 0
         self.rendering: int | None = None
         self.suspensions: dict[int, int] = {}  # of ordinals, the frames at which they are due
-        self.length = script.context("length")
+        self.length, self.quantum = script.context("length"), script.quantum()
         self._follow()
         self._settle_marks()
         self.not_run = [call for call in script.calls if call.ordinal not in self.answered]
+
+    def _quantum_end(self, frame: int) -> int:
+        """The first end of a quantum that is not before the frame."""
+        return -(-frame // self.quantum) * self.quantum
 
     # The lines one after the other.
 
@@ -154,7 +158,7 @@ class Session:
             elif line.kind == "pending" and call.op == "startRendering":
                 self.rendering = ordinal
             elif line.kind == "pending":
-                self.suspensions[ordinal] = quantum_end(call.field("time"))
+                self.suspensions[ordinal] = self._quantum_end(call.field("time"))
 
     def _detail(self, line: Line, call: Call) -> str:
         """Of a TypeError, what the names of the call stand for at that moment; of a program, why it
@@ -219,7 +223,7 @@ class Session:
 
     def _finished(self, line: Line) -> None:
         """The end of rendering, with the list of startRendering."""
-        call, self.now = self.script.by_ordinal[line.ordinal], quantum_end(self.length)
+        call, self.now = self.script.by_ordinal[line.ordinal], self._quantum_end(self.length)
         self._begin(
             f"Rendered to the end, at frame {grouped(self.now)}: the list of call {call.ordinal}"
         )
@@ -243,12 +247,12 @@ class Session:
         self.parts = [part for part in self.parts if part.rows]
         told = 0
         for mark in self.marks:
-            told = max(told, quantum_end(mark.low))
+            told = max(told, self._quantum_end(mark.low))
             if mark.low != mark.high:
-                mark.low = max(mark.low, told - entries.QUANTUM + 1, 0)
-        told = quantum_end(self.length)
+                mark.low = max(mark.low, told - self.quantum + 1, 0)
+        told = self._quantum_end(self.length)
         for mark in reversed(self.marks):
-            told = min(told, quantum_end(mark.high))
+            told = min(told, self._quantum_end(mark.high))
             if mark.low != mark.high:
                 mark.high = min(mark.high, told)
             mark.low = min(mark.low, mark.high)

@@ -6,6 +6,7 @@ import hashlib
 import os
 from collections.abc import Iterator
 
+from waplay_tools.expecting.numbers import DEFAULT_QUANTUM
 from waplay_tools.reporting import (
     calls_html,
     graph_html,
@@ -59,6 +60,9 @@ def _facts(content: Content) -> Iterator[tuple[str, str]]:
         channels = counted(script.context("channels"), "channel")
         frames = counted(length, "frame")
         yield "Context", f"{channels}, {frames}, {grouped(rate)} frames a second"
+        quantum = script.context("renderQuantum")
+        if quantum not in (0, DEFAULT_QUANTUM):
+            yield "Render quantum", counted(quantum, "frame")
         yield "Duration", seconds(length, rate)
         refused = grouped(session.count("throw", "rejected"))
         yield "Calls", f"{grouped(len(script.calls))}, {refused} refused"

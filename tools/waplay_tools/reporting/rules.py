@@ -191,8 +191,8 @@ _OF_OPERATION: dict[tuple[str, str | None], str] = {
         "suspend",
         "InvalidStateError",
     ): (
-        "A suspension comes at the end of a quantum of 128 frames, rounded up, after the present"
-        " and before the length; one end has one suspension."
+        "A suspension comes at the end of a quantum, rounded up, after the present and before the"
+        " length; one end has one suspension."
     ),
     ("startRendering", "InvalidStateError"): "Rendering is started once.",
     (
@@ -250,7 +250,8 @@ _NAMES = {
 
 CONTEXT = (
     "A context has from 1 to 32 channels, from 1 to 33,554,432 frames, from 8,000 to 96,000 frames"
-    " a second, at most 67,108,864 samples, and a render quantum of 128 frames."
+    " a second, at most 67,108,864 samples, and a render quantum of 32, 64, 128, 256, 512 or 1,024"
+    " frames."
 )
 
 

@@ -8,6 +8,7 @@ version 2 has a 2 behind its name.
 import json
 from typing import Any
 
+from waplay_tools.expecting.numbers import DEFAULT_QUANTUM
 from waplay_tools.reporting import entries, rules
 from waplay_tools.reporting.text import grouped
 
@@ -59,8 +60,8 @@ DOES = {
     "setTargetAtTime": "Is always refused: approaching a target is no part of the profile.",
     "readValue": "Reads the value of a parameter.",
     "suspend": (
-        "Suspends rendering at a frame, rounded up to a multiple of 128; then its list of calls is"
-        " done."
+        "Suspends rendering at a frame, rounded up to the end of a render quantum; then its list of"
+        " calls is done."
     ),
     "startRendering": "Starts rendering; its list of calls is done when the length is reached.",
     "resume": "Resumes rendering, from within the list of a suspension.",
@@ -302,7 +303,7 @@ def _context() -> dict[str, Any]:
             "renderQuantum": {
                 **count,
                 "description": "Frames that are rendered at a time.",
-                "default": entries.QUANTUM,
+                "default": DEFAULT_QUANTUM,
             },
         },
     }

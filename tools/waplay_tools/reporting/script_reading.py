@@ -8,6 +8,7 @@ yet. The times of its calls are frames in either version: what stands for the se
 from typing import Any
 
 from waplay_tools.expecting import reading
+from waplay_tools.expecting.numbers import DEFAULT_QUANTUM, QUANTA
 from waplay_tools.reporting import entries
 from waplay_tools.reporting.text import BadInput, Written, visible
 
@@ -47,6 +48,12 @@ class Script:
         context = self.value.get("context") if isinstance(self.value, dict) else None
         number = context.get(name) if isinstance(context, dict) else None
         return number if type(number) is int else 0
+
+    def quantum(self) -> int:
+        """The frames of a render quantum; those by default where the context tells none that there
+        are."""
+        told = self.context("renderQuantum")
+        return told if told in QUANTA else DEFAULT_QUANTUM
 
 
 def _put_frames(call: Call, rate: int) -> None:

@@ -12,11 +12,6 @@ from waplay_tools.reporting import entries
 from waplay_tools.reporting.script_reading import Call
 
 
-def quantum_end(frame: int) -> int:
-    """The first end of a quantum that is not before the frame."""
-    return -(-frame // entries.QUANTUM) * entries.QUANTUM
-
-
 class Thing:
     """A node or a buffer: its kind in words, its number if it is a node, and the call that made
     it."""

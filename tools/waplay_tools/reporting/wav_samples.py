@@ -14,7 +14,7 @@ from waplay_tools.expecting.wav_reading import WavFault, chunks_of, recording_of
 from waplay_tools.reporting.text import BadInput
 
 TOLERANCE = 2.0**-16  # what two samples may differ by, where nothing is said
-QUANTUM = 128
+STRETCH = 128  # frames in which differences are looked for together
 FLOAT, EXTENSIBLE = 3, 0xFFFE  # tags of a format
 FLOAT_FORM = bytes.fromhex("0300000000001000800000aa00389b71")  # of an extended format
 
@@ -192,7 +192,7 @@ class Difference(NamedTuple):
 
 class Place(NamedTuple):
     """Frames in which a difference is beyond the tolerance, from the first to the last one, with
-    the greatest magnitude there. Between two places lies a whole quantum without one."""
+    the greatest magnitude there. Between two places lies a whole stretch without one."""
 
     first: int
     last: int
@@ -216,9 +216,9 @@ class Differences:
         ]
         self.shapes = _shapes(first, second)
         self.count = sum(len(channel) - channel.count(0) for channel in self.channels)
-        self.loud = [_loud_quanta(channel, tolerance) for channel in self.channels]
+        self.loud = [_loud_stretches(channel, tolerance) for channel in self.channels]
         self.beyond = sum(
-            _beyond(channel[at : at + QUANTUM], tolerance)
+            _beyond(channel[at : at + STRETCH], tolerance)
             for channel, loud in zip(self.channels, self.loud)
             for at in loud
         )
@@ -254,14 +254,14 @@ class Differences:
 
     def places(self) -> list[Place]:
         """The places beyond the tolerance, of all channels together."""
-        quanta = sorted(set().union(*self.loud))
+        stretches = sorted(set().union(*self.loud))
         groups: list[list[int]] = []
-        for at in quanta:
-            if groups and at - groups[-1][-1] <= QUANTUM:
+        for at in stretches:
+            if groups and at - groups[-1][-1] <= STRETCH:
                 groups[-1].append(at)
             else:
                 groups.append([at])
-        return [self._place(group[0], group[-1] + QUANTUM) for group in groups]
+        return [self._place(group[0], group[-1] + STRETCH) for group in groups]
 
     def _place(self, begin: int, end: int) -> Place:
         """The place in these frames."""
@@ -284,10 +284,10 @@ def _parts(sound: Sound, number: int, high: float) -> Sequence[float]:
     return [min(max(it, -1.0), high) for it in samples]
 
 
-def _loud_quanta(channel: array.array, tolerance: float) -> list[int]:
-    """The first frames of the quanta in which a difference is beyond the tolerance."""
-    starts = range(0, len(channel), QUANTUM)
-    return [at for at in starts if peak(channel[at : at + QUANTUM])[0] > tolerance]
+def _loud_stretches(channel: array.array, tolerance: float) -> list[int]:
+    """The first frames of the stretches in which a difference is beyond the tolerance."""
+    starts = range(0, len(channel), STRETCH)
+    return [at for at in starts if peak(channel[at : at + STRETCH])[0] > tolerance]
 
 
 def _beyond(samples: array.array, tolerance: float) -> int:

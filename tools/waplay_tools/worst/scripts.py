@@ -1,6 +1,7 @@
 """The worst scripts that are known, each of one kind: much that is asked for in few bytes."""
 
 import dataclasses
+import functools
 import json
 import random
 from collections.abc import Callable, Iterable, Iterator
@@ -242,14 +243,33 @@ def longest_programs() -> str:
     return text_of([*calls, START], length=384)
 
 
-def sources_that_end() -> str:
+def sources_that_end(quantum: int) -> str:
     """As many sources as there may be, in the longest session; the last frame ends them."""
     calls: list[Call] = []
     for number in range(1023):
         calls.append({"op": "createConstantSource", "as": f"c{number}"})
         calls.append({"op": "start", "node": f"c{number}"})
         calls.append({"op": "stop", "node": f"c{number}", "when": 2**25})
-    return text_of([*calls, START], length=2**25)
+    return text_of([*calls, START], length=2**25, renderQuantum=quantum)
+
+
+def largest_blocks() -> str:
+    """As many gains as there may be, which hear 32 channels for a quantum of 1,024 frames."""
+    calls: list[Call] = [
+        {"op": "createBuffer", "as": "b", "channels": 32, "length": 2, "rate": RATE}
+    ]
+    written = {"op": "copyToChannel", "buffer": "b", "samples": [1, 2]}
+    calls += [{**written, "channel": channel} for channel in range(32)]
+    calls.append({"op": "createBufferSource", "as": "s", "buffer": "b", "loop": True})
+    calls.append({"op": "start", "node": "s"})
+    for number in range(1022):
+        name = f"g{number}"
+        calls += [
+            {"op": "createGain", "as": name},
+            {"op": "connect", "from": "s", "to": name},
+            {"op": "connect", "from": name, "to": "destination"},
+        ]
+    return text_of([*calls, START], channels=32, length=1024, renderQuantum=1024)
 
 
 def largest_buffers() -> str:
@@ -366,7 +386,19 @@ ROOM = [
     Worst("a quantum of 1,022 convolvers of the longest response", longest_responses),
     Worst("three quanta of 1,022 processors of the longest program", longest_programs),
     Worst("the largest rendering", lambda: text_of([START], channels=2, length=2**25)),
-    Worst("1,023 sources in the longest session, checked", sources_that_end, CHECKED),
+    Worst(
+        "the largest rendering in quanta of 32 frames",
+        lambda: text_of([START], channels=2, length=2**25, renderQuantum=32),
+    ),
+    Worst("a quantum of 1,024 frames of 1,022 gains of 32 channels", largest_blocks),
+    *[
+        Worst(
+            f"1,023 sources in the longest session in quanta of {quantum}, checked",
+            functools.partial(sources_that_end, quantum),
+            CHECKED,
+        )
+        for quantum in (32, 128)
+    ],
     Worst("200,000 suspensions in falling order of time", scheduled, CHECKED),
     Worst("200,000 names", named),
 ]

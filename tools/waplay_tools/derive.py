@@ -1,0 +1,66 @@
+"""Derives a sample of a script: the facts that it hangs on, one a line, each behind those that it
+needs.
+
+It stands on the second calculation, apart from the program. Assets are the files of the folder that
+it runs in. The lines are those of docs/FORMATS.md. Without OUT they are printed; with it they are
+written to OUT, and how many there are is printed.
+
+The status is 0 where there is a derivation. It is 3 for a session that does not complete, and 4 for
+a script with a fault: the line that says so is printed. It is 7 where an asset cannot be read, 11
+with the line `too long` where the derivation has more than 1,048,576 facts or 67,108,864 bytes, and
+13 with `out of range` where the sample is not rendered.
+"""
+
+import argparse
+import os
+import sys
+from pathlib import Path
+
+from waplay_tools.expecting.nodes import AssetFault
+from waplay_tools.explaining.deriving import TooLong, derivation, sample_key
+from waplay_tools.explaining.tape import NoTape, tape_of
+
+
+def arguments() -> argparse.Namespace:
+    """The words of the command line."""
+    words = argparse.ArgumentParser(
+        prog="tools/derive",
+        description=__doc__,
+        formatter_class=argparse.RawDescriptionHelpFormatter,
+    )
+    words.add_argument("script", type=Path, metavar="SCRIPT", help="the script, a JSON file")
+    words.add_argument("frame", type=int, metavar="FRAME", help="the frame of the sample")
+    words.add_argument("channel", type=int, metavar="CHANNEL", help="its channel")
+    words.add_argument("out", type=Path, nargs="?", metavar="OUT", help="the file for the lines")
+    return words.parse_args()
+
+
+def derived(asked: argparse.Namespace) -> tuple[int, list[str]]:
+    """The status, and the lines of the derivation, or the one that is printed in their place."""
+    try:
+        tape = tape_of(asked.script.read_bytes(), os.curdir)
+        if not (0 <= asked.frame < tape.length and 0 <= asked.channel < tape.channels):
+            return 13, ["out of range\n"]
+        return 0, derivation(tape, sample_key(asked.frame, asked.channel))
+    except NoTape as no_tape:
+        return no_tape.status, [f"{no_tape.line}\n"]
+    except AssetFault:
+        return 7, []
+    except TooLong:
+        return 11, ["too long\n"]
+
+
+def main() -> int:
+    """Derives the sample that is asked for."""
+    asked = arguments()
+    status, lines = derived(asked)
+    if status == 0 and asked.out:
+        print(f"facts {len(lines)}")
+        asked.out.write_text("".join(lines), encoding="ascii")
+    else:
+        print("".join(lines), end="")
+    return status
+
+
+if __name__ == "__main__":
+    sys.exit(main())
