@@ -8,6 +8,7 @@ import {contentOf, gatesOf} from './buffers.js';
 import {endOfSource} from './endings.js';
 import {BUFFER_LIMIT} from './limits.js';
 import {native} from './native.js';
+import {contextLike} from './quanta.js';
 import {framePlace, loseOfList, nearestFixedList} from './values.js';
 
 // Losses of a buffer source's calls that a baked one has not.
@@ -15,7 +16,6 @@ const BAKED_LOSSES = ['time-rounded', 'playback-rate', 'playback-rate-automation
 
 const MOST_CHANNELS = 32, MOST_SAMPLES = 2 ** 26; // of one rendering
 const GAP = 256; // frames between sources of one channel
-const QUANTUM = 128;
 
 // The names of sources that have such a loss.
 function namesToBake(recording) {
@@ -30,7 +30,7 @@ function framesOf(recording, source) {
   const known = endOfSource(source), seconds = known === undefined ? source.stopTime : known;
   const first = Math.min(recording.length, Math.floor(framePlace(recording, source.startTime)));
   const last = seconds === undefined ? recording.length : Math.ceil(framePlace(recording, seconds));
-  return {first, last: Math.max(first, last), end: Math.min(recording.length, Math.max(first, last) + QUANTUM)};
+  return {first, last: Math.max(first, last), end: Math.min(recording.length, Math.max(first, last) + recording.quantum)};
 }
 
 // The sources that are baked: {source, first, last, end, channels, gates}. The channels are those of the copy, of which the
@@ -116,7 +116,7 @@ function actionsOf(tracks, context, merger) {
 async function render(recording, tracks) {
   const channels = tracks.reduce((sum, track) => sum + track.channels, 0);
   const length = Math.max(...tracks.map(track => track.end));
-  const context = new native.OfflineAudioContext(channels, length, recording.rate);
+  const context = contextLike(recording, channels, length);
   context.destination.channelInterpretation = 'discrete';
   const merger = context.createChannelMerger(channels);
   merger.connect(context.destination);

@@ -7,7 +7,7 @@ import {LONGEST, LOUDEST, normalizationScale, partLength, partsOf, softening, wa
 import {ONE, loseOfList, nearestFixed, nearestFixedList} from './values.js';
 
 const MARK = 'response';      // what stands in a list where a response is set, until the script is written
-const QUANTUM = 128;
+const ROOM = 128;             // frames by which the longest time of a delay is above its time
 const MOST_WORK = 2 ** 37;    // products of samples that the parts of responses may take
 const MOST_DELAYED = 2 ** 21; // frames in all delays between the parts of responses
 
@@ -96,7 +96,7 @@ function costOf({channels}, {rate, length}) {
   if (!channels) return {convolvers: 0, delays: 0, delayed: 0, work: 0};
   const {length: taps} = channels[0], step = stepOf(taps, rate), parts = Math.ceil(taps / step);
   const delays = (parts - 1) * Math.min(2, channels.length);
-  return {convolvers: parts * channels.length, delays, delayed: delays * (step + QUANTUM), work: taps * Math.max(2, channels.length) * length};
+  return {convolvers: parts * channels.length, delays, delayed: delays * (step + ROOM), work: taps * Math.max(2, channels.length) * length};
 }
 
 // How many nodes of a script a convolver becomes.
@@ -156,7 +156,7 @@ class Wiring {
 
   // A delay behind an output of a node.
   delayed(from, output, frames) {
-    const {rate} = this.recording, [delayTime, maxDelayTime] = [frames, frames + QUANTUM].map(count => nearestFixed(count / rate).whole);
+    const {rate} = this.recording, [delayTime, maxDelayTime] = [frames, frames + ROOM].map(count => nearestFixed(count / rate).whole);
     const name = this.make('createDelay', {maxDelayTime, delayTime});
     this.connect(from, name, output);
     return name;

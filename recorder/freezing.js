@@ -13,7 +13,6 @@ import {Performance, apart, roomsOf} from './performing.js';
 import {ONE, loseOfList, nearestFixedList} from './values.js';
 
 const MOST_CHANNELS = 32;
-const QUANTUM = 128;
 const LONGEST_PART = 2 ** 22; // frames of a buffer
 export const SAME = 2 ** -20;        // how far two renderings of the browser may be apart without a word
 const MOST_OUTSIDE = 500;     // samples that are written into a buffer one by one
@@ -129,12 +128,12 @@ function tapsOf(graph, widths, {frozen, dropped}) {
 }
 
 // What is not silent of some channels, from the beginning of a quantum on: {first, channels}.
-function trimmed(channels) {
+function trimmed(channels, quantum) {
   const isSounding = frame => channels.some(samples => samples[frame] !== 0);
   let first = 0, end = channels[0].length;
   while (first < end && !isSounding(first)) first++;
   while (end > first && !isSounding(end - 1)) end--;
-  first = Math.floor(first / QUANTUM) * QUANTUM;
+  first = Math.floor(first / quantum) * quantum;
   return {first, channels: channels.map(samples => samples.slice(first, end))};
 }
 
@@ -144,7 +143,7 @@ async function listen(recording, taps, muted) {
   let distance = 0, rendered = null;
   for (const room of taps.length ? roomsOf(taps, recording.channels) : [[]]) {
     const found = await new Performance(recording, room, muted).render();
-    for (const [tap, channels] of found.tapped) tapped.set(tap, trimmed(channels));
+    for (const [tap, channels] of found.tapped) tapped.set(tap, trimmed(channels, recording.quantum));
     rendered = found.rendered;
     distance = Math.max(distance, apart(rendered, recording.rendered));
     recording.work++;

@@ -84,7 +84,7 @@ export function steadyValue(entry, name, sounding) {
   const parameter = entryOfParameter.get(entry.node[name]);
   if (!entry.isSteady) return undefined;
   const isByQuantum = entry.node[name].automationRate === 'k-rate';
-  const place = isByQuantum ? Math.floor(sounding / 128) * 128 : sounding;
+  const {quantum} = entry.recording, place = isByQuantum ? Math.floor(sounding / quantum) * quantum : sounding;
   return parameter ? parameter.timeline.steadyValue(place) : native.value.call(entry.node[name]);
 }
 

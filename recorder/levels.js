@@ -6,12 +6,12 @@
 import {Bounds} from './bounds.js';
 import {native} from './native.js';
 import {Player} from './playback.js';
+import {contextLike} from './quanta.js';
 import {impulseSum} from './responses.js';
 import {ONE} from './values.js';
 
 const BLOCK = 32768; // what an analyser keeps
 const MOST_METERS = 128;
-const QUANTUM = 128;
 const LOUDEST = 1024; // what a meter can tell
 const SATURATION = 128;
 
@@ -31,6 +31,7 @@ class Measurer extends Player {
     this.wanted = wanted; // the names of the rows that are listened to
     this.contents = contents; // of createBuffer calls: the samples
     this.rows = rows;
+    this.quantum = script.context.quantum;
     this.meters = [];
     this.meterOfName = new Map();
     this.blocks = new Map(); // frame -> what is done there
@@ -61,7 +62,7 @@ class Measurer extends Player {
 
   // The script's suspension may be at the same frame as one of the meters.
   at(frame, action) {
-    const block = this.blocks.get(Math.ceil(frame / QUANTUM) * QUANTUM);
+    const block = this.blocks.get(Math.ceil(frame / this.quantum) * this.quantum);
     if (block && block.isOwn) Object.assign(block, {action, isOwn: false});
     else super.at(frame, action);
   }
@@ -113,10 +114,10 @@ class Meter {
 // Renders the script, and gives of each wanted row how loud it is at most: a map of {level, isTooLoud} by name. Meters
 // hear the mean of both channels, so the louder one is up to twice as loud.
 async function measured(recording, rows, wanted) {
-  const {channels, length, rate} = recording;
-  const context = new native.OfflineAudioContext(channels, length, rate);
+  const {channels, length} = recording;
+  const context = contextLike(recording, channels, length);
   const contents = new Map(recording.versions.map(({call, samples}) => [call, samples || []]));
-  const player = new Measurer({context: {channels, length, rate}}, contents, rows, wanted, context);
+  const player = new Measurer({context: recording}, contents, rows, wanted, context);
   player.readAll();
   player.perform(recording.main);
   await player.rendering;

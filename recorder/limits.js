@@ -1,6 +1,7 @@
 // Limits: what waplay refuses of contexts and scripts for their size.
 
 import {LOSS_KINDS} from './losses.js';
+import {isQuantum} from './quanta.js';
 import {ONE, isGiven} from './values.js';
 
 export const BUFFER_LIMIT = 2 ** 27;
@@ -12,7 +13,7 @@ export const ASSET_LIMIT = 2 ** 26, SCRIPT_LIMIT = 2 ** 24;
 export function loseOfContext(recording) {
   const {channels, length, rate, quantum} = recording;
   const isFine = channels >= 1 && channels <= 32 && length >= 1 && length <= 2 ** 25 && channels * length <= 2 ** 26 &&
-                 rate >= 8000 && rate <= 96000 && quantum === 128;
+                 rate >= 8000 && rate <= 96000 && isQuantum(quantum);
   if (!isFine) recording.lose('context-limit');
   return isFine;
 }
@@ -50,7 +51,7 @@ class Connections {
 
 function delayFrames(recording, {maxDelayTime}) {
   const longest = isGiven(maxDelayTime) ? maxDelayTime : ONE;
-  return Math.max(128, Math.round(longest * recording.rate / ONE));
+  return Math.max(recording.quantum, Math.round(longest * recording.rate / ONE));
 }
 
 // Goes through the calls and counts.

@@ -10,7 +10,6 @@ import {Performance, apart} from './performing.js';
 import {settings} from './settings.js';
 import {nearestFixed} from './values.js';
 
-const QUANTUM = 128;
 const NEAR_ENOUGH = 2 ** -16;
 const MOST_TRIED = 32;
 
@@ -64,7 +63,7 @@ async function longerEdges(recording, graph, widths, loop) {
 
 // Puts a delay of a quantum into a connection.
 function lengthen(recording, edge) {
-  const name = recording.newName('loop'), quantum = nearestFixed(QUANTUM / recording.rate).whole;
+  const name = recording.newName('loop'), quantum = nearestFixed(recording.quantum / recording.rate).whole;
   const creation = {op: 'createDelay', as: name, maxDelayTime: 2 * quantum, delayTime: quantum};
   recording.lose('loop-as-browser', creation);
   let isMade = false;

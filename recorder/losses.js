@@ -86,12 +86,13 @@ export const LOSS_KINDS = {
   'late-response': {grade: 'refused', says: 'the response of a convolver, set at a later time than that of its creation'},
   'context-rate': {grade: 'refused', says: 'a rate that is no whole number'},
   'context-limit': {grade: 'refused',
-    says: 'a context that waplay refuses: 1 to 32 channels, 8,000 to 96,000 frames a second, quanta of 128 frames'},
+    says: 'a context that waplay refuses: 1 to 32 channels, 8,000 to 96,000 frames a second; or one whose quanta have other than 32, ' +
+      '64, 128, 256, 512 or 1,024 frames, of which the script has 128'},
   'script-length': {grade: 'refused', says: 'the script has more than 16,777,216 bytes'},
   'not-finished': {grade: 'refused', says: 'rendering was started and did not come to its end'},
   'real-time-pause': {grade: 'refused', says: 'suspend or close of a real-time context; the script goes on'},
   'real-time-second': {grade: 'refused', says: 'a second real-time context; only the first one with calls is rendered'},
-  'timer-late': {grade: 'exact', says: 'timers run at the next quantum of the audio clock, up to 128 frames late'},
+  'timer-late': {grade: 'exact', says: 'timers run at the next quantum of the audio clock, up to a quantum late'},
   'recorder-fault': {grade: 'refused', says: 'a fault of the recorder; calls may be missing'},
 
   // Refused with the page and in the script alike.

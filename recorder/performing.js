@@ -5,10 +5,10 @@
 
 import {bufferOf, contentOf} from './buffers.js';
 import {native} from './native.js';
+import {contextLike} from './quanta.js';
 import {isTapped, tappedSamples} from './taps.js';
 
 const MOST_CHANNELS = 32; // of one rendering
-const QUANTUM = 128;
 
 const connect = (from, to, ...places) => native.connect.call(from, to, ...places);
 
@@ -18,9 +18,9 @@ const connect = (from, to, ...places) => native.connect.call(from, to, ...places
 // played in their place, a quantum late.
 export class Performance {
   constructor(recording, taps, muted = new Set(), cut = new Map()) {
-    const {length, rate, channels} = recording;
+    const {length, channels} = recording;
     this.total = taps.reduce((sum, tap) => sum + tap.width, channels);
-    this.context = new native.OfflineAudioContext(this.total, length, rate);
+    this.context = contextLike(recording, this.total, length);
     Object.assign(this, {recording, taps, muted, cut, outputs: new Map(), inputs: new Map(), taken: new Map(), faults: []});
     this.context.destination.channelInterpretation = 'discrete';
     this.merger = new native.ChannelMergerNode(this.context, {numberOfInputs: this.total});
@@ -82,7 +82,7 @@ export class Performance {
     if (!found || !target || this.muted.has(entry.name)) return;
     const [node, output] = found[place.output || 0];
     const late = this.cut.get([entry.name, place.output || 0, place.to.name, place.param, place.input || 0].join(' '));
-    const [from, its] = late ? this.player(late.channels, this.recording, QUANTUM + late.first) : [node, output];
+    const [from, its] = late ? this.player(late.channels, this.recording, this.recording.quantum + late.first) : [node, output];
     if (place.param) connect(from, target[place.param], its);
     else connect(from, target, its, place.input || 0);
     for (const tap of this.tapsOf(entry, place)) connect(node, tap, output);

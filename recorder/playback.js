@@ -7,11 +7,16 @@
 const UNIT = 2 ** 24;
 const valueOf = whole => whole / UNIT;
 
+// A context of a script's shape.
+function contextOf({channels, length, rate, renderQuantum}) {
+  if (renderQuantum === undefined) return new OfflineAudioContext(channels, length, rate);
+  return new OfflineAudioContext({numberOfChannels: channels, length, sampleRate: rate, renderSizeHint: renderQuantum});
+}
+
 export class Player {
   // `assets` has an AudioBuffer for each path.
   constructor(script, assets, context) {
-    const {channels, length, rate} = script.context;
-    this.context = context || new OfflineAudioContext(channels, length, rate);
+    this.context = context || contextOf(script.context);
     this.assets = assets;
     this.named = new Map([['destination', this.context.destination]]);
     this.heads = new Map(); // nodes whose inputs are those of another one

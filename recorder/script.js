@@ -10,6 +10,7 @@ import {loseOfFilters, lowerFilters} from './filter_rows.js';
 import {lowerLoops} from './loops.js';
 import {timesOf} from './operations.js';
 import {lowerPanners} from './panners.js';
+import {quantumMember} from './quanta.js';
 import {Replacements} from './replacing.js';
 import {inSeconds} from './seconds.js';
 import {settings} from './settings.js';
@@ -162,7 +163,7 @@ export function writeScript(recording, withAssets, name) {
     });
   });
   const calls = write(recording.main);
-  const version = settings.seconds ? 2 : 1, head = JSON.stringify({channels, length, rate});
+  const version = settings.seconds ? 2 : 1, head = JSON.stringify({channels, length, rate, ...quantumMember(recording)});
   const lines = calls.map(call => '  ' + JSON.stringify(call)).join(',\n');
   const text = `{"version": ${version}, "context": ${head}, "calls": [\n${lines}\n]}\n`;
   if (new TextEncoder().encode(text).length > SCRIPT_LIMIT) recording.lose('script-length');

@@ -6,7 +6,6 @@
 import {native} from './native.js';
 
 const BLOCK = 4096; // frames
-const QUANTUM = 128;
 const USUAL_WIDTH = 2; // channels of an output that does not say how many it has
 const MOST_CHANNELS = 32;
 
@@ -48,12 +47,12 @@ export function tapInPage(entry) {
 }
 
 // What one channel had, from the node's birth to the end.
-function channelOf({blocks, analysers}, channel, length) {
+function channelOf({blocks, analysers}, channel, length, quantum) {
   const samples = new Float32Array(length), rest = length - blocks[channel].length * BLOCK;
   blocks[channel].forEach((block, place) => samples.set(block.subarray(0, length - place * BLOCK), place * BLOCK));
   const last = new Float32Array(BLOCK);
   analysers[channel].getFloatTimeDomainData(last);
-  const rendered = Math.ceil(length / QUANTUM) * QUANTUM - blocks[channel].length * BLOCK;
+  const rendered = Math.ceil(length / quantum) * quantum - blocks[channel].length * BLOCK;
   if (rest > 0) samples.set(last.subarray(BLOCK - rendered, BLOCK - rendered + rest), length - rest);
   return samples;
 }
@@ -62,7 +61,8 @@ function channelOf({blocks, analysers}, channel, length) {
 export function tappedSamples({recording, bornAt, tap}) {
   let first = 0;
   return tap.widths.map(width => {
-    const channels = Array.from({length: width}, (_, place) => channelOf(tap, first + place, recording.length - bornAt));
+    const length = recording.length - bornAt;
+    const channels = Array.from({length: width}, (_, place) => channelOf(tap, first + place, length, recording.quantum));
     first += width;
     return channels;
   });
