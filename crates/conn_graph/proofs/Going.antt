@@ -8,6 +8,7 @@ use Rattle.law_base.specs.Members.{IsIn, AreDistinct}
 use Rattle.std.proofs.lemmas.Bool.{eqb-true}
 use Rattle.law_base.proofs.Members.{IsIn-append_second, list_any-IsIn}
 use Rattle.law_base.proofs.Tests.{and_parts}
+use Rattle.conn_graph.proofs.Joined.{filter_all, edge_in}
 use Rattle.conn_graph.proofs.Leaving.{entered}
 use Rattle.conn_graph.specs.declared.edges.Edge.{Edge}
 use Rattle.conn_graph.specs.declared.edges.Form.{Form}
@@ -234,20 +235,11 @@ module _ (old now later : Threads) (from : ℕ) (form : Form) (to key : ℕ) (e 
       let d = length-append parts.0 ((key, e) ∷ parts.1) in
       omega (arith, a, b, c, d)
 
-edge_in : (steps : Walk) (s : ℕ × Edge) → IsIn s steps → IsIn s.1 (edges_of steps)
-edge_in [] s h = elim h [ ]
-edge_in (x ∷ rest) s (inl e) = inl (ap (λ t. t.1) e)
-edge_in (x ∷ rest) s (inr m) = inr (edge_in rest s m)
-
-keeps_all : (test : ℕ × Edge → Bool) (steps : Walk) → ((s : ℕ × Edge) → IsIn s steps → test s ≡ true) → filter test steps ≡ steps
-keeps_all test [] all = refl
-keeps_all test (s ∷ rest) all = ap₂ (λ b w. cond b (s ∷ w) w) (all s (inl refl)) (keeps_all test rest (λ t m. all t (inr m)))
-
 -- none is named any more
 pub finding_ended : (old now : Threads) (from : ℕ) (form : Form) (to : ℕ) → IsFinding old now from form → form_node form ≡ Some to
     → list_any (is_named from form) (edges_of (walk_at now.ins to)) ≡ false → now.outs ≡ slice_set old.outs from (filter (unnamed from form) (walk_at old.outs from))
 finding_ended old now from form to h f none =
-    h.outs ∙ ap (slice_set old.outs from) (sym (keeps_all (unnamed from form) (walk_at now.outs from) all) ∙ h.left)
+    h.outs ∙ ap (slice_set old.outs from) (sym (filter_all (unnamed from form) (walk_at now.outs from) all) ∙ h.left)
   where
     all : (s : ℕ × Edge) → IsIn s (walk_at now.outs from) → unnamed from form s ≡ true
     all s m = by_test (is_named from form s.1) refl

@@ -17,9 +17,9 @@ use Rattle.conn_graph.proofs.Puts.{put}
 
 -- ---- one walk
 
-pub filter_all : (test : Edge → Bool) (w : Walk) → ((s : ℕ × Edge) → IsIn s w → test s.1 ≡ true) → filter test (edges_of w) ≡ edges_of w
+pub filter_all : {X : Type 0} (test : X → Bool) (xs : List X) → ((x : X) → IsIn x xs → test x ≡ true) → filter test xs ≡ xs
 filter_all test [] all = refl
-filter_all test (s ∷ w) all = ap₂ (λ b es. cond b (s.1 ∷ es) es) (all s (inl refl)) (filter_all test w (λ t m. all t (inr m)))
+filter_all test (x ∷ xs) all = ap₂ (λ b ys. cond b (x ∷ ys) ys) (all x (inl refl)) (filter_all test xs (λ y m. all y (inr m)))
 
 filter_no : (test : Edge → Bool) (w : Walk) → ((s : ℕ × Edge) → IsIn s w → test s.1 ≡ false) → filter test (edges_of w) ≡ []
 filter_no test [] none = refl
@@ -43,6 +43,9 @@ pub step_of_edge : (w : Walk) (e : Edge) → IsIn e (edges_of w) → (s : ℕ ×
 step_of_edge [] e h = absurd h
 step_of_edge (x ∷ w) e (inl same) = (x, inl refl, same)
 step_of_edge (x ∷ w) e (inr h) = let r = step_of_edge w e h in (r.0, inr r.1, r.2)
+
+walk_all : (test : Edge → Bool) (w : Walk) → ((s : ℕ × Edge) → IsIn s w → test s.1 ≡ true) → filter test (edges_of w) ≡ edges_of w
+walk_all test w all = filter_all test (edges_of w) (λ e m. let r = step_of_edge w e m in subst (λ x. test x ≡ true) (sym r.2) (all r.0 r.1))
 
 same_key : (w : Walk) (s t : ℕ × Edge) → AreDistinct (edges_of w) → IsIn s w → IsIn t w → s.1 ≡ t.1 → s.0 ≡ t.0
 same_key [] s t once a b e = absurd a
@@ -79,7 +82,7 @@ all_later : (test : Edge → Bool) (n i : ℕ) (ws : List Walk) → n < i → ((
 all_later test n i [] l later of = refl
 all_later test n i (w ∷ ws) l later of =
     filter-append test (edges_of w) (edges_in ws)
-    ∙ ap₂ (λ xs ys. xs ++ ys) (filter_all test w (λ s m. later s.1 (let e = first_of_all i w ws of s m in omega arith))) (all_later test n (suc i) ws (omega arith) later (others_of i w ws of))
+    ∙ ap₂ (λ xs ys. xs ++ ys) (walk_all test w (λ s m. later s.1 (let e = first_of_all i w ws of s m in omega arith))) (all_later test n (suc i) ws (omega arith) later (others_of i w ws of))
 
 no_later : (n i : ℕ) (ws : List Walk) → n < i → AreOf i ws → filter (leaves n) (edges_in ws) ≡ []
 no_later n i [] l of = refl
@@ -91,7 +94,7 @@ pub leaving : (i j : ℕ) (ws : List Walk) → AreOf i ws → filter (leaves (i 
 leaving i j [] of = refl
 leaving i zero (w ∷ ws) of =
     filter-append (leaves (i + 0)) (edges_of w) (edges_in ws)
-    ∙ ap₂ (λ xs ys. xs ++ ys) (filter_all (leaves (i + 0)) w (λ s m. let e = first_of_all i w ws of s m in grind (arith, nat_tests))) (no_later (i + 0) (suc i) ws (omega arith) (others_of i w ws of))
+    ∙ ap₂ (λ xs ys. xs ++ ys) (walk_all (leaves (i + 0)) w (λ s m. let e = first_of_all i w ws of s m in grind (arith, nat_tests))) (no_later (i + 0) (suc i) ws (omega arith) (others_of i w ws of))
     ∙ append-nil (edges_of w)
 leaving i (suc j) (w ∷ ws) of =
     filter-append (leaves (i + suc j)) (edges_of w) (edges_in ws)
@@ -106,7 +109,7 @@ kept test i zero (w ∷ ws) of others =
     ap₂ (λ xs ys. xs ++ ys) (sym (filter_edges test w)) (sym (all_later test i (suc i) ws (omega arith) (λ e l. others e (λ same. absurd (omega arith))) (others_of i w ws of)))
     ∙ sym (filter-append test (edges_of w) (edges_in ws))
 kept test i (suc j) (w ∷ ws) of others =
-    ap₂ (λ xs ys. xs ++ ys) (sym (filter_all test w (λ s m. let e = first_of_all i w ws of s m in others s.1 (λ same. absurd (omega arith)))))
+    ap₂ (λ xs ys. xs ++ ys) (sym (walk_all test w (λ s m. let e = first_of_all i w ws of s m in others s.1 (λ same. absurd (omega arith)))))
     (kept test (suc i) j ws (others_of i w ws of) (λ e other. others e (λ same. other (omega arith))))
     ∙ sym (filter-append test (edges_of w) (edges_in ws))
 

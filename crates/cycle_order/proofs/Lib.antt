@@ -18,3 +18,5 @@ pub mod Ways
 pub mod Finishing
 pub mod Leading
 pub mod Turning
+pub mod Bounds
+pub mod Links

@@ -1,14 +1,13 @@
 -- How often a test of a legal order looks at connections: for each end once at those to its node.
-use Rattle.std.proofs.Common.{ℕ, suc, ◌≡◌, ◌+◌, ◌*◌, ◌<◌, ◌≤◌, length, List, [], ◌∷◌, ◌++◌, Bool, true, false, not, ◌&&◌, ◌||◌, inl, inr, refl, sym, ◌∙◌, ap, subst, arith}
-use Rattle.std.specs.Prelude.{if◌then◌else◌, filter, ◌==◌}
+use Rattle.std.proofs.Common.{ℕ, suc, ◌≡◌, ◌+◌, ◌*◌, ◌≤◌, length, List, [], ◌∷◌, ◌++◌, Bool, true, false, not, ◌&&◌, ◌||◌, inl, inr, refl, ap, subst, arith}
+use Rattle.std.specs.Prelude.{if◌then◌else◌}
 use Rattle.wa_base.specs.declared.graph_names.End.{End}
 use Rattle.law_base.specs.Members.{IsIn, AreDistinct}
 use Rattle.law_base.proofs.Members.{without, length-without, IsIn-without, IsIn-append_first, IsIn-append_second}
-use Rattle.law_base.proofs.Tests.{or_first, or_second, and_parts, not_true}
-use Rattle.conn_graph.specs.declared.edges.Edge.{Edge}
+use Rattle.law_base.proofs.Tests.{and_parts}
 use Rattle.conn_graph.specs.declared.edges.Ports.{Ports}
 use Rattle.conn_graph.specs.Edges.{target_node}
-use Rattle.conn_graph.specs.Ends.{ends_from, ends_of_node, ends, writer_of, reader_of}
+use Rattle.conn_graph.specs.Ends.{ends_from, ends_of_node, ends}
 use Rattle.conn_graph.specs.Graph.{Connections, IsGraph}
 use Rattle.cycle_order.specs.Legality.{has, is_settled, is_end, edges_into, looks_for}
 use Rattle.cycle_order.proofs.LegalityLaws.{is_in, from_in, end_there}

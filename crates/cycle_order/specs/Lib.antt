@@ -5,3 +5,5 @@ pub mod Surveys
 pub mod Choices
 pub mod Legality
 pub mod Counts
+pub mod Parts
+pub mod Links

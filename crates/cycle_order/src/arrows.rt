@@ -1,4 +1,4 @@
-ghost use Rattle.std.specs.Prelude.{◌≡◌, ◌<◌, ◌≤◌, ◌+◌, ◌==◌, ◌&&◌, not, length, map, IfOk};
+ghost use Rattle.std.specs.Prelude.{◌≡◌, ◌<◌, ◌≤◌, ◌+◌, ◌==◌, ◌&&◌, not, length, map, IfOk, OnOk};
 ghost use Rattle.std.specs.List.{list_any};
 ghost use Rattle.law_base.specs.Members.{IsIn};
 ghost use Rattle.conn_graph.specs.declared.edges.Edge.{Edge};
@@ -8,11 +8,12 @@ ghost use Rattle.conn_graph.specs.Graph.{IsGraph};
 ghost use Rattle.cycle_order.specs.Arrows as spec;
 ghost use Rattle.cycle_order.specs.Surveys.{delays_in_cycle};
 
-use crate::reaching::Targets;
+use crate::parts::Parts;
+use crate::reaching::Arrows;
 use conn_graph::{Edge, Graph, Target};
 use std::alloc::Global;
 use std::sync::ledger::Ledger;
-use wa_base::{End, Items, NoMemory, NodeId, Steps};
+use wa_base::{End, NoMemory, NodeId, Steps};
 
 // For each node, the connections that leave it. Each is looked at once.
 #[tactic(auto, unfolding(crate::specs::Arrows::edge_lists))]
@@ -20,57 +21,63 @@ pub(crate) fn edge_lists<L: Ledger>(
     alloc: Global,
     graph: &Graph,
     steps: &mut Steps<L>,
-) -> Result<Vec<Items<Edge>>, NoMemory>
-    ensures lists { IfOk result (λ lists. lists.items ≡ spec.edge_lists graph.now.value) }
+) -> Result<Parts<Edge>, NoMemory>
+    ensures lists { IfOk result (λ lists. lists ≡ spec.edge_lists graph.now.value) }
     ensures whole { IsGraph graph.now.value }
     ensures cost { steps.new ≤ steps.old + length graph.now.value.edges + length graph.now.value.nodes }
 {
-    let mut lists = Vec::new(alloc);
-    for node in 0..graph.len() {
-        lists.push(edges_from(alloc, graph, NodeId(node), steps)?)?;
+    let number = graph.len();
+    let mut lists = Parts::new(alloc)?;
+    let mut edges = Vec::new(alloc);
+    for node in 0..number {
+        collect_edges_from(graph, NodeId(node), &mut edges, steps)?;
+        lists.push(edges.as_slice())?;
     }
     Ok(lists)
 }
 
-// The connections that leave a node.
-fn edges_from<L: Ledger>(
-    alloc: Global,
+// Makes a list that of the connections that leave a node.
+fn collect_edges_from<L: Ledger>(
     graph: &Graph,
     node: NodeId,
+    edges: &mut Vec<Edge>,
     steps: &mut Steps<L>,
-) -> Result<Items<Edge>, NoMemory>
+) -> Result<(), NoMemory>
     requires { node.0 < length graph.now.value.nodes }
-    ensures edges { IfOk result (λ edges. edges ≡ spec.edges_from graph.now.value node.0) }
+    ensures edges { OnOk result (edges.new.items ≡ spec.edges_from graph.now.value node.0) }
     ensures cost { steps.new ≤ steps.old + length (spec.edges_from graph.now.value node.0) + 1 }
 {
-    let mut edges = Items::new(alloc);
+    edges.clear();
     let mut after = None;
     while let Some((cell, edge)) = graph.next_out(node, after, steps) {
         edges.push(edge)?;
         after = Some(cell);
     }
-    Ok(edges)
+    Ok(())
 }
 
 // The connections as arrows from node to node.
-pub(crate) fn node_arrows(alloc: Global, lists: &[Items<Edge>]) -> Result<Vec<Targets>, NoMemory>
-    ensures { IfOk result (λ arrows. arrows.items ≡ map spec.node_targets lists.now) }
+pub(crate) fn node_arrows(alloc: Global, lists: &Parts<Edge>) -> Result<Arrows, NoMemory>
+    ensures { IfOk result (λ arrows. arrows ≡ map spec.node_targets lists.now) }
 {
-    let mut arrows = Vec::new(alloc);
-    for edges in lists {
-        arrows.push(node_targets(alloc, edges.as_slice())?)?;
+    let mut arrows = Arrows::new(alloc)?;
+    let mut targets = Vec::new(alloc);
+    for node in 0..lists.len() {
+        collect_node_targets(lists.part(node), &mut targets)?;
+        arrows.push(targets.as_slice())?;
     }
     Ok(arrows)
 }
 
-fn node_targets(alloc: Global, edges: &[Edge]) -> Result<Targets, NoMemory>
-    ensures { IfOk result (λ targets. targets ≡ spec.node_targets edges.now) }
+// Makes a list that of the nodes that connections lead to.
+fn collect_node_targets(edges: &[Edge], targets: &mut Vec<usize>) -> Result<(), NoMemory>
+    ensures { OnOk result (targets.new.items ≡ spec.node_targets edges.now) }
 {
-    let mut targets = Items::from(Vec::with_capacity(alloc, edges.len())?);
+    targets.clear();
     for edge in edges {
         targets.push(edge.to.node().0 as usize)?;
     }
-    Ok(targets)
+    Ok(())
 }
 
 // The number of an end among the vertices.
@@ -84,34 +91,37 @@ pub(crate) fn vertex_of(end: End) -> usize
 pub(crate) fn end_arrows(
     alloc: Global,
     graph: &Graph,
-    lists: &[Items<Edge>],
+    lists: &Parts<Edge>,
     in_cycle: &[NodeId],
-) -> Result<Vec<Targets>, NoMemory>
+) -> Result<Arrows, NoMemory>
     requires whole { IsGraph graph.now.value }
     requires lists { lists.now ≡ spec.edge_lists graph.now.value }
     requires in_cycle { in_cycle.now ≡ delays_in_cycle graph.now.value }
-    ensures { IfOk result (λ arrows. arrows.items ≡ spec.end_arrows graph.now.value) }
+    ensures { IfOk result (λ arrows. arrows ≡ spec.end_arrows graph.now.value) }
 {
-    let mut arrows = Vec::new(alloc);
+    let mut arrows = Arrows::new(alloc)?;
+    let mut targets = Vec::new(alloc);
     for i in 0..graph.len() {
-        let node = NodeId(i);
-        arrows.push(writer_targets(alloc, graph, node, in_cycle)?)?;
-        arrows.push(reader_targets(alloc, graph, lists[i as usize].as_slice())?)?;
+        collect_writer_targets(graph, NodeId(i), in_cycle, &mut targets)?;
+        arrows.push(targets.as_slice())?;
+        collect_reader_targets(graph, lists.part(i as usize), &mut targets)?;
+        arrows.push(targets.as_slice())?;
     }
     Ok(arrows)
 }
 
-fn writer_targets(
-    alloc: Global,
+// Makes a list that of the vertices to which arrows lead from a node's writer.
+fn collect_writer_targets(
     graph: &Graph,
     node: NodeId,
     in_cycle: &[NodeId],
-) -> Result<Targets, NoMemory>
+    targets: &mut Vec<usize>,
+) -> Result<(), NoMemory>
     requires node { node.0 < length graph.now.value.nodes }
     requires in_cycle { in_cycle.now ≡ delays_in_cycle graph.now.value }
-    ensures { IfOk result (λ targets. targets ≡ spec.writer_targets graph.now.value node.0) }
+    ensures { OnOk result (targets.new.items ≡ spec.writer_targets graph.now.value node.0) }
 {
-    let mut targets = Items::new(alloc);
+    targets.clear();
     if is_passed_on(graph, node, in_cycle) {
         let reader = End {
             node,
@@ -119,7 +129,7 @@ fn writer_targets(
         };
         targets.push(vertex_of(reader))?;
     }
-    Ok(targets)
+    Ok(())
 }
 
 // Whether an arrow leads from a node's writer to its reader.
@@ -137,15 +147,20 @@ fn is_listed(nodes: &[NodeId], node: NodeId) -> bool
     nodes.contains(&node)
 }
 
-fn reader_targets(alloc: Global, graph: &Graph, edges: &[Edge]) -> Result<Targets, NoMemory>
+// Makes a list that of the vertices to which the connections of a node lead from its reader.
+fn collect_reader_targets(
+    graph: &Graph,
+    edges: &[Edge],
+    targets: &mut Vec<usize>,
+) -> Result<(), NoMemory>
     requires { (e : Edge) → IsIn e edges.now → target_node e.to < length graph.now.value.nodes }
-    ensures { IfOk result (λ targets. targets ≡ spec.reader_targets graph.now.value edges.now) }
+    ensures { OnOk result (targets.new.items ≡ spec.reader_targets graph.now.value edges.now) }
 {
-    let mut targets = Items::from(Vec::with_capacity(alloc, edges.len())?);
+    targets.clear();
     for edge in edges {
         targets.push(vertex_of(arrives_at(graph, edge.to)))?;
     }
-    Ok(targets)
+    Ok(())
 }
 
 // The end at which a connection arrives.

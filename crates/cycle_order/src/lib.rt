@@ -5,10 +5,12 @@
 mod arrows;
 mod legality;
 mod orders;
+mod parts;
 mod passes;
 mod places;
 mod reaching;
 mod surveys;
+mod turned;
 
 pub use legality::is_legal;
 pub use orders::{Ordered, order};

@@ -38,9 +38,9 @@ pub fn order<L: Ledger>(
     ensures cost { steps.new ≤ steps.old + 4 * (length graph.now.value.edges + length graph.now.value.nodes) }
 {
     let lists = edge_lists(alloc, graph, steps)?;
-    let arrows = end_arrows(alloc, graph, lists.as_slice(), marks.in_cycle.as_slice())?;
+    let arrows = end_arrows(alloc, graph, &lists, marks.in_cycle.as_slice())?;
     let unmuted = unmuted_ends(alloc, graph, marks.muted.as_slice())?;
-    let ends = place_all(alloc, arrows.as_slice(), unmuted.as_slice(), tie)?;
+    let ends = place_all(alloc, &arrows, unmuted.as_slice(), tie)?;
     Ok(Ordered { ends })
 }
 

@@ -3,7 +3,8 @@ ghost use Rattle.law_base.specs.Members.{IsIn};
 ghost use Rattle.cycle_order.specs.Passes.{IsFinish, IsPassing, IsTurned, IsTree, IsWay, AreLeaders, unfollowed};
 ghost use Rattle.cycle_order.specs.Reach.{is_marked, IsWithin};
 
-use crate::reaching::{Targets, mark_fresh};
+use crate::reaching::Arrows;
+use crate::turned::Turned;
 use std::alloc::Global;
 use wa_base::NoMemory;
 
@@ -38,7 +39,7 @@ impl Pass {
     }
 
     // Meets a vertex, if it is not met.
-    fn visit(&mut self, arrows: &[Targets], vertex: usize) -> Result<(), NoMemory>
+    fn visit(&mut self, arrows: &Arrows, vertex: usize) -> Result<(), NoMemory>
         requires vertex { vertex < length arrows.now }
         requires ways { (g : ℕ) → IsIn g self.old.stack.items → IsWay arrows.now g vertex }
         requires passing { IsPassing arrows.now self.old.marks.items self.old.next.items self.old.stack.items self.old.order.items }
@@ -57,7 +58,7 @@ impl Pass {
     }
 
     // Follows the next arrow of the vertex that was on top of the stack, or finishes the vertex.
-    fn step(&mut self, arrows: &[Targets], vertex: usize) -> Result<(), NoMemory>
+    fn step(&mut self, arrows: &Arrows, vertex: usize) -> Result<(), NoMemory>
         requires within { IsWithin arrows.now }
         requires passing { IsPassing arrows.now self.old.marks.items self.old.next.items (self.old.stack.items ++ vertex ∷ []) self.old.order.items }
         ensures passing { OnOk result (IsPassing arrows.now self.new.marks.items self.new.next.items self.new.stack.items self.new.order.items) }
@@ -65,7 +66,7 @@ impl Pass {
         ensures kept { OnOk result ((v : ℕ) → is_marked self.old.marks.items v ≡ true → is_marked self.new.marks.items v ≡ true) }
     {
         let first = self.next[vertex];
-        let targets = arrows[vertex].as_slice();
+        let targets = arrows.part(vertex);
         if first < targets.len() {
             self.stack.push(vertex)?;
             self.visit(arrows, targets[first])?;
@@ -77,7 +78,7 @@ impl Pass {
     }
 
     // Goes on from a vertex until it is finished, with all that it leads to.
-    fn finish_from(&mut self, arrows: &[Targets], start: usize) -> Result<(), NoMemory>
+    fn finish_from(&mut self, arrows: &Arrows, start: usize) -> Result<(), NoMemory>
         requires within { IsWithin arrows.now }
         requires start { start < length arrows.now }
         requires empty { self.old.stack.items ≡ [] }
@@ -96,7 +97,7 @@ impl Pass {
 }
 
 // The vertices in the order in which a depth-first pass along the arrows finishes them.
-fn finish_order(alloc: Global, arrows: &[Targets]) -> Result<Vec<usize>, NoMemory>
+fn finish_order(alloc: Global, arrows: &Arrows) -> Result<Vec<usize>, NoMemory>
     requires { IsWithin arrows.now }
     ensures { IfOk result (λ order. IsFinish arrows.now order.items) }
 {
@@ -110,60 +111,52 @@ fn finish_order(alloc: Global, arrows: &[Targets]) -> Result<Vec<usize>, NoMemor
 }
 
 // The arrows turned round.
-fn turned(alloc: Global, arrows: &[Targets]) -> Result<Vec<Targets>, NoMemory>
+fn turned(alloc: Global, arrows: &Arrows) -> Result<Turned, NoMemory>
     requires { IsWithin arrows.now }
-    ensures { IfOk result (λ back. IsTurned arrows.now back.items) }
+    ensures { IfOk result (λ back. IsTurned arrows.now back) }
 {
-    let mut back = no_arrows(alloc, arrows.len())?;
+    let mut back = Turned::new(alloc, arrows.len())?;
     for vertex in 0..arrows.len() {
-        turn(arrows[vertex].as_slice(), vertex, back.as_mut_slice())?;
-    }
-    Ok(back)
-}
-
-fn no_arrows(alloc: Global, vertices: usize) -> Result<Vec<Targets>, NoMemory>
-    ensures number { IfOk result (λ back. length back.items ≡ vertices) }
-    ensures none { IfOk result (λ back. (v : ℕ) → slice_index_or back.items v [] ≡ []) }
-{
-    let mut back = Vec::new(alloc);
-    for _ in 0..vertices {
-        back.push(Targets::new(alloc))?;
+        turn(arrows.part(vertex), vertex, &mut back)?;
     }
     Ok(back)
 }
 
 // Adds an arrow to the vertex from each of its targets.
-fn turn(targets: &[usize], vertex: usize, back: &mut [Targets]) -> Result<(), NoMemory>
+fn turn(targets: &[usize], vertex: usize, back: &mut Turned) -> Result<(), NoMemory>
     requires { (v : ℕ) → IsIn v targets.now → v < length back.old }
-    ensures { OnOk result ((b a : ℕ) → IsIn a (slice_index_or back.new b []) ↔ (IsIn a (slice_index_or back.old b []) ⊎ ((a ≡ vertex) × IsIn b targets.now))) }
+    ensures number { OnOk result (length back.new ≡ length back.old) }
+    ensures arrows { OnOk result ((b a : ℕ) → IsIn a (slice_index_or back.new b []) ↔ (IsIn a (slice_index_or back.old b []) ⊎ ((a ≡ vertex) × IsIn b targets.now))) }
 {
     for target in targets {
-        back[*target].push(vertex)?;
+        back.push(vertex, *target)?;
     }
     Ok(())
 }
 
-// The vertices that the root reaches and that are not marked. They are marked then.
-fn gathered(
-    alloc: Global,
-    back: &[Targets],
+// Makes a list that of the vertices that the root reaches and that are not marked. They are marked
+// then.
+fn gather(
+    back: &Turned,
     root: usize,
     marks: &mut [bool],
-) -> Result<Vec<usize>, NoMemory>
+    tree: &mut Vec<usize>,
+) -> Result<(), NoMemory>
     requires within { IsWithin back.now }
     requires root { root < length back.now }
     requires number { length marks.old ≡ length back.now }
     requires fresh { is_marked marks.old root ≡ false }
-    ensures { IfOk result (λ tree. IsTree back.now root marks.old marks.new tree.items) }
+    ensures { OnOk result (IsTree back.now root marks.old marks.new tree.new.items) }
 {
+    tree.clear();
+    tree.push(root)?;
     marks[root] = true;
-    let mut tree = vec![in alloc; root]?;
     let mut first = 0;
     while first < tree.len() {
-        mark_fresh(back[tree[first]].as_slice(), marks, &mut tree)?;
+        back.mark_fresh(tree[first], marks, tree)?;
         first += 1;
     }
-    Ok(tree)
+    Ok(())
 }
 
 fn lead(root: usize, tree: &[usize], leaders: &mut [usize])
@@ -178,7 +171,7 @@ fn lead(root: usize, tree: &[usize], leaders: &mut [usize])
 
 // For each vertex its leader: the same one for two vertices that reach each other. A search against
 // the arrows goes out from the vertices, the one that was finished last first.
-pub(crate) fn leaders(alloc: Global, arrows: &[Targets]) -> Result<Vec<usize>, NoMemory>
+pub(crate) fn leaders(alloc: Global, arrows: &Arrows) -> Result<Vec<usize>, NoMemory>
     requires { IsWithin arrows.now }
     ensures { IfOk result (λ leaders. AreLeaders arrows.now leaders.items) }
 {
@@ -186,9 +179,10 @@ pub(crate) fn leaders(alloc: Global, arrows: &[Targets]) -> Result<Vec<usize>, N
     let back = turned(alloc, arrows)?;
     let mut marks = vec![in alloc; false; arrows.len()]?;
     let mut leaders = vec![in alloc; 0; arrows.len()]?;
+    let mut tree = Vec::new(alloc);
     while let Some(root) = order.pop() {
         if !marks[root] {
-            let tree = gathered(alloc, back.as_slice(), root, marks.as_mut_slice())?;
+            gather(&back, root, marks.as_mut_slice(), &mut tree)?;
             lead(root, tree.as_slice(), leaders.as_mut_slice());
         }
     }

@@ -8,7 +8,7 @@ ghost use Rattle.cycle_order.specs.Counts.{times, entering, total, bias, holds, 
 ghost use Rattle.cycle_order.specs.Reach.{IsWithin};
 
 use crate::arrows::vertex_of;
-use crate::reaching::Targets;
+use crate::reaching::Arrows;
 use crate::surveys::Ends;
 use std::alloc::Global;
 use std::collections::BTreeSet;
@@ -18,7 +18,7 @@ use wa_base::{End, NoMemory, NodeId, Tie};
 // the tie chooses.
 pub(crate) fn place_all(
     alloc: Global,
-    arrows: &[Targets],
+    arrows: &Arrows,
     ends: &[End],
     tie: Tie,
 ) -> Result<Ends, NoMemory>
@@ -34,7 +34,7 @@ pub(crate) fn place_all(
     let mut placed = Ends::new(alloc);
     while let Some(vertex) = take_next(&mut ready, tie) {
         placed.push(end_at(vertex))?;
-        release(arrows[vertex].as_slice(), counts.as_mut_slice(), &mut ready)?;
+        release(arrows.part(vertex), counts.as_mut_slice(), &mut ready)?;
     }
     Ok(placed)
 }
@@ -52,7 +52,7 @@ fn end_at(vertex: usize) -> End
 
 // For each vertex, how many arrows lead to it from these ends, and one more where it is the vertex
 // of none of them.
-fn counts_of(alloc: Global, arrows: &[Targets], ends: &[End]) -> Result<Vec<usize>, NoMemory>
+fn counts_of(alloc: Global, arrows: &Arrows, ends: &[End]) -> Result<Vec<usize>, NoMemory>
     requires within { IsWithin arrows.now }
     requires few { total arrows.now ≤ 2 ^ 40 }
     requires rising { AreRising 0 ends.now }
@@ -62,7 +62,7 @@ fn counts_of(alloc: Global, arrows: &[Targets], ends: &[End]) -> Result<Vec<usiz
 {
     let mut counts = biases(alloc, ends, arrows.len())?;
     for end in ends {
-        raise(arrows[vertex_of(*end)].as_slice(), counts.as_mut_slice());
+        raise(arrows.part(vertex_of(*end)), counts.as_mut_slice());
     }
     Ok(counts)
 }

@@ -1,18 +1,19 @@
-ghost use Rattle.std.specs.Prelude.{◌≡◌, ◌<◌, ◌==◌, ℕ, map, length, slice_index_or, IfOk, OnOk};
+ghost use Rattle.std.specs.Prelude.{◌≡◌, ◌<◌, ◌==◌, ℕ, map, length, slice_index_or, IfOk};
 ghost use Rattle.std.specs.List.{list_any};
 ghost use Rattle.law_base.specs.Members.{IsIn};
-ghost use Rattle.cycle_order.specs.Reach.{vertices, reaches_itself, IsWithin, IsMarking};
+ghost use Rattle.cycle_order.specs.Reach.{vertices, reaches_itself, IsWithin};
 
+use crate::parts::Parts;
 use crate::passes::leaders;
 use std::alloc::Global;
-use wa_base::{Items, NoMemory};
+use wa_base::NoMemory;
 
 // For each vertex of a graph, the vertices that its arrows lead to.
-pub(crate) type Targets = Items<usize>;
+pub(crate) type Arrows = Parts<usize>;
 
 // For each vertex, whether it reaches itself by one or more arrows: one of its arrows leads to a
 // vertex with its own leader.
-pub(crate) fn on_cycles(alloc: Global, arrows: &[Targets]) -> Result<Vec<bool>, NoMemory>
+pub(crate) fn on_cycles(alloc: Global, arrows: &Arrows) -> Result<Vec<bool>, NoMemory>
     requires { IsWithin arrows.now }
     ensures { IfOk result (λ marks. marks.items ≡ map (reaches_itself arrows.now) (vertices arrows.now)) }
 {
@@ -20,7 +21,7 @@ pub(crate) fn on_cycles(alloc: Global, arrows: &[Targets]) -> Result<Vec<bool>, 
     let mut marks = Vec::new(alloc);
     for v in 0..arrows.len() {
         let own = leaders[v];
-        marks.push(is_led(arrows[v].as_slice(), leaders.as_slice(), own))?;
+        marks.push(is_led(arrows.part(v), leaders.as_slice(), own))?;
     }
     Ok(marks)
 }
@@ -36,22 +37,4 @@ fn is_led(targets: &[usize], leaders: &[usize], leader: usize) -> bool
         }
     }
     false
-}
-
-// Marks these vertices. Those that were not marked before go onto the pile.
-pub(crate) fn mark_fresh(
-    targets: &[usize],
-    marks: &mut [bool],
-    waiting: &mut Vec<usize>,
-) -> Result<(), NoMemory>
-    requires { (v : ℕ) → IsIn v targets.now → v < length marks.old }
-    ensures { OnOk result (IsMarking targets.now marks.old waiting.old.items marks.new waiting.new.items) }
-{
-    for v in targets {
-        if !marks[*v] {
-            marks[*v] = true;
-            waiting.push(*v)?;
-        }
-    }
-    Ok(())
 }

@@ -6,7 +6,8 @@ ghost use Rattle.cycle_order.specs.Arrows as arrows_spec;
 ghost use Rattle.cycle_order.specs.Surveys as spec;
 
 use crate::arrows::{edge_lists, end_arrows, ends, node_arrows, vertex_of};
-use crate::reaching::{Targets, on_cycles};
+use crate::parts::Parts;
+use crate::reaching::{Arrows, on_cycles};
 use conn_graph::{Edge, Graph};
 use std::alloc::Global;
 use std::sync::ledger::Ledger;
@@ -41,19 +42,19 @@ pub fn survey<L: Ledger>(
     ensures cost { steps.new ≤ steps.old + 4 * (length graph.now.value.edges + length graph.now.value.nodes) }
 {
     let lists = edge_lists(alloc, graph, steps)?;
-    let in_cycle = delays_in_cycle(alloc, graph, lists.as_slice())?;
-    let arrows = end_arrows(alloc, graph, lists.as_slice(), in_cycle.as_slice())?;
-    let muted = muted_ends(alloc, graph, arrows.as_slice())?;
+    let in_cycle = delays_in_cycle(alloc, graph, &lists)?;
+    let arrows = end_arrows(alloc, graph, &lists, in_cycle.as_slice())?;
+    let muted = muted_ends(alloc, graph, &arrows)?;
     Ok(Surveyed { in_cycle, muted })
 }
 
-fn delays_in_cycle(alloc: Global, graph: &Graph, lists: &[Items<Edge>]) -> Result<Ids, NoMemory>
+fn delays_in_cycle(alloc: Global, graph: &Graph, lists: &Parts<Edge>) -> Result<Ids, NoMemory>
     requires whole { IsGraph graph.now.value }
     requires lists { lists.now ≡ arrows_spec.edge_lists graph.now.value }
     ensures { IfOk result (λ ids. ids ≡ spec.delays_in_cycle graph.now.value) }
 {
     let arrows = node_arrows(alloc, lists)?;
-    let marks = on_cycles(alloc, arrows.as_slice())?;
+    let marks = on_cycles(alloc, &arrows)?;
     marked_delays(alloc, graph, marks.as_slice())
 }
 
@@ -72,7 +73,7 @@ fn marked_delays(alloc: Global, graph: &Graph, marks: &[bool]) -> Result<Ids, No
     Ok(ids)
 }
 
-fn muted_ends(alloc: Global, graph: &Graph, arrows: &[Targets]) -> Result<Ends, NoMemory>
+fn muted_ends(alloc: Global, graph: &Graph, arrows: &Arrows) -> Result<Ends, NoMemory>
     requires whole { IsGraph graph.now.value }
     requires arrows { arrows.now ≡ arrows_spec.end_arrows graph.now.value }
     ensures { IfOk result (λ muted. muted ≡ spec.muted_ends graph.now.value) }

@@ -1,4 +1,4 @@
-use Rattle.std.proofs.Common.{◌<◌, ◌-◌, length, arith}
+use Rattle.std.proofs.Common.{◌<◌, ◌-◌, ◌++◌, ◌∷◌, [], length, ◌∙◌, ap, arith}
 use Rattle.std.proofs.lemmas.List.FromFn.{map-range_with_len_more}
 use Rattle.cycle_order.specs.Arrows.{edges_from}
 use Rattle.cycle_order.proofs.Sums.{leaving_le, leaving_next}
@@ -8,7 +8,7 @@ pub loop-node-init : goal.loop-node-init
 loop-node-init g c =
     let graph = c.args.graph.now.value in
     let all = leaving_le graph.edges 0 (length graph.nodes - 0) in
-    record { lists = c.new-lists.ensures.items; cost = omega arith }
+    record { lists = c.in_ok-lists.ensures; cost = omega arith }
 
 pub loop-node-preserved : goal.loop-node-preserved
 loop-node-preserved g c =
@@ -17,25 +17,25 @@ loop-node-preserved g c =
     record {
       lists =
           let all = c.loop-node.invariant.lists in
-          let one = c.in_ok-edges_from.ensures.edges in
-          let pushed = c.in_ok-push.ensures.items in
+          let one = c.in_ok-collect_edges_from.ensures.edges in
+          let pushed = c.in_ok-push.ensures ∙ ap (λ es. c.loop-node.lists ++ es ∷ []) c.as_slice.ensures.value in
           let more = map-range_with_len_more (edges_from graph) 0 node node (omega arith) in
           cc;
       cost =
           let before = c.loop-node.invariant.cost in
-          let here = c.edges_from.ensures.cost in
-          let next = leaving_next graph.edges node (length graph.nodes) (let t = c.loop-node-test.true in let n = c.len-node-end.ensures.number in omega arith) in
+          let here = c.collect_edges_from.ensures.cost in
+          let next = leaving_next graph.edges node (length graph.nodes) (let t = c.loop-node-test.true in let n = c.len-number.ensures.number in omega arith) in
           omega arith;
     }
 
-pub returns-in_err-edges_from-clause-cost : goal.returns-in_err-edges_from-clause-cost
-returns-in_err-edges_from-clause-cost g c =
+pub returns-in_err-collect_edges_from-clause-cost : goal.returns-in_err-collect_edges_from-clause-cost
+returns-in_err-collect_edges_from-clause-cost g c =
     let node = c.loop-node.node in
     let graph = c.args.graph.now.value in
     let before = c.loop-node.invariant.cost in
-    let here = c.edges_from.ensures.cost in
-    let next = leaving_next graph.edges node (length graph.nodes) (let t = c.loop-node-test.true in let n = c.len-node-end.ensures.number in omega arith) in
-    let left = let t = c.loop-node-test.true in let n = c.len-node-end.ensures.number in let l : node < length graph.nodes = omega arith in l in
+    let here = c.collect_edges_from.ensures.cost in
+    let next = leaving_next graph.edges node (length graph.nodes) (let t = c.loop-node-test.true in let n = c.len-number.ensures.number in omega arith) in
+    let left = let t = c.loop-node-test.true in let n = c.len-number.ensures.number in let l : node < length graph.nodes = omega arith in l in
     omega arith
 
 pub returns-in_err-push-clause-cost : goal.returns-in_err-push-clause-cost
@@ -43,7 +43,7 @@ returns-in_err-push-clause-cost g c =
     let node = c.loop-node.node in
     let graph = c.args.graph.now.value in
     let before = c.loop-node.invariant.cost in
-    let here = c.edges_from.ensures.cost in
-    let next = leaving_next graph.edges node (length graph.nodes) (let t = c.loop-node-test.true in let n = c.len-node-end.ensures.number in omega arith) in
-    let left = let t = c.loop-node-test.true in let n = c.len-node-end.ensures.number in let l : node < length graph.nodes = omega arith in l in
+    let here = c.collect_edges_from.ensures.cost in
+    let next = leaving_next graph.edges node (length graph.nodes) (let t = c.loop-node-test.true in let n = c.len-number.ensures.number in omega arith) in
+    let left = let t = c.loop-node-test.true in let n = c.len-number.ensures.number in let l : node < length graph.nodes = omega arith in l in
     omega arith

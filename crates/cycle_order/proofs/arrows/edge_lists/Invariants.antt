@@ -7,6 +7,6 @@ use Rattle.cycle_order.proofs.arrows.edge_lists.Given as goal
 -- what is left to look at costs a step for each connection and one for each node
 abbrev pub invariant-loop-node : goal.invariant-loop-node
 invariant-loop-node g l = record {
-  lists : l.lists.items ≡ map (edges_from l.graph.value) (range_with_len 0 l.node);
+  lists : l.lists ≡ map (edges_from l.graph.value) (range_with_len 0 l.node);
   cost : l.steps + leaving l.graph.value.edges l.node (length l.graph.value.nodes - l.node) + (length l.graph.value.nodes - l.node) ≤ l.fn.steps + length l.graph.value.edges + length l.graph.value.nodes;
 }

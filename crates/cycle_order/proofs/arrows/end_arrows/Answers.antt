@@ -24,29 +24,32 @@ two_more g i arrows w r more l is first second before =
     ∙ ap (λ is. arrows ++ flat_map (targets_of_node g) is) (sym (range_rest i (length g.nodes) l))
     ∙ before
 
-pub bounds-lists-i : goal.bounds-lists-i
-bounds-lists-i c =
+pub part-requires : goal.part-requires
+part-requires c =
     let g : Connections = c.args.graph.now.value in
     let l : c.loop-i.i < length g.nodes = subst (λ n. c.loop-i.i < n) c.len-i-end.ensures.number c.loop-i-test.true in
     subst (λ n. c.loop-i.i < n) (sym (ap length c.requires.lists ∙ length-edge_lists g)) l
 
-pub reader_targets-requires : goal.reader_targets-requires
-reader_targets-requires c e h =
+pub collect_reader_targets-requires : goal.collect_reader_targets-requires
+collect_reader_targets-requires c e h =
     let g : Connections = c.args.graph.now.value in
     let l : c.loop-i.i < length g.nodes = subst (λ n. c.loop-i.i < n) c.len-i-end.ensures.number c.loop-i-test.true in
-    let listed = c.as_slice.ensures ∙ c.index-lists-i.is ∙ ap (λ ls. get_or ls c.loop-i.i c.index-lists-i.result) c.requires.lists ∙ get_or-edge_lists g c.loop-i.i c.index-lists-i.result l in
+    let listed = c.part.ensures ∙ ap (λ ls. get_or ls c.loop-i.i []) c.requires.lists ∙ get_or-edge_lists g c.loop-i.i [] l in
     (c.requires.whole.places e (IsIn-filter _ g.edges e (subst (λ es. IsIn e es) listed h)).0).to
 
 pub loop-i-preserved : goal.loop-i-preserved
 loop-i-preserved c =
     let g : Connections = c.args.graph.now.value in
     let i = c.loop-i.i in
-    let arrows = c.loop-i.arrows.items in
+    let arrows = c.loop-i.arrows in
     let l : i < length g.nodes = subst (λ n. i < n) c.len-i-end.ensures.number c.loop-i-test.true in
-    let listed = c.as_slice.ensures ∙ c.index-lists-i.is ∙ ap (λ ls. get_or ls i c.index-lists-i.result) c.requires.lists ∙ get_or-edge_lists g i c.index-lists-i.result l in
-    two_more g i arrows c.in_ok-writer_targets.field-0 c.in_ok-reader_targets.field-0 c.push-in-loop-i.new.self.items l
-    (c.in_ok-push-2.ensures.items ∙ ap (λ xs. xs ++ c.in_ok-reader_targets.field-0 ∷ []) c.in_ok-push.ensures.items)
-    c.in_ok-writer_targets.ensures (c.in_ok-reader_targets.ensures ∙ ap (reader_targets g) listed) c.loop-i.invariant
+    let listed = c.part.ensures ∙ ap (λ ls. get_or ls i []) c.requires.lists ∙ get_or-edge_lists g i [] l in
+    let writer = c.as_slice.result.now in
+    let reader = c.as_slice-in-loop-i.result.now in
+    two_more g i arrows writer reader c.push-in-loop-i.new.self l
+    (c.in_ok-push-2.ensures ∙ ap (λ xs. xs ++ reader ∷ []) c.in_ok-push.ensures)
+    (c.as_slice.ensures.value ∙ c.in_ok-collect_writer_targets.ensures)
+    (c.as_slice-in-loop-i.ensures.value ∙ c.in_ok-collect_reader_targets.ensures ∙ ap (reader_targets g) listed) c.loop-i.invariant
 
 pub returns : goal.returns
 unfolding end_arrows
@@ -55,4 +58,4 @@ returns c =
     let i = c.loop-i.i in
     let past : length g.nodes ≤ i = subst (λ n. n ≤ i) c.len-i-end.ensures.number c.loop-i-test.false in
     let none : length g.nodes - i ≡ 0 = omega arith in
-    sym (append-nil c.loop-i.arrows.items) ∙ ap (λ n. c.loop-i.arrows.items ++ flat_map (targets_of_node g) (range_with_len i n)) (sym none) ∙ c.loop-i.invariant
+    sym (append-nil c.loop-i.arrows) ∙ ap (λ n. c.loop-i.arrows ++ flat_map (targets_of_node g) (range_with_len i n)) (sym none) ∙ c.loop-i.invariant

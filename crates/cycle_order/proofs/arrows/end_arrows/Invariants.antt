@@ -5,5 +5,5 @@ use Rattle.cycle_order.proofs.arrows.end_arrows.Given as goal
 
 abbrev pub invariant-loop-i : goal.invariant-loop-i
 invariant-loop-i l =
-    l.arrows.items ++ flat_map (targets_of_node l.graph.value) (range_with_len l.i (length l.graph.value.nodes - l.i))
+    l.arrows ++ flat_map (targets_of_node l.graph.value) (range_with_len l.i (length l.graph.value.nodes - l.i))
     ≡ flat_map (targets_of_node l.graph.value) (range_with_len 0 (length l.graph.value.nodes))

@@ -17,32 +17,32 @@ use Rattle.cycle_order.proofs.orders.order.Goals as goal
 pub place_all-requires-clause-within : goal.place_all-requires-clause-within
 place_all-requires-clause-within g c =
     let graph : Connections = c.args.graph.now.value in
-    subst (λ xs. IsWithin xs) (sym (c.as_slice-4.ensures.value ∙ c.in_ok-arrows.ensures)) (ends_within graph c.edge_lists.ensures.whole)
+    subst (λ xs. IsWithin xs) (sym (c.in_ok-arrows.ensures)) (ends_within graph c.edge_lists.ensures.whole)
 
 pub place_all-requires-clause-vertices : goal.place_all-requires-clause-vertices
 place_all-requires-clause-vertices g c =
     let graph : Connections = c.args.graph.now.value in
-    let number = ap length (c.as_slice-4.ensures.value ∙ c.in_ok-arrows.ensures) ∙ length-end_arrows graph in
+    let number = ap length (c.in_ok-arrows.ensures) ∙ length-end_arrows graph in
     let nodes = c.edge_lists.ensures.whole.nodes in
     omega arith
 
 pub place_all-requires-clause-few : goal.place_all-requires-clause-few
 place_all-requires-clause-few g c =
     let graph : Connections = c.args.graph.now.value in
-    let all = ap total (c.as_slice-4.ensures.value ∙ c.in_ok-arrows.ensures) in
+    let all = ap total (c.in_ok-arrows.ensures) in
     let few = total-end_arrows graph in
     let nodes = c.edge_lists.ensures.whole.nodes in
     let edges = c.edge_lists.ensures.whole.few in
     omega arith
 
 pub place_all-requires-clause-rising : goal.place_all-requires-clause-rising
-place_all-requires-clause-rising g c = subst (λ es. AreRising 0 es) (sym (c.as_slice-5.ensures.value ∙ c.in_ok-unmuted.ensures)) (unmuted_rise c.args.graph.now.value)
+place_all-requires-clause-rising g c = subst (λ es. AreRising 0 es) (sym (c.as_slice-3.ensures.value ∙ c.in_ok-unmuted.ensures)) (unmuted_rise c.args.graph.now.value)
 
 pub place_all-requires-clause-ends : goal.place_all-requires-clause-ends
 place_all-requires-clause-ends g c e h =
     let graph : Connections = c.args.graph.now.value in
-    let in_ends = (unmuted_in graph e (subst (λ es. IsIn e es) (c.as_slice-5.ensures.value ∙ c.in_ok-unmuted.ensures) h)).0 in
-    subst (λ xs. vertex_of e < length xs) (sym (c.as_slice-4.ensures.value ∙ c.in_ok-arrows.ensures)) (vertex_below graph e (end_is graph e in_ends).0)
+    let in_ends = (unmuted_in graph e (subst (λ es. IsIn e es) (c.as_slice-3.ensures.value ∙ c.in_ok-unmuted.ensures) h)).0 in
+    subst (λ xs. vertex_of e < length xs) (sym (c.in_ok-arrows.ensures)) (vertex_below graph e (end_is graph e in_ends).0)
 
 pub returns-clause-tie : goal.returns-clause-tie
 unfolding chosen_order
@@ -50,9 +50,9 @@ returns-clause-tie g c =
     let graph : Connections = c.args.graph.now.value in
     let tie = c.args.tie in
     let unmuted = unmuted_ends graph in
-    let arrows = c.as_slice-4.ensures.value ∙ c.in_ok-arrows.ensures in
+    let arrows = c.in_ok-arrows.ensures in
     c.in_ok-ends.ensures
-    ∙ ap (λ es. places_from (leads_to_end c.as_slice-4.result.now) tie (length es) es) (c.as_slice-5.ensures.value ∙ c.in_ok-unmuted.ensures)
+    ∙ ap (λ es. places_from (leads_to_end c.in_ok-arrows.arrows) tie (length es) es) (c.as_slice-3.ensures.value ∙ c.in_ok-unmuted.ensures)
     ∙ ap (λ xs. places_from (leads_to_end xs) tie (length unmuted) unmuted) arrows
     ∙ places_agree (leads_to_end (end_arrows graph)) (arrow graph) tie (length unmuted) unmuted (λ a b in_a in_b. arrows_agree graph c.edge_lists.ensures.whole a b (unmuted_in graph a in_a).0 (unmuted_in graph b in_b).0)
 

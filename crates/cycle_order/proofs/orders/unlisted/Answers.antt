@@ -1,4 +1,4 @@
-use Rattle.std.proofs.Common.{◌≡◌, ◌<◌, get_or, length, sym, ◌∙◌}
+use Rattle.std.proofs.Common.{◌<◌, length, sym, ◌∙◌}
 use Rattle.wa_base.specs.declared.graph_names.End.{End}
 use Rattle.conn_graph.specs.Ends.{reader_of}
 use Rattle.cycle_order.proofs.Merging.{is_next, is_other, fails_on, fails_more}

@@ -6,6 +6,6 @@ use Rattle.cycle_order.proofs.passes.turned.Given as goal
 
 abbrev pub invariant-loop-vertex : goal.invariant-loop-vertex
 invariant-loop-vertex l = record {
-  number : length l.back.items ≡ length l.arrows;
-  turned : (b a : ℕ) → IsIn a (slice_index_or l.back.items b []) ↔ ((a < l.vertex) × (leads l.arrows a b ≡ true));
+  number : length l.back ≡ length l.arrows;
+  turned : (b a : ℕ) → IsIn a (slice_index_or l.back b []) ↔ ((a < l.vertex) × (leads l.arrows a b ≡ true));
 }

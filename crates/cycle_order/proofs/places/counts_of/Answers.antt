@@ -1,5 +1,5 @@
 use Rattle.std.proofs.Common.{ℕ, ◌≡◌, ◌<◌, ◌+◌, length, drop, [], get_or, sym, ◌∙◌, ap, arith, subst}
-use Rattle.std.proofs.lemmas.List.{get_or_read, drop_all, drop_more, take_at}
+use Rattle.std.proofs.lemmas.List.{drop_all, drop_more, take_at}
 use Rattle.law_base.specs.Members.{IsIn}
 use Rattle.cycle_order.specs.Counts.{times, entering}
 use Rattle.cycle_order.proofs.Lists.{IsIn-drop, IsIn-drop_more}
@@ -13,7 +13,7 @@ raise-requires-clause-within c v h =
     let u = c.vertex_of.result in
     let below = c.loop-end.invariant.within _ (IsIn-drop c.args.ends.now c.loop-end.end-index _ c.loop-end-test.true) in
     let l : u < length arrows = subst (λ w. w < length arrows) (sym c.vertex_of.ensures) below in
-    let targets = c.as_slice.ensures ∙ get_or_read arrows u _ l c.index-arrows-vertex_of.is [] in
+    let targets = c.part.ensures in
     let v_below = c.requires.within u v (leads_to arrows u v (subst (λ xs. IsIn v xs) targets h)) in
     subst (λ n. v < n) (sym (ap length c.as_mut_slice.ensures.value ∙ c.loop-end.invariant.number)) v_below
 
@@ -25,7 +25,7 @@ raise-requires-clause-fits c v h =
     let u = c.vertex_of.result in
     let below = c.loop-end.invariant.within _ (IsIn-drop ends i _ c.loop-end-test.true) in
     let l : u < length arrows = subst (λ w. w < length arrows) (sym c.vertex_of.ensures) below in
-    let targets = c.as_slice.ensures ∙ get_or_read arrows u _ l c.index-arrows-vertex_of.is [] in
+    let targets = c.part.ensures in
     let inside : v < length arrows = subst (λ n. v < n) (ap length c.as_mut_slice.ensures.value ∙ c.loop-end.invariant.number) h in
     let sum = c.loop-end.invariant.counted v inside in
     let first : entering arrows (drop i ends) v ≡ times v (get_or arrows u []) + entering arrows (drop (i + 1) ends) v =
@@ -34,7 +34,7 @@ raise-requires-clause-fits c v h =
     let few = c.requires.few in
     let own = bias_le ends v in
     let value : get_or c.as_mut_slice.result.now v 0 ≡ get_or c.loop-end.counts.items v 0 = ap (λ xs. get_or xs v 0) c.as_mut_slice.ensures.value in
-    let read : times v c.as_slice.result.now ≡ times v (get_or arrows u []) = ap (times v) targets in
+    let read : times v c.part.result.now ≡ times v (get_or arrows u []) = ap (times v) targets in
     omega arith
 
 pub loop-end-preserved : goal.loop-end-preserved
@@ -46,7 +46,7 @@ loop-end-preserved c =
     let counts' = c.raise.new.counts in
     let below = c.loop-end.invariant.within _ (IsIn-drop ends i _ c.loop-end-test.true) in
     let l : u < length arrows = subst (λ w. w < length arrows) (sym c.vertex_of.ensures) below in
-    let targets = c.as_slice.ensures ∙ get_or_read arrows u _ l c.index-arrows-vertex_of.is [] in
+    let targets = c.part.ensures in
     let kept = take_at counts' (drop (length counts') c.loop-end.counts.items) c.loop-end.counts.len (c.raise.auto.counts ∙ c.as_mut_slice.ensures.len) in
     let number = ap length c.as_mut_slice.ensures.value ∙ c.loop-end.invariant.number in
     record {
@@ -58,7 +58,7 @@ loop-end-preserved c =
           ap (λ es. entering arrows es v) (drop_more ends i _ c.loop-end-test.true) ∙ ap (λ w. times v (get_or arrows w []) + entering arrows (drop (i + 1) ends) v) (sym c.vertex_of.ensures) in
           let raised = c.raise.ensures v (subst (λ n. v < n) (sym number) inside) in
           let value : get_or c.as_mut_slice.result.now v 0 ≡ get_or c.loop-end.counts.items v 0 = ap (λ xs. get_or xs v 0) c.as_mut_slice.ensures.value in
-          let read : times v c.as_slice.result.now ≡ times v (get_or arrows u []) = ap (times v) targets in
+          let read : times v c.part.result.now ≡ times v (get_or arrows u []) = ap (times v) targets in
           ap (λ xs. get_or xs v 0 + entering arrows (drop (i + 1) ends) v) kept ∙ omega arith;
     }
 

@@ -14,21 +14,17 @@ index-first-requires c =
     let l = top_within c.args.arrows.now c.args.self.now.marks.items c.args.self.now.next.items c.args.self.now.stack.items c.args.self.now.order.items c.args.vertex c.requires.passing in
     let n = c.requires.passing.nexts in search rules
 
-pub bounds-arrows-vertex : goal.bounds-arrows-vertex
-bounds-arrows-vertex c = top_within c.args.arrows.now c.args.self.now.marks.items c.args.self.now.next.items c.args.self.now.stack.items c.args.self.now.order.items c.args.vertex c.requires.passing
-
-pub offset_bounds-arrows-vertex : goal.offset_bounds-arrows-vertex
-offset_bounds-arrows-vertex c =
-    let l = top_within c.args.arrows.now c.args.self.now.marks.items c.args.self.now.next.items c.args.self.now.stack.items c.args.self.now.order.items c.args.vertex c.requires.passing in search rules
+pub part-targets-requires : goal.part-targets-requires
+part-targets-requires c = top_within c.args.arrows.now c.args.self.now.marks.items c.args.self.now.next.items c.args.self.now.stack.items c.args.self.now.order.items c.args.vertex c.requires.passing
 
 pub visit-requires-clause-vertex : goal.visit-requires-clause-vertex
 visit-requires-clause-vertex c =
     let arrows = c.args.arrows.now in
     let v = c.args.vertex in
     let l = top_within arrows c.args.self.now.marks.items c.args.self.now.next.items c.args.self.now.stack.items c.args.self.now.order.items v c.requires.passing in
-    let targets = c.as_slice-targets.ensures ∙ get_or_read arrows v _ l c.index-arrows-vertex.is [] in
-    let t = get_or c.as_slice-targets.result.now c.index-first.result.now 0 in
-    let led : leads arrows v t ≡ true = leads_to arrows v t (subst (λ xs. IsIn t xs) targets (IsIn-get_or c.as_slice-targets.result.now c.index-first.result.now 0 c.if-first-targets.true)) in
+    let targets = c.part-targets.ensures in
+    let t = get_or c.part-targets.result.now c.index-first.result.now 0 in
+    let led : leads arrows v t ≡ true = leads_to arrows v t (subst (λ xs. IsIn t xs) targets (IsIn-get_or c.part-targets.result.now c.index-first.result.now 0 c.if-first-targets.true)) in
     c.requires.within v t led
 
 pub visit-requires-clause-ways : goal.visit-requires-clause-ways
@@ -36,9 +32,9 @@ visit-requires-clause-ways c g h =
     let arrows = c.args.arrows.now in
     let v = c.args.vertex in
     let l = top_within arrows c.args.self.now.marks.items c.args.self.now.next.items c.args.self.now.stack.items c.args.self.now.order.items v c.requires.passing in
-    let targets = c.as_slice-targets.ensures ∙ get_or_read arrows v _ l c.index-arrows-vertex.is [] in
-    let t = get_or c.as_slice-targets.result.now c.index-first.result.now 0 in
-    let led : leads arrows v t ≡ true = leads_to arrows v t (subst (λ xs. IsIn t xs) targets (IsIn-get_or c.as_slice-targets.result.now c.index-first.result.now 0 c.if-first-targets.true)) in
+    let targets = c.part-targets.ensures in
+    let t = get_or c.part-targets.result.now c.index-first.result.now 0 in
+    let led : leads arrows v t ≡ true = leads_to arrows v t (subst (λ xs. IsIn t xs) targets (IsIn-get_or c.part-targets.result.now c.index-first.result.now 0 c.if-first-targets.true)) in
     joined_ways arrows g v t (chained_to arrows c.args.self.now.stack.items v g c.requires.passing.chained (subst (λ xs. IsIn g xs) c.in_ok-push.ensures.items h)) (one_arrow arrows v t led)
 
 pub index_mut-requires : goal.index_mut-requires
@@ -54,7 +50,7 @@ returns-in_ok-visit-clause-passing c =
     let next' = c.visit.new.self.next.items in
     let l = top_within arrows c.args.self.now.marks.items next c.args.self.now.stack.items c.args.self.now.order.items v c.requires.passing in
     let inside : v < length next = subst (λ n. v < n) (sym c.requires.passing.nexts) l in
-    let targets = c.as_slice-targets.ensures ∙ get_or_read arrows v _ l c.index-arrows-vertex.is [] in
+    let targets = c.part-targets.ensures in
     let first : c.index-first.result.now ≡ get_or next' v 0 = get_or_read next v c.index-first.result.now inside c.index-first.ensures 0 ∙ ap (λ xs. get_or xs v 0) (sym c.in_ok-visit.ensures.next) in
     let marked = subst (λ i. is_marked c.visit.new.self.marks.items (get_or (get_or arrows v []) i 0) ≡ true) first
     (subst (λ ts. is_marked c.visit.new.self.marks.items (get_or ts c.index-first.result.now 0) ≡ true) targets c.in_ok-visit.ensures.marked) in
@@ -68,7 +64,7 @@ returns-in_ok-visit-clause-less c =
     let next = c.args.self.now.next.items in
     let l = top_within arrows c.args.self.now.marks.items next c.args.self.now.stack.items c.args.self.now.order.items v c.requires.passing in
     let inside : v < length next = subst (λ n. v < n) (sym c.requires.passing.nexts) l in
-    let targets = c.as_slice-targets.ensures ∙ get_or_read arrows v _ l c.index-arrows-vertex.is [] in
+    let targets = c.part-targets.ensures in
     let first : c.index-first.result.now ≡ get_or next v 0 = get_or_read next v c.index-first.result.now inside c.index-first.ensures 0 in
     let below : get_or next v 0 < length (get_or arrows v []) = subst (λ i. i < length (get_or arrows v [])) first (subst (λ ts. c.index-first.result.now < length ts) targets c.if-first-targets.true) in
     let one = one_followed arrows next v c.requires.passing.nexts l below in
@@ -85,9 +81,9 @@ returns-in_ok-push-2-clause-passing c =
     let next = c.args.self.now.next.items in
     let l = top_within arrows c.args.self.now.marks.items next c.args.self.now.stack.items c.args.self.now.order.items v c.requires.passing in
     let inside : v < length next = subst (λ n. v < n) (sym c.requires.passing.nexts) l in
-    let targets = c.as_slice-targets.ensures ∙ get_or_read arrows v _ l c.index-arrows-vertex.is [] in
+    let targets = c.part-targets.ensures in
     let first : c.index-first.result.now ≡ get_or next v 0 = get_or_read next v c.index-first.result.now inside c.index-first.ensures 0 in
-    let number : length c.as_slice-targets.result.now ≡ length (get_or arrows v []) = ap length targets in
+    let number : length c.part-targets.result.now ≡ length (get_or arrows v []) = ap length targets in
     let past = c.if-first-targets.false in
     let all : length (get_or arrows v []) ≤ get_or next v 0 = omega arith in
     subst (λ xs. IsPassing arrows c.args.self.now.marks.items next c.args.self.now.stack.items xs) (sym c.in_ok-push-2.ensures.items)

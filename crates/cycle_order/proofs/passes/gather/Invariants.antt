@@ -1,6 +1,6 @@
 use Rattle.std.proofs.Common.{◌+◌, ◌-◌, length, filter, not}
 use Rattle.cycle_order.proofs.Leading.{IsGathering}
-use Rattle.cycle_order.proofs.passes.gathered.Given as goal
+use Rattle.cycle_order.proofs.passes.gather.Given as goal
 
 abbrev pub invariant-loop-first : goal.invariant-loop-first
 invariant-loop-first l = IsGathering l.back l.root l.fn.marks l.marks l.tree.items l.first
