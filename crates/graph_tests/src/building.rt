@@ -63,16 +63,31 @@ pub(crate) fn connect(world: &mut World, from: u32, to: u32) -> Result<(), Refus
     ensures valid { IsValid world.new }
     ensures spec { world.new.spec ≡ world.old.spec }
 {
+    connect_ports(world, (from, 0), (to, 0))
+}
+
+// Connects an output of a node to an input of another one.
+pub(crate) fn connect_ports(
+    world: &mut World,
+    source: (u32, u32),
+    target: (u32, u32),
+) -> Result<(), Refusal>
+    requires valid { IsValid world.old }
+    ensures valid { IsValid world.new }
+    ensures spec { world.new.spec ≡ world.old.spec }
+{
+    let (from, output) = source;
+    let (to, input) = target;
     let count = world.nodes.len();
     if from >= count || to >= count {
         return Err(Refusal::Exc(Exc::NotFound));
     }
     let edge = Edge {
         from: NodeId(from),
-        output: 0,
+        output,
         to: Target::Input {
             node: NodeId(to),
-            input: 0,
+            input,
         },
     };
     make(world, 0, Edit::Connect { edge })

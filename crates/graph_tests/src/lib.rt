@@ -9,6 +9,8 @@ mod filters;
 #[cfg(test)]
 mod orders;
 #[cfg(test)]
+mod plans;
+#[cfg(test)]
 mod silence;
 #[cfg(test)]
 mod ties;
