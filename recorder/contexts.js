@@ -3,6 +3,7 @@
 import {contentOf, isSilent, loseOfLateWrites} from './buffers.js';
 import {native} from './native.js';
 import {registerParameters} from './nodes.js';
+import {quantumOf} from './quanta.js';
 import {Recording, entryOfNode, recordingOfContext} from './recording.js';
 import {frameOf} from './values.js';
 import {quietly, wrapConstructor, wrapPromise} from './wrapping.js';
@@ -10,7 +11,7 @@ import {quietly, wrapConstructor, wrapPromise} from './wrapping.js';
 // What a context is made of. It is asked, and not the page's options, as these may be read once alone.
 function shapeOf(context) {
   const {length, sampleRate, destination} = context;
-  return {channels: destination.channelCount, length, rate: sampleRate, quantum: context.renderQuantumSize || 128};
+  return {channels: destination.channelCount, length, rate: sampleRate, quantum: quantumOf(context)};
 }
 
 function contextCreated(args, context, exception) {

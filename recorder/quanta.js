@@ -7,6 +7,9 @@ const SIZES = [32, 64, DEFAULT, 256, 512, 1024]; // those that waplay renders
 
 export const isQuantum = frames => SIZES.includes(frames);
 
+// The size that a context of the browser has, which tells what came of a page's hint. One that shows none has that by default.
+export const quantumOf = ({renderQuantumSize}) => renderQuantumSize || DEFAULT;
+
 // What a script says of the quantum: nothing where it is that by default, which also stands for one that waplay has not.
 export const quantumMember = ({quantum}) => isQuantum(quantum) && quantum !== DEFAULT ? {renderQuantum: quantum} : {};
 

@@ -44,8 +44,9 @@ for (const {op, prefix, feature} of Object.values(NODE_KINDS).filter(kind => kin
   };
 
 function makeRealTimeContext(shape, newTarget) {
-  const rate = shape && shape.sampleRate ? +shape.sampleRate : DEFAULT_RATE;
-  const context = new globalThis.OfflineAudioContext(2, Math.max(1, Math.round(settings.realtime * rate)), rate);
+  const {renderSizeHint, sampleRate} = Object(shape), rate = sampleRate ? +sampleRate : DEFAULT_RATE;
+  const length = Math.max(1, Math.round(settings.realtime * rate));
+  const context = new globalThis.OfflineAudioContext({numberOfChannels: 2, length, sampleRate: rate, renderSizeHint});
   const recording = recordingOfContext.get(context);
   recording.isRealTime = true;
   realTime.contexts.push(recording);

@@ -23,7 +23,7 @@ function widthsOf({node, options}) {
 export function tapInPage(entry) {
   const {recording, node} = entry, {context} = recording, widths = widthsOf(entry);
   const total = widths.reduce((sum, width) => sum + width, 0);
-  if (total === 0 || total > MOST_CHANNELS) return;
+  if (total === 0 || total > MOST_CHANNELS || BLOCK % recording.quantum) return; // a block has to be whole quanta
   const merger = new native.ChannelMergerNode(context, {numberOfInputs: total});
   const analysers = [];
   widths.forEach((width, output) => {

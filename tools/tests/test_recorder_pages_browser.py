@@ -33,6 +33,15 @@ def outcomes(recorded: Recorded, _: list[dict[str, Any]]) -> list[str]:
     return list(recorded.outcomes.values())
 
 
+def quanta(recorded: Recorded, calls: list[dict[str, Any]]) -> tuple[int | None, list[int]]:
+    """The render quantum that the script has, and the frame to which the browser rounded up the
+    time of the page's suspension or timer: the page sets a value to a part of 2,048 of it."""
+    script = json.loads(recorded.script)
+    return script["context"].get("renderQuantum"), [
+        inner["value"] * 2048 // 2**24 for call in calls for inner in call.get("then", [])
+        if inner["op"] == "setValue"]
+
+
 # What some pages are for: of each the value that it must have, worked out of the recording and the
 # main list of its calls.
 SPECIAL: dict[str, tuple[Any, Look]] = {
@@ -54,6 +63,15 @@ SPECIAL: dict[str, tuple[Any, Look]] = {
     # another, and none that is idle.
     "timers": ([1024, 1920, 2944, 3840, 4864], lambda _, calls: [
         call["time"] for call in calls if call["op"] == "suspend"]),
+    # Sizes that waplay has, one by default, and such as it has not.
+    **{f"render_quantum_{size}": ((size, [size]), quanta) for size in (32, 64, 256, 512, 1024)},
+    **{f"render_quantum_{words}": ((None, [128]), quanta) for words in (
+        "128", "by_word_default", "by_word_hardware", "without_a_hint_renderQuantumSize",
+        "without_a_hint_renderQuantum")},
+    **{f"other_render_quantum_{size}": ((None, [size]), quanta) for size in (1, 100, 2048)},
+    "real_time_render_quantum_32": ((32, [64]), quanta),
+    "real_time_render_quantum_128": ((None, [128]), quanta),
+    "real_time_render_quantum_1024": ((1024, [1024]), quanta),
 }
 
 # Random sessions: the options, and the last seed.
