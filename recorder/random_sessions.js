@@ -37,10 +37,11 @@ function sizeAt(terms, angle) {
 }
 
 export class RandomSession {
-  constructor(seed, canLower, context) {
+  constructor(seed, {canLower, quantum, context}) {
     this.draw = drawer(seed);
     this.canLower = canLower;
-    this.context = context || new OfflineAudioContext(1 + this.draw(4), SESSION_LENGTH, SESSION_RATE);
+    this.context = context || new OfflineAudioContext({
+      numberOfChannels: 1 + this.draw(4), length: SESSION_LENGTH, sampleRate: SESSION_RATE, renderSizeHint: quantum});
     this.nodes = [];
     this.now = 0;           // the frame at which changes are made
     this.cancels = this.draw(3) === 0; // browsers depart from the recommendation in some of them
@@ -311,8 +312,9 @@ export class RandomSession {
 }
 
 // Makes a real-time piece that changes at timers of several kinds.
-function beginRealTimeSession(seed, canLower) {
-  const context = new AudioContext({sampleRate: SESSION_RATE}), session = new RandomSession(seed, canLower, context);
+function beginRealTimeSession(seed, {canLower, quantum}) {
+  const context = new AudioContext({sampleRate: SESSION_RATE, renderSizeHint: quantum});
+  const session = new RandomSession(seed, {canLower, context});
   session.begin();
   const change = () => session.changeAt(Math.round(context.currentTime * SESSION_RATE));
   setTimeout(change, 31.25);
@@ -323,13 +325,13 @@ function beginRealTimeSession(seed, canLower) {
   }, 40 + session.draw(20));
 }
 
-// Records a session, and gives the number of its context.
-export async function recordRandomSession(seed, canLower, isRealTime) {
+// Records a session whose quanta have so many frames, and gives the number of its context.
+export async function recordRandomSession(seed, canLower, isRealTime, quantum) {
   const number = globalThis.waplayRecorder.progress().contexts + 1;
   if (isRealTime) {
-    beginRealTimeSession(seed, canLower);
+    beginRealTimeSession(seed, {canLower, quantum});
     await globalThis.waplayRecorder.go();
-  } else await new RandomSession(seed, canLower).render();
+  } else await new RandomSession(seed, {canLower, quantum}).render();
   return number;
 }
 

@@ -190,8 +190,10 @@ class Runs(unittest.TestCase):
     def test_a_log_of_other_sessions(self) -> None:
         log = str(temporary_folder(self) / "log")
         self.run_of("1", "1", "--log", log)
-        with self.assertRaises(SystemExit):
-            self.run_of("1", "2", "--log", log, "--plain")
+        for other in [("--plain",), ("--realtime",), ("--quantum", "256")]:
+            with self.assertRaises(SystemExit):
+                self.run_of("1", "2", "--log", log, *other)
+        self.run_of("1", "2", "--log", log, "--quantum", "128")
 
 
 if __name__ == "__main__":

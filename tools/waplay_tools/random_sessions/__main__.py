@@ -26,6 +26,7 @@ from types import FrameType
 from typing import Any
 
 from waplay_tools.chromium import Browser, BrowserFault, find_chromium
+from waplay_tools.expecting.numbers import DEFAULT_QUANTUM, QUANTA
 from waplay_tools.random_sessions import judging
 from waplay_tools.random_sessions.judging import Judgement, Run
 from waplay_tools.recorder import results
@@ -50,6 +51,9 @@ def parser() -> argparse.ArgumentParser:
     add("--plain", action="store_true",
         help="sessions of what a script has words for, recorded with the option plain")
     add("--realtime", action="store_true", help="sessions of real-time contexts, with timers")
+    add("--quantum", type=int, choices=QUANTA, default=DEFAULT_QUANTUM, metavar="FRAMES",
+        help="the render quantum of all sessions: 32, 64, 128, 256, 512 or 1024 frames; 128 where "
+             "nothing is said")
     add("--browsers", type=int, choices=(1, 2), default=1, help="how many run side by side")
     add("--log", type=Path, metavar="FILE",
         help="also writes the lines here; seeds of which it has a line are not run again")
@@ -78,7 +82,7 @@ class Sessions:
         """Records a session in a page of its own, and plays its script."""
         open_modules(self.browser, self.served, ["random_sessions.js"])
         options = f"{str(not self.words.plain).lower()}, {str(self.words.realtime).lower()}"
-        number = int(self.ask(f"recordRandomSession({seed}, {options})"))
+        number = int(self.ask(f"recordRandomSession({seed}, {options}, {self.words.quantum})"))
         recorded = results.take_out(self.ask, number, number)
         if recorded is None:
             raise BrowserFault("The session did not start rendering.")
@@ -140,6 +144,8 @@ class Lines:
         self.path, self.lock = words.log, threading.Lock()
         self.head = "random sessions"
         self.head += ", plain" * words.plain + ", in real time" * words.realtime
+        if words.quantum != DEFAULT_QUANTUM:
+            self.head += f", in quanta of {words.quantum} frames"
         self.kinds: dict[int, str] = {}
         if self.path and self.path.exists():
             head, *lines = self.path.read_text(encoding="utf-8").splitlines() or [""]
