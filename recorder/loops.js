@@ -6,6 +6,7 @@
 // browser has to render what the page rendered. With the option `loops` a delay is put there.
 
 import {SAME, listenWell, loopsOf, widthOf} from './freezing.js';
+import {steadyValue} from './graph.js';
 import {Performance, apart} from './performing.js';
 import {settings} from './settings.js';
 import {nearestFixed} from './values.js';
@@ -79,12 +80,19 @@ function lengthen(recording, edge) {
   });
 }
 
+// Whether a delay is shorter than a quantum. In a loop it lasts a quantum in waplay, and what it is in Chromium.
+function isShort(entry) {
+  const {node: {delayTime}, recording: {rate, quantum}} = entry;
+  return Math.round(Math.min(steadyValue(entry, 'delayTime', 0), delayTime.maxValue) * rate) < quantum;
+}
+
 // Makes the loops that stay live as long as the browser has them, where that is asked for, or tells of them.
 export async function lowerLoops(recording, graph, widths, {heard, reasons}) {
   for (const names of loopsOf(graph)) {
     const delays = names.filter(name => graph.entries.get(name).kind === 'DelayNode');
     if (!delays.length || !names.every(name => heard.has(name) && !reasons.has(name))) continue;
-    const edges = settings.loops ? await longerEdges(recording, graph, widths, new Set(names)) : null;
+    const isTried = settings.loops && !delays.some(name => isShort(graph.entries.get(name)));
+    const edges = isTried ? await longerEdges(recording, graph, widths, new Set(names)) : null;
     if (edges) for (const edge of edges) lengthen(recording, edge);
     else recording.lose('loop-longer', graph.entries.get(delays[0]).creation);
   }
