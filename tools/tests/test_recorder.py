@@ -370,6 +370,28 @@ class Departures(unittest.TestCase):
                 self.assertEqual(len(found), 1, found)
                 self.assertIn(word, found[0])
 
+    def test_what_comes_behind_a_curve(self) -> None:
+        def calls(first: int, duration: int, time: int, param: str = "gain") -> list[dict]:
+            place = {"node": "g", "param": "gain"}
+            return [{"op": "setValueCurveAtTime", **place, "time": first, "duration": duration},
+                    {"op": "linearRampToValueAtTime", **place, "param": param, "time": time}]
+
+        for quantum, words, is_early in [
+            (128, (1029, 20, 1100), True), (128, (1029, 20, 5000), True),
+            (128, (1029, 20, 1049), True), (128, (1024, 20, 1100), False),
+            (128, (1029, 123, 1200), False), (128, (1029, 122, 1200), True),
+            (128, (1029, 20, 1000), False), (128, (1029, 20, 1100, "offset"), False),
+            (128, (1100, 100, 1300), False), (1024, (1100, 100, 1300), True),
+            (32, (1029, 20, 1100), True), (32, (1050, 20, 1100), False),
+        ]:
+            found = self.found(*calls(*words), renderQuantum=quantum)
+            self.assertEqual(found, [departures.EARLY_EVENT] * is_early, words)
+        # Curves that the page had not tell nothing of it.
+        for losses, is_early in [(("lowered-target",), False), (("lowered-curve",), True),
+                                 (("lowered-ramp", "lowered-curve"), True)]:
+            found = self.found(*calls(1029, 20, 1100), losses=losses)
+            self.assertEqual(departures.EARLY_EVENT in found, is_early, losses)
+
     # A stereo source that begins later, and a node that it leads to.
     STEREO = ({"op": "createBuffer", "as": "b", "channels": 2, "length": 9, "rate": 8000},
               {"op": "createBufferSource", "as": "s", "buffer": "b"},

@@ -10,7 +10,7 @@ import array
 import dataclasses
 from collections.abc import Iterator, Sequence
 
-from waplay_tools.recorder.departures import BY_LOSS, BY_OPERATION, LATE_CHANGE
+from waplay_tools.recorder.departures import BY_LOSS, BY_OPERATION, EARLY_EVENT, LATE_CHANGE
 from waplay_tools.recorder.playing import difference
 from waplay_tools.recorder.replaying import FULL, Replay, greatest_difference
 from waplay_tools.recorder.results import Recorded, greatest
@@ -31,9 +31,9 @@ DEPARTURE = "known departure: "
 # Departures whose error a loss tells.
 MEASURED = {BY_LOSS[kind]: kind for kind in ("browser-rounded", "browser-target")}
 # What sets a page apart from its script, which has no targets and no biquads any more.
-OF_PAGES = {*BY_LOSS.values(), *BY_OPERATION.values()}
-# What both may have: a script has cancels and holds of its own.
-OF_BOTH = set(BY_OPERATION.values())
+OF_PAGES = {*BY_LOSS.values(), *BY_OPERATION.values(), EARLY_EVENT}
+# What both may have: a script has cancels, holds and curves of its own.
+OF_BOTH = {*BY_OPERATION.values(), EARLY_EVENT}
 # Sessions let what has a history hear a hum all the time, so no biquad comes to its end.
 NEVER = {BY_LOSS["lowered-biquad"]}
 

@@ -44,6 +44,24 @@ def is_at_its_most(calls: list[Call], delay: Call) -> bool:
     return max(values) >= most
 
 
+def is_within_a_quantum(curve: Call, quantum: int) -> bool:
+    """Whether a curve begins behind the first frame of a quantum of so many frames, and ends before
+    the next one."""
+    first, last = curve["time"], curve["time"] + curve.get("duration", 0)
+    return first < last and first % quantum > 0 and first // quantum == last // quantum
+
+
+def goes_on_too_early(calls: list[Call], quantum: int) -> bool:
+    """Whether a parameter has such a curve, and an event behind it."""
+    events = [call for call in calls if "time" in call and "param" in call]
+    latest: dict[tuple[str, str], int] = {}
+    for call in events:
+        place = call["node"], call["param"]
+        latest[place] = max(latest.get(place, 0), call["time"])
+    return any(call["time"] + call["duration"] <= latest[call["node"], call["param"]]
+               for call in events if is_within_a_quantum(call, quantum))
+
+
 def graph_departures(calls: list[Call]) -> Iterator[str]:
     """Departures that the nodes and connections show."""
     edges = ways_of((call["from"], call["to"]) for call in calls
@@ -119,6 +137,12 @@ BY_LOSS = {
     "buffer-written": "Chromium plays what is written into a buffer after a source acquired it",
 }
 
+EARLY_EVENT = ("behind a curve that begins within a quantum and ends in it, Chromium goes on too "
+               "early to what comes next")
+# Losses by which a script has curves that the page had not.
+MAKE_CURVES = {"lowered-ramp", "lowered-exponential", "lowered-target", "lowered-hold",
+               "lowered-panner"}
+
 LATE_CHANGE = ("a change at a suspension may come one quantum late in Chromium, in one run and not "
                "in the next")
 
@@ -136,6 +160,9 @@ def known_departures(script: dict[str, Any], losses: set[str],
     found += [text for kind, text in BY_LOSS.items() if kind in losses]
     found += [text for op, text in BY_OPERATION.items() if op in ops]
     quantum = script["context"].get("renderQuantum", DEFAULT_QUANTUM)
+    has_own_curves = not losses & MAKE_CURVES or "lowered-curve" in losses
+    if has_own_curves and goes_on_too_early(calls, quantum):
+        found.append(EARLY_EVENT)
     spans = Spans(script["calls"], quantum)
     if has_idle_timeline(script["calls"], spans):
         found.append(IDLE_TIMELINE)
