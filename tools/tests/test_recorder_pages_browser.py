@@ -75,7 +75,10 @@ SPECIAL: dict[str, tuple[Any, Look]] = {
 }
 
 # Random sessions: the options, and the last seed.
-SESSIONS = [(["--plain"], 150), ([], 150), (["--realtime", "--plain"], 30), (["--realtime"], 30)]
+SESSIONS = [
+    (["--plain"], 150), ([], 150), (["--realtime", "--plain"], 30), (["--realtime"], 30),
+    (["--quantum", "32"], 10), (["--quantum", "1024"], 10), (["--quantum", "1024", "--plain"], 10),
+    (["--quantum", "1024", "--realtime"], 10)]
 
 # Where a replay of an example differs, its cause: the echo of the bells feeds back.
 LOOP = "known departure: a loop through a delay is one quantum longer in Chromium"
