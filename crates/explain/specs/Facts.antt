@@ -43,17 +43,17 @@ HasKey w (Hist f node c) = (node.0 < length w.nodes) × (has_history (kind_of w 
 HasKey w (Out f e o c) = HasOutput w e o × (c < 32)
 
 -- the quantum of a key, in quanta of q frames
-abbrev pub quantum_of : ℕ → Key → ℕ
-quantum_of q (Count j e o) = j
-quantum_of q (Inlet f e i c) = f / q
-quantum_of q (Par f node name) = f / q
-quantum_of q (Hist f node c) = f / q
-quantum_of q (Out f e o c) = f / q
+abbrev pub quantum_of_key : ℕ → Key → ℕ
+quantum_of_key q (Count j e o) = j
+quantum_of_key q (Inlet f e i c) = f / q
+quantum_of_key q (Par f node name) = f / q
+quantum_of_key q (Hist f node c) = f / q
+quantum_of_key q (Out f e o c) = f / q
 
 -- A key of a tape: its quantum is one of the tape, and the world there has what it names.
 pub record IsKeyOf (q : ℕ) (tape : List World) (key : Key) : Type 0 where
-  pub quantum : quantum_of q key < length tape
-  pub place : HasKey (world_in tape (quantum_of q key)) key
+  pub quantum : quantum_of_key q key < length tape
+  pub place : HasKey (world_in tape (quantum_of_key q key)) key
 
 -- whether a fact about a key has cells: where it is what a processor makes
 abbrev pub has_cells : World → Key → Bool
@@ -63,4 +63,4 @@ has_cells w other = false
 -- A fact of a tape is a key of it with a value, and with cells exactly where it is to have them.
 pub record IsFactOf (q : ℕ) (tape : List World) (fact : Fact) : Type 0 where
   pub key : IsKeyOf q tape fact.key
-  pub cells : is_some fact.cells ≡ has_cells (world_in tape (quantum_of q fact.key)) fact.key
+  pub cells : is_some fact.cells ≡ has_cells (world_in tape (quantum_of_key q fact.key)) fact.key
