@@ -9,3 +9,5 @@ pub mod Outputs
 pub mod Completeness
 pub mod Rows
 pub mod NeedsRows
+pub mod LineCuts
+pub mod TextLaws

@@ -9,7 +9,7 @@ use Rattle.explain.specs.Accounts.{meant, means}
 use Rattle.explain.specs.Facts.{IsFactOf}
 use Rattle.explain.specs.Needs.{needs}
 use Rattle.explain.specs.Checked.{Stands, IsChecked}
-use Rattle.explain.specs.Texts.{IsCheckedText}
+use Rattle.explain.specs.Texts.{facts_text, IsSized, IsCheckedText}
 
 -- Each fact of a checked list is what the meaning has.
 abbrev pub CheckedLaw : Type 0
@@ -26,3 +26,7 @@ abbrev pub NeedsLaw : Type 0
 NeedsLaw = (q : ℕ) → 0 < q → q ≤ 1024 → (tape : List World) → IsRegular q tape → (facts : List Fact) → IsChecked q tape facts →
     (x : Fact) → IsFactOf q tape x → means q tape x.key ≡ x → ((key : Key) → IsIn key (needs q tape (meant q tape) x.key) → Stands key facts) →
     IsChecked q tape (facts ++ x ∷ [])
+
+-- A text is that of one list of facts at most.
+abbrev pub TextLaw : Type 0
+TextLaw = (xs ys : List Fact) → ((x : Fact) → IsIn x xs → IsSized x) → ((y : Fact) → IsIn y ys → IsSized y) → facts_text xs ≡ facts_text ys → xs ≡ ys

@@ -1,8 +1,11 @@
 -- Facts as text. Each line ends with one byte 10.
-use Rattle.std.specs.Prelude.{ℕ, ◌≡◌, ◌≤◌, ℤ, length, List, [], ◌++◌, flat_map, codes, decimal, if◌then◌else◌, Option, None, Some}
+use Rattle.std.specs.Prelude.{ℕ, ◌≡◌, ◌<◌, ◌≤◌, ◌^◌, FitsSigned, IfSome, ℤ, length, List, [], ◌++◌, flat_map, codes, decimal, if◌then◌else◌, Option, None, Some}
 use Rattle.std.specs.Fmt.{signed_decimal}
+use Rattle.std.specs.Int.{w64}
 use Rattle.wa_base.specs.GraphNames.{param_word}
+use Rattle.wa_base.specs.Numbers.{IsFix}
 use Rattle.wa_base.specs.declared.graph_names.End.{End}
+use Rattle.law_base.specs.Members.{IsIn}
 use Rattle.meaning.specs.declared.world.World.{World}
 use Rattle.explain.specs.declared.facts.Key.{Key}
 use Rattle.explain.specs.declared.facts.Key.TheVariants.{Count, Inlet, Par, Hist, Out}
@@ -36,6 +39,25 @@ fact_text x = key_text x.key ++ codes " = " ++ signed_decimal x.value ++ cells_t
 
 abbrev pub facts_text : List Fact → List ℕ
 facts_text facts = flat_map (λ x. fact_text x ++ codes "\n") facts
+
+-- the numbers of a key are those of its type
+abbrev pub IsSizedKey : Key → Type 0
+IsSizedKey (Count j e o) = (j < 2 ^ 64) × (e.node.0 < 2 ^ 32) × (o < 2 ^ 32)
+IsSizedKey (Inlet f e i c) = (f < 2 ^ 64) × (e.node.0 < 2 ^ 32) × (i < 2 ^ 32) × (c < 2 ^ 32)
+IsSizedKey (Par f node name) = (f < 2 ^ 64) × (node.0 < 2 ^ 32)
+IsSizedKey (Hist f node c) = (f < 2 ^ 64) × (node.0 < 2 ^ 32) × (c < 2 ^ 32)
+IsSizedKey (Out f e o c) = (f < 2 ^ 64) × (e.node.0 < 2 ^ 32) × (o < 2 ^ 32) × (c < 2 ^ 32)
+
+-- the cells of a processor are 16, each in units of 2^-24
+pub record AreCells (cells : List ℤ) : Type 0 where
+  pub sixteen : length cells ≡ 16
+  pub fix : (cell : ℤ) → IsIn cell cells → IsFix cell
+
+-- A fact of the types that the program has: its numbers are those of its key's, its value one of 64 bits, and its cells are 16 where it has any.
+pub record IsSized (x : Fact) : Type 0 where
+  pub key : IsSizedKey x.key
+  pub value : FitsSigned w64 x.value
+  pub cells : IfSome x.cells AreCells
 
 -- A checked text is that of one or more facts that are checked.
 pub record IsCheckedText (q : ℕ) (tape : List World) (text : List ℕ) (facts : List Fact) : Type 0 where

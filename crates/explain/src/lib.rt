@@ -2,7 +2,7 @@
 //! facts are checked.
 #![tactic(auto)]
 
-ghost use Rattle.explain.specs.Laws.{CheckedLaw, CheckedTextLaw, NeedsLaw};
+ghost use Rattle.explain.specs.Laws.{CheckedLaw, CheckedTextLaw, NeedsLaw, TextLaw};
 
 mod facts;
 mod printed;
@@ -24,4 +24,9 @@ pub fn checked_text_law()
 /// makes a checked list.
 pub fn needs_law()
     ensures { NeedsLaw }
+{}
+
+/// A text is read in one way.
+pub fn text_law()
+    ensures { TextLaw }
 {}
