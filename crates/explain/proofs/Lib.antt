@@ -11,3 +11,4 @@ pub mod Rows
 pub mod NeedsRows
 pub mod LineCuts
 pub mod TextLaws
+pub mod Checkers

@@ -4,7 +4,7 @@ use Rattle.law_base.specs.Members.{IsIn}
 use Rattle.meaning.specs.declared.world.World.{World}
 use Rattle.explain.specs.declared.facts.Key.{Key}
 use Rattle.explain.specs.declared.facts.Fact.{Fact}
-use Rattle.explain.specs.Accounts.{Account, stated, derived}
+use Rattle.explain.specs.Accounts.{Account, meant, stated, derived}
 use Rattle.explain.specs.Facts.{IsFactOf}
 use Rattle.explain.specs.Needs.{needs}
 
@@ -34,3 +34,9 @@ FollowOn q tape before (x ∷ xs) = Follows q tape before x × FollowOn q tape (
 -- A list of facts is checked where each one follows from those before it.
 abbrev pub IsChecked : ℕ → List World → List Fact → Type 0
 IsChecked q tape facts = FollowOn q tape [] facts
+
+-- What a checker looks at in a fact, with the counts and values that the meaning has: it is a fact of the tape, each key that it needs is that of a fact before it, and its equation gives it.
+pub record Passes (q : ℕ) (tape : List World) (before : List Fact) (fact : Fact) : Type 0 where
+  pub form : IsFactOf q tape fact
+  pub needed : (key : Key) → IsIn key (needs q tape (meant q tape) fact.key) → Stands key before
+  pub given : derived q tape (meant q tape) fact.key ≡ fact

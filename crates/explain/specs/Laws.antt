@@ -1,5 +1,5 @@
 -- What is said of checked lists, for every size of a quantum from 1 to 1,024 frames.
-use Rattle.std.specs.Prelude.{ℕ, ◌≡◌, ◌<◌, ◌≤◌, List, [], ◌∷◌, ◌++◌}
+use Rattle.std.specs.Prelude.{ℕ, ◌≡◌, ◌<◌, ◌≤◌, ◌↔◌, List, [], ◌∷◌, ◌++◌}
 use Rattle.law_base.specs.Members.{IsIn}
 use Rattle.meaning.specs.declared.world.World.{World}
 use Rattle.meaning.specs.Worlds.{IsRegular}
@@ -8,7 +8,7 @@ use Rattle.explain.specs.declared.facts.Key.{Key}
 use Rattle.explain.specs.Accounts.{meant, means}
 use Rattle.explain.specs.Facts.{IsFactOf}
 use Rattle.explain.specs.Needs.{needs}
-use Rattle.explain.specs.Checked.{Stands, IsChecked}
+use Rattle.explain.specs.Checked.{Stands, IsChecked, Passes}
 use Rattle.explain.specs.Texts.{facts_text, IsSized, IsCheckedText}
 
 -- Each fact of a checked list is what the meaning has.
@@ -26,6 +26,16 @@ abbrev pub NeedsLaw : Type 0
 NeedsLaw = (q : ℕ) → 0 < q → q ≤ 1024 → (tape : List World) → IsRegular q tape → (facts : List Fact) → IsChecked q tape facts →
     (x : Fact) → IsFactOf q tape x → means q tape x.key ≡ x → ((key : Key) → IsIn key (needs q tape (meant q tape) x.key) → Stands key facts) →
     IsChecked q tape (facts ++ x ∷ [])
+
+-- A list of facts is checked exactly where each fact of it passes behind those before it.
+abbrev pub CheckerLaw : Type 0
+CheckerLaw = (q : ℕ) → 0 < q → q ≤ 1024 → (tape : List World) → IsRegular q tape → (facts : List Fact) →
+    IsChecked q tape facts ↔ ((before : List Fact) (fact : Fact) (after : List Fact) → facts ≡ before ++ fact ∷ after → Passes q tape before fact)
+
+-- With one more fact behind it, a list is checked exactly where it is checked without that fact, and the fact passes.
+abbrev pub NextFactLaw : Type 0
+NextFactLaw = (q : ℕ) → 0 < q → q ≤ 1024 → (tape : List World) → IsRegular q tape → (facts : List Fact) (fact : Fact) →
+    IsChecked q tape (facts ++ fact ∷ []) ↔ (IsChecked q tape facts × Passes q tape facts fact)
 
 -- A text is that of one list of facts at most.
 abbrev pub TextLaw : Type 0

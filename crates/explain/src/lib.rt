@@ -2,7 +2,7 @@
 //! facts are checked.
 #![tactic(auto)]
 
-ghost use Rattle.explain.specs.Laws.{CheckedLaw, CheckedTextLaw, NeedsLaw, TextLaw};
+ghost use Rattle.explain.specs.Laws.{CheckedLaw, CheckedTextLaw, CheckerLaw, NeedsLaw, NextFactLaw, TextLaw};
 
 mod facts;
 mod printed;
@@ -24,6 +24,17 @@ pub fn checked_text_law()
 /// makes a checked list.
 pub fn needs_law()
     ensures { NeedsLaw }
+{}
+
+/// What a checker does decides whether a list is checked: it looks at each fact in turn, whether it is
+/// a fact of the tape, whether what it needs stands before it, and whether its equation gives it.
+pub fn checker_law()
+    ensures { CheckerLaw }
+{}
+
+/// A checker goes on from a checked list by one fact at a time.
+pub fn next_fact_law()
+    ensures { NextFactLaw }
 {}
 
 /// A text is read in one way.
