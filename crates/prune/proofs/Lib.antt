@@ -1,0 +1,11 @@
+pub mod Members
+pub mod Numbers
+pub mod Ways
+pub mod Connected
+pub mod Muted
+pub mod Plays
+pub mod Counted
+pub mod Inputs
+pub mod Equations
+pub mod Lives
+pub mod Tapes
