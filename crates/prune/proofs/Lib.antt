@@ -9,3 +9,5 @@ pub mod Inputs
 pub mod Equations
 pub mod Lives
 pub mod Tapes
+pub mod PrunedRows
+pub mod PartRows

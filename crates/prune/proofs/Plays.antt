@@ -45,6 +45,7 @@ module _ (r : Numbering) (part whole : World) (is : IsPartOf r part whole) (n : 
       (λ w p. ap (λ xs. played p.sched xs frame) (thawed_sounds (λ b. channel_of b c) [] (λ b. refl) w.store p.buffer))
 
   pub same_played_channels : (count first : ℕ) → played_channels part n count first ≡ played_channels whole (r n) count first
+  unfolding plays_in
   same_played_channels count first = same_played 1
       (λ w p. if plays_in count p.sched first then channels_in w.store p.buffer else 1)
       (λ x. if plays_in count x.sched first then option_map_or (λ b. b.shape.channels) x.buffer 1 else 1)

@@ -47,9 +47,12 @@ is_kept_edge r nodes e = is_kept r nodes e.from.0 && is_kept r nodes (target_nod
 
 -- ---- what a source plays
 
--- a buffer, be it frozen or not
+-- Of a source that is not heard: whether its event `ended` was fired, and whether its buffer can still be written.
+abbrev pub unfired : Schedule → Schedule
+unfired sched = record sched { ended = false }
+
 abbrev pub thawed : AudioBuffer → AudioBuffer
-thawed b = record b { shape = record b.shape { frozen = false } }
+thawed buffer = record buffer { shape = record buffer.shape { frozen = false } }
 
 -- the schedule of a source, and its buffer, if it has one
 pub record Performance : Type 0 where
@@ -57,7 +60,7 @@ pub record Performance : Type 0 where
   pub buffer : Option AudioBuffer
 
 abbrev pub performance_of : List AudioBuffer → Play → Performance
-performance_of store play = record { sched = play.sched; buffer = option_map thawed (option_and_then (λ b. slice_get store b.0) play.buffer) }
+performance_of store play = record { sched = unfired play.sched; buffer = option_map thawed (option_and_then (λ b. slice_get store b.0) play.buffer) }
 
 -- what a node plays, if it is a source
 abbrev pub performance : World → ℕ → Option Performance
