@@ -68,17 +68,22 @@ node_names (op.ReadValue node param) = node ∷ []
 node_names other = []
 
 -- A node is told by the ordinal of the call that created it, and the destination by 0: what a name is bound to after these calls, the newest first, where it is a node.
-abbrev pub node_named : List Call → List ℕ → Option ℕ
-node_named [] name = if bytes_eq name destination then Some 0 else None
-node_named (call ∷ earlier) name =
+abbrev pub node_bound : List Call → List ℕ → Option ℕ
+node_bound [] name = None
+node_bound (call ∷ earlier) name =
     if option_map_or (bytes_eq name) (new_name call.op) false
     then (if creates_node call.op then Some call.ordinal else None)
-    else node_named earlier name
+    else node_bound earlier name
 
--- the nodes that a call names, and the one that it creates
+-- the node that a name stands for
+abbrev pub node_named : List Call → List ℕ → Option ℕ
+node_named earlier name = if bytes_eq name destination then Some 0 else node_bound earlier name
+
+-- the nodes that a call names after these calls
 abbrev pub named_nodes : List Call → Call → List ℕ
 named_nodes earlier call = filter_map (node_named earlier) (node_names call.op)
 
+-- those, or the node that it creates
 abbrev pub touched_nodes : List Call → Call → List ℕ
 touched_nodes earlier call = if creates_node call.op then call.ordinal ∷ [] else named_nodes earlier call
 
@@ -122,7 +127,7 @@ abbrev pub is_start : Op → Bool
 is_start op.StartRendering = true
 is_start other = false
 
--- the ordinals of the calls that change what live nodes do, of calls made after these
+-- of calls made after these, the ordinals of those that do more than read, and name and create live nodes alone
 abbrev pub heard_calls : (ℕ → Bool) → List Call → List Call → List ℕ
 heard_calls live earlier [] = []
 heard_calls live earlier (call ∷ calls) =
