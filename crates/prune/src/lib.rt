@@ -1,12 +1,13 @@
-//! What can be left out of a script: the law that what reaches no kept node is not heard.
+//! What of a script is not heard, and the script without it: the law that what reaches no kept node
+//! can be left out, and what a script is pruned to, by the lines of its session.
 //!
-//! The crate has no code of its own yet.
+//! The crate has no code of its own.
 #![tactic(auto)]
 
 ghost use Rattle.prune.specs.Laws.{PartLaw};
 
-/// A tape without the nodes that reach no kept node has the same counts, values and parameters at the
-/// nodes that are kept, and the same rendered rows.
+/// What is left out is not heard: a tape without some nodes, none of which is ever connected to one
+/// that is kept, has the same counts, values and parameters at the kept nodes, and the same rows.
 pub fn part_law()
     ensures { PartLaw }
 {}
