@@ -94,9 +94,9 @@ def released() -> datetime.date:
 
 
 def environment() -> dict[str, str]:
-    """The environment in which packages are made, with that day as their time."""
-    noon = datetime.datetime.combine(released(), datetime.time(12), datetime.timezone.utc)
-    return {**os.environ, "SOURCE_DATE_EPOCH": str(int(noon.timestamp()))}
+    """The environment in which packages are made: no file is newer than that day."""
+    start = datetime.datetime.combine(released(), datetime.time(), datetime.timezone.utc)
+    return {**os.environ, "SOURCE_DATE_EPOCH": str(int(start.timestamp()))}
 
 
 def put_documents(folder: Path) -> None:
