@@ -5,6 +5,7 @@ pub mod WalkLaws
 pub mod Renaming
 pub mod NodeArrows
 pub mod EndArrows
+pub mod NoCycles
 pub mod Placing
 pub mod LegalChoices
 pub mod LegalityLaws
@@ -20,3 +21,4 @@ pub mod Leading
 pub mod Turning
 pub mod Bounds
 pub mod Links
+pub mod TargetLaws

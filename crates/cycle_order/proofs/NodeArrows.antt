@@ -1,14 +1,14 @@
 -- Delays in a cycle, found among numbered nodes.
 use Rattle.std.proofs.Common.{ℕ, ◌≡◌, ◌<◌, length, List, [], map, get_or, Bool, true, false, ◌&&◌, refl, sym, ◌∙◌, ap, arith, subst, eq-eqb}
 use Rattle.std.specs.Prelude.{◌==◌}
-use Rattle.std.specs.List.{filter, list_any}
+use Rattle.std.specs.List.{filter, list_any, range_with_len}
 use Rattle.std.proofs.lemmas.Bool.{eqb-true}
 use Rattle.std.proofs.lemmas.List.{length-map, get_or-map}
 use Rattle.std.proofs.lemmas.List.FromFn.{length-range_with_len, length-map-range_with_len, get_or-map-range_with_len}
 use Rattle.wa_base.specs.declared.graph_names.NodeId.{NodeId}
 use Rattle.law_base.specs.Members.{IsIn}
 use Rattle.law_base.specs.Reaching.{reaches}
-use Rattle.law_base.proofs.Members.{list_any-IsIn, IsIn-list_any, IsIn-filter, IsIn-filter_from}
+use Rattle.law_base.proofs.Members.{same_map, list_any-IsIn, IsIn-list_any, IsIn-filter, IsIn-filter_from}
 use Rattle.law_base.proofs.Tests.{and_both, and_parts}
 use Rattle.conn_graph.specs.declared.edges.Edge.{Edge}
 use Rattle.conn_graph.specs.Edges.{target_node}
@@ -16,7 +16,7 @@ use Rattle.conn_graph.specs.Ends.{numbers_from, is_delay, connects, in_cycle}
 use Rattle.conn_graph.specs.Graph.{Connections, IsGraph}
 use Rattle.cycle_order.specs.Reach.{leads, vertices, reaches_itself, IsWithin, is_marked}
 use Rattle.cycle_order.specs.Arrows.{edges_from, edge_lists, node_targets, node_arrows}
-use Rattle.cycle_order.specs.Surveys.{node_id, delays_in_cycle, marked_delays}
+use Rattle.cycle_order.specs.Surveys.{node_id, delays_in_cycle, marked_delays, cycle_marks}
 use Rattle.cycle_order.proofs.Lists.{IsIn-map, source_in, filter_agrees, IsIn-range, in_range, numbers_are}
 use Rattle.cycle_order.proofs.Searching.{is_led_to, leads_to, source_within}
 use Rattle.cycle_order.proofs.Renaming.{IsNaming, same_cycles, same_tests}
@@ -83,14 +83,23 @@ module _ (g : Connections) where
       ap (λ n. reaches (connects g) (numbers_from 0 g.nodes) n i i) (sym (ap length (numbers_are 0 g.nodes) ∙ length-range_with_len 0 (length g.nodes)))
       ∙ same_cycles (connects g) (numbers_from 0 g.nodes) (λ i. i) (node_arrows g) (naming whole) i h
 
-  -- the marked delays are those in a cycle
-  pub marked_delays_are : IsGraph g → (marks : List Bool) → marks ≡ map (reaches_itself (node_arrows g)) (vertices (node_arrows g))
-      → marked_delays g marks ≡ delays_in_cycle g
+  -- as many vertices as nodes
+  pub marks_are : IsGraph g → map (reaches_itself (node_arrows g)) (vertices (node_arrows g)) ≡ cycle_marks g
+  marks_are whole =
+      ap (λ n. map (reaches_itself (node_arrows g)) (range_with_len 0 n)) length-node_arrows
+      ∙ ap (map (reaches_itself (node_arrows g))) (sym (numbers_are 0 g.nodes))
+      ∙ same_map (reaches_itself (node_arrows g)) (in_cycle g) (numbers_from 0 g.nodes) (λ i h. sym (cycle_marked whole i h))
+
+  pub length-cycle_marks : length (cycle_marks g) ≡ length g.nodes
+  length-cycle_marks = length-map (numbers_from 0 g.nodes) (in_cycle g) ∙ ap length (numbers_are 0 g.nodes) ∙ length-range_with_len 0 (length g.nodes)
+
+  mark_at : (i : ℕ) → i < length g.nodes → is_marked (cycle_marks g) i ≡ in_cycle g i
+  mark_at i l = ap (λ ns. is_marked (map (in_cycle g) ns) i) (numbers_are 0 g.nodes) ∙ get_or-map-range_with_len (in_cycle g) 0 (length g.nodes) i i false l (omega arith)
+
+  -- the delays among the nodes that are on a cycle
+  pub marked_delays_are : marked_delays g (cycle_marks g) ≡ delays_in_cycle g
   unfolding delays_in_cycle
-  marked_delays_are whole marks e = ap (map node_id) (filter_agrees _ _ (numbers_from 0 g.nodes) (λ i h.
-      let l : i < length (node_arrows g) = subst (λ n. i < n) (sym length-node_arrows) (number_below i h) in
-      let mark : is_marked marks i ≡ reaches_itself (node_arrows g) i = ap (λ ms. is_marked ms i) e ∙ get_or-map-range_with_len (reaches_itself (node_arrows g)) 0 (length (node_arrows g)) i i false l (omega arith) in
-      ap (λ b. is_delay g i && b) (mark ∙ sym (cycle_marked whole i h))))
+  marked_delays_are = ap (map node_id) (filter_agrees _ _ (numbers_from 0 g.nodes) (λ i h. ap (λ b. is_delay g i && b) (mark_at i (number_below i h))))
 
   -- the list of delays in a cycle as a test
   pub is_listed : (i : ℕ) → i < length g.nodes → list_any (λ (n : NodeId). n.0 == i) (delays_in_cycle g) ≡ (is_delay g i && in_cycle g i)

@@ -7,3 +7,4 @@ pub mod Legality
 pub mod Counts
 pub mod Parts
 pub mod Links
+pub mod Targets

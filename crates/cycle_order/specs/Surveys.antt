@@ -23,6 +23,10 @@ pub record IsSurvey (g : Connections) (marks : Surveyed) : Type 0 where
   pub in_cycle : marks.in_cycle ≡ delays_in_cycle g
   pub muted : marks.muted ≡ muted_ends g
 
+-- for each node, whether it reaches itself through connections
+abbrev pub cycle_marks : Connections → List Bool
+cycle_marks g = map (in_cycle g) (numbers_from 0 g.nodes)
+
 -- the delays among the nodes with a mark, and the ends whose vertices have one
 abbrev pub marked_delays : Connections → List Bool → List NodeId
 marked_delays g marks = map node_id (filter (λ i. is_delay g i && is_marked marks i) (numbers_from 0 g.nodes))

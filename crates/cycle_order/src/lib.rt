@@ -10,8 +10,11 @@ mod passes;
 mod places;
 mod reaching;
 mod surveys;
+mod targets;
 mod turned;
 
 pub use legality::is_legal;
 pub use orders::{Ordered, order};
+pub use parts::Parts;
 pub use surveys::{Ends, Ids, Surveyed, survey};
+pub use targets::by_target;

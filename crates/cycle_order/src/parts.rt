@@ -1,12 +1,13 @@
 ghost use Rattle.std.specs.Prelude.{◌≡◌, ◌<◌, ◌≤◌, ◌-◌, ◌++◌, ◌∷◌, [], length, take, drop, slice_index_or, IfOk, OnOk};
+ghost use Rattle.cycle_order.specs.Parts.{parts_of, AreBounds};
 
 use std::alloc::Global;
 use std::marker::Model;
 use wa_base::NoMemory;
 
-// Lists that stand in one list, part after part. Contracts see it as the list of the parts.
+/// Lists that stand in one list, part after part. Contracts see it as the list of the parts.
 #[derive(Drop)]
-pub(crate) struct Parts<T> {
+pub struct Parts<T> {
     items: Vec<T>,
     // where each part begins, and where the last one ends
     bounds: Vec<usize>,
@@ -24,14 +25,22 @@ impl<T> Model for Parts<T> {
 }
 
 impl<T: Drop> Parts<T> {
-    // No parts.
-    pub(crate) fn new(alloc: Global) -> Result<Parts<T>, NoMemory>
+    /// No parts.
+    pub fn new(alloc: Global) -> Result<Parts<T>, NoMemory>
         ensures { IfOk result (λ parts. parts ≡ []) }
     {
         Ok(Parts {
             items: Vec::new(alloc),
             bounds: vec![in alloc; 0]?,
         })
+    }
+
+    // The parts between bounds.
+    pub(crate) fn between(items: Vec<T>, bounds: Vec<usize>) -> Parts<T>
+        requires { AreBounds bounds.items (length items.items) }
+        ensures { result ≡ parts_of bounds.items items.items }
+    {
+        Parts { items, bounds }
     }
 
     // The number of parts.
@@ -41,8 +50,8 @@ impl<T: Drop> Parts<T> {
         self.bounds.len() - 1
     }
 
-    // The items of a part.
-    pub(crate) fn part(&self, number: usize) -> &[T]
+    /// The items of a part.
+    pub fn part(&self, number: usize) -> &[T]
         requires { number < length self.now }
         ensures { result.now ≡ slice_index_or self.now number [] }
     {

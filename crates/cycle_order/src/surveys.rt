@@ -1,4 +1,5 @@
-ghost use Rattle.std.specs.Prelude.{◌*◌, ◌+◌, ◌≤◌, ◌≡◌, ◌<◌, length, IfOk};
+ghost use Rattle.std.specs.Prelude.{◌*◌, ◌+◌, ◌≤◌, ◌≡◌, ◌<◌, [], length, IfOk};
+ghost use Rattle.std.specs.List.{list_any};
 ghost use Rattle.wa_base.specs.declared.graph_names.End.{End};
 ghost use Rattle.law_base.specs.Members.{IsIn};
 ghost use Rattle.conn_graph.specs.Graph.{IsGraph};
@@ -42,20 +43,43 @@ pub fn survey<L: Ledger>(
     ensures cost { steps.new ≤ steps.old + 4 * (length graph.now.value.edges + length graph.now.value.nodes) }
 {
     let lists = edge_lists(alloc, graph, steps)?;
-    let in_cycle = delays_in_cycle(alloc, graph, &lists)?;
+    let marks = cycle_marks(alloc, graph, &lists)?;
+    if !is_any_marked(marks.as_slice()) {
+        return Ok(Surveyed::nothing(alloc));
+    }
+    let in_cycle = marked_delays(alloc, graph, marks.as_slice())?;
     let arrows = end_arrows(alloc, graph, &lists, in_cycle.as_slice())?;
     let muted = muted_ends(alloc, graph, &arrows)?;
     Ok(Surveyed { in_cycle, muted })
 }
 
-fn delays_in_cycle(alloc: Global, graph: &Graph, lists: &Parts<Edge>) -> Result<Ids, NoMemory>
+impl Surveyed {
+    // What a survey says where no node is on a cycle: the ends are not gone through.
+    fn nothing(alloc: Global) -> Surveyed
+        ensures in_cycle { result.in_cycle ≡ [] }
+        ensures muted { result.muted ≡ [] }
+    {
+        Surveyed {
+            in_cycle: Ids::new(alloc),
+            muted: Ends::new(alloc),
+        }
+    }
+}
+
+// For each node, whether it reaches itself through connections.
+fn cycle_marks(alloc: Global, graph: &Graph, lists: &Parts<Edge>) -> Result<Vec<bool>, NoMemory>
     requires whole { IsGraph graph.now.value }
     requires lists { lists.now ≡ arrows_spec.edge_lists graph.now.value }
-    ensures { IfOk result (λ ids. ids ≡ spec.delays_in_cycle graph.now.value) }
+    ensures { IfOk result (λ marks. marks.items ≡ spec.cycle_marks graph.now.value) }
 {
     let arrows = node_arrows(alloc, lists)?;
-    let marks = on_cycles(alloc, &arrows)?;
-    marked_delays(alloc, graph, marks.as_slice())
+    on_cycles(alloc, &arrows)
+}
+
+fn is_any_marked(marks: &[bool]) -> bool
+    ensures { result ≡ list_any (λ mark. mark) marks.now }
+{
+    marks.iter().any(|mark| *mark)
 }
 
 // The delays among the marked nodes.
