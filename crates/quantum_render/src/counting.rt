@@ -19,18 +19,19 @@ ghost use Rattle.quantum_render.specs.Plans.{AreCycles, AreMost, IsPlan, AreCoun
 
 use channel_mix::count;
 use conn_graph::{Edge, Target};
+use cycle_order::Parts;
 use delay_bank::Delays;
 use meaning::World;
 use node_table::Channels;
 use quantum_blocks::{near_of, reader, slot, sounding, writer};
-use wa_base::{End, Items, NodeId};
+use wa_base::{End, NodeId};
 
 // What the channels of ends are counted by, in the quantum that begins at a frame: the connections to each
 // node, where its schedule is likely to stand, whether it is a delay in a cycle, and all delays.
 #[derive(Clone, Copy)]
 pub(crate) struct Census<'a> {
     pub world: &'a World,
-    pub into: &'a [Items<Edge>],
+    pub into: &'a Parts<Edge>,
     pub near: &'a [usize],
     pub cycles: &'a [bool],
     pub delays: &'a Delays,
@@ -51,7 +52,7 @@ pub(crate) fn count_channels(counts: &mut [u32], order: &[End], census: Census<'
 {
     counts.fill(1);
     for end in order {
-        let into = census.into[end.node.0 as usize].as_slice();
+        let into = census.into.part(end.node.0 as usize);
         counts[slot(*end)] = count_of(counts, census, *end, into);
     }
 }

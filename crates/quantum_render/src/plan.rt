@@ -1,23 +1,21 @@
 ghost use Rattle.std.specs.List.{list_any};
 ghost use Rattle.wa_base.specs.declared.graph_names.NodeId.{NodeId as a_node};
-ghost use Rattle.std.specs.Prelude.{◌≡◌, ◌<◌, ◌≤◌, ◌+◌, ◌*◌, ◌++◌, ◌==◌, ◌↔◌, ℕ, All, false, [], length, filter, slice_index_or, Some, None, IsTrue, IfOk, OnOk, OnErr};
+ghost use Rattle.std.specs.Prelude.{◌≡◌, ◌<◌, ◌≤◌, ◌+◌, ◌*◌, ◌++◌, ◌==◌, ◌↔◌, ℕ, All, false, length, filter, slice_index_or, Some, None, IsTrue, IfOk, OnOk, OnErr};
 ghost use Rattle.law_base.specs.Members.{IsIn};
-ghost use Rattle.conn_graph.specs.declared.edges.Edge.{Edge as an_edge};
-ghost use Rattle.conn_graph.specs.Edges.{target_node};
-ghost use Rattle.conn_graph.specs.Cells.{leaves, enters};
+ghost use Rattle.conn_graph.specs.Cells.{leaves};
 ghost use Rattle.conn_graph.specs.Ends.{ends};
 ghost use Rattle.quantum_render.specs.Sites.{site_in};
 ghost use Rattle.quantum_render.specs.Plans.{IsPlan, IsPlanned, IsUnedited, AreCycles};
 
 use crate::site::{Quantum, Site};
 use conn_graph::{Edge, Graph};
-use cycle_order::{Ends, order, survey};
+use cycle_order::{Ends, Parts, by_target, order, survey};
 use meaning::World;
 use quantum_blocks::{near_of, places_of};
 use std::alloc::Global;
 use std::marker::Model;
 use std::sync::ledger::Ledger;
-use wa_base::{End, Items, NoMemory, NodeId, Steps, Tie};
+use wa_base::{End, NoMemory, NodeId, Steps, Tie};
 
 // What a graph is rendered by, with the number of edits that the graph had.
 #[derive(Drop)]
@@ -29,7 +27,7 @@ pub(crate) struct Plan {
     order: Ends,
     muted: Ends,
     // For each node, the connections that lead to it.
-    into: Vec<Items<Edge>>,
+    into: Parts<Edge>,
     near: Vec<usize>,
     // For each node, whether it is a delay in a cycle.
     cycles: Vec<bool>,
@@ -45,26 +43,26 @@ impl Model for Plan {
       tie = p.tie;
       order = p.order;
       muted = p.muted;
-      into = p.into.items;
+      into = p.into;
       cycles = p.cycles.items;
     } };
 }
 
 impl Plan {
     // The plan of no graph.
-    pub(crate) fn new(alloc: Global, tie: Tie) -> Plan
-        ensures planned { result.planned ≡ None }
-        ensures tie { result.tie ≡ tie }
+    pub(crate) fn new(alloc: Global, tie: Tie) -> Result<Plan, NoMemory>
+        ensures planned { IfOk result (λ plan. plan.planned ≡ None) }
+        ensures tie { IfOk result (λ plan. plan.tie ≡ tie) }
     {
-        Plan {
+        Ok(Plan {
             planned: None,
             tie,
             order: Ends::new(alloc),
             muted: Ends::new(alloc),
-            into: Vec::new(alloc),
+            into: Parts::new(alloc)?,
             near: Vec::new(alloc),
             cycles: Vec::new(alloc),
-        }
+        })
     }
 
     // Surveys and orders the graph of a world. Each connection is looked at nine times at most.
@@ -155,7 +153,7 @@ impl Plan {
         Site {
             world: quantum.world,
             end,
-            into: self.into[node].as_slice(),
+            into: self.into.part(node),
             counts: quantum.counts,
             levels: quantum.levels,
             first: quantum.first,
@@ -176,10 +174,11 @@ impl Plan {
         self.cycles.as_slice()
     }
 
-    pub(crate) fn sources(&self) -> &[Items<Edge>]
+    // For each node, the connections that lead to it.
+    pub(crate) fn sources(&self) -> &Parts<Edge>
         ensures { result.now ≡ self.now.into }
     {
-        self.into.as_slice()
+        &self.into
     }
 }
 
@@ -216,32 +215,6 @@ fn append_from<L: Ledger>(
         after = Some(cell);
     }
     Ok(())
-}
-
-// For each node, those of the connections that lead to it. Each connection is looked at once.
-fn by_target(alloc: Global, nodes: u32, all: &[Edge]) -> Result<Vec<Items<Edge>>, NoMemory>
-    requires { (e : an_edge) → IsIn e all.now → target_node e.to < nodes }
-    ensures length { IfOk result (λ into. length into.items ≡ nodes) }
-    ensures each { IfOk result (λ into. (n : ℕ) → n < nodes → slice_index_or into.items n [] ≡ filter (enters n) all.now) }
-{
-    let mut into = no_connections(alloc, nodes)?;
-    for edge in all {
-        let node = edge.to.node().0 as usize;
-        into[node].push(*edge)?;
-    }
-    Ok(into)
-}
-
-// For each node, no connection.
-fn no_connections(alloc: Global, nodes: u32) -> Result<Vec<Items<Edge>>, NoMemory>
-    ensures length { IfOk result (λ into. length into.items ≡ nodes) }
-    ensures each { IfOk result (λ into. (n : ℕ) → n < nodes → slice_index_or into.items n [] ≡ []) }
-{
-    let mut into = Vec::new(alloc);
-    for _ in 0..nodes {
-        into.push(Items::new(alloc))?;
-    }
-    Ok(into)
 }
 
 // For each node, whether it is listed.

@@ -83,11 +83,12 @@ impl Renderer {
         let out = vec![in alloc; 0; CHANNELS * quantum]?;
         let causal = CausalNodes::new(alloc, quantum)?;
         let stage = Stage::new(alloc, quantum)?;
+        let plan = Plan::new(alloc, tie)?;
         Ok(Renderer {
             alloc,
             spec,
             quanta: 0,
-            plan: Plan::new(alloc, tie),
+            plan,
             automation: Automation::new(alloc, quantum),
             memory: Memory {
                 causal,

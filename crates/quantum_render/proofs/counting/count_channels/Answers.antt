@@ -1,5 +1,4 @@
-use Rattle.std.proofs.Common.{rules, [], ◌+◌, ◌<◌, length, slice_index_or, slice_set, sym, ◌∙◌, subst}
-use Rattle.std.proofs.lemmas.List.{get_or_default}
+use Rattle.std.proofs.Common.{rules, ◌+◌, ◌<◌, length, slice_index_or, slice_set, sym, ◌∙◌, subst}
 use Rattle.wa_base.specs.declared.graph_names.End.{End}
 use Rattle.quantum_blocks.proofs.Sources.{same_nodes, end_low}
 use Rattle.quantum_blocks.proofs.Orders.{no_end}
@@ -9,8 +8,8 @@ use Rattle.quantum_render.proofs.counting.count_channels.Goals as goal
 pub loop-end-init : goal.loop-end-init
 loop-end-init c = counting_begins c.args.census.world.now c.requires.valid c.args.census.delays.now c.args.census.first c.args.order.now c.requires.plan.1.legal c.fill.new.self (c.fill.ensures.len ∙ c.requires.places) (search rules)
 
-pub bounds-census-end : goal.bounds-census-end
-bounds-census-end c =
+pub part-into-requires : goal.part-into-requires
+part-into-requires c =
     let x : End = slice_index_or c.args.order.now c.loop-end.end-index no_end in
     let there = end_low c.args.census.world.now c.requires.valid x (next c.args.census.world.now c.requires.valid c.args.census.delays.now c.args.census.first c.args.order.now c.loop-end.end-index c.loop-end.counts c.loop-end.invariant c.loop-end-test.true).0 in
     subst (λ n. x.node.0 < n) (sym (c.requires.plan.1.nodes ∙ same_nodes c.args.census.world.now c.requires.valid)) there
@@ -23,7 +22,7 @@ count_of-requires-clause-into c =
     let x : End = slice_index_or c.args.order.now c.loop-end.end-index no_end in
     let there = end_low c.args.census.world.now c.requires.valid x (next c.args.census.world.now c.requires.valid c.args.census.delays.now c.args.census.first c.args.order.now c.loop-end.end-index c.loop-end.counts c.loop-end.invariant c.loop-end-test.true).0 in
     let within : x.node.0 < length c.args.census.into.now = subst (λ n. x.node.0 < n) (sym (c.requires.plan.1.nodes ∙ same_nodes c.args.census.world.now c.requires.valid)) there in
-    c.as_slice-into.ensures ∙ get_or_default c.args.census.into.now x.node.0 c.index-census-end.result [] within ∙ c.requires.plan.1.each x.node.0 within
+    c.part-into.ensures ∙ c.requires.plan.1.each x.node.0 within
 
 pub bounds-counts-slot : goal.bounds-counts-slot
 bounds-counts-slot c =

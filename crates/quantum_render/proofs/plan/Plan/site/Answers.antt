@@ -1,4 +1,4 @@
-use Rattle.std.proofs.Common.{rules, List, ◌≡◌, ◌<◌, ◌∙◌, [], false, sym, ap, subst}
+use Rattle.std.proofs.Common.{rules, List, ◌≡◌, ◌<◌, ◌∙◌, false, sym, ap, subst}
 use Rattle.std.proofs.lemmas.List.{get_or_default}
 use Rattle.wa_base.specs.declared.graph_names.End.{End}
 use Rattle.law_base.specs.Members.{IsIn}
@@ -18,15 +18,15 @@ IsOf p w e = IsPlan w p.order p.muted p.into × AreCycles w.graph.value p.cycles
 facts : (p p' : PlanView) (q q' : QuantumView) (e : End) → p' ≡ p → q' ≡ q → IsOf p q.world e → IsOf p' q'.world e
 facts p p' q q' e plan quantum is = subst (λ (x : PlanView). IsOf x q'.world e) (sym plan) (subst (λ (x : QuantumView). IsOf p x.world e) (sym quantum) is)
 
-pub index-requires : goal.index-requires
-index-requires c =
+pub part-requires : goal.part-requires
+part-requires c =
     let w : World = c.quantum.inside.world.now in
     let is = facts _ _ _ _ c.args.end c.self.view_is c.quantum.view_is (c.requires.plan, c.requires.cycles, c.requires.there) in
     let node = subst (λ n. c.args.end.node.0 < n) (sym (is.0.nodes ∙ same_nodes w c.quantum.invariant.valid)) (end_low w c.quantum.invariant.valid c.args.end is.2) in
     search rules
 
-pub index-requires-2 : goal.index-requires-2
-index-requires-2 c =
+pub index-requires : goal.index-requires
+index-requires c =
     let w : World = c.quantum.inside.world.now in
     let is = facts _ _ _ _ c.args.end c.self.view_is c.quantum.view_is (c.requires.plan, c.requires.cycles, c.requires.there) in
     let node = subst (λ n. c.args.end.node.0 < n) (sym (is.1.count ∙ same_nodes w c.quantum.invariant.valid)) (end_low w c.quantum.invariant.valid c.args.end is.2) in
@@ -41,9 +41,9 @@ invariant_of-result c =
       record {
         quantum = c.quantum.invariant;
         there = is.2;
-        into = c.as_slice.ensures ∙ c.index.ensures ∙ get_or_default c.self.inside.into.items c.args.end.node.0 c.index.result.now [] node ∙ is.0.each c.args.end.node.0 node;
+        into = c.part.ensures ∙ is.0.each c.args.end.node.0 node;
       },
-      c.index-2.ensures ∙ get_or_default c.self.inside.cycles.items c.args.end.node.0 c.index-2.result.now false (subst (λ n. c.args.end.node.0 < n) (sym is.1.count) low) ∙ is.1.marked c.args.end.node.0 low,
+      c.index.ensures ∙ get_or_default c.self.inside.cycles.items c.args.end.node.0 c.index.result.now false (subst (λ n. c.args.end.node.0 < n) (sym is.1.count) low) ∙ is.1.marked c.args.end.node.0 low,
     )
 
 pub returns : goal.returns
@@ -51,7 +51,7 @@ returns c =
     let w : World = c.quantum.inside.world.now in
     let is = facts _ _ _ _ c.args.end c.self.view_is c.quantum.view_is (c.requires.plan, c.requires.cycles, c.requires.there) in
     let node = subst (λ n. c.args.end.node.0 < n) (sym (is.0.nodes ∙ same_nodes w c.quantum.invariant.valid)) (end_low w c.quantum.invariant.valid c.args.end is.2) in
-    let leads : c.as_slice.result.now ≡ into w.graph.value c.args.end.node.0 =
-    c.as_slice.ensures ∙ c.index.ensures ∙ get_or_default c.self.inside.into.items c.args.end.node.0 c.index.result.now [] node ∙ is.0.each c.args.end.node.0 node in
+    let leads : c.part.result.now ≡ into w.graph.value c.args.end.node.0 =
+    c.part.ensures ∙ is.0.each c.args.end.node.0 node in
     ap (λ (edges : List Edge). let s : SiteView = record { world = w; end = c.args.end; into = edges; counts = c.quantum.inside.counts.now; levels = c.quantum.inside.levels.now; first = c.quantum.inside.first } in s) leads
     ∙ ap (λ (q : QuantumView). site_in q c.args.end) c.quantum.view_is
