@@ -1,5 +1,5 @@
 -- Where no node is on a cycle, no delay is in one and no end is muted.
-use Rattle.std.proofs.Common.{ℕ, zero, suc, ◌≡◌, length, List, [], ◌∷◌, map, Bool, true, false, ◌&&◌, ◌⊎◌, inl, inr, refl, sym, ◌∙◌, ap, arith, subst}
+use Rattle.std.proofs.Common.{ℕ, zero, suc, ◌≡◌, length, List, [], ◌∷◌, map, Bool, true, false, ◌&&◌, ◌⊎◌, inl, inr, refl, sym, ◌∙◌, ap, subst}
 use Rattle.std.specs.List.{filter, list_any}
 use Rattle.std.proofs.lemmas.List.FromFn.{length-range_with_len}
 use Rattle.wa_base.specs.declared.graph_names.End.{End}
@@ -12,8 +12,7 @@ use Rattle.conn_graph.specs.Ends.{ends, is_delay, connects, numbers_from, in_cyc
 use Rattle.conn_graph.specs.Graph.{Connections}
 use Rattle.conn_graph.proofs.EndLaws.{end_is}
 use Rattle.conn_graph.proofs.MutingLaws.{has_number, arrow_cases}
-use Rattle.cycle_order.specs.Surveys.{node_id, delays_in_cycle, muted_ends, cycle_marks, IsSurvey}
-use Rattle.cycle_order.specs.declared.surveys.Surveyed.{Surveyed}
+use Rattle.cycle_order.specs.Surveys.{node_id, delays_in_cycle, muted_ends, cycle_marks}
 use Rattle.cycle_order.proofs.Lists.{IsIn-map, filter_agrees, numbers_are}
 
 differ : (b : Bool) → b ≡ true → b ≡ false → ⊥
