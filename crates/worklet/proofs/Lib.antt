@@ -8,4 +8,5 @@ pub mod Refusals
 mod Rows
 pub mod Running
 pub mod States
+pub mod Stepping
 pub mod Traps

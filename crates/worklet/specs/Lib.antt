@@ -3,3 +3,4 @@ pub mod Decision
 pub mod Errors
 pub mod Processor
 pub mod ProcessorInside
+pub mod Steps

@@ -5,9 +5,11 @@
 mod checker;
 mod errors;
 mod machine;
+mod prepared;
 mod processor;
 mod rules;
 mod stack;
+mod steps;
 
 pub use checker::{accepted_law, check, error_law, one_error_law};
 pub use errors::ProgErr;

@@ -3,7 +3,7 @@ ghost use Rattle.node_table.specs.Frames.{item, heard};
 ghost use Rattle.node_table.specs.Machine.{cells_after, cells_at_birth, program_value};
 ghost use Rattle.worklet.specs.Processor.{ProcessorStands, HasHeard, HasHeardNothing, cells_of};
 
-use crate::machine::frame_in;
+use crate::prepared::Prepared;
 use crate::rules::{CELLS, DEPTH};
 use node_table::{Causal, Program};
 use std::alloc::Global;
@@ -14,7 +14,7 @@ use wa_base::{Fix, NoMemory};
 /// that the channels past them share, which hear nothing but 0.
 #[derive(Drop)]
 pub struct Processor {
-    program: Program,
+    program: Prepared,
     channels: Vec<[Fix; CELLS]>,
     others: [Fix; CELLS],
 }
@@ -37,7 +37,7 @@ impl Processor {
         ensures born { (c : ℕ) → ProcessorStands result c [] }
     {
         Processor {
-            program,
+            program: Prepared::new(alloc, program),
             channels: Vec::new(alloc),
             others: [0; CELLS],
         }
@@ -69,6 +69,7 @@ impl Causal for Processor {
         ensures code { self.new.code ≡ self.old.code }
         ensures cells { (c : ℕ) → cells_of self.new c ≡ cells_of self.old c }
     {
+        self.program.prepare()?;
         grow_to(&mut self.channels, channels as usize, self.others)
     }
 
@@ -105,7 +106,7 @@ fn grow_to(
 
 // Hears a block of each channel.
 fn hear_all(
-    program: &Program,
+    program: &Prepared,
     channels: &mut [[Fix; CELLS]],
     x: &[Fix],
     y: &mut [Fix],
@@ -128,26 +129,26 @@ fn hear_all(
 }
 
 // Hears a block of a channel.
-fn hear_channel(program: &Program, cells: &mut [Fix; CELLS], x: &[Fix], y: &mut [Fix])
+fn hear_channel(program: &Prepared, cells: &mut [Fix; CELLS], x: &[Fix], y: &mut [Fix])
     requires y { length y.old ≡ length x.now }
     ensures heard { HasHeard program.now cells.old cells.new x.now 0 (length x.now) }
     ensures outputs { (k : ℕ) (xs : List ℤ) → k < length x.now → cells.old ≡ cells_after program.now xs → item y.new k ≡ program_value program.now (heard x.now 0 (k + 1) xs) }
 {
     let mut room = [0; DEPTH];
     for (k, out) in y.iter_mut().enumerate() {
-        *out = frame_in(program, &mut room, cells, x[k]);
+        *out = program.frame(&mut room, cells, x[k]);
     }
 }
 
 // Hears so many frames that are 0. Where one of them leaves the cells as they were, so do all that
 // follow.
-fn hear_nothing(program: &Program, cells: &mut [Fix; CELLS], frames: usize)
+fn hear_nothing(program: &Prepared, cells: &mut [Fix; CELLS], frames: usize)
     ensures { HasHeardNothing program.now cells.old cells.new frames }
 {
     let mut room = [0; DEPTH];
     for _ in 0..frames {
         let before = *cells;
-        frame_in(program, &mut room, cells, 0);
+        program.frame(&mut room, cells, 0);
         if is_same(cells, &before) {
             return;
         }

@@ -5,4 +5,4 @@ use Rattle.worklet.proofs.processor.hear_nothing.Goals as goal
 pub returns-then-is_same : goal.returns-then-is_same
 returns-then-is_same c =
     let same = c.is_same.ensures.0 c.if-is_same.true in
-    nothing_stays c.args.program.now c.args.cells.now c.loop.cells c.frame_in.new.cells c.loop.counter c.args.frames _ same (omega arith) c.loop.invariant c.frame_in.ensures
+    nothing_stays c.args.program.now c.args.cells.now c.loop.cells c.frame.new.cells c.loop.counter c.args.frames _ same (omega arith) c.loop.invariant c.frame.ensures
