@@ -233,8 +233,8 @@ impl Control {
         self.context.now()
     }
 
-    // The world that is in force.
-    pub(crate) fn world(&self) -> &World
+    /// The world that is in force.
+    pub fn world(&self) -> &World
         ensures world { plain result.now ≡ self.now.world }
         ensures valid { IsValid result.now }
     {

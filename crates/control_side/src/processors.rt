@@ -1,4 +1,4 @@
-ghost use Rattle.std.specs.Prelude.{◌≡◌, if◌then◌else◌, true, Some, None, IfOk};
+ghost use Rattle.std.specs.Prelude.{◌≡◌, ◌↔◌, if◌then◌else◌, Some, None, IfOk, IsTrue};
 ghost use Rattle.script_ast.specs.Operations.{interface_of};
 ghost use Rattle.worklet.specs.Decision.{is_accepted};
 ghost use Rattle.worklet.specs.declared.errors.ProgErr.TheVariants.{NoMemory as no_memory};
@@ -55,7 +55,7 @@ fn program_of(alloc: Global, code: &Code) -> Result<Option<Program>, NoMemory>
 
 // Whether memory ran out, and the program has no error.
 fn ran_out(error: ProgErr) -> bool
-    ensures { error ≡ no_memory → result ≡ true }
+    ensures { IsTrue result ↔ (error ≡ no_memory) }
 {
     matches!(error, ProgErr::NoMemory)
 }

@@ -1,6 +1,7 @@
 -- A session that goes on turn by turn.
 use Rattle.std.proofs.Common.{◌≡◌, ◌<◌, ◌≤◌, ◌+◌, ◌∷◌, ◌++◌, [], List, ℕ, suc, length, Bool, true, false, refl, sym, ap, ◌∙◌, subst, arith}
-use Rattle.std.specs.Prelude.{IsTrue, IsSome}
+use Rattle.std.specs.Prelude.{IsTrue, IsSome, map}
+use Rattle.std.proofs.lemmas.List.{append_assoc, append-nil, map-append}
 use Rattle.io_edge.specs.Paths.{Paths, SamePaths}
 use Rattle.wa_base.specs.Contexts.{quantum_of, IsQuantumSize}
 use Rattle.wa_base.specs.declared.contexts.State.{State}
@@ -10,23 +11,25 @@ use Rattle.script_ast.specs.declared.call_list.Call.{Call}
 use Rattle.ctx_state.specs.Context.{turn_of}
 use Rattle.ctx_state.specs.declared.context.Turn.TheVariants.{Went, Due, Done}
 use Rattle.meaning.specs.declared.world.World.{World}
+use Rattle.meaning.specs.World.{sounding}
 use Rattle.session.specs.Folders.{Folder, IsFolderOf, AgreeBetween}
 use Rattle.session.specs.Session.{after_turn, after_calls, after_list, held_by, is_running, quanta_left, finished, turns, HasDecode, TurnsDecode}
 use Rattle.control_side.specs.Step.{KeepsTime}
 use Rattle.control_side.specs.Turns.{IsTurned}
-use Rattle.session.specs.View.{SessionView, Stands, IsPlayed, ComesToDecode, turns_of}
+use Rattle.session.specs.View.{SessionView, Stands, Shown, IsPlayed, ComesToDecode, turns_of}
 use Rattle.session.proofs.Folders.{spliced, spliced_before, spliced_from, splice_of}
 use Rattle.control_side.proofs.Stepping.{turned_started}
 use Rattle.session.proofs.Quanta.{one_left, more_left, as_many_left, turns_went, decode_went, turns_due, turns_stalled, decode_due, decode_later, turns_done, decode_done, longer_after}
 
 -- how far a session went on: what is left of it, over what a folder held so far, is what there was to come
-pub record IsOnItsWay (tells : Bool) (paths : Paths) (calls : List Call) (start now : SessionView) : Type 0 where
+pub record IsOnItsWay (shown : List World → Type 0) (tells : Bool) (paths : Paths) (calls : List Call) (start now : SessionView) : Type 0 where
   pub running : now.told.machine.context.state ≡ Running
   pub begun : IsSome now.told.machine.context.started
   pub folder : Folder
   pub of : IsFolderOf tells paths folder
   pub tape : List World
   pub stands : Stands now tape
+  pub seen : shown tape
   pub left : (other : Folder) → AgreeBetween (length start.told.lines) (length now.told.lines) folder other → turns (quanta_left now.told.machine) other calls now.told tape ≡ turns_of other start calls
   pub decodes : (other : Folder) → AgreeBetween (length start.told.lines) (length now.told.lines) folder other → TurnsDecode (quanta_left now.told.machine) other calls now.told
       → TurnsDecode (quanta_left start.told.machine) other calls start.told
@@ -34,20 +37,34 @@ pub record IsOnItsWay (tells : Bool) (paths : Paths) (calls : List Call) (start 
   pub audio : now.audio ≡ start.audio
   pub spec : now.told.machine.world.spec ≡ start.told.machine.world.spec
 
-pub at_start : (tells : Bool) (paths : Paths) (calls : List Call) (start : SessionView) → start.told.machine.context.state ≡ Running → IsSome start.told.machine.context.started → Stands start [] → IsOnItsWay tells paths calls start start
-at_start tells paths calls start running begun stands = record {
+pub at_start : (shown : List World → Type 0) (tells : Bool) (paths : Paths) (calls : List Call) (start : SessionView) → start.told.machine.context.state ≡ Running → IsSome start.told.machine.context.started → Stands start [] → shown []
+    → IsOnItsWay shown tells paths calls start start
+at_start shown tells paths calls start running begun stands seen = record {
   running = running;
   begun = begun;
   folder = λ n. paths;
   of = λ n told q. refl;
   tape = [];
   stands = stands;
+  seen = seen;
   left = λ other agree. refl;
   decodes = λ other agree later. later;
   longer = omega arith;
   audio = refl;
   spec = refl;
 }
+
+-- what nothing was shown to saw what it had seen
+pub shown_first : (saw : List World → Type 0) → Shown saw saw []
+shown_first saw worlds before = subst saw (sym (append-nil worlds)) before
+
+-- a world that sounds as the machine's is shown
+pub shown_more : (before now next : List World → Type 0) (w told : World) → sounding w ≡ sounding told → ((worlds : List World) → now worlds → next (worlds ++ sounding w ∷ [])) → (tape : List World) → Shown before now tape
+    → Shown before next (tape ++ told ∷ [])
+shown_more before now next w told same shows tape seen worlds had =
+    subst next
+    (append_assoc worlds (map sounding tape) (sounding w ∷ []) ∙ ap (λ ws. worlds ++ ws) (ap (λ (x : World). map sounding tape ++ x ∷ []) same ∙ sym (map-append sounding tape (told ∷ []))))
+    (shows (worlds ++ map sounding tape) (seen worlds had))
 
 -- what a turn leaves
 pub record Advances (old new : SessionView) : Type 0 where
@@ -91,7 +108,8 @@ running_is state.Suspended is = absurd cc
 running_is Running is = refl
 running_is state.Closed is = absurd cc
 
-module _ (tells : Bool) (paths : Paths) (calls : List Call) (start now next : SessionView) (way : IsOnItsWay tells paths calls start now) (turn : Advances now next) where
+module _ (before shown : List World → Type 0) (tells : Bool) (paths : Paths) (calls : List Call) (start now next : SessionView) (way : IsOnItsWay before tells paths calls start now) (turn : Advances now next)
+    (shows : (tape : List World) → before tape → shown (tape ++ now.told.machine.world ∷ [])) where
   some : 0 < quantum_of now.told.machine.world.spec
   some = let low = turn.size.low in omega (arith, low)
 
@@ -99,7 +117,7 @@ module _ (tells : Bool) (paths : Paths) (calls : List Call) (start now next : Se
   begun_next = subst IsSome (sym (ap (λ t. t.machine.context.started) turn.told ∙ turned_started now.told.machine.context)) way.begun
 
   -- rendering goes on
-  pub goes_on : turn_of now.told.machine.context ≡ Went → IsTurned Went now.told.machine next.told.machine → IsOnItsWay tells paths calls start next
+  pub goes_on : turn_of now.told.machine.context ≡ Went → IsTurned Went now.told.machine next.told.machine → IsOnItsWay shown tells paths calls start next
   goes_on went turned =
       let long = longer_after now.told next.told turn.told in
       let more = more_left now.told next.told some turn.told turn.time turned.1 in
@@ -112,6 +130,7 @@ module _ (tells : Bool) (paths : Paths) (calls : List Call) (start now next : Se
         of = way.of;
         tape = way.tape ++ now.told.machine.world ∷ [];
         stands = turn.stands way.tape way.stands;
+        seen = shows way.tape way.seen;
         left = λ other agree.
             ap (λ t. turns (quanta_left next.told.machine) other calls t (way.tape ++ now.told.machine.world ∷ [])) turn.told
             ∙ sym (turns_went other calls now.told way.tape (quanta_left next.told.machine) went more)
@@ -152,12 +171,13 @@ module _ (tells : Bool) (paths : Paths) (calls : List Call) (start now next : Se
     stops other agree ends = sym (way.left other (early other agree)) ∙ ends ∙ ap (λ t. finished t (way.tape ++ now.told.machine.world ∷ [])) (sym (after other agree))
 
     played : ((other : Folder) → AgreeBetween (length start.told.lines) (length last.told.lines) joined other
-        → turns (quanta_left now.told.machine) other calls now.told way.tape ≡ finished (after_list other calls (after_turn now.told) ordinal) (way.tape ++ now.told.machine.world ∷ [])) → IsPlayed tells paths calls start last
+        → turns (quanta_left now.told.machine) other calls now.told way.tape ≡ finished (after_list other calls (after_turn now.told) ordinal) (way.tape ++ now.told.machine.world ∷ [])) → IsPlayed shown tells paths calls start last
     played ends = record {
       folder = joined;
       of = joined_of;
       tape = way.tape ++ now.told.machine.world ∷ [];
       stands = list.stands _ (turn.stands way.tape way.stands);
+      seen = shows way.tape way.seen;
       played = λ other agree. stops other agree (ends other agree);
     }
 
@@ -165,7 +185,7 @@ module _ (tells : Bool) (paths : Paths) (calls : List Call) (start now next : Se
     was_started = list.started begun_next
 
     -- the length is reached
-    pub ends_closed : turn_of now.told.machine.context ≡ Done ordinal → IsTurned (Done ordinal) now.told.machine next.told.machine → IsPlayed tells paths calls start last
+    pub ends_closed : turn_of now.told.machine.context ≡ Done ordinal → IsTurned (Done ordinal) now.told.machine next.told.machine → IsPlayed shown tells paths calls start last
     ends_closed done turned = played (λ other agree. turns_done other calls now.told way.tape ordinal done (one_left now.told next.told some turn.left turn.time turned.1))
 
     -- a suspension is due
@@ -177,10 +197,10 @@ module _ (tells : Bool) (paths : Paths) (calls : List Call) (start now next : Se
           → is_running (after_list other calls (after_turn now.told) ordinal).machine.context.state ≡ b
       state_is other agree b is = ap (λ t. is_running t.machine.context.state) (sym (after other agree)) ∙ is
 
-      pub ends_stalled : is_running last.told.machine.context.state ≡ false → IsPlayed tells paths calls start last
+      pub ends_stalled : is_running last.told.machine.context.state ≡ false → IsPlayed shown tells paths calls start last
       ends_stalled waits = played (λ other agree. turns_stalled other calls now.told way.tape (quanta_left last.told.machine) ordinal due more (state_is other agree false waits))
 
-      pub is_resumed : is_running last.told.machine.context.state ≡ true → IsOnItsWay tells paths calls start last
+      pub is_resumed : is_running last.told.machine.context.state ≡ true → IsOnItsWay shown tells paths calls start last
       is_resumed runs =
           record {
             running = running_is last.told.machine.context.state runs;
@@ -189,6 +209,7 @@ module _ (tells : Bool) (paths : Paths) (calls : List Call) (start now next : Se
             of = joined_of;
             tape = way.tape ++ now.told.machine.world ∷ [];
             stands = list.stands _ (turn.stands way.tape way.stands);
+            seen = shows way.tape way.seen;
             left = λ other agree.
                 ap (λ t. turns (quanta_left last.told.machine) other calls t (way.tape ++ now.told.machine.world ∷ [])) (after other agree)
                 ∙ sym (turns_due other calls now.told way.tape (quanta_left last.told.machine) ordinal due more (state_is other agree true runs))

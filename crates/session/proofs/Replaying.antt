@@ -8,6 +8,7 @@ use Rattle.wa_base.specs.declared.contexts.State.TheVariants as state
 use Rattle.ctx_state.specs.Context.{IsInState, is_closed}
 use Rattle.wa_base.specs.declared.contexts.ContextSpec.{ContextSpec}
 use Rattle.wa_base.specs.declared.exceptions.Exc.TheVariants.{NotSupported}
+use Rattle.meaning.specs.declared.world.World.{World}
 use Rattle.script_ast.specs.declared.call_list.Call.{Call}
 use Rattle.script_ast.specs.declared.call_list.Script.{Script}
 use Rattle.transcript.specs.declared.lines.EndWord.TheVariants.{Refused}
@@ -16,8 +17,9 @@ use Rattle.control_side.specs.declared.stop.Stop.{Stop}
 use Rattle.session.specs.Folders.{Folder, IsFolderOf, AgreeBetween}
 use Rattle.session.specs.Rendering.{IsOutcomeOf, rendering_of}
 use Rattle.session.specs.Session.{Told, Played, first_told, main_list, rendered, replayed, quanta_left, session_of, finished, turns, end_of, lines_at_end, TurnsDecode, Decodes}
-use Rattle.session.specs.View.{SessionView, IsFirst, IsPlayed, IsReplayed, ComesToDecode}
+use Rattle.session.specs.View.{SessionView, IsFirst, Shown, IsPlayed, IsReplayed, ComesToDecode}
 use Rattle.session.proofs.Finishing.{outcome_is}
+use Rattle.session.proofs.Going.{shown_first}
 use Rattle.session.proofs.Folders.{spliced, spliced_before, spliced_from, splice_of}
 
 -- by whether rendering was started
@@ -47,13 +49,14 @@ module _ (tells : Bool) (paths : Paths) (calls : List Call) (first now : Session
   main_of : (two : Folder) → now.told ≡ main_list (both two) calls first.told
   main_of two = main (both two) (λ n from early. spliced_before (length now.told.lines) one two n early)
 
-  pub was_started : (last : SessionView) → IsPlayed tells paths calls now last → last.told.machine.world.spec ≡ first.told.machine.world.spec → IsSupported last.told.machine.world.spec → IsSome last.told.machine.context.started
-      → IsReplayed tells paths calls first last
-  was_started last played spec supported started = record {
+  pub was_started : (shown : List World → Type 0) (last : SessionView) → IsPlayed shown tells paths calls now last → last.told.machine.world.spec ≡ first.told.machine.world.spec → IsSupported last.told.machine.world.spec → IsSome last.told.machine.context.started
+      → IsReplayed shown tells paths calls first last
+  was_started shown last played spec supported started = record {
     folder = both played.folder;
     of = splice_of tells paths (length now.told.lines) one played.folder of_one played.of;
     tape = played.tape;
     stands = played.stands;
+    seen = played.seen;
     played =
         is_by_start (both played.folder) calls first.told now.told true (main_of played.folder) begun
         ∙ played.played (both played.folder) (λ n from early. spliced_from (length now.told.lines) one played.folder n from);
@@ -75,12 +78,13 @@ module _ (tells : Bool) (paths : Paths) (calls : List Call) (first now : Session
       )
 
 -- the same of another name for the store's paths
-pub played_of : (tells told : Bool) (paths now : Paths) (calls : List Call) (a b : SessionView) → told ≡ tells → (IsTrue tells → SamePaths paths now) → IsPlayed told now calls a b → IsPlayed tells paths calls a b
-played_of tells told paths now calls a b same_tells same_paths is = record {
+pub played_of : (shown : List World → Type 0) (tells told : Bool) (paths now : Paths) (calls : List Call) (a b : SessionView) → told ≡ tells → (IsTrue tells → SamePaths paths now) → IsPlayed shown told now calls a b → IsPlayed shown tells paths calls a b
+played_of shown tells told paths now calls a b same_tells same_paths is = record {
   folder = is.folder;
   of = λ n tell q. is.of n (subst IsTrue (sym same_tells) tell) q ∙ same_paths tell q;
   tape = is.tape;
   stands = is.stands;
+  seen = is.seen;
   played = is.played;
 }
 
@@ -96,13 +100,13 @@ both_ok P Q R (Ok v) f p q = f p q
 both_ok P Q R (Err e) f p q = tt
 
 -- what is handed over of a session that was replayed
-pub replayed_outcome : (tells : Bool) (paths : Paths) (script : Script) (audio : Bool) (first last : SessionView) (outcome : Outcome) (is : IsReplayed tells paths script.calls first last) → is_supported script.context ≡ true
+pub replayed_outcome : (tells : Bool) (paths : Paths) (script : Script) (audio : Bool) (first last : SessionView) (outcome : Outcome) (shown : List World → Type 0) (is : IsReplayed shown tells paths script.calls first last) → is_supported script.context ≡ true
     → IsFirst script.context audio first → last.audio ≡ first.audio → outcome.lines.items ≡ lines_at_end last.told → outcome.end ≡ end_of last.told.machine.context
     → outcome.quanta ≡ last.told.machine.context.time / quantum_of last.told.machine.world.spec
     → outcome.rendered ≡ (if last.audio && is_closed last.told.machine.context.state then Some (record { spec = last.told.machine.world.spec; samples = last.samples }) else None)
     → IsOutcomeOf audio script.context (session_of is.folder script) outcome
 unfolding session_of
-replayed_outcome tells paths script audio first last outcome is supported fresh heard lines end quanta rendered =
+replayed_outcome tells paths script audio first last outcome shown is supported fresh heard lines end quanta rendered =
     let here = outcome_is last is.tape outcome is.supported is.stands is.begun lines end quanta rendered in
     let spec : last.told.machine.world.spec ≡ script.context = is.spec ∙ ap (λ t. t.machine.world.spec) fresh.told in
     let told : finished last.told is.tape ≡ replayed is.folder script.calls (first_told script.context) = sym is.played ∙ ap (replayed is.folder script.calls) fresh.told in
@@ -129,3 +133,16 @@ refused_outcome folder script audio outcome unsupported lines end quanta nothing
     none_rendered : (a : Bool) (spec : ContextSpec) → rendering_of a spec (record { lines = []; end = Refused (NotSupported None); tape = [] }) ≡ None
     none_rendered true spec = refl
     none_rendered false spec = refl
+
+-- what was shown is the tape of the session
+pub replayed_shown : (tells : Bool) (paths : Paths) (script : Script) (audio : Bool) (first last : SessionView) (shown : List World → Type 0) (is : IsReplayed shown tells paths script.calls first last) → is_supported script.context ≡ true
+    → IsFirst script.context audio first → shown (session_of is.folder script).tape
+unfolding session_of
+replayed_shown tells paths script audio first last shown is supported fresh =
+    let told : finished last.told is.tape ≡ replayed is.folder script.calls (first_told script.context) = sym is.played ∙ ap (replayed is.folder script.calls) fresh.told in
+    rw supported (subst (λ (p : Played). shown p.tape) told is.seen)
+
+-- and nothing of a context that was refused
+pub refused_shown : (folder : Folder) (script : Script) (saw : List World → Type 0) → is_supported script.context ≡ false → Shown saw saw (session_of folder script).tape
+unfolding session_of
+refused_shown folder script saw unsupported = rw unsupported (shown_first saw)

@@ -150,12 +150,17 @@ pub record IsAsBefore (old new : SessionView) : Type 0 where
 abbrev pub turns_of : Folder → SessionView → List Call → Played
 turns_of folder view calls = turns (quanta_left view.told.machine) folder calls view.told []
 
--- Over a folder of the store a session came to its end, turn by turn, and stands for its tape then: whatever a folder holds at other moments.
-pub record IsPlayed (tells : Bool) (paths : Paths) (calls : List Call) (old new : SessionView) : Type 0 where
+-- An observer that had seen worlds has then seen those of the tape too, as they sound.
+abbrev pub Shown : (List World → Type 0) → (List World → Type 0) → List World → Type 0
+Shown before after tape = (worlds : List World) → before worlds → after (worlds ++ map sounding tape)
+
+-- Over a folder of the store a session came to its end, turn by turn, and stands for its tape then, which was shown: whatever a folder holds at other moments.
+pub record IsPlayed (shown : List World → Type 0) (tells : Bool) (paths : Paths) (calls : List Call) (old new : SessionView) : Type 0 where
   pub folder : Folder
   pub of : IsFolderOf tells paths folder
   pub tape : List World
   pub stands : Stands new tape
+  pub seen : shown tape
   pub played : (other : Folder) → AgreeBetween (length old.told.lines) (length new.told.lines) folder other → turns_of other old calls ≡ finished new.told tape
 
 -- Over a folder of the store a session comes to a decodeAudioData in one of its turns.
@@ -165,11 +170,12 @@ pub record ComesToDecode (tells : Bool) (paths : Paths) (calls : List Call) (old
   pub decodes : (other : Folder) → AgreeBetween (length old.told.lines) (length new.told.lines) folder other → TurnsDecode (quanta_left old.told.machine) other calls old.told
 
 -- Over a folder of the store a session did its main list, and went on to its end where that started it.
-pub record IsReplayed (tells : Bool) (paths : Paths) (calls : List Call) (old new : SessionView) : Type 0 where
+pub record IsReplayed (shown : List World → Type 0) (tells : Bool) (paths : Paths) (calls : List Call) (old new : SessionView) : Type 0 where
   pub folder : Folder
   pub of : IsFolderOf tells paths folder
   pub tape : List World
   pub stands : Stands new tape
+  pub seen : shown tape
   pub played : replayed folder calls old.told ≡ finished new.told tape
   pub begun : is_closed new.told.machine.context.state ≡ true → IsSome new.told.machine.context.started
   pub spec : new.told.machine.world.spec ≡ old.told.machine.world.spec

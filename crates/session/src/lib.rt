@@ -1,6 +1,7 @@
 //! The machine of a session: control calls, render quanta and the samples that they give.
 #![tactic(auto)]
 
+mod observer;
 mod render_side;
 mod rendered;
 mod replay;
@@ -8,6 +9,7 @@ mod session;
 
 pub use control_side::Stop;
 pub use ctx_state::Turn;
+pub use observer::{NoObserver, Observer};
 pub use rendered::Rendered;
-pub use replay::{Outcome, run};
+pub use replay::{Outcome, run, run_observed};
 pub use session::{Options, Session};

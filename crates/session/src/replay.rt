@@ -7,9 +7,10 @@ ghost use Rattle.session.specs.Rendering.{IsOutcomeOf};
 ghost use Rattle.session.specs.Session.{after_calls, held_by, is_running as runs, session_of, HasDecode, Decodes, SessionDecodes};
 ghost use Rattle.control_side.specs.Step.{KeepsTime, RunsOnceStarted};
 ghost use Rattle.session.specs.Lists.{AreLengths};
-ghost use Rattle.session.specs.View.{Stands, IsPlayed, IsReplayed, ComesToDecode};
+ghost use Rattle.session.specs.View.{Stands, Shown, IsPlayed, IsReplayed, ComesToDecode};
 ghost use Rattle.meaning.specs.declared.world.World.{World};
 
+use crate::observer::{NoObserver, Observer};
 use crate::rendered::Rendered;
 use crate::session::{Options, Session};
 use control_side::Stop;
@@ -39,7 +40,6 @@ pub struct Outcome {
 ///
 /// A refused context, and refused calls, are part of the outcome. `AssetFault` comes where reading an
 /// asset failed. After a `Stop` nothing is left of the session. No file is written.
-#[tactic(auto, unfolding(crate::specs::Session::session_of))]
 pub fn run<F: Files>(
     alloc: Global,
     script: &Script,
@@ -55,14 +55,45 @@ pub fn run<F: Files>(
     ensures cause { IsErrOf result Stop.AssetFault → Rose (F.read_faults files.old) (F.read_faults files.new)
         × ((folder : Folder) × IsFolderOf (F.tells files.old) (F.paths files.old) folder × SessionDecodes folder script.now) }
 {
+    run_observed(alloc, script, options, files, &mut NoObserver)
+}
+
+/// Replays a script as `run` does, and shows an observer the world of each quantum before it is
+/// rendered.
+#[tactic(auto, unfolding(crate::specs::Session::session_of))]
+pub fn run_observed<F: Files, O: Observer>(
+    alloc: Global,
+    script: &Script,
+    options: Options,
+    files: &mut F,
+    observer: &mut O,
+) -> Result<Outcome, Stop>
+    requires { AreCallsAfter 0 script.now.calls }
+    ensures outcome { IfOk result (λ outcome. (folder : Folder) × IsFolderOf (F.tells files.old) (F.paths files.old) folder × IsOutcomeOf options.audio script.now.context (session_of folder script.now) outcome
+        × Shown (O.saw observer.old) (O.saw observer.new) (session_of folder script.now).tape) }
+    ensures tells { F.tells files.new ≡ F.tells files.old }
+    ensures paths { IsTrue (F.tells files.old) → SamePaths (F.paths files.old) (F.paths files.new) }
+    ensures later { F.read_faults files.old ≤ F.read_faults files.new }
+    ensures writes { F.write_faults files.new ≡ F.write_faults files.old }
+    ensures cause { IsErrOf result Stop.AssetFault → Rose (F.read_faults files.old) (F.read_faults files.new)
+        × ((folder : Folder) × IsFolderOf (F.tells files.old) (F.paths files.old) folder × SessionDecodes folder script.now) }
+{
     match Session::new(alloc, script.context, options) {
-        Ok(mut session) => match replay_calls(alloc, &mut session, script.calls.as_slice(), files) {
-            Ok(()) => Ok(session.finish()),
-            Err(stop) => {
-                drop(session);
-                Err(stop)
+        Ok(mut session) => {
+            match replay_calls(
+                alloc,
+                &mut session,
+                script.calls.as_slice(),
+                files,
+                observer,
+            ) {
+                Ok(()) => Ok(session.finish()),
+                Err(stop) => {
+                    drop(session);
+                    Err(stop)
+                }
             }
-        },
+        }
         Err(Refusal::Exc(exception)) => Ok(Outcome {
             lines: Lines::new(alloc),
             end: EndWord::Refused(exception),
@@ -75,16 +106,17 @@ pub fn run<F: Files>(
 
 // Does the calls of a script in a session without a call yet: the main list and, where that started
 // rendering, what comes after it.
-fn replay_calls<F: Files>(
+fn replay_calls<F: Files, O: Observer>(
     alloc: Global,
     session: &mut Session,
     calls: &[Call],
     files: &mut F,
+    observer: &mut O,
 ) -> Result<(), Stop>
     requires calls { AreCallsAfter 0 calls.now }
     requires idle { session.old.told.machine.context.started ≡ None }
     requires fresh { Stands session.old [] }
-    ensures ok { OnOk result (IsReplayed (F.tells files.old) (F.paths files.old) calls.now session.old session.new) }
+    ensures ok { OnOk result (IsReplayed (Shown (O.saw observer.old) (O.saw observer.new)) (F.tells files.old) (F.paths files.old) calls.now session.old session.new) }
     ensures audio { session.new.audio ≡ session.old.audio }
     ensures tells { F.tells files.new ≡ F.tells files.old }
     ensures paths { IsTrue (F.tells files.old) → SamePaths (F.paths files.old) (F.paths files.new) }
@@ -99,23 +131,24 @@ fn replay_calls<F: Files>(
     if session.started().is_none() {
         return Ok(());
     }
-    go_on(session, calls, lengths, files)
+    go_on(session, calls, lengths, files, observer)
 }
 
 // Takes turn after turn, with the lists of the suspensions that are due, until the length is reached,
 // and its list is done, or a suspension is not resumed.
-fn go_on<F: Files>(
+fn go_on<F: Files, O: Observer>(
     session: &mut Session,
     calls: &[Call],
     lengths: &[usize],
     files: &mut F,
+    observer: &mut O,
 ) -> Result<(), Stop>
     requires calls { AreCallsAfter 0 calls.now }
     requires lengths { AreLengths lengths.now calls.now }
     requires running { session.old.told.machine.context.state ≡ State.Running }
     requires started { IsSome session.old.told.machine.context.started }
     requires fresh { Stands session.old [] }
-    ensures ok { OnOk result (IsPlayed (F.tells files.old) (F.paths files.old) calls.now session.old session.new) }
+    ensures ok { OnOk result (IsPlayed (Shown (O.saw observer.old) (O.saw observer.new)) (F.tells files.old) (F.paths files.old) calls.now session.old session.new) }
     ensures longer { length session.old.told.lines ≤ length session.new.told.lines }
     ensures audio { session.new.audio ≡ session.old.audio }
     ensures spec { session.new.told.machine.world.spec ≡ session.old.told.machine.world.spec }
@@ -128,6 +161,7 @@ fn go_on<F: Files>(
         × ComesToDecode (F.tells files.old) (F.paths files.old) calls.now session.old session.new }
 {
     loop {
+        observer.show(session.world())?;
         match session.advance()? {
             Turn::Went => {}
             Turn::Due(ordinal) => {

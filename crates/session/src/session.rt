@@ -13,7 +13,8 @@ ghost use Rattle.control_side.specs.Step.{is_start, is_decode, KeepsTime, RunsOn
 ghost use Rattle.control_side.specs.Machine.{caught_up};
 ghost use Rattle.control_side.specs.Turns.{IsTurned};
 ghost use Rattle.session.specs.View.{IsFirst, IsAsBefore, Stands, Follows, MakesRoom, Gets, CatchesUp, Hears, GoesOn, Waits, IsAt, sent};
-ghost use Rattle.meaning.specs.declared.world.World.{World};
+ghost use Rattle.meaning.specs.declared.world.World.{World as a_world};
+ghost use Rattle.meaning.specs.World.{sounding};
 ghost use Rattle.meaning.specs.Worlds.{first_world};
 ghost use Rattle.quantum_render.specs.Stands.{StandsFor};
 
@@ -24,7 +25,7 @@ use control_msgs::Message;
 use control_side::{Control, Stepped, Stop};
 use ctx_state::Turn;
 use io_edge::Files;
-use meaning::Change;
+use meaning::{Change, World};
 use script_ast::{Call, Op};
 use std::alloc::Global;
 use std::marker::Model;
@@ -108,7 +109,7 @@ impl Session {
         ensures kept { KeepsTime self.old.told.machine self.new.told.machine }
         ensures started { IsSome self.old.told.machine.context.started → IsSome self.new.told.machine.context.started }
         ensures runs { RunsOnceStarted self.old.told.machine → RunsOnceStarted self.new.told.machine }
-        ensures stands { (tape : List World) → Stands self.old tape → Stands self.new tape }
+        ensures stands { (tape : List a_world) → Stands self.old tape → Stands self.new tape }
         ensures err { OnErr result (self.new ≡ self.old) }
         ensures tells { F.tells files.new ≡ F.tells files.old }
         ensures paths { IsTrue (F.tells files.old) → SamePaths (F.paths files.old) (F.paths files.new) }
@@ -141,7 +142,7 @@ impl Session {
         ensures size { OnOk result (IsQuantumSize (quantum_of self.old.told.machine.world.spec)) }
         ensures state { IfOk result (λ turn. IsTurned turn self.old.told.machine self.new.told.machine) }
         ensures audio { self.new.audio ≡ self.old.audio }
-        ensures stands { (tape : List World) → Stands self.old tape → OnOk result (Stands self.new (tape ++ self.old.told.machine.world ∷ [])) }
+        ensures stands { (tape : List a_world) → Stands self.old tape → OnOk result (Stands self.new (tape ++ self.old.told.machine.world ∷ [])) }
         ensures err { OnErr result (IsAsBefore self.old self.new) }
     {
         let ended = self.control.lines_of_quantum(self.alloc)?;
@@ -243,6 +244,13 @@ impl Session {
             (_, Some(_)) => EndWord::Stalled(context.now()),
             (_, None) => EndWord::Idle,
         }
+    }
+
+    /// The world in force. The current values of its parameters may be those of an earlier quantum.
+    pub fn world(&self) -> &World
+        ensures { sounding result.now ≡ sounding self.now.told.machine.world }
+    {
+        self.control.world()
     }
 
     /// The state of the context.

@@ -8,6 +8,6 @@ returns-in-Ok c = rw (accepted_true _ c.in-Ok.ensures.accepted, c.in-Ok.ensures.
 
 pub returns-in-Err-2 : goal.returns-in-Err-2
 returns-in-Err-2 c = elim c.in-Err.ensures.error [
-  | inl none ↦ absurd (let both : true ≡ false = sym (c.ran_out.ensures none) ∙ c.if-ran_out.false in cc)
+  | inl none ↦ absurd (let both : true ≡ false = sym (c.ran_out.ensures.1 none) ∙ c.if-ran_out.false in cc)
   | inr is ↦ rw (accepted_false _ (not_accepted _ _ is)) refl
 ]

@@ -4,28 +4,33 @@ use Rattle.std.proofs.lemmas.Result.{IfOk-weaker, err_from_is_err_and}
 use Rattle.control_side.specs.declared.stop.Stop.{Stop}
 use Rattle.control_side.specs.declared.stop.Stop.TheVariants.{AssetFault}
 use Rattle.session.specs.Session.{held_by, is_running}
+use Rattle.session.specs.View.{Shown}
 use Rattle.control_side.specs.Turns.{IsTurned}
 use Rattle.control_side.proofs.Finding.{rose_later}
-use Rattle.session.proofs.Going.{begun_next, at_start, lists_of, goes_on, was_started, ends_closed, ends_stalled, is_resumed, decodes_due, decodes_done}
+use Rattle.session.proofs.Going.{shown_first, shown_more, begun_next, at_start, lists_of, goes_on, was_started, ends_closed, ends_stalled, is_resumed, decodes_due, decodes_done}
 use Rattle.session.proofs.replay.go_on.Goals as goal
 
-pub loop-ordinal-init : goal.loop-ordinal-init
-loop-ordinal-init g c = (
-  at_start (g.F.Files.tells c.args.files.now) (g.F.Files.paths c.args.files.now) c.args.calls.now c.args.session.now c.requires.running c.requires.started c.requires.fresh,
+pub loop-session-init : goal.loop-session-init
+loop-session-init g c = (
+  at_start _ (g.F.Files.tells c.args.files.now) (g.F.Files.paths c.args.files.now) c.args.calls.now c.args.session.now c.requires.running c.requires.started c.requires.fresh (shown_first _),
   refl,
   (λ told q. refl),
   omega arith,
   refl,
 )
 
-pub loop-ordinal-preserved-in-Went : goal.loop-ordinal-preserved-in-Went
-loop-ordinal-preserved-in-Went g c =
-    let inv = c.loop-ordinal.invariant in
+pub loop-session-preserved-in-Went : goal.loop-session-preserved-in-Went
+loop-session-preserved-in-Went g c =
+    let inv = c.loop-session.invariant in
     let turn = c.in_ok-advance.ensures in
+    let saw = g.O.Observer.saw in
+    let before = Shown (saw c.args.observer.now) (saw c.loop-session.observer) in
+    let after = Shown (saw c.args.observer.now) (saw c.show.new.self) in
+    let shows = shown_more (saw c.args.observer.now) (saw c.loop-session.observer) (saw c.show.new.self) c.world.result.now c.loop-session.session.told.machine.world c.world.ensures c.in_ok-show.ensures in
     let went = sym turn.turn ∙ c.in-Went.is in
-    let turned = subst (λ t. IsTurned t c.loop-ordinal.session.told.machine c.advance.new.self.told.machine) c.in-Went.is turn.state in (
-      goes_on (g.F.Files.tells c.args.files.now) (g.F.Files.paths c.args.files.now) c.args.calls.now c.args.session.now c.loop-ordinal.session c.advance.new.self inv.0
-          (record { told = turn.told; left = turn.left; time = turn.time; size = turn.size; audio = turn.audio; stands = turn.stands }) went turned,
+    let turned = subst (λ t. IsTurned t c.loop-session.session.told.machine c.advance.new.self.told.machine) c.in-Went.is turn.state in (
+      goes_on before after (g.F.Files.tells c.args.files.now) (g.F.Files.paths c.args.files.now) c.args.calls.now c.args.session.now c.loop-session.session c.advance.new.self inv.0
+          (record { told = turn.told; left = turn.left; time = turn.time; size = turn.size; audio = turn.audio; stands = turn.stands }) shows went turned,
       inv.1,
       inv.2,
       inv.3,
@@ -36,55 +41,71 @@ loop-ordinal-preserved-in-Went g c =
 
 pub returns-in_err-call_list-in-Due-clause-cause : goal.returns-in_err-call_list-in-Due-clause-cause
 returns-in_err-call_list-in-Due-clause-cause g c = λ fault.
-    let inv = c.loop-ordinal.invariant in
+    let inv = c.loop-session.invariant in
     let turn = c.in_ok-advance.ensures in
+    let saw = g.O.Observer.saw in
+    let before = Shown (saw c.args.observer.now) (saw c.loop-session.observer) in
+    let after = Shown (saw c.args.observer.now) (saw c.show.new.self) in
+    let shows = shown_more (saw c.args.observer.now) (saw c.loop-session.observer) (saw c.show.new.self) c.world.result.now c.loop-session.session.told.machine.world c.world.ensures c.in_ok-show.ensures in
     let due = sym turn.turn ∙ c.in-Due.is in
-    let turned = subst (λ t. IsTurned t c.loop-ordinal.session.told.machine c.advance.new.self.told.machine) c.in-Due.is turn.state in
+    let turned = subst (λ t. IsTurned t c.loop-session.session.told.machine c.advance.new.self.told.machine) c.in-Due.is turn.state in
     let failed = err_from_is_err_and c.from_residual-in_err-call_list-in-Due.result c.from_residual-in_err-call_list-in-Due.ensures.1 in
     let here = subst (λ r. IsErrOf r AssetFault) failed.1 fault in
     let cause = c.in_err-call_list-in-Due.ensures.cause (subst (λ (e : Stop). IsErrOf {T = Unit {0}} (Err e) AssetFault) failed.2 here) in (
       rose_later _ _ _ inv.3 cause.0,
-      decodes_due (g.F.Files.tells c.args.files.now) (g.F.Files.paths c.args.files.now) c.args.calls.now c.args.session.now c.loop-ordinal.session c.advance.new.self inv.0
-          (record { told = turn.told; left = turn.left; time = turn.time; size = turn.size; audio = turn.audio; stands = turn.stands }) c.in-Due.ordinal c.call_list.new.session c.in_err-call_list-in-Due.ensures.longer cause.1 due turned,
+      decodes_due before after (g.F.Files.tells c.args.files.now) (g.F.Files.paths c.args.files.now) c.args.calls.now c.args.session.now c.loop-session.session c.advance.new.self inv.0
+          (record { told = turn.told; left = turn.left; time = turn.time; size = turn.size; audio = turn.audio; stands = turn.stands }) shows c.in-Due.ordinal c.call_list.new.session c.in_err-call_list-in-Due.ensures.longer cause.1 due turned,
     )
 
 pub returns-then-not-is_running-clause-ok : goal.returns-then-not-is_running-clause-ok
 returns-then-not-is_running-clause-ok g c =
-    let inv = c.loop-ordinal.invariant in
+    let inv = c.loop-session.invariant in
     let turn = c.in_ok-advance.ensures in
+    let saw = g.O.Observer.saw in
+    let before = Shown (saw c.args.observer.now) (saw c.loop-session.observer) in
+    let after = Shown (saw c.args.observer.now) (saw c.show.new.self) in
+    let shows = shown_more (saw c.args.observer.now) (saw c.loop-session.observer) (saw c.show.new.self) c.world.result.now c.loop-session.session.told.machine.world c.world.ensures c.in_ok-show.ensures in
     let found = c.in_ok-call_list-in-Due.ensures.told in
     let due = sym turn.turn ∙ c.in-Due.is in
-    let turned = subst (λ t. IsTurned t c.loop-ordinal.session.told.machine c.advance.new.self.told.machine) c.in-Due.is turn.state in
-    let list = lists_of (g.F.Files.tells c.args.files.now) (g.F.Files.tells c.loop-ordinal.files) (g.F.Files.paths c.args.files.now) (g.F.Files.paths c.loop-ordinal.files) (held_by c.in-Due.ordinal c.args.calls.now) c.advance.new.self c.call_list.new.session inv.1 inv.2
+    let turned = subst (λ t. IsTurned t c.loop-session.session.told.machine c.advance.new.self.told.machine) c.in-Due.is turn.state in
+    let list = lists_of (g.F.Files.tells c.args.files.now) (g.F.Files.tells c.loop-session.files) (g.F.Files.paths c.args.files.now) (g.F.Files.paths c.loop-session.files) (held_by c.in-Due.ordinal c.args.calls.now) c.advance.new.self c.call_list.new.session inv.1 inv.2
     found.0 found.1 found.2 c.call_list.ensures.longer c.call_list.ensures.audio c.call_list.ensures.kept c.call_list.ensures.started c.call_list.ensures.stands in
     let waits = ap is_running (sym c.state.ensures) ∙ sym c.is_running.ensures ∙ c.if-not-is_running.true in
-    ends_stalled (g.F.Files.tells c.args.files.now) (g.F.Files.paths c.args.files.now) c.args.calls.now c.args.session.now c.loop-ordinal.session c.advance.new.self inv.0
-    (record { told = turn.told; left = turn.left; time = turn.time; size = turn.size; audio = turn.audio; stands = turn.stands }) c.in-Due.ordinal c.call_list.new.session list due turned waits
+    ends_stalled before after (g.F.Files.tells c.args.files.now) (g.F.Files.paths c.args.files.now) c.args.calls.now c.args.session.now c.loop-session.session c.advance.new.self inv.0
+    (record { told = turn.told; left = turn.left; time = turn.time; size = turn.size; audio = turn.audio; stands = turn.stands }) shows c.in-Due.ordinal c.call_list.new.session list due turned waits
 
 pub returns-then-not-is_running-clause-started : goal.returns-then-not-is_running-clause-started
 returns-then-not-is_running-clause-started g c =
-    let inv = c.loop-ordinal.invariant in
+    let inv = c.loop-session.invariant in
     let turn = c.in_ok-advance.ensures in
+    let saw = g.O.Observer.saw in
+    let before = Shown (saw c.args.observer.now) (saw c.loop-session.observer) in
+    let after = Shown (saw c.args.observer.now) (saw c.show.new.self) in
+    let shows = shown_more (saw c.args.observer.now) (saw c.loop-session.observer) (saw c.show.new.self) c.world.result.now c.loop-session.session.told.machine.world c.world.ensures c.in_ok-show.ensures in
     let found = c.in_ok-call_list-in-Due.ensures.told in
     let due = sym turn.turn ∙ c.in-Due.is in
-    let turned = subst (λ t. IsTurned t c.loop-ordinal.session.told.machine c.advance.new.self.told.machine) c.in-Due.is turn.state in
-    let list = lists_of (g.F.Files.tells c.args.files.now) (g.F.Files.tells c.loop-ordinal.files) (g.F.Files.paths c.args.files.now) (g.F.Files.paths c.loop-ordinal.files) (held_by c.in-Due.ordinal c.args.calls.now) c.advance.new.self c.call_list.new.session inv.1 inv.2
+    let turned = subst (λ t. IsTurned t c.loop-session.session.told.machine c.advance.new.self.told.machine) c.in-Due.is turn.state in
+    let list = lists_of (g.F.Files.tells c.args.files.now) (g.F.Files.tells c.loop-session.files) (g.F.Files.paths c.args.files.now) (g.F.Files.paths c.loop-session.files) (held_by c.in-Due.ordinal c.args.calls.now) c.advance.new.self c.call_list.new.session inv.1 inv.2
     found.0 found.1 found.2 c.call_list.ensures.longer c.call_list.ensures.audio c.call_list.ensures.kept c.call_list.ensures.started c.call_list.ensures.stands in
-    was_started (g.F.Files.tells c.args.files.now) (g.F.Files.paths c.args.files.now) c.args.calls.now c.args.session.now c.loop-ordinal.session c.advance.new.self inv.0
-    (record { told = turn.told; left = turn.left; time = turn.time; size = turn.size; audio = turn.audio; stands = turn.stands }) c.in-Due.ordinal c.call_list.new.session list
+    was_started before after (g.F.Files.tells c.args.files.now) (g.F.Files.paths c.args.files.now) c.args.calls.now c.args.session.now c.loop-session.session c.advance.new.self inv.0
+    (record { told = turn.told; left = turn.left; time = turn.time; size = turn.size; audio = turn.audio; stands = turn.stands }) shows c.in-Due.ordinal c.call_list.new.session list
 
-pub loop-ordinal-preserved : goal.loop-ordinal-preserved
-loop-ordinal-preserved g c =
-    let inv = c.loop-ordinal.invariant in
+pub loop-session-preserved : goal.loop-session-preserved
+loop-session-preserved g c =
+    let inv = c.loop-session.invariant in
     let turn = c.in_ok-advance.ensures in
+    let saw = g.O.Observer.saw in
+    let before = Shown (saw c.args.observer.now) (saw c.loop-session.observer) in
+    let after = Shown (saw c.args.observer.now) (saw c.show.new.self) in
+    let shows = shown_more (saw c.args.observer.now) (saw c.loop-session.observer) (saw c.show.new.self) c.world.result.now c.loop-session.session.told.machine.world c.world.ensures c.in_ok-show.ensures in
     let found = c.in_ok-call_list-in-Due.ensures.told in
     let due = sym turn.turn ∙ c.in-Due.is in
-    let turned = subst (λ t. IsTurned t c.loop-ordinal.session.told.machine c.advance.new.self.told.machine) c.in-Due.is turn.state in
-    let list = lists_of (g.F.Files.tells c.args.files.now) (g.F.Files.tells c.loop-ordinal.files) (g.F.Files.paths c.args.files.now) (g.F.Files.paths c.loop-ordinal.files) (held_by c.in-Due.ordinal c.args.calls.now) c.advance.new.self c.call_list.new.session inv.1 inv.2
+    let turned = subst (λ t. IsTurned t c.loop-session.session.told.machine c.advance.new.self.told.machine) c.in-Due.is turn.state in
+    let list = lists_of (g.F.Files.tells c.args.files.now) (g.F.Files.tells c.loop-session.files) (g.F.Files.paths c.args.files.now) (g.F.Files.paths c.loop-session.files) (held_by c.in-Due.ordinal c.args.calls.now) c.advance.new.self c.call_list.new.session inv.1 inv.2
     found.0 found.1 found.2 c.call_list.ensures.longer c.call_list.ensures.audio c.call_list.ensures.kept c.call_list.ensures.started c.call_list.ensures.stands in
     let runs = ap is_running (sym c.state.ensures) ∙ sym c.is_running.ensures ∙ c.if-not-is_running.false in (
-      is_resumed (g.F.Files.tells c.args.files.now) (g.F.Files.paths c.args.files.now) c.args.calls.now c.args.session.now c.loop-ordinal.session c.advance.new.self inv.0
-          (record { told = turn.told; left = turn.left; time = turn.time; size = turn.size; audio = turn.audio; stands = turn.stands }) c.in-Due.ordinal c.call_list.new.session list due turned runs,
+      is_resumed before after (g.F.Files.tells c.args.files.now) (g.F.Files.paths c.args.files.now) c.args.calls.now c.args.session.now c.loop-session.session c.advance.new.self inv.0
+          (record { told = turn.told; left = turn.left; time = turn.time; size = turn.size; audio = turn.audio; stands = turn.stands }) shows c.in-Due.ordinal c.call_list.new.session list due turned runs,
       c.call_list.ensures.tells ∙ inv.1,
       (λ told q. c.call_list.ensures.paths (subst IsTrue (sym inv.1) told) q ∙ inv.2 told q),
       omega (arith, inv.3, c.call_list.ensures.later),
@@ -95,31 +116,43 @@ loop-ordinal-preserved g c =
 
 pub returns-in-Done-clause-ok : goal.returns-in-Done-clause-ok
 returns-in-Done-clause-ok g c =
-    let inv = c.loop-ordinal.invariant in
+    let inv = c.loop-session.invariant in
     let turn = c.in_ok-advance.ensures in
+    let saw = g.O.Observer.saw in
+    let before = Shown (saw c.args.observer.now) (saw c.loop-session.observer) in
+    let after = Shown (saw c.args.observer.now) (saw c.show.new.self) in
+    let shows = shown_more (saw c.args.observer.now) (saw c.loop-session.observer) (saw c.show.new.self) c.world.result.now c.loop-session.session.told.machine.world c.world.ensures c.in_ok-show.ensures in
     let done = sym turn.turn ∙ c.in-Done.is in
-    let turned = subst (λ t. IsTurned t c.loop-ordinal.session.told.machine c.advance.new.self.told.machine) c.in-Done.is turn.state in
+    let turned = subst (λ t. IsTurned t c.loop-session.session.told.machine c.advance.new.self.told.machine) c.in-Done.is turn.state in
     IfOk-weaker c.call_list-in-Done.result _ _ (λ v found.
-    let list = lists_of (g.F.Files.tells c.args.files.now) (g.F.Files.tells c.loop-ordinal.files) (g.F.Files.paths c.args.files.now) (g.F.Files.paths c.loop-ordinal.files) (held_by c.in-Done.ordinal c.args.calls.now) c.advance.new.self c.call_list-in-Done.new.session inv.1 inv.2
+    let list = lists_of (g.F.Files.tells c.args.files.now) (g.F.Files.tells c.loop-session.files) (g.F.Files.paths c.args.files.now) (g.F.Files.paths c.loop-session.files) (held_by c.in-Done.ordinal c.args.calls.now) c.advance.new.self c.call_list-in-Done.new.session inv.1 inv.2
     found.0 found.1 found.2 c.call_list-in-Done.ensures.longer c.call_list-in-Done.ensures.audio c.call_list-in-Done.ensures.kept c.call_list-in-Done.ensures.started c.call_list-in-Done.ensures.stands in
-    ends_closed (g.F.Files.tells c.args.files.now) (g.F.Files.paths c.args.files.now) c.args.calls.now c.args.session.now c.loop-ordinal.session c.advance.new.self inv.0
-    (record { told = turn.told; left = turn.left; time = turn.time; size = turn.size; audio = turn.audio; stands = turn.stands }) c.in-Done.ordinal c.call_list-in-Done.new.session list done turned) c.call_list-in-Done.ensures.told
+    ends_closed before after (g.F.Files.tells c.args.files.now) (g.F.Files.paths c.args.files.now) c.args.calls.now c.args.session.now c.loop-session.session c.advance.new.self inv.0
+    (record { told = turn.told; left = turn.left; time = turn.time; size = turn.size; audio = turn.audio; stands = turn.stands }) shows c.in-Done.ordinal c.call_list-in-Done.new.session list done turned) c.call_list-in-Done.ensures.told
 
 pub returns-in-Done-clause-started : goal.returns-in-Done-clause-started
 returns-in-Done-clause-started g c =
-    let inv = c.loop-ordinal.invariant in
+    let inv = c.loop-session.invariant in
     let turn = c.in_ok-advance.ensures in
-    IfOk-weaker c.call_list-in-Done.result _ _ (λ v found. c.call_list-in-Done.ensures.started (begun_next (g.F.Files.tells c.args.files.now) (g.F.Files.paths c.args.files.now) c.args.calls.now c.args.session.now c.loop-ordinal.session c.advance.new.self inv.0
-    (record { told = turn.told; left = turn.left; time = turn.time; size = turn.size; audio = turn.audio; stands = turn.stands }))) c.call_list-in-Done.ensures.told
+    let saw = g.O.Observer.saw in
+    let before = Shown (saw c.args.observer.now) (saw c.loop-session.observer) in
+    let after = Shown (saw c.args.observer.now) (saw c.show.new.self) in
+    let shows = shown_more (saw c.args.observer.now) (saw c.loop-session.observer) (saw c.show.new.self) c.world.result.now c.loop-session.session.told.machine.world c.world.ensures c.in_ok-show.ensures in
+    IfOk-weaker c.call_list-in-Done.result _ _ (λ v found. c.call_list-in-Done.ensures.started (begun_next before after (g.F.Files.tells c.args.files.now) (g.F.Files.paths c.args.files.now) c.args.calls.now c.args.session.now c.loop-session.session c.advance.new.self inv.0
+    (record { told = turn.told; left = turn.left; time = turn.time; size = turn.size; audio = turn.audio; stands = turn.stands }) shows)) c.call_list-in-Done.ensures.told
 
 pub returns-in-Done-clause-cause : goal.returns-in-Done-clause-cause
 returns-in-Done-clause-cause g c = λ fault.
-    let inv = c.loop-ordinal.invariant in
+    let inv = c.loop-session.invariant in
     let turn = c.in_ok-advance.ensures in
+    let saw = g.O.Observer.saw in
+    let before = Shown (saw c.args.observer.now) (saw c.loop-session.observer) in
+    let after = Shown (saw c.args.observer.now) (saw c.show.new.self) in
+    let shows = shown_more (saw c.args.observer.now) (saw c.loop-session.observer) (saw c.show.new.self) c.world.result.now c.loop-session.session.told.machine.world c.world.ensures c.in_ok-show.ensures in
     let done = sym turn.turn ∙ c.in-Done.is in
-    let turned = subst (λ t. IsTurned t c.loop-ordinal.session.told.machine c.advance.new.self.told.machine) c.in-Done.is turn.state in
+    let turned = subst (λ t. IsTurned t c.loop-session.session.told.machine c.advance.new.self.told.machine) c.in-Done.is turn.state in
     let cause = c.call_list-in-Done.ensures.cause fault in (
       rose_later _ _ _ inv.3 cause.0,
-      decodes_done (g.F.Files.tells c.args.files.now) (g.F.Files.paths c.args.files.now) c.args.calls.now c.args.session.now c.loop-ordinal.session c.advance.new.self inv.0
-          (record { told = turn.told; left = turn.left; time = turn.time; size = turn.size; audio = turn.audio; stands = turn.stands }) c.in-Done.ordinal c.call_list-in-Done.new.session c.call_list-in-Done.ensures.longer cause.1 done turned,
+      decodes_done before after (g.F.Files.tells c.args.files.now) (g.F.Files.paths c.args.files.now) c.args.calls.now c.args.session.now c.loop-session.session c.advance.new.self inv.0
+          (record { told = turn.told; left = turn.left; time = turn.time; size = turn.size; audio = turn.audio; stands = turn.stands }) shows c.in-Done.ordinal c.call_list-in-Done.new.session c.call_list-in-Done.ensures.longer cause.1 done turned,
     )

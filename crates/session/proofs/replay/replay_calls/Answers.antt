@@ -22,8 +22,8 @@ returns-clause-ok g c =
     let told = c.in_ok-call_list.ensures.told in
     let begun = subst (λ o. is_some o ≡ true) c.started.ensures.started c.if-is_none.ensures in
     both_ok _ _ _ c.go_on.result (λ played started.
-    was_started tells paths c.args.calls.now c.args.session.now c.call_list.new.session told.0 told.1 told.2 begun c.go_on.new.session
-    (played_of tells (g.F.Files.tells c.call_list.new.files) paths (g.F.Files.paths c.call_list.new.files) c.args.calls.now c.call_list.new.session c.go_on.new.session c.call_list.ensures.tells c.call_list.ensures.paths played)
+    was_started tells paths c.args.calls.now c.args.session.now c.call_list.new.session told.0 told.1 told.2 begun _ c.go_on.new.session
+    (played_of _ tells (g.F.Files.tells c.call_list.new.files) paths (g.F.Files.paths c.call_list.new.files) c.args.calls.now c.call_list.new.session c.go_on.new.session c.call_list.ensures.tells c.call_list.ensures.paths played)
     (c.go_on.ensures.spec ∙ c.call_list.ensures.kept.spec) (subst IsSupported (sym c.go_on.ensures.spec) c.started.ensures.supported) started) c.go_on.ensures.ok c.go_on.ensures.started
 
 pub returns-clause-cause : goal.returns-clause-cause

@@ -1,25 +1,5 @@
-use Rattle.std.proofs.Common.{◌≡◌, true, false, None, refl, rules, subst}
-use Rattle.wa_base.specs.Contexts.{is_supported}
-use Rattle.wa_base.specs.declared.exceptions.Exc.TheVariants.{NotSupported}
-use Rattle.session.specs.Folders.{Folder}
-use Rattle.session.proofs.Replaying.{refused_outcome, replayed_outcome, not_off}
-use Rattle.session.specs.View.{IsReplayed}
+use Rattle.std.proofs.lemmas.Result.{IfOk-weaker}
 use Rattle.session.proofs.replay.run.Goals as goal
 
-pub returns-in-Err-Exc-clause-outcome : goal.returns-in-Err-Exc-clause-outcome
-returns-in-Err-Exc-clause-outcome g c =
-    let exception : c.in-Err-Exc.exception ≡ NotSupported None = search rules in
-    let no : is_supported c.args.script.now.context ≡ false = search rules in
-    let folder : Folder = λ n. g.F.Files.paths c.args.files.now in
-    (folder, (λ n told q. refl), refused_outcome folder c.args.script.now c.args.options.audio _ no c.new-in-Err-Exc.ensures (rw exception refl) refl refl)
-
-pub returns-in-Ok-replay_calls-clause-outcome : goal.returns-in-Ok-replay_calls-clause-outcome
-returns-in-Ok-replay_calls-clause-outcome g c =
-    let is = subst (λ calls. IsReplayed (g.F.Files.tells c.args.files.now) (g.F.Files.paths c.args.files.now) calls c.in-Ok.session c.replay_calls.new.session) c.as_slice.ensures c.in-Ok-replay_calls.ensures.ok in
-    let fresh = c.in-Ok.ensures.ok in
-    let supported : is_supported c.args.script.now.context ≡ true = not_off (is_supported c.args.script.now.context) (λ off. let wrong = c.in-Ok.ensures.refused.1 off in absurd cc) in (
-      is.folder,
-      is.of,
-      replayed_outcome (g.F.Files.tells c.args.files.now) (g.F.Files.paths c.args.files.now) c.args.script.now c.args.options.audio c.in-Ok.session c.replay_calls.new.session c.finish.result is supported fresh c.replay_calls.ensures.audio
-          c.finish.ensures.lines c.finish.ensures.end c.finish.ensures.quanta c.finish.ensures.rendered,
-    )
+pub returns-clause-outcome : goal.returns-clause-outcome
+returns-clause-outcome g c = IfOk-weaker c.run_observed.result _ _ (λ v found. (found.0, found.1, found.2)) c.run_observed.ensures.outcome
