@@ -152,17 +152,22 @@ impl NodeDelay {
     }
 }
 
-// Whether each of the delays is of so many frames.
+// Whether each of the delays is of so many frames. All are looked at, with no branch, so that the
+// compiler can look at several at once.
 fn are_within(delays: &[u64], least: u64, most: u64) -> bool
     ensures { result ≡ list_all (between least most) delays.now }
 {
-    delays.iter().all(|delay| is_within(*delay, least, most))
+    let mut within = true;
+    for delay in delays {
+        within &= is_within(*delay, least, most);
+    }
+    within
 }
 
 fn is_within(delay: u64, least: u64, most: u64) -> bool
     ensures { result ≡ between least most delay }
 {
-    least <= delay && delay <= most
+    (least <= delay) & (delay <= most)
 }
 
 // Silences a block.
