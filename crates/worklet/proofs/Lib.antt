@@ -4,6 +4,7 @@ mod ErrorRows
 pub mod Hearing
 pub mod Judging
 pub mod OneError
+pub mod Quotients
 pub mod Refusals
 mod Rows
 pub mod Running
