@@ -12,3 +12,9 @@ pub mod NeedsRows
 pub mod LineCuts
 pub mod TextLaws
 pub mod Checkers
+pub mod NumberReading
+pub mod WordCuts
+pub mod EndReading
+pub mod KeyReading
+pub mod CellReading
+pub mod FactReading

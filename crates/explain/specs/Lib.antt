@@ -4,4 +4,5 @@ pub mod Needs
 pub mod Checked
 pub mod Texts
 pub mod LineWords
+pub mod LineReading
 pub mod Laws

@@ -6,9 +6,11 @@ ghost use Rattle.explain.specs.Laws.{CheckedLaw, CheckedTextLaw, CheckerLaw, Nee
 
 mod facts;
 mod printed;
+mod reading;
 
 pub use facts::{Fact, Key};
 pub use printed::fact_text;
+pub use reading::read_fact;
 
 /// A checked list tells the truth: each of its facts is what the meaning has.
 pub fn checked_law()
