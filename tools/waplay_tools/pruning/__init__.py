@@ -1,0 +1,1 @@
+"""Scripts without the calls that are not heard."""
