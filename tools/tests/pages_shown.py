@@ -13,6 +13,7 @@ from test_report_take import REPORT, take
 from waplay_tools.archive import summary
 from waplay_tools.archive.adding import Program
 from waplay_tools.archive.verifying import Result
+from waplay_tools.expecting import sessions
 from waplay_tools.recorder.results import wav_of_words
 from waplay_tools.reporting.wav_samples import sound_of
 
@@ -46,12 +47,27 @@ def sessions_shown() -> Iterator[Shown]:
     yield Shown("ended", *fixtures.session_of_case("hi_hat_choked"))
     yield Shown("decoded", *fixtures.session_of_case("drum_loop"))
     yield Shown("refused", *fixtures.session_of_case("refused_calls"))
+    yield Shown("unheard", *unheard())
     lines = "1 pending\n1 resolved\ncomplete 30000\nend completed\n"
     yield Shown("wide", wide, lines, quiet)
     yield Shown("x" * 120, b'{"version": 1, "context": [}', "script: BadJson\n")
     yield Shown("fault", fixtures.script([{"op": "<b>" * 100}]), "script: 1 op UnknownOp\n")
     idle = fixtures.script([{"op": "createGain", "as": "g" * 64}])
     yield Shown("idle", idle, "1 ok\nend idle\n")
+
+
+def unheard() -> tuple[bytes, str, bytes]:
+    """A session of which much is not heard: reads, refusals, and nodes with long names."""
+    names = ["m" * 64, *(f"meter{at}" for at in range(30))]
+    calls: list[dict[str, Any]] = [{"op": "createOscillator", "as": "o"}]
+    for name in names:
+        calls += [{"op": "createGain", "as": name}, {"op": "readTime"},
+                  {"op": "createDelay", "as": name}]
+    late = {"op": "startRendering", "then": [{"op": "readState"}]}
+    data = fixtures.script([*calls, {"op": "suspend", "time": 0, "then": calls[:1]}, late])
+    _, text, session = sessions.replayed(data)
+    assert session is not None
+    return data, text, sessions.wav_bytes(session)
 
 
 def loud(calls: list[dict[str, Any]]) -> list[dict[str, Any]]:

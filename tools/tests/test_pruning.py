@@ -217,13 +217,14 @@ class Scripts(unittest.TestCase):
         wanted = text_of([suspend(128, call("resume")), *A_QUANTUM])
         self.assertEqual(script_text(it.script), wanted)
 
-    def test_names_of_nodes_that_are_not_heard(self) -> None:
+    def test_nodes_that_are_not_heard(self) -> None:
         calls = [CREATED, gain("g"), gain("h"), gain("g"), connect("c", "g"),
                  connect("g", "destination"), RENDERED]
         it = script_of(fixtures.script(calls))
         lines = ["%d ok" % number for number in range(1, 7)] + ["7 pending", "7 resolved"]
         hearing = Hearing([(n, c, []) for n, c in enumerate(it["calls"], 1)], lines)
-        self.assertEqual(hearing.silent(), ["g", "h"])
+        self.assertEqual(hearing.silent(), [2, 3])
+        self.assertEqual(hearing.kept_ordinals(), {1, 4, 5, 6, 7})
 
 
 class Command(unittest.TestCase):
@@ -295,6 +296,14 @@ class Command(unittest.TestCase):
             done = fixtures.run("prune", *words, cwd=self.folder)
             self.assertEqual((done.returncode, done.stdout), (2, b""), words)
             self.assertIn(b"usage: tools/prune", done.stderr)
+
+
+class Documents(unittest.TestCase):
+    def test_the_rows_of_the_pieces(self) -> None:
+        page = (fixtures.TOP / "docs" / "EXAMPLES.md").read_text(encoding="utf-8")
+        for path in sorted(EXAMPLES.glob("*.json")):
+            it = pruned(path.read_bytes(), str(EXAMPLES))
+            self.assertIn(f"\n| {path.stem} | {it.of} | {it.kept} |\n", page)
 
 
 def keeping(**told: Any) -> contextlib.AbstractContextManager:

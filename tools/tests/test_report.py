@@ -254,6 +254,57 @@ class Report(unittest.TestCase):
         places = {it["class"].split()[1]: it["x"] for it in page.of("use") if it.get("class")}
         self.assertEqual(places, {"suspended": "75.000%", "ended": "48.828%"})
 
+    def test_what_is_not_heard(self):
+        calls = [
+            {"op": "createOscillator", "as": "o"},
+            {"op": "createGain", "as": "g"},
+            {"op": "connect", "from": "g", "to": "destination"},
+            {"op": "createGain", "as": "meter"},
+            {"op": "connect", "from": "g", "to": "meter"},
+            {"op": "readTime"},
+            {"op": "suspend", "time": 0, "then": [{"op": "readState"}, {"op": "resume"}]},
+            {"op": "startRendering", "then": [{"op": "readState"}, {"op": "connect",
+             "from": "meter", "to": "g"}]},
+        ]
+        page = self.page(self.worked_out(calls))
+        for wanted in (
+            "Calls12, 2 refused, 7 not heard",
+            "7 of 12 calls are not heard: the same samples come without them.",
+            "2 were refused: calls 1, 7.",
+            "2 were never run: calls 8 to 9.",
+            "2 came after the last sample: calls 11 to 12.",
+            "1 only reads: call 6.",
+        ):
+            self.assertIn(wanted, page.text())
+        self.assertNotIn("never heard", page.text())
+        del calls[-1]["then"][1]
+        page = self.page(self.worked_out(calls))
+        self.assertIn("2 are of nodes that are never heard: calls 4 to 5.", page.text())
+        self.assertIn("Nodes that are never heard: meter.", page.text())
+
+    def test_many_nodes_that_are_not_heard_are_folded(self):
+        calls = [{"op": "createGain", "as": f"g{at}"} for at in range(300)]
+        page = self.page(self.worked_out([*calls, {"op": "startRendering"}]))
+        self.assertIn("300 of 301 calls are not heard", page.text())
+        self.assertIn("Nodes that are never heard (300)", page.text())
+        self.assertIn("g199gain200", page.rows)
+        self.assertNotIn("g200gain201", page.rows)
+        self.assertIn("and 100 nodes more", page.text())
+
+    def test_a_session_that_is_heard_whole_has_no_such_part(self):
+        page = self.page(self.worked_out([{"op": "startRendering"}]))
+        self.assertIn("Calls1, 0 refused, 0 not heard", page.text())
+        self.assertNotIn("What is not heard", page.text())
+        idle = fixtures.script([{"op": "createGain", "as": "g"}])
+        page = self.page(fixtures.written(self.folder, "idle", idle, "1 ok\nend idle\n"))
+        self.assertNotIn("not heard", page.text())
+
+    def worked_out(self, calls):
+        """The paths of a session of these calls."""
+        data = fixtures.script(calls)
+        _, text, session = sessions.replayed(data)
+        return fixtures.written(self.folder, "it", data, text, sessions.wav_bytes(session))
+
     def test_sessions_without_sound(self):
         gain = {"op": "createGain", "as": "g"}
         for data, text, wanted in [

@@ -76,9 +76,9 @@ class Hearing:
                     left.append(source)
         return reached
 
-    def silent(self) -> list[str]:
-        """The names of the nodes that are never heard, in the order of their creation."""
-        return [self.by_ordinal[it]["as"] for it in self.nodes if it not in self.live]
+    def silent(self) -> list[int]:
+        """The nodes that are never heard, in the order of their creation."""
+        return [it for it in self.nodes if it not in self.live]
 
     def is_heard(self, ordinal: int) -> bool:
         """Whether a call is heard by itself, whatever list it stands in."""
@@ -95,3 +95,7 @@ class Hearing:
             for ordinal, call, held in (self.calls if calls is None else calls)
             if self.is_heard(ordinal)
         ]
+
+    def kept_ordinals(self) -> set[int]:
+        """The ordinals of all calls that are kept."""
+        return {ordinal for ordinal, *_ in every(self.kept())}

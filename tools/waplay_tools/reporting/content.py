@@ -3,11 +3,13 @@ is known of it."""
 
 import base64
 import dataclasses
+import functools
 import os
 import urllib.parse
 
 from waplay_tools.reporting.following import Session
 from waplay_tools.reporting.text import decimal
+from waplay_tools.reporting.unheard import Unheard
 from waplay_tools.reporting.wav_samples import Differences, Sound
 
 MOST_BYTES = 3 * 2**20  # of the files that are put into one page
@@ -59,6 +61,11 @@ class Content:
     def frames(self) -> int:
         """How many frames it has."""
         return self.sound.sound.frames if self.sound else max(1, self.session.length)
+
+    @functools.cached_property
+    def unheard(self) -> Unheard | None:
+        """What is not heard of it; None where it has no samples."""
+        return Unheard(self.session) if self.session.end().word == "completed" else None
 
 
 class Room:

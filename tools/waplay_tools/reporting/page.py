@@ -14,6 +14,7 @@ from waplay_tools.reporting import (
     notes_html,
     refusals_html,
     sound_html,
+    unheard_html,
     waveform,
 )
 from waplay_tools.reporting.content import Content, Room
@@ -65,7 +66,8 @@ def _facts(content: Content) -> Iterator[tuple[str, str]]:
             yield "Render quantum", counted(quantum, "frame")
         yield "Duration", seconds(length, rate)
         refused = grouped(session.count("throw", "rejected"))
-        yield "Calls", f"{grouped(len(script.calls))}, {refused} refused"
+        more = f", {grouped(content.unheard.count())} not heard" if content.unheard else ""
+        yield "Calls", f"{grouped(len(script.calls))}, {refused} refused{more}"
         yield "Sources that ended", grouped(session.count("ended"))
         yield "Suspensions", grouped(
             sum(mark.kind in ("suspended", "stalled") for mark in session.marks)
@@ -166,6 +168,7 @@ def content_html(content: Content, room: Room, key: str, is_alone: bool) -> Html
         sound_html.sound_html(content, room, lanes) if content.sound else _no_sound(content),
         notes_html.notes_table(content) if has_time else Html(),
         graph_html.graph_html(content),
+        unheard_html.unheard_html(content),
         calls_html.transcript_html(content.session, key),
         calls_html.not_run_html(content.session),
     ]
