@@ -368,7 +368,6 @@ class ByHand(unittest.TestCase):
         self.assertEqual(lines[-1], "out 33 0 0 0 = 25165824\n")
         self.assertNotIn("in 31 2 0 0", "".join(lines))
 
-
     def born_later(self, name, made):
         """Calls that lead a constant through a node that is made at frame 32."""
         ways = [connect("c", name), connect(name, "destination")]
