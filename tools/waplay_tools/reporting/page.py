@@ -66,7 +66,8 @@ def _facts(content: Content) -> Iterator[tuple[str, str]]:
             yield "Render quantum", counted(quantum, "frame")
         yield "Duration", seconds(length, rate)
         refused = grouped(session.count("throw", "rejected"))
-        more = f", {grouped(content.unheard.count())} not heard" if content.unheard else ""
+        unheard = content.unheard.count() if content.unheard else 0
+        more = f", {grouped(unheard)} not heard" if unheard else ""
         yield "Calls", f"{grouped(len(script.calls))}, {refused} refused{more}"
         yield "Sources that ended", grouped(session.count("ended"))
         yield "Suspensions", grouped(
