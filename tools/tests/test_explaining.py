@@ -113,6 +113,143 @@ class ByHand(unittest.TestCase):
             self.assertIsInstance(found, Wrong)
             self.assertGreaterEqual(found.line, number)
             self.assertEqual(found.why, "lacks a need")
+        self.refuse_other_numbers(tape, lines)
+
+    def refuse_other_numbers(self, tape, lines):
+        """Changes each number of each value in turn by one. Such a line is refused itself."""
+        for number, line in enumerate(lines, 1):
+            key, numbers = line.split(" = ")
+            for place, value in enumerate(map(int, numbers.split(" "))):
+                for other in (value - 1, value + 1):
+                    told = numbers.split()
+                    told[place] = str(other)
+                    text = [*lines[: number - 1], f"{key} = {' '.join(told)}\n", *lines[number:]]
+                    found = checked(tape, "".join(text).encode())
+                    self.assertEqual(found, Wrong(number, "another value"), text[number - 1])
+
+    def test_a_constant_for_one_quantum(self):
+        self.derive(ONE_CONSTANT, 5, """
+            count 0 1 0 = 1
+            count 0 0 0 = 1
+            par 5 1 offset = 16777216
+            out 5 1 0 0 = 16777216
+            in 5 0 0 0 = 16777216
+            out 5 0 0 0 = 16777216
+        """)
+
+    def test_a_source_that_does_not_play(self):
+        for calls in (
+            [create("ConstantSource", "c")],
+            [create("ConstantSource", "c"), call("start", node="c", when=6)],
+            [*constant("c"), call("stop", node="c", when=5)],
+            [create("BufferSource", "c"), call("start", node="c")],
+        ):
+            self.derive([*calls, connect("c", "destination")], 5, """
+                count 0 1 0 = 1
+                count 0 0 0 = 1
+                out 5 1 0 0 = 0
+                in 5 0 0 0 = 0
+                out 5 0 0 0 = 0
+            """)
+
+    def test_a_buffer_in_a_loop_needs_no_more_than_its_count(self):
+        calls = [*buffer([1, 2, 3]), create("BufferSource", "s", buffer="b", loop=True)]
+        calls += [call("start", node="s", when=3), connect("s", "destination")]
+        self.derive(calls, 8, """
+            count 0 1 0 = 1
+            count 0 0 0 = 1
+            out 8 1 0 0 = 3
+            in 8 0 0 0 = 3
+            out 8 0 0 0 = 3
+        """)
+
+    def test_one_channel_becomes_two(self):
+        self.derive(ONE_CONSTANT, 5, """
+            count 0 1 0 = 1
+            count 0 0 0 = 2
+            par 5 1 offset = 16777216
+            out 5 1 0 0 = 16777216
+            in 5 0 0 1 = 16777216
+            out 5 0 0 1 = 16777216
+        """, channel=1, channels=2)
+
+    def test_one_channel_and_two_are_summed(self):
+        calls = [*buffer([100], [201]), create("BufferSource", "s", buffer="b")]
+        calls += [call("start", node="s"), *constant("c", 7), create("Gain", "g", gain=ONE)]
+        calls += [connect("s", "g"), connect("c", "g"), connect("g", "destination")]
+        self.derive(calls, 0, """
+            count 0 1 0 = 2
+            count 0 2 0 = 1
+            count 0 3 0 = 2
+            count 0 0 0 = 1
+            par 0 3 gain = 16777216
+            out 0 1 0 0 = 100
+            out 0 1 0 1 = 201
+            par 0 2 offset = 7
+            out 0 2 0 0 = 7
+            in 0 3 0 0 = 107
+            out 0 3 0 0 = 107
+            in 0 3 0 1 = 208
+            out 0 3 0 1 = 208
+            in 0 0 0 0 = 158
+            out 0 0 0 0 = 158
+        """)
+
+    def test_a_sum_is_held_in_the_range_once(self):
+        most = 2**31 - 1
+        calls = [*constant("c", most), *constant("d", most), *constant("e", -most)]
+        calls += [connect(name, "destination") for name in "cde"]
+        self.derive(calls, 5, f"""
+            count 0 1 0 = 1
+            count 0 2 0 = 1
+            count 0 3 0 = 1
+            count 0 0 0 = 1
+            par 5 1 offset = {most}
+            out 5 1 0 0 = {most}
+            par 5 2 offset = {most}
+            out 5 2 0 0 = {most}
+            par 5 3 offset = {-most}
+            out 5 3 0 0 = {-most}
+            in 5 0 0 0 = {most}
+            out 5 0 0 0 = {most}
+        """)
+
+    def test_a_ramp_at_both_rates(self):
+        ramp = call("linearRampToValueAtTime", node="c", param="offset", value=64, time=64)
+        rate = call("setAutomationRate", node="c", param="offset", value="k-rate")
+        calls = [*constant("c", 0), connect("c", "destination"), ramp]
+        for more, value in (([], 40), ([rate], 32)):
+            self.derive([*calls, *more], 40, f"""
+                count 1 1 0 = 1
+                count 1 0 0 = 1
+                par 40 1 offset = {value}
+                out 40 1 0 0 = {value}
+                in 40 0 0 0 = {value}
+                out 40 0 0 0 = {value}
+            """)
+
+    def test_connections_that_are_made_and_cut_at_a_suspension(self):
+        cut = {"op": "disconnect", "from": "c", "to": "destination"}
+        calls = [*ONE_CONSTANT, *constant("d", 7), suspend(cut, connect("d", "destination"))]
+        for frame, node, value in ((31, 1, ONE), (32, 2, 7)):
+            self.derive(calls, frame, f"""
+                count {frame // 32} {node} 0 = 1
+                count {frame // 32} 0 0 = 1
+                par {frame} {node} offset = {value}
+                out {frame} {node} 0 0 = {value}
+                in {frame} 0 0 0 = {value}
+                out {frame} 0 0 0 = {value}
+            """)
+
+    def test_a_delay_whose_own_delay_time_it_feeds(self):
+        control = {"op": "connectParam", "from": "d", "to": "d", "param": "delayTime"}
+        self.derive([*through("d", create("Delay", "d")), control], 40, """
+            count 1 2 0 = 1
+            count 1 0 0 = 1
+            out 40 2 0 0 = 0
+            in 40 0 0 0 = 0
+            out 40 0 0 0 = 0
+        """)
 
     def test_a_gain_at_k_rate_that_hears_another_source(self):
         control = {"op": "connectParam", "from": "k", "to": "g", "param": "gain"}
@@ -469,6 +606,22 @@ class Checking(unittest.TestCase):
             self.assertIsInstance(self.found(text), Fact, text)
         self.assertEqual(self.found("out 5 1 0 31 = 0"), Wrong(1, "lacks a need"))
         self.assertEqual(self.found("count 0 1 0 = 1\n in 5 2 0 1 = 0").why, "lacks a need")
+
+    def test_needs_may_stand_in_any_order_above(self):
+        lines = lines_of("""
+            count 0 1 0 = 1
+            par 5 1 offset = 16777216
+            out 5 1 0 0 = 16777216
+            count 0 2 0 = 1
+            in 5 2 0 0 = 16777216
+        """)
+        right = [[0, 1, 2, 3, 4], [1, 0, 2, 3, 4], [0, 3, 1, 2, 4], [1, 0, 3, 2, 4]]
+        wrong = [([1, 2, 0, 3, 4], 2), ([3, 0, 1, 2, 4], 1), ([0, 1, 4, 2, 3], 3)]
+        for order in right:
+            self.assertIsInstance(self.found("".join(lines[at] for at in order)), Fact, order)
+        for order, place in wrong:
+            found = self.found("".join(lines[at] for at in order))
+            self.assertEqual(found, Wrong(place, "lacks a need"), order)
 
     def test_a_fact_may_stand_twice(self):
         line = b"count 0 1 0 = 1\n"
