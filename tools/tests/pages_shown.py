@@ -29,6 +29,7 @@ class Shown(NamedTuple):
     transcript: str
     sound: bytes | None = None
     other: bytes | None = None
+    explained: tuple[str, ...] = ()  # the frame and the channel
 
 
 def sessions_shown() -> Iterator[Shown]:
@@ -52,6 +53,7 @@ def sessions_shown() -> Iterator[Shown]:
     yield Shown("wide", wide, lines, quiet)
     yield Shown("x" * 120, b'{"version": 1, "context": [}', "script: BadJson\n")
     yield Shown("fault", fixtures.script([{"op": "<b>" * 100}]), "script: 1 op UnknownOp\n")
+    yield Shown("explained", *fixtures.session_of_case("feedback_delay"), explained=("2000", "0"))
     idle = fixtures.script([{"op": "createGain", "as": "g" * 64}])
     yield Shown("idle", idle, "1 ok\nend idle\n")
 
@@ -143,6 +145,8 @@ def paths_of_all(folder: str, events: int = MANY_EVENTS) -> dict[str, str]:
         words = fixtures.written(folder, it.name, it.script, it.transcript, it.sound)
         if it.other:
             words += ["--against", fixtures.write(folder, "other.wav", it.other)]
+        if it.explained:
+            words += ["--explain", *it.explained]
         ran = fixtures.run("report", *words)
         assert ran.returncode == 0, ran.stderr
         paths[it.name] = fixtures.write(folder, it.name[:20] + ".html", ran.stdout)

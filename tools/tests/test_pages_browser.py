@@ -247,6 +247,54 @@ class Pages(unittest.TestCase):
             self.browser.evaluate("document.querySelector('[data-do=%s]').click()" % button)
         self.assert_drawn("resumed", 0, 2048)
 
+    def test_a_click_tells_the_command_that_says_why(self):
+        def is_told():
+            return self.browser.evaluate("document.querySelector('.answered').checkVisibility()")
+
+        for name, files in (
+            ("explained", "explained.json .*explained.txt .*explained.wav"),
+            ("take", "1.json 1.txt 1.wav"),
+        ):
+            self.show(name, 1000)
+            self.assertFalse(is_told())
+            self.browser.evaluate("document.querySelector('.lane').scrollIntoView()")
+            left, top, width, frames = self.browser.evaluate(
+                "(box => [box.left, box.top, box.width,"
+                " Number(document.querySelector('.wave').dataset.frames)])"
+                "(document.querySelector('.lane').getBoundingClientRect())"
+            )
+            place = left + width * 0.25, top + 20
+            self.browser.drag(place, place)
+            self.assertTrue(is_told())
+            told = self.text(".answered code")
+            found = re.fullmatch(rf"tools/report .*{files} --explain (\d+) 0 -o why.html", told)
+            self.assertIsNotNone(found, told)
+            self.assertAlmostEqual(int(found[1]), frames / 4, delta=frames / width + 1)
+            self.browser.evaluate(
+                "(form => { form.elements.frame.value = 17; form.requestSubmit(); })"
+                "(document.querySelector('.asking'))"
+            )
+            self.assertTrue(self.text(".answered code").endswith(" --explain 17 0 -o why.html"))
+        self.show("compared")
+        self.assertFalse(self.browser.evaluate("!!document.querySelector('.asking')"))
+
+    def test_steps_are_opened_by_keys(self):
+        self.show("explained", 390)
+        count = "[...document.querySelectorAll('.why li')]" \
+                ".filter(it => it.checkVisibility()).length"
+        before = self.browser.evaluate(count)
+        self.browser.evaluate("document.querySelector('.why details:not([open]) summary').focus()")
+        self.browser.key("Enter")
+        self.assertGreater(self.browser.evaluate(count), before)
+        with open(os.path.join(HERE, "probe.js"), encoding="utf-8") as file:
+            probe = file.read()
+        for width in (390, 1280):
+            self.show("explained", width)
+            self.browser.evaluate(
+                "document.querySelectorAll('.why details').forEach(it => { it.open = true; })"
+            )
+            self.assertEqual(self.browser.evaluate(probe)["wrong"], [], width)
+
     def test_the_sound_can_be_played(self):
         for name in ("resumed", "ended", "wide"):
             self.show(name)
@@ -332,6 +380,7 @@ class Pages(unittest.TestCase):
     def test_keys_reach_each_control_in_the_order_of_the_page(self):
         for name, width in (
             ("take", 390), ("ended", 1280), ("long", 1280), ("compared", 390), ("archive", 1280),
+            ("explained", 390),
         ):
             self.show(name, width)
             count = self.browser.evaluate(STOPS)
@@ -373,7 +422,7 @@ class Pages(unittest.TestCase):
                     self.assertTrue(node["name"]["value"].strip(), (name, role))
 
     def test_names_for_screen_readers(self):
-        for name in ("resumed", "ended", "fault"):
+        for name in ("resumed", "ended", "fault", "explained"):
             for width in (390, 1280):
                 self.show(name, width)
                 nodes = self.browser.call("Accessibility.getFullAXTree")["nodes"]

@@ -23,8 +23,9 @@ from waplay_tools.reporting.text import BadInput
 
 PACKAGE = TOP / "tools" / "waplay_tools"
 # What the commands need of the tools; the rest is for those who work on the program.
-PARTS = ("__init__.py", "archive", "chromium.py", "compare.py", "expecting", "launching.py",
-         "piece", "places.py", "pruning", "recorder", "report.py", "reporting", "wav.py")
+PARTS = ("__init__.py", "archive", "chromium.py", "compare.py", "expecting", "explaining",
+         "launching.py", "piece", "places.py", "pruning", "recorder", "report.py", "reporting",
+         "wav.py")
 COMMANDS = ("piece", "record", "report", "compare", "archive")  # beside the program
 SUMMARY = "Replays sessions of the Web Audio API, offline and in whole numbers"
 

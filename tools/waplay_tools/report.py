@@ -18,6 +18,7 @@ from pathlib import Path
 from waplay_tools.places import as_called_here
 from waplay_tools.reporting import page, script_reading, takes, transcript_reading, wav_samples
 from waplay_tools.reporting.content import MOST_WHOLE, Content, File, Room
+from waplay_tools.reporting.explained import explained
 from waplay_tools.reporting.following import Session
 from waplay_tools.reporting.page import Heading
 from waplay_tools.reporting.script_reading import Script
@@ -55,8 +56,13 @@ def content_of(words: argparse.Namespace) -> Content:
     if content.session.end().word != "completed":
         if words.against:
             raise BadInput("the session wrote no WAV file that could be held against another one")
+        if words.explain:
+            raise BadInput("the session was not rendered, so it has no sample to explain")
         return content
     content.sound = sound_of(words.wav, script)
+    content.paths = [words.script, words.transcript, words.wav]
+    if words.explain:
+        content.explained = explained(words.script, *words.explain)
     if words.against:
         data = script_reading.bytes_of(words.against)
         other = wav_samples.sound_of(data, visible(words.against))
@@ -70,6 +76,8 @@ def report(words: argparse.Namespace) -> str:
     folder = os.path.dirname(words.output) if words.output else "."
     room = Room(folder or ".", MOST_WHOLE if words.whole else None)
     if words.transcript is None:
+        if words.explain:
+            raise BadInput("a sample is explained of one session, as 1.json 1.txt 1.wav of a take")
         if not takes.is_take(words.script):
             raise BadInput(f"{visible(words.script)} is no folder of a take; with a script its"
                            " transcript is wanted as a second word")
@@ -116,6 +124,10 @@ def parser() -> argparse.ArgumentParser:
     made.add_argument(
         "--tolerance", metavar="VALUE", type=tolerance, default=TOLERANCE,
         help="what two samples may differ by, 2^-16 where nothing is said",
+    )
+    made.add_argument(
+        "--explain", metavar=("FRAME", "CHANNEL"), nargs=2, type=int,
+        help="say why this sample of a session is what it is",
     )
     made.add_argument(
         "-o", "--output", metavar="FILE", help="write the page there, and not to standard output"

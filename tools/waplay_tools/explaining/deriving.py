@@ -1,5 +1,7 @@
 """Deriving: the facts that a sample hangs on, each behind those that it needs."""
 
+from collections.abc import Mapping
+
 from waplay_tools.expecting.graph import End
 from waplay_tools.explaining.equations import Equation, Equations
 from waplay_tools.explaining.facts import Fact, Key, Numbers, Out, text_of
@@ -16,6 +18,17 @@ class TooLong(Exception):
 def sample_key(frame: int, channel: int) -> Key:
     """The key of a sample: what the destination carries."""
     return Out(frame, End(0, False), 0, channel)
+
+
+def needs_of(equations: Equations, key: Key, known: Mapping[Key, Numbers]) -> list[Key]:
+    """What a key needs, in order, where all of that is known."""
+    equation, needs = equations.of(key), []
+    try:
+        needs.append(next(equation))
+        while True:
+            needs.append(equation.send(known[needs[-1]]))
+    except StopIteration:
+        return needs
 
 
 def derivation(tape: Tape, key: Key) -> list[str]:

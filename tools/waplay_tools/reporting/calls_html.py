@@ -9,7 +9,7 @@ from waplay_tools.reporting.following import Row, Session
 from waplay_tools.reporting.markup import Html, escaped, filled, isolated, joined, sentence
 from waplay_tools.reporting.script_reading import Call, Script
 from waplay_tools.reporting.tables import MOST_ROWS, more_rows, plain
-from waplay_tools.reporting.text import LONG, counted, grouped, shown
+from waplay_tools.reporting.text import LONG, counted, fix_text, grouped, shown
 
 MANY_LINES = 100  # from which on the transcript is folded
 MOST_LINES = 1000  # from which on it is a plain text
@@ -47,14 +47,7 @@ def class_of(row: Row) -> str:
 
 def _decimal(value: int) -> Html:
     """A value in units of 2^-24, as an aside."""
-    text = f"{value / entries.ONE:.6f}"
-    is_exact = round(float(text) * entries.ONE) == value and value * 10**6 % entries.ONE == 0
-    text = text.rstrip("0").rstrip(".").replace("-", "\u2212")
-    return filled(
-        ' <span class="aside">({about}{text})</span>',
-        about="" if is_exact else "\u2248",
-        text="0" if text == "\u22120" else text,
-    )
+    return filled(' <span class="aside">({text})</span>', text=fix_text(value))
 
 
 def _field(name: str, value: Any, kind: str) -> Html:

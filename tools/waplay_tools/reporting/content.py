@@ -7,6 +7,7 @@ import functools
 import os
 import urllib.parse
 
+from waplay_tools.reporting.explained import Explained
 from waplay_tools.reporting.following import Session
 from waplay_tools.reporting.text import decimal
 from waplay_tools.reporting.unheard import Unheard
@@ -51,6 +52,11 @@ class Content:
     verdict: str = ""
     lines: list[str] = dataclasses.field(default_factory=list)
     frozen: set[str] = dataclasses.field(default_factory=set)  # names of nodes
+    # The words that name its script, its transcript and its file in a command, and the folder in
+    # which they do, if that is told.
+    paths: list[str] = dataclasses.field(default_factory=list)
+    paths_of: str = ""
+    explained: Explained | None = None
 
     @property
     def rate(self) -> int:

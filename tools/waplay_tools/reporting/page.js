@@ -97,7 +97,7 @@
     const otherPlayer = root.querySelector('audio[data-sound="other"]');
     if (!wave || !player) return;
     const tools = root.querySelector(".tools"), form = tools.querySelector("form");
-    const status = tools.querySelector(".status");
+    const status = tools.querySelector(".status"), asking = tools.querySelector(".asking");
     const selection = wave.querySelector(".selection"), playhead = wave.querySelector(".playhead");
     const frames = Number(wave.dataset.frames), rate = Number(wave.dataset.rate);
     const grouped = new Intl.NumberFormat("en-US");
@@ -236,7 +236,7 @@
     const keys = { "+": "in", "=": "in", "-": "out", ArrowLeft: "earlier", ArrowRight: "later", 0: "whole", Home: "start", End: "end" };
 
     // What is dragged over, from one end to the other, is what is shown then.
-    let begun = null;
+    let begun = null, lane = null;
     const part = event => {
       const box = wave.getBoundingClientRect();
       return Math.max(0, Math.min(1, (event.clientX - box.left) / box.width));
@@ -244,6 +244,7 @@
     wave.addEventListener("pointerdown", event => {
       if (event.button !== 0) return;
       begun = part(event);
+      lane = event.target.closest(".lane");
       wave.setPointerCapture(event.pointerId);
     });
     wave.addEventListener("pointermove", event => {
@@ -260,6 +261,8 @@
       selection.hidden = true;
       if (ends[1] - ends[0] < 0.005) {
         player.currentTime = (first + ends[0] * width) / rate;
+        const drawing = asking && lane && lane.querySelector(".drawing");
+        if (drawing) explain(Math.min(last - 1, Math.floor(first + ends[0] * width)), Number(drawing.dataset.channel));
       } else {
         show(first + ends[0] * width, first + ends[1] * width);
       }
@@ -280,6 +283,21 @@
       event.preventDefault();
       show(Number(form.elements.first.value), Number(form.elements.last.value));
     });
+
+    // The command that says why a sample is what it is.
+    function explain(frame, channel) {
+      const answer = tools.querySelector(".answered");
+      asking.elements.frame.value = frame;
+      asking.elements.channel.value = channel;
+      answer.querySelector("code").textContent = asking.dataset.command + " " + frame + " " + channel + " -o why.html";
+      answer.hidden = false;
+    }
+    if (asking) {
+      asking.addEventListener("submit", event => {
+        event.preventDefault();
+        explain(Number(asking.elements.frame.value), Number(asking.elements.channel.value));
+      });
+    }
 
     function movePlayhead() {
       const at = place(player.currentTime * rate);

@@ -9,6 +9,7 @@ from collections.abc import Iterator
 from waplay_tools.expecting.numbers import DEFAULT_QUANTUM
 from waplay_tools.reporting import (
     calls_html,
+    explained_html,
     graph_html,
     judging,
     notes_html,
@@ -164,6 +165,7 @@ def content_html(content: Content, room: Room, key: str, is_alone: bool) -> Html
     if has_time:
         lanes = joined([notes_html.note_lanes(content), notes_html.automation_lanes(content)])
     body = [
+        explained_html.explained_html(content),
         refusals_html.refusals_html(content.session),
         _losses_html(content),
         sound_html.sound_html(content, room, lanes) if content.sound else _no_sound(content),

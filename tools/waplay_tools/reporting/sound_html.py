@@ -2,7 +2,9 @@
 numbers, and how the other file differs."""
 
 import functools
+import shlex
 
+from waplay_tools.places import as_called_here
 from waplay_tools.reporting import spectrogram, waveform
 from waplay_tools.reporting.content import Content, File, Room, level, value_text
 from waplay_tools.reporting.following import Mark
@@ -75,10 +77,44 @@ _TOOLS = """<div class="tools" hidden>
 <label>to frame <input type="number" name="last" min="1" max="{frames}" value="{frames}" step="1">\
 </label>
 <button type="submit">Show</button></form>
-<p class="hint">Drag over the waveform to zoom, click to play from there. Keys on the
+{asking}<p class="hint">Drag over the waveform to zoom, click to play from there{clicked}. Keys on\
+ the
 waveform: + and \u2212 zoom, \u2190 and \u2192 move, Home and End go to the ends, 0 shows the\
  whole.</p>
-<p class="status" role="status"></p></div>"""
+<p class="status" role="status"></p>{answer}</div>"""
+
+_ASKING = """<form class="range asking" data-command="{command}"><label>Frame
+<input type="number" name="frame" min="0" max="{last}" value="0" step="1"></label>
+<label>of channel <input type="number" name="channel" min="0" max="{channels}" value="0"\
+ step="1"></label>
+<button type="submit">Why is it so?</button></form>
+"""
+
+_ANSWER = """
+<p class="answered" role="status" hidden>This command, run {where}, makes a page that says why:\
+ <code></code></p>"""
+
+
+
+def _tools(content: Content, sound: Sound) -> Html:
+    """What zooms, and what asks why a sample is what it is, where a command can tell."""
+    asking = answer = Html()
+    if content.paths:
+        command = as_called_here(shlex.join(["tools/report", *content.paths, "--explain"]))
+        asking = filled(
+            _ASKING, command=command, last=sound.frames - 1, channels=len(sound.channels) - 1
+        )
+        where = f"in {content.paths_of}" if content.paths_of else "where this page was made"
+        answer = filled(_ANSWER, where=where)
+    return filled(
+        _TOOLS,
+        last=sound.frames - 1,
+        frames=sound.frames,
+        asking=asking,
+        clicked=" and to ask why a sample is what it is" if content.paths else "",
+        answer=answer,
+    )
+
 
 _NAMED = """<div class="lane-name"><span>{name}</span><span class="aside">{ends}</span></div>\
 {drawing}"""
@@ -385,7 +421,7 @@ def sound_html(content: Content, room: Room, further: Html = Html()) -> Html:
         _SOUND,
         players=players,
         lost=joined(lost_html(it) for it in (file, other) if it),
-        tools=filled(_TOOLS, last=sound.frames - 1, frames=sound.frames),
+        tools=_tools(content, sound),
         frames=sound.frames,
         rate=sound.rate,
         tolerance=differences.tolerance if differences else 0.0,

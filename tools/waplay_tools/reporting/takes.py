@@ -117,6 +117,8 @@ def replay_of(folder: Path, number: int) -> Content:
     content = Content(session, f"Context {number}")
     if session.end().word == "completed":
         content.sound = file_of(folder / f"{number}.wav", "waplay")
+        content.paths = [f"{number}{end}" for end in (".json", ".txt", ".wav")]
+        content.paths_of = "the folder of the take"
     return content
 
 

@@ -86,6 +86,13 @@ def decimal(numerator: float, denominator: int) -> str:
     return "{:.6f}".format(numerator / denominator).replace("-", "\u2212")
 
 
+def fix_text(value: int) -> str:
+    """A value in units of 2^-24 as a decimal, with a sign in front where it is not quite that."""
+    text = f"{value / 2**24:.6f}".rstrip("0").rstrip(".").replace("-", "\u2212")
+    about = "" if value * 10**6 % 2**24 == 0 else "\u2248"
+    return about + ("0" if text == "\u22120" else text)
+
+
 # What stands for a backquote that makes no code; visible text does not have it.
 BACKQUOTE = "\ue000"
 
