@@ -79,12 +79,12 @@ def _there(it: Explained, file: File) -> tuple[str, Html]:
     return "", filled(_WRONG, sign=SIGNS["refused"], text=text)
 
 
-_LEAF = "<li>{sentence}</li>"
+_LEAF = '<li class="leaf">{sentence}</li>'
 
 _UNDER = """<li><details{is_open}><summary>{sentence}</summary>
 <ul{deep}>{under}</ul></details></li>"""
 
-_ASIDE = '<li class="aside">{text}</li>'
+_ASIDE = '<li class="leaf aside">{text}</li>'
 
 
 def _asides(step: Step) -> list[Html]:

@@ -102,9 +102,8 @@ class Telling:
         node = self._node(frame, number)
         if number == 0:
             return Html("the destination")
-        return filled(
-            "{kind} {name}", kind=KINDS.get(node.kind, node.kind), name=isolated(node.name)
-        )
+        kind = KINDS.get(node.kind, node.kind)
+        return filled("{kind} <code>{name}</code>", kind=kind, name=isolated(node.name))
 
     def _end(self, frame: int, end: End, output: int = 0) -> Html:
         """An end, with the output where its node has several."""
