@@ -327,6 +327,20 @@ class Lanes(unittest.TestCase):
         points = [tuple(it) for it in notes_html.points_of(thing, "offset", 2**22, 1024)]
         self.assertEqual(points, [(0, 2**22), (256, 2**22), (256, 0), (512, 2**24), (1024, 2**24)])
 
+    def test_notes_at_a_time_do_not_lie_over_one_another(self):
+        calls = []
+        for name, when in (("a", 0), ("b", 0), ("c", 64)):
+            calls += [{"op": "createConstantSource", "as": name},
+                      {"op": "start", "node": name, "when": when}]
+        calls.append({"op": "stop", "node": "a", "when": 32})
+        found = notes_html.lanes_of(notes_html.notes_of(content_of(
+            fixtures.script([*calls, {"op": "startRendering"}])
+        )))
+        self.assertEqual(
+            [(name, [note.thing.name for note in lane]) for name, lane in found],
+            [("constant sources, voice 1", ["a", "c"]), ("constant sources, voice 2", ["b"])],
+        )
+
     def test_many_notes_are_drawn_without_their_names(self):
         for count in (3, 401):
             calls = [call for at in range(count) for call in (

@@ -49,15 +49,9 @@ def notes_of(content: Content) -> list[Note]:
     return sorted(found, key=lambda note: (note.first, note.thing.number or 0))
 
 
-def lanes_of(notes: list[Note]) -> list[tuple[str, list[Note]]]:
-    """The lanes with their names: one for each buffer and for constant sources, and where these are
-    many as few as there are sources at a time."""
-    named: dict[str, list[Note]] = {}
-    for note in notes:
-        it = note.thing
-        named.setdefault(it.buffer.name if it.buffer else it.kind + "s", []).append(note)
-    if len(named) <= MOST_LANES // 2:
-        return list(named.items())
+def voices_of(notes: list[Note]) -> list[list[Note]]:
+    """The notes in as few lists as there are notes at a time, so that in none one lies over
+    another."""
     ends: list[int] = []
     packed: list[list[Note]] = []
     for note in notes:
@@ -67,7 +61,25 @@ def lanes_of(notes: list[Note]) -> list[tuple[str, list[Note]]]:
             packed.append([])
         ends[free] = max(note.last, note.first + 1)
         packed[free].append(note)
-    return [(f"voice {at}", lane) for at, lane in enumerate(packed, 1)]
+    return packed
+
+
+def lanes_of(notes: list[Note]) -> list[tuple[str, list[Note]]]:
+    """The lanes with their names: one for each buffer and for constant sources, or as many as there
+    are of its sources at a time where these lanes are not many. Where there are many buffers they
+    are as few as there are sources at a time."""
+    named: dict[str, list[Note]] = {}
+    for note in notes:
+        it = note.thing
+        named.setdefault(it.buffer.name if it.buffer else it.kind + "s", []).append(note)
+    if len(named) > MOST_LANES // 2:
+        return [(f"voice {at}", lane) for at, lane in enumerate(voices_of(notes), 1)]
+    lanes = []
+    for name, its in named.items():
+        voices = voices_of(its)
+        told = [f"{name}, voice {at}" for at in range(1, len(voices) + 1)]
+        lanes += list(zip(told if len(voices) > 1 else [name], voices))
+    return lanes if len(lanes) <= MOST_LANES // 2 else list(named.items())
 
 
 _NOTE = """<svg class="placed note" data-low="{low}" data-high="{high}" data-name="{name}"\
