@@ -43,19 +43,19 @@ class Carried(NamedTuple):
 class Mixing(NamedTuple):
     """How values become those of so many channels, and which one of these is meant."""
 
-    count: int
+    channels: int
     interpretation: str = "speakers"
     channel: int = 0
 
     def of(self, values: list[int]) -> int:
         """What comes of the values of the channels of an output."""
-        return mixed(values, self.count, self.interpretation)[self.channel]
+        return mixed(values, self.channels, self.interpretation)[self.channel]
 
     def told(self, values: list[int]) -> str:
         """That they are mixed, where they are."""
-        if len(values) == self.count:
+        if len(values) == self.channels:
             return ""
-        return f" ({counted(len(values), 'channel')} mixed to {self.count})"
+        return f" ({counted(len(values), 'channel')} mixed to {self.channels})"
 
 
 def _before(frames: int) -> str:
