@@ -37,6 +37,6 @@ abbrev pub NextFactLaw : Type 0
 NextFactLaw = (q : ℕ) → 0 < q → q ≤ 1024 → (tape : List World) → IsRegular q tape → (facts : List Fact) (fact : Fact) →
     IsChecked q tape (facts ++ fact ∷ []) ↔ (IsChecked q tape facts × Passes q tape facts fact)
 
--- A text is that of one list of facts at most.
+-- A text is that of at most one list of facts whose numbers fit their types.
 abbrev pub TextLaw : Type 0
 TextLaw = (xs ys : List Fact) → ((x : Fact) → IsIn x xs → IsSized x) → ((y : Fact) → IsIn y ys → IsSized y) → facts_text xs ≡ facts_text ys → xs ≡ ys

@@ -28,18 +28,19 @@ pub fn needs_law()
     ensures { NeedsLaw }
 {}
 
-/// What a checker does decides whether a list is checked: it looks at each fact in turn, whether it is
-/// a fact of the tape, whether what it needs stands before it, and whether its equation gives it.
+/// A list is checked exactly where each of its facts passes behind those before it: it is a fact of the
+/// tape, what it needs stands before it, and its equation gives it.
 pub fn checker_law()
     ensures { CheckerLaw }
 {}
 
-/// A checker goes on from a checked list by one fact at a time.
+/// A list with one more fact behind it is checked exactly where it is checked without that fact, and
+/// the fact passes.
 pub fn next_fact_law()
     ensures { NextFactLaw }
 {}
 
-/// A text is read in one way.
+/// A text is that of at most one list of facts whose numbers fit their types.
 pub fn text_law()
     ensures { TextLaw }
 {}
