@@ -3,10 +3,9 @@ use Rattle.std.proofs.Common.{ℕ, ◌≡◌, ◌<◌, ◌⊎◌, ◌↔◌, Lis
 use Rattle.law_base.specs.Members.{IsIn}
 use Rattle.meaning.specs.declared.world.World.{World}
 use Rattle.meaning.specs.Worlds.{IsRegular}
-use Rattle.explain.specs.declared.facts.Key.{Key}
 use Rattle.explain.specs.declared.facts.Fact.{Fact}
 use Rattle.explain.specs.Accounts.{meant}
-use Rattle.explain.specs.Checked.{AllHold, Stands, Follows, FollowOn, IsChecked, Passes}
+use Rattle.explain.specs.Checked.{AllHold, Follows, FollowOn, IsChecked, Passes}
 use Rattle.explain.proofs.Soundness.{meaning_solves, all_hold}
 use Rattle.explain.proofs.Completeness.{follows}
 

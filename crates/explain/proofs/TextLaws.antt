@@ -1,5 +1,5 @@
 -- A text is that of at most one list of facts whose numbers fit their types.
-use Rattle.std.proofs.Common.{ℕ, ℤ, ◌≡◌, ◌+◌, ◌<◌, ◌^◌, ◌==◌, length, List, [], ◌∷◌, ◌++◌, map, Bool, true, false, Option, Some, None, IfSome, inl, inr, refl, sym, ◌∙◌, ap, ap₂, subst, arith, decimal, codes, drop, get_or, if◌then◌else◌, append_assoc, append-nil}
+use Rattle.std.proofs.Common.{ℕ, ℤ, ◌≡◌, ◌<◌, ◌^◌, ◌==◌, length, List, [], ◌∷◌, ◌++◌, map, Bool, true, false, Option, Some, None, IfSome, inl, inr, refl, sym, ◌∙◌, ap, ap₂, subst, arith, decimal, codes, drop, get_or, if◌then◌else◌, append_assoc, append-nil}
 use Rattle.std.specs.Fmt.{signed_decimal}
 use Rattle.std.proofs.lemmas.Fmt.{decimal_is_IsNumeral, decimal_injective, signed_decimal_injective}
 use Rattle.std.proofs.lemmas.List.{length-map}
