@@ -9,9 +9,8 @@ use Rattle.std.proofs.lemmas.List.Splits.{length-slice_split}
 use Rattle.wa_base.specs.Numbers.{IsFix}
 use Rattle.law_base.specs.Members.{IsIn}
 use Rattle.explain.specs.declared.reading.words.Words.{Words}
-use Rattle.explain.specs.Texts.{AreCells}
-use Rattle.explain.specs.LineWords.{words, cell_words}
-use Rattle.explain.specs.LineReading.{words_left}
+use Rattle.explain.specs.Texts.{AreCells, cell_words}
+use Rattle.explain.specs.LineReading.{words, words_left}
 
 abbrev pub IsNoCell : List (List ℕ) → Type 0
 IsNoCell left = (c : ℤ) (more : List (List ℕ)) → IsFix c → signed_decimal c ∷ more ≢ left

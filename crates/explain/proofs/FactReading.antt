@@ -16,9 +16,9 @@ use Rattle.law_base.specs.Members.{IsIn}
 use Rattle.explain.specs.declared.facts.Key.{Key}
 use Rattle.explain.specs.declared.facts.Key.TheVariants.{Count, Inlet, Par, Hist, Out}
 use Rattle.explain.specs.declared.facts.Fact.{Fact}
-use Rattle.explain.specs.Texts.{IsSizedKey, AreCells, IsSized, end_text, fact_text}
-use Rattle.explain.specs.LineWords.{words, key_words, value_words, cell_words}
-use Rattle.explain.proofs.LineCuts.{fact_words, fact_joined, words_of_fact, key_first, fix_small}
+use Rattle.explain.specs.Texts.{IsSizedKey, AreCells, IsSized, end_text, key_words, value_words, cell_words, fact_words, fact_text}
+use Rattle.explain.specs.LineReading.{words}
+use Rattle.explain.proofs.LineCuts.{fact_joined, words_of_fact, key_first, fix_small}
 use Rattle.explain.proofs.TextLaws.{same_key}
 use Rattle.explain.proofs.KeyReading.{IsNoKey}
 

@@ -5,8 +5,7 @@ use Rattle.wa_base.specs.declared.graph_names.End.{End}
 use Rattle.wa_base.specs.declared.graph_names.ParamName.{ParamName}
 use Rattle.explain.specs.declared.facts.Key.{Key}
 use Rattle.explain.specs.declared.facts.Key.TheVariants.{Count, Inlet, Par, Hist, Out}
-use Rattle.explain.specs.Texts.{IsSizedKey, end_text}
-use Rattle.explain.specs.LineWords.{key_words}
+use Rattle.explain.specs.Texts.{IsSizedKey, end_text, key_words}
 use Rattle.explain.proofs.TextLaws.{letter}
 
 abbrev pub IsNoKey : List (List ℕ) → Type 0

@@ -9,6 +9,7 @@ pub mod Outputs
 pub mod Completeness
 pub mod Rows
 pub mod NeedsRows
+pub mod FactPrinting
 pub mod LineCuts
 pub mod TextLaws
 pub mod Checkers

@@ -1,5 +1,5 @@
 -- The words of a fact's text are those of the fact.
-use Rattle.std.proofs.Common.{ℕ, suc, ℤ, pos, negsuc, ◌≡◌, ◌<◌, ◌≤◌, ◌^◌, ◌==◌, List, [], ◌∷◌, ◌++◌, map, Bool, true, false, Option, Some, None, IfSome, inl, inr, refl, sym, ◌∙◌, ap, subst, arith, decimal, codes, flat_map, append_assoc, append-nil, if◌then◌else◌, nat_le}
+use Rattle.std.proofs.Common.{ℕ, suc, ℤ, pos, negsuc, ◌≡◌, ◌<◌, ◌≤◌, ◌^◌, ◌==◌, List, [], ◌∷◌, ◌++◌, map, Bool, true, false, Option, Some, None, IfSome, inl, inr, refl, sym, ◌∙◌, ap, subst, arith, decimal, codes, if◌then◌else◌, nat_le}
 use Rattle.std.specs.Fmt.{signed_decimal}
 use Rattle.std.specs.List.{list_all, slice_split, onto_first, join_with_byte}
 use Rattle.std.specs.Str.Parse.{AllDigits}
@@ -19,8 +19,8 @@ use Rattle.law_base.specs.Members.{IsIn}
 use Rattle.explain.specs.declared.facts.Key.{Key}
 use Rattle.explain.specs.declared.facts.Key.TheVariants.{Count, Inlet, Par, Hist, Out}
 use Rattle.explain.specs.declared.facts.Fact.{Fact}
-use Rattle.explain.specs.Texts.{IsSizedKey, AreCells, IsSized, end_text, key_text, cell_text, cells_text, fact_text}
-use Rattle.explain.specs.LineWords.{words, key_words, value_words, cell_words}
+use Rattle.explain.specs.Texts.{IsSizedKey, AreCells, IsSized, end_text, key_words, value_words, cell_words, fact_words, fact_text}
+use Rattle.explain.specs.LineReading.{words}
 
 -- ---- texts without a mark
 
@@ -116,35 +116,9 @@ join_without mark w (v ∷ vs) apart h = without_append mark w (32 ∷ join_with
 
 -- ---- the words of a fact
 
-abbrev pub fact_words : Fact → List (List ℕ)
-fact_words x = key_words x.key (value_words x.value (cell_words x.cells))
-
-cells_joined : (w : List ℕ) (cells : List ℤ) → w ++ flat_map cell_text cells ≡ join_with_byte 32 (w ∷ map signed_decimal cells)
-unfolding cell_text
-cells_joined w [] = append-nil w
-cells_joined w (c ∷ cs) = ap (λ xs. w ++ 32 ∷ xs) (cells_joined (signed_decimal c) cs)
-
-value_joined : (w : List ℕ) (cells : Option (List ℤ)) → w ++ cells_text cells ≡ join_with_byte 32 (w ∷ cell_words cells)
-value_joined w None = append-nil w
-value_joined w (Some cells) = cells_joined w cells
-
-key_joined : (k : Key) (w : List ℕ) (ws : List (List ℕ)) → key_text k ++ 32 ∷ join_with_byte 32 (w ∷ ws) ≡ join_with_byte 32 (key_words k (w ∷ ws))
-unfolding key_text
-key_joined (Count j e o) w ws = grind (arith, append_assoc)
-key_joined (Inlet f e i c) w ws = grind (arith, append_assoc)
-key_joined (Par f node name) w ws = grind (arith, append_assoc)
-key_joined (Hist f node c) w ws = grind (arith, append_assoc)
-key_joined (Out f e o c) w ws = grind (arith, append_assoc)
-
-fact_parts : (key value cells : List ℕ) → key ++ codes " = " ++ value ++ cells ≡ key ++ 32 ∷ 61 ∷ 32 ∷ (value ++ cells)
-fact_parts key value cells = grind (arith, append_assoc)
-
 pub fact_joined : (x : Fact) → fact_text x ≡ join_with_byte 32 (fact_words x)
 unfolding fact_text
-fact_joined x =
-    fact_parts (key_text x.key) (signed_decimal x.value) (cells_text x.cells)
-    ∙ ap (λ xs. key_text x.key ++ 32 ∷ 61 ∷ 32 ∷ xs) (value_joined (signed_decimal x.value) x.cells)
-    ∙ key_joined x.key (codes "=") (signed_decimal x.value ∷ cell_words x.cells)
+fact_joined x = refl
 
 module _ (mark : ℕ) (low : mark < 45) where
   of_number : (n : ℕ) → n < 2 ^ 64 → Without mark (decimal n)

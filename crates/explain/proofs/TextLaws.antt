@@ -13,9 +13,9 @@ use Rattle.law_base.specs.Members.{IsIn}
 use Rattle.explain.specs.declared.facts.Key.{Key}
 use Rattle.explain.specs.declared.facts.Key.TheVariants.{Count, Inlet, Par, Hist, Out}
 use Rattle.explain.specs.declared.facts.Fact.{Fact}
-use Rattle.explain.specs.Texts.{IsSizedKey, AreCells, IsSized, end_text, fact_text, facts_text}
-use Rattle.explain.specs.LineWords.{words, key_words, value_words, cell_words}
-use Rattle.explain.proofs.LineCuts.{Without, has_mark, digits_below, fix_small, cuts, cut_first, fact_words, words_of_fact, text_without}
+use Rattle.explain.specs.Texts.{IsSizedKey, AreCells, IsSized, end_text, key_words, value_words, cell_words, fact_words, fact_text, facts_text}
+use Rattle.explain.specs.LineReading.{words}
+use Rattle.explain.proofs.LineCuts.{Without, has_mark, digits_below, fix_small, cuts, cut_first, words_of_fact, text_without}
 
 -- ---- ends and names
 

@@ -8,8 +8,7 @@ use Rattle.std.proofs.lemmas.List.{get_or_default}
 use Rattle.std.proofs.lemmas.List.Splits.{slice_split_first, slice_split_none}
 use Rattle.std.proofs.lemmas.Str.Pattern.{NoCharPasses-char}
 use Rattle.explain.specs.declared.reading.words.Words.{Words}
-use Rattle.explain.specs.LineWords.{words}
-use Rattle.explain.specs.LineReading.{words_left}
+use Rattle.explain.specs.LineReading.{words, words_left}
 
 text_left : (s : Words) (text : Bor (List ℕ)) → s.rest ≡ Some text → words_left s ≡ words text.now
 text_left s text is = ap (λ r. option_map_or (λ (x : Bor (List ℕ)). words x.now) r []) is

@@ -3,6 +3,5 @@ pub mod Facts
 pub mod Needs
 pub mod Checked
 pub mod Texts
-pub mod LineWords
 pub mod LineReading
 pub mod Laws

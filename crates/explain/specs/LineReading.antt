@@ -1,8 +1,12 @@
 -- What it is to read a line by its words.
-use Rattle.std.specs.Prelude.{ℕ, ◌≡◌, ◌≢◌, List, [], ◌∷◌, codes, Option, MatchOption, slice_index, length}
+use Rattle.std.specs.Prelude.{ℕ, ◌==◌, ◌≡◌, ◌≢◌, List, [], ◌∷◌, codes, Option, MatchOption, slice_index, length}
+use Rattle.std.specs.List.{slice_split}
 use Rattle.std.specs.Option.{option_map_or}
 use Rattle.explain.specs.declared.reading.words.Words.{Words}
-use Rattle.explain.specs.LineWords.{words}
+
+-- the words of a text, which is cut at each space
+abbrev pub words : List ℕ → List (List ℕ)
+words text = slice_split (λ byte. byte == 32) text
 
 -- the words that are still to be read
 abbrev pub words_left : Words → List (List ℕ)

@@ -1,5 +1,6 @@
 -- Facts as text. Each line ends with one byte 10.
-use Rattle.std.specs.Prelude.{ℕ, ◌≡◌, ◌<◌, ◌≤◌, ◌^◌, FitsSigned, IfSome, ℤ, length, List, [], ◌++◌, flat_map, codes, decimal, if◌then◌else◌, Option, None, Some}
+use Rattle.std.specs.Prelude.{ℕ, ◌≡◌, ◌<◌, ◌≤◌, ◌^◌, FitsSigned, IfSome, ℤ, length, List, [], ◌∷◌, ◌++◌, map, flat_map, codes, decimal, if◌then◌else◌, Option, None, Some}
+use Rattle.std.specs.List.{join_with_byte}
 use Rattle.std.specs.Fmt.{signed_decimal}
 use Rattle.std.specs.Int.{w64}
 use Rattle.wa_base.specs.GraphNames.{param_word}
@@ -16,26 +17,36 @@ use Rattle.explain.specs.Checked.{IsChecked}
 abbrev pub end_text : End → List ℕ
 end_text e = decimal e.node.0 ++ (if e.writer then codes "w" else [])
 
--- the word of a key, and then what it names; numbers have no sign and no zero in front
+-- the words of a key, and those behind it; numbers have no sign and no zero in front
+abbrev pub key_words : Key → List (List ℕ) → List (List ℕ)
+key_words (Count j e o) more = codes "count" ∷ decimal j ∷ end_text e ∷ decimal o ∷ more
+key_words (Inlet f e i c) more = codes "in" ∷ decimal f ∷ end_text e ∷ decimal i ∷ decimal c ∷ more
+key_words (Par f node name) more = codes "par" ∷ decimal f ∷ decimal node.0 ∷ param_word name ∷ more
+key_words (Hist f node c) more = codes "hist" ∷ decimal f ∷ decimal node.0 ∷ decimal c ∷ more
+key_words (Out f e o c) more = codes "out" ∷ decimal f ∷ end_text e ∷ decimal o ∷ decimal c ∷ more
+
+-- those of a value, which has a minus sign where it is below 0
+abbrev pub value_words : ℤ → List (List ℕ) → List (List ℕ)
+value_words value more = codes "=" ∷ signed_decimal value ∷ more
+
+-- those of the cells of a processor
+abbrev pub cell_words : Option (List ℤ) → List (List ℕ)
+cell_words None = []
+cell_words (Some cells) = map signed_decimal cells
+
+abbrev pub fact_words : Fact → List (List ℕ)
+fact_words x = key_words x.key (value_words x.value (cell_words x.cells))
+
+-- between each two words stands a space
 unfoldable pub key_text : Key → List ℕ
-key_text (Count j e o) = codes "count " ++ decimal j ++ codes " " ++ end_text e ++ codes " " ++ decimal o
-key_text (Inlet f e i c) = codes "in " ++ decimal f ++ codes " " ++ end_text e ++ codes " " ++ decimal i ++ codes " " ++ decimal c
-key_text (Par f node name) = codes "par " ++ decimal f ++ codes " " ++ decimal node.0 ++ codes " " ++ param_word name
-key_text (Hist f node c) = codes "hist " ++ decimal f ++ codes " " ++ decimal node.0 ++ codes " " ++ decimal c
-key_text (Out f e o c) = codes "out " ++ decimal f ++ codes " " ++ end_text e ++ codes " " ++ decimal o ++ codes " " ++ decimal c
+key_text key = join_with_byte 32 (key_words key [])
+
+unfoldable pub fact_text : Fact → List ℕ
+fact_text x = join_with_byte 32 (fact_words x)
 
 -- a cell with a space in front
 unfoldable pub cell_text : ℤ → List ℕ
 cell_text cell = codes " " ++ signed_decimal cell
-
--- the cells of a processor
-abbrev pub cells_text : Option (List ℤ) → List ℕ
-cells_text None = []
-cells_text (Some cells) = flat_map cell_text cells
-
--- a value has a minus sign where it is below 0
-unfoldable pub fact_text : Fact → List ℕ
-fact_text x = key_text x.key ++ codes " = " ++ signed_decimal x.value ++ cells_text x.cells
 
 abbrev pub facts_text : List Fact → List ℕ
 facts_text facts = flat_map (λ x. fact_text x ++ codes "\n") facts

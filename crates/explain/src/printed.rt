@@ -1,4 +1,4 @@
-ghost use Rattle.std.specs.Prelude.{◌≡◌, ◌++◌, IfOk, OnOk, Some};
+ghost use Rattle.std.specs.Prelude.{◌≡◌, ◌++◌, flat_map, IfOk, OnOk};
 ghost use Rattle.explain.specs.Texts as spec;
 
 use crate::facts::{Fact, Key};
@@ -70,7 +70,6 @@ impl fmt::Display for Key {
 }
 
 /// The text of a fact, as it stands in a line.
-#[tactic(auto, unfolding(crate::specs::Texts::fact_text))]
 pub fn fact_text(alloc: Global, fact: &Fact) -> Result<Bytes, NoMemory>
     ensures { IfOk result (λ bytes. bytes ≡ spec.fact_text fact.now) }
 {
@@ -86,7 +85,7 @@ pub fn fact_text(alloc: Global, fact: &Fact) -> Result<Bytes, NoMemory>
 
 // Appends the cells of a processor.
 fn push_cells(alloc: Global, out: &mut Vec<u8>, cells: &[Fix]) -> Result<(), AllocError>
-    ensures { OnOk result (out.new.items ≡ out.old.items ++ spec.cells_text (Some cells.now)) }
+    ensures { OnOk result (out.new.items ≡ out.old.items ++ flat_map spec.cell_text cells.now) }
 {
     for cell in cells {
         push_cell(alloc, out, *cell)?;

@@ -1,7 +1,6 @@
 ghost use Rattle.std.specs.Prelude.{IfSome, map};
 ghost use Rattle.std.specs.Fmt.{signed_decimal};
-ghost use Rattle.explain.specs.Texts.{AreCells};
-ghost use Rattle.explain.specs.LineWords.{cell_words};
+ghost use Rattle.explain.specs.Texts.{AreCells, cell_words};
 ghost use Rattle.explain.specs.LineReading.{words_left, IsReading};
 
 use crate::reading::numbers::cell_of;

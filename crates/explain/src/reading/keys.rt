@@ -1,6 +1,5 @@
 ghost use Rattle.std.specs.Prelude.{◌∷◌, codes};
-ghost use Rattle.explain.specs.Texts.{IsSizedKey};
-ghost use Rattle.explain.specs.LineWords.{key_words};
+ghost use Rattle.explain.specs.Texts.{IsSizedKey, key_words};
 ghost use Rattle.explain.specs.LineReading.{words_left, IsTaken};
 
 use crate::facts::Key;

@@ -1,8 +1,7 @@
 ghost use Rattle.std.specs.Prelude.{◌<◌, ◌^◌, ◌∷◌, ⊤, decimal, FitsSigned};
 ghost use Rattle.std.specs.Int.{w64};
 ghost use Rattle.wa_base.specs.GraphNames.{param_word};
-ghost use Rattle.explain.specs.Texts.{end_text};
-ghost use Rattle.explain.specs.LineWords.{value_words};
+ghost use Rattle.explain.specs.Texts.{end_text, value_words};
 ghost use Rattle.explain.specs.LineReading.{words_left, IsTaken};
 
 use crate::reading::names::{end_of, name_of};

@@ -1,6 +1,5 @@
 use Rattle.std.proofs.Common.{◌<◌, length, rules, ap, arith}
-use Rattle.explain.specs.LineWords.{words}
-use Rattle.explain.specs.LineReading.{words_left}
+use Rattle.explain.specs.LineReading.{words, words_left}
 use Rattle.explain.proofs.WordCuts.{word_first, word_last}
 use Rattle.explain.proofs.reading.words.WordsIterator.next.Goals as goal
 
