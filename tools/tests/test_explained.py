@@ -25,6 +25,7 @@ from test_explaining import (
 )
 from waplay_tools import report
 from waplay_tools.expecting import sessions
+from waplay_tools.expecting.nodes import AssetFault
 from waplay_tools.expecting.numbers import ONE
 from waplay_tools.explaining import deriving
 from waplay_tools.explaining.tape import NoTape, tape_of
@@ -186,7 +187,7 @@ class Sentences(unittest.TestCase):
                 write_assets(folder, assets)
                 try:
                     tape = tape_of(json.dumps(script).encode(), folder)
-                except NoTape:
+                except (NoTape, AssetFault):
                     continue
             rng = random.Random(number)
             it = Explained(tape, rng.randrange(tape.length), rng.randrange(tape.channels))

@@ -19,6 +19,7 @@ from typing import Any
 import fixtures
 import meaning
 from waplay_tools.expecting import sessions
+from waplay_tools.expecting.nodes import AssetFault
 from waplay_tools.expecting.numbers import ONE, rounded_quotient, saturated
 from waplay_tools.explaining import deriving
 from waplay_tools.explaining.checking import Wrong, checked, verdict
@@ -849,7 +850,7 @@ class Random(unittest.TestCase):
             write_assets(folder, assets)
             try:
                 tape = tape_of(data, folder)
-            except NoTape:
+            except (NoTape, AssetFault):
                 return 0
             with meaning.taped() as worlds:
                 session = sessions.replayed(data, folder)[2]
