@@ -8,7 +8,7 @@ use Rattle.std.proofs.lemmas.Nat.{mul-le}
 use Rattle.node_table.specs.Frames.{item, heard}
 use Rattle.node_table.specs.declared.code.Instr.{Instr}
 use Rattle.node_table.specs.Machine.{Frame, frame_of, played, cells_after, program_value}
-use Rattle.worklet.specs.Processor.{HasHeard, HasHeardNothing}
+use Rattle.worklet.specs.Processor.{HasHeard, after_silence}
 
 -- ---- frame by frame
 
@@ -61,32 +61,43 @@ hearing_more code old now new x y k value there so_far is =
 
 -- ---- frames that are 0
 
-pub nothing_none : (code : List Instr) (cells : List ℤ) → HasHeardNothing code cells cells 0
-nothing_none code cells = λ block start none. hears_none code cells block start
-
-pub nothing_more : (code : List Instr) (old now new : List ℤ) (k : ℕ) (y : ℤ) → HasHeardNothing code old now k
-    → frame_of code now (pos 0) ≡ Some (record { output = y; cells = new }) → HasHeardNothing code old new (k + 1)
-nothing_more code old now new k y so_far is = λ block start none.
-    hears_more code old now new block start k (pos 0) y (so_far block start none) (sym (none k)) is
-
--- a frame that leaves the cells as they were is followed by frames that do the same
-nothing_rest : (code : List Instr) (old now : List ℤ) (k : ℕ) (y : ℤ) → HasHeardNothing code old now k → frame_of code now (pos 0) ≡ Some (record { output = y; cells = now })
-    → (m : ℕ) → HasHeardNothing code old now (k + m)
-nothing_rest code old now k y so_far is zero = let same : k ≡ k + 0 = omega arith in subst (HasHeardNothing code old now) same so_far
-nothing_rest code old now k y so_far is (suc m) =
-    let same : k + m + 1 ≡ k + suc m = omega arith in
-    subst (HasHeardNothing code old now) same (nothing_more code old now now (k + m) y (nothing_rest code old now k y so_far is m) is)
-
 abbrev made : ℤ → List ℤ → Option Frame
 made y cells = Some (record { output = y; cells = cells })
 
-pub nothing_stays : (code : List Instr) (old now new : List ℤ) (k n : ℕ) (y : ℤ) → new ≡ now → k ≤ n → HasHeardNothing code old now k
-    → frame_of code now (pos 0) ≡ Some (record { output = y; cells = new }) → HasHeardNothing code old new n
-nothing_stays code old now new k n y same l so_far is =
+pub silence_more : (code : List Instr) (old now new : List ℤ) (k : ℕ) (y : ℤ) → now ≡ after_silence code old k → frame_of code now (pos 0) ≡ made y new
+    → new ≡ after_silence code old (k + 1)
+silence_more code old now new k y so_far is =
+    sym (ap (λ (f : Frame). f.cells) (played_is code now new (pos 0) y is))
+    ∙ ap (λ (v : List ℤ). (played code v (pos 0)).cells) so_far
+    ∙ ap (after_silence code old) (sym (add-one k))
+
+-- a frame that leaves the cells as they were is followed by frames that do the same
+silence_rest : (code : List Instr) (old now : List ℤ) (k : ℕ) (y : ℤ) → now ≡ after_silence code old k → frame_of code now (pos 0) ≡ made y now
+    → (m : ℕ) → now ≡ after_silence code old (k + m)
+silence_rest code old now k y so_far is zero = let same : k ≡ k + 0 = omega arith in so_far ∙ ap (after_silence code old) same
+silence_rest code old now k y so_far is (suc m) =
+    let same : k + m + 1 ≡ k + suc m = omega arith in
+    silence_more code old now now (k + m) y (silence_rest code old now k y so_far is m) is ∙ ap (after_silence code old) same
+
+pub silence_stays : (code : List Instr) (old now new : List ℤ) (k n : ℕ) (y : ℤ) → new ≡ now → k ≤ n → now ≡ after_silence code old k → frame_of code now (pos 0) ≡ made y new
+    → new ≡ after_silence code old n
+silence_stays code old now new k n y same l so_far is =
     let rest : k + (n - k) ≡ n = omega (arith, l) in
-    let stays : frame_of code now (pos 0) ≡ Some (record { output = y; cells = now }) = is ∙ ap (made y) same in
-    subst (λ (v : List ℤ). HasHeardNothing code old v n) (sym same)
-    (subst (λ (m : ℕ). HasHeardNothing code old now m) rest (nothing_rest code old now k y so_far stays (n - k)))
+    same ∙ silence_rest code old now k y so_far (is ∙ ap (made y) same) (n - k) ∙ ap (after_silence code old) rest
+
+-- so many frames, and then so many more
+pub silence_all : (code : List Instr) (cells : List ℤ) (m n : ℕ) → after_silence code (after_silence code cells m) n ≡ after_silence code cells (m + n)
+silence_all code cells m zero = let same : m ≡ m + 0 = omega arith in ap (after_silence code cells) same
+silence_all code cells m (suc n) =
+    let same : suc (m + n) ≡ m + suc n = omega arith in
+    ap (λ (v : List ℤ). (played code v (pos 0)).cells) (silence_all code cells m n) ∙ ap (after_silence code cells) same
+
+-- silence is heard where a block has nothing but 0
+silence_heard : (code : List Instr) (cells block frames : List ℤ) (start n : ℕ) → ((k : ℕ) → item block (start + k) ≡ pos 0) → cells ≡ cells_after code frames
+    → after_silence code cells n ≡ cells_after code (heard block start n frames)
+silence_heard code cells block frames start zero none stands = stands
+silence_heard code cells block frames start (suc n) none stands =
+    ap₂ (λ (v : List ℤ) (x : ℤ). (played code v x).cells) (silence_heard code cells block frames start n none stands) (sym (none n))
 
 -- ---- channel by channel
 
@@ -159,13 +170,13 @@ past_block : (c count frames k : ℕ) → count ≤ c → count * frames ≤ c *
 past_block c count frames k l = let all = mul-le count frames c frames l (omega arith) in omega arith
 
 pub block_stands : (code : List Instr) (old now : List (List ℤ)) (others new x : List ℤ) (frames : ℕ) → length x ≡ length old * frames → length now ≡ length old
-    → HaveHeard code old now x frames → HasHeardNothing code others new frames
+    → HaveHeard code old now x frames → new ≡ after_silence code others frames
     → (c : ℕ) (xs : List ℤ) → get_or old c others ≡ cells_after code xs → get_or now c new ≡ cells_after code (heard x (c * frames) frames xs)
 block_stands code old now others new x frames long same have nothing c xs stands = elim (cases_lt c (length old)) [
   | inl there ↦ get_or_default now c new others (omega arith) ∙ have c others there xs stands
   | inr past ↦
-      get_or_past now c new (omega arith)
-      ∙ nothing x (c * frames)
+      get_or_past now c new (omega arith) ∙ nothing
+      ∙ silence_heard code others x xs (c * frames) frames
       (λ k. get_or_past x (c * frames + k) (pos 0) (let p = past_block c (length old) frames k past in omega (arith, long)))
-      xs (sym (get_or_past old c others past) ∙ stands)
+      (sym (get_or_past old c others past) ∙ stands)
 ]

@@ -3,7 +3,7 @@ use Rattle.std.proofs.Common.{◌≡◌, ◌<◌, ◌+◌, ◌*◌, ℕ, ℤ, Li
 use Rattle.node_table.specs.Frames.{item, heard}
 use Rattle.node_table.specs.declared.code.Instr.{Instr}
 use Rattle.node_table.specs.Machine.{cells_after, program_value}
-use Rattle.worklet.specs.Processor.{ProcessorView, ProcessorStands, HasHeardNothing}
+use Rattle.worklet.specs.Processor.{ProcessorView, ProcessorStands, after_silence}
 use Rattle.worklet.proofs.Hearing.{HaveHeard, block_stands}
 
 -- what is lent is what the processor has
@@ -21,7 +21,7 @@ count_is s code old lent others is = sym (ap (λ (v : ProcessorView). length v.c
 -- ---- a block
 
 pub processor_stands : (s : ProcessorView) (code : List Instr) (old lent now : List (List ℤ)) (others new x : List ℤ) (frames : ℕ) → IsLent s code old lent others
-    → length x ≡ length s.channels * frames → length now ≡ length old → HaveHeard code lent now x frames → HasHeardNothing code others new frames
+    → length x ≡ length s.channels * frames → length now ≡ length old → HaveHeard code lent now x frames → new ≡ after_silence code others frames
     → (c : ℕ) (xs : List ℤ) → ProcessorStands s c xs → get_or now c new ≡ cells_after code (heard x (c * frames) frames xs)
 processor_stands s code old lent now others new x frames is long same have nothing c xs stands =
     let all = subst (λ (v : List (List ℤ)). HaveHeard code v now x frames) is.channels have in
@@ -41,7 +41,7 @@ processor_output s code old lent others x y frames is written c k xs there lt st
 -- ---- one frame is a block of one
 
 pub step_stands : (s : ProcessorView) (code : List Instr) (old lent now : List (List ℤ)) (others new x : List ℤ) → IsLent s code old lent others
-    → length x ≡ length s.channels → length now ≡ length old → HaveHeard code lent now x 1 → HasHeardNothing code others new 1
+    → length x ≡ length s.channels → length now ≡ length old → HaveHeard code lent now x 1 → new ≡ after_silence code others 1
     → (c : ℕ) (xs : List ℤ) → ProcessorStands s c xs → get_or now c new ≡ cells_after code (item x c ∷ xs)
 step_stands s code old lent now others new x is long same have nothing c xs stands =
     let place : c * 1 + 0 ≡ c = omega arith in

@@ -1,8 +1,8 @@
 -- The state of a processor.
-use Rattle.std.specs.Prelude.{ℕ, ◌≡◌, ◌+◌, ℤ, pos, List, slice_index_or}
-use Rattle.node_table.specs.Frames.{item, heard}
+use Rattle.std.specs.Prelude.{ℕ, zero, suc, ◌≡◌, ℤ, pos, List, slice_index_or}
+use Rattle.node_table.specs.Frames.{heard}
 use Rattle.node_table.specs.declared.code.Instr.{Instr}
-use Rattle.node_table.specs.Machine.{cells_after}
+use Rattle.node_table.specs.Machine.{cells_after, played}
 
 -- the code, the cells of each channel that there is room for, and those of all channels past them
 pub record ProcessorView : Type 0 where
@@ -22,6 +22,7 @@ ProcessorStands processor channel frames = cells_of processor channel ≡ cells_
 abbrev pub HasHeard : (code : List Instr) (old new block : List ℤ) (start n : ℕ) → Type 0
 HasHeard code old new block start n = (frames : List ℤ) → old ≡ cells_after code frames → new ≡ cells_after code (heard block start n frames)
 
--- cells that have heard so many more frames, each of them 0
-abbrev pub HasHeardNothing : (code : List Instr) (old new : List ℤ) (n : ℕ) → Type 0
-HasHeardNothing code old new n = (block : List ℤ) (start : ℕ) → ((k : ℕ) → item block (start + k) ≡ pos 0) → HasHeard code old new block start n
+-- cells after so many more frames, each of them 0
+abbrev pub after_silence : List Instr → List ℤ → (n : ℕ) → List ℤ
+after_silence code cells zero = cells
+after_silence code cells (suc n) = (played code (after_silence code cells n) (pos 0)).cells

@@ -1,7 +1,7 @@
 ghost use Rattle.std.specs.Prelude.{◌≡◌, ◌<◌, ◌≤◌, ◌+◌, ◌*◌, ◌∷◌, [], ℕ, ℤ, List, length, max, pos, slice_index_or, IsTrue, ◌↔◌, OnOk, OnErr};
 ghost use Rattle.node_table.specs.Frames.{item, heard};
 ghost use Rattle.node_table.specs.Machine.{cells_after, cells_at_birth, program_value};
-ghost use Rattle.worklet.specs.Processor.{ProcessorStands, HasHeard, HasHeardNothing, cells_of};
+ghost use Rattle.worklet.specs.Processor.{ProcessorStands, HasHeard, cells_of, after_silence};
 
 use crate::prepared::Prepared;
 use crate::rules::{CELLS, DEPTH};
@@ -16,7 +16,9 @@ use wa_base::{Fix, NoMemory};
 pub struct Processor {
     program: Prepared,
     channels: Vec<[Fix; CELLS]>,
+    // the shared cells, without the frames that they have still to hear
     others: [Fix; CELLS],
+    owed: usize,
 }
 
 impl Model for Processor {
@@ -40,6 +42,7 @@ impl Processor {
             program: Prepared::new(alloc, program),
             channels: Vec::new(alloc),
             others: [0; CELLS],
+            owed: 0,
         }
     }
 
@@ -48,6 +51,20 @@ impl Processor {
         ensures { result ≡ length self.now.channels }
     {
         self.channels.len()
+    }
+
+    // Has the channels past the room hear so many frames. That is put off until one of them gets cells
+    // of its own, which most never do.
+    fn hear_nothing(&mut self, frames: usize)
+        ensures { self.new ≡ record { code = self.old.code; channels = self.old.channels; others = after_silence self.old.code self.old.others frames } }
+    {
+        match self.owed.checked_add(frames) {
+            Some(owed) => self.owed = owed,
+            None => {
+                hear_silence(&self.program, &mut self.others, self.owed);
+                self.owed = frames;
+            }
+        }
     }
 }
 
@@ -70,17 +87,23 @@ impl Causal for Processor {
         ensures cells { (c : ℕ) → cells_of self.new c ≡ cells_of self.old c }
     {
         self.program.prepare()?;
-        grow_to(&mut self.channels, channels as usize, self.others)
+        let count = channels as usize;
+        if count > self.channels.len() {
+            hear_silence(&self.program, &mut self.others, self.owed);
+            self.owed = 0;
+            grow_to(&mut self.channels, count, self.others)?;
+        }
+        Ok(())
     }
 
     fn step(&mut self, x: &[Fix], y: &mut [Fix]) {
         hear_all(&self.program, &mut self.channels, x, y, 1);
-        hear_nothing(&self.program, &mut self.others, 1);
+        self.hear_nothing(1);
     }
 
     fn block(&mut self, x: &[Fix], y: &mut [Fix], frames: usize) {
         hear_all(&self.program, &mut self.channels, x, y, frames);
-        hear_nothing(&self.program, &mut self.others, frames);
+        self.hear_nothing(frames);
     }
 }
 
@@ -142,8 +165,8 @@ fn hear_channel(program: &Prepared, cells: &mut [Fix; CELLS], x: &[Fix], y: &mut
 
 // Hears so many frames that are 0. Where one of them leaves the cells as they were, so do all that
 // follow.
-fn hear_nothing(program: &Prepared, cells: &mut [Fix; CELLS], frames: usize)
-    ensures { HasHeardNothing program.now cells.old cells.new frames }
+fn hear_silence(program: &Prepared, cells: &mut [Fix; CELLS], frames: usize)
+    ensures { cells.new ≡ after_silence program.now cells.old frames }
 {
     let mut room = [0; DEPTH];
     for _ in 0..frames {
