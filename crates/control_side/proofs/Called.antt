@@ -1,6 +1,6 @@
 -- What a call leaves of a machine.
 use Rattle.std.proofs.Common.{ℕ, ◌≡◌, List, true, false, Option, Some, None, Result, Ok, Err, IsSome, refl, sym, ◌∙◌, ap, subst}
-use Rattle.std.specs.Prelude.{is_some, if◌then◌else◌, IfOk, OnErr}
+use Rattle.std.specs.Prelude.{is_some, if◌then◌else◌, IfOk, OnOk, OnErr}
 use Rattle.wa_base.specs.declared.exceptions.Exc.TheVariants.{InvalidState}
 use Rattle.wa_base.specs.declared.memory.NoMemory.{NoMemory}
 use Rattle.transcript.specs.declared.lines.Answer.{Answer}
@@ -92,6 +92,11 @@ pub stepped_leaves : (old new : Machine) (call : Call) (d : Decided) (r : Result
 stepped_leaves old new call d (Ok said) done failed steady fits = subst (λ (m : Machine). Leaves old m call.op) (sym done.0) (settled_leaves old steady call d fits)
 stepped_leaves old new call d (Err e) done failed steady fits = subst (λ (m : Machine). Leaves old m call.op) (sym failed) (leaves_all old call.op)
 
-pub stepped_started : (old new : Machine) (call : Call) (held : Paths) (d : Decided) (said : Answer) → Steps new (settled old call d) said → d ≡ decided_with old held call.op → is_start call.op ≡ true
+stepped_started : (old new : Machine) (call : Call) (held : Paths) (d : Decided) (said : Answer) → Steps new (settled old call d) said → d ≡ decided_with old held call.op → is_start call.op ≡ true
     → IsSome new.context.started
 stepped_started old new call held d said done is starts = rw (done.0, is) (op_starts old call held call.op starts)
+
+pub starts_left : (old new : Machine) (call : Call) (held : Paths) (d : Decided) (r : Result Stepped NoMemory) → IfOk r (λ s. Steps new (settled old call d) s.answer) → d ≡ decided_with old held call.op → is_start call.op ≡ true
+    → OnOk r (IsSome new.context.started)
+starts_left old new call held d (Ok said) done is starts = stepped_started old new call held d said.answer done is starts
+starts_left old new call held d (Err e) done is starts = tt

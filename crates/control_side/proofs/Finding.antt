@@ -1,18 +1,20 @@
 -- What a store answers leads to what its paths hold.
-use Rattle.std.proofs.Common.{ℕ, ◌≡◌, ◌≤◌, ◌<◌, inl, inr, List, length, replicate, true, Option, Some, None, Result, Ok, Err, refl, ap, sym, subst, arith}
+use Rattle.std.proofs.Common.{ℕ, ◌≡◌, ◌<◌, List, length, replicate, true, Option, Some, None, refl, ap, sym, subst, arith}
 use Rattle.std.proofs.lemmas.Bool.Decides.{nat_tests}
 use Rattle.std.proofs.lemmas.List.{length-replicate}
-use Rattle.std.specs.Prelude.{nat_lt, IsErrOf}
-use Rattle.io_edge.specs.Faults.{Rose}
+use Rattle.std.specs.Prelude.{nat_lt}
 use Rattle.io_edge.specs.Fetch.{IsWithin, IsFetchedOf}
 use Rattle.io_edge.specs.Paths.{Paths}
 use Rattle.io_edge.specs.declared.files.Fetched.{Fetched}
 use Rattle.io_edge.specs.declared.files.Fetched.TheVariants.{Bytes, Missing, TooLong}
 use Rattle.script_ast.specs.declared.operations.Op.{Op}
 use Rattle.script_ast.specs.declared.operations.Op.TheVariants as op
-use Rattle.control_side.specs.Assets.{max_asset, decodes, found_of}
+use Rattle.control_side.specs.Assets.{max_asset, decodes, found_of, IsAssetOf, IsFit}
+use Rattle.control_side.specs.declared.decide.Decided.{Decided}
+use Rattle.control_side.specs.declared.decide.Decided.TheVariants as comes_to
 use Rattle.control_side.specs.Machine.{Machine}
-use Rattle.control_side.specs.Step.{decided, decided_with}
+use Rattle.control_side.specs.Steady.{IsSteady}
+use Rattle.control_side.specs.Step.{decided, decided_with, is_start, IsFor}
 
 -- more bytes than an asset may have are more, whichever they are
 long_found : (m : Machine) (bytes other : List ℕ) → max_asset < length bytes → max_asset < length other → decodes m (Some bytes) ≡ decodes m (Some other)
@@ -38,15 +40,15 @@ pub looks_away : (m : Machine) (held : Paths) (o : Op) → ((name path : List �
 looks_away m held (op.DecodeAudioData name path) other = absurd (other name path refl)
 looks_away m held o other = refl
 
--- a count that rose later rose
-pub rose_later : (a b d : ℕ) → a ≤ b → Rose b d → Rose a d
-rose_later a b d later (inl more) = inl (omega arith)
-rose_later a b d later (inr top) = inr top
+-- startRendering needs no asset
+pub starts_without : (held : Paths) (o : Op) (asset : Option Fetched) → is_start o ≡ true → IsAssetOf held o asset
+starts_without held op.StartRendering asset starts = tt
+starts_without held o asset starts = absurd (let wrong = starts in cc)
 
--- an error is the same whatever the value would be
-abbrev err_or : {T E : Type 0} → E → Result T E → E
-err_or d (Ok t) = d
-err_or d (Err e) = e
-
-pub err_of_any : {T U E : Type 0} (e d : E) → IsErrOf {T = T} {E = E} (Err e) d → IsErrOf {T = U} {E = E} (Err e) d
-err_of_any e d is = ap (λ x. Err x) (ap (err_or d) is)
+-- what decoding comes to is for a call that decodes
+pub fit_for : (m : Machine) (name path : List ℕ) (d : Decided) → IsSteady m → IsFit m d → IsFor m (op.DecodeAudioData name path) d
+fit_for m name path (comes_to.Answer said) steady fit = tt
+fit_for m name path comes_to.Start steady fit = absurd fit
+fit_for m name path (comes_to.Suspend frame) steady fit = absurd fit
+fit_for m name path comes_to.Resume steady fit = absurd fit
+fit_for m name path (comes_to.Change change) steady fit = (record { time = let low = steady.time in omega arith; named = fit.0; accepted = fit.1 }, fit.2)

@@ -3,9 +3,12 @@ use Rattle.std.specs.Prelude.{ℕ, ◌≡◌, ◌==◌, nat_lt, List, length, re
 use Rattle.wa_base.specs.declared.exceptions.Exc.{Exc}
 use Rattle.wa_base.specs.declared.exceptions.Exc.TheVariants.{NotSupported, NotFound, Encoding}
 use Rattle.wa_base.specs.declared.features.Feature.TheVariants.{Resampling, AssetSize}
+use Rattle.io_edge.specs.Fetch.{IsWithin, IsFetchedOf}
 use Rattle.io_edge.specs.Paths.{Paths, SamePaths}
 use Rattle.io_edge.specs.declared.files.Fetched.{Fetched}
 use Rattle.io_edge.specs.declared.files.Fetched.TheVariants.{Bytes, Missing, TooLong}
+use Rattle.script_ast.specs.declared.operations.Op.{Op}
+use Rattle.script_ast.specs.declared.operations.Op.TheVariants as op
 use Rattle.transcript.specs.declared.lines.Answer.TheVariants.{Rejected}
 use Rattle.wav_io.specs.WavGrammar.{wav_of}
 use Rattle.buffer_store.specs.declared.wav.Wav.{Wav}
@@ -54,6 +57,18 @@ decodes machine (Some bytes) =
     else by_reading machine (wav_of bytes)
 
 -- ---- what is said of it
+
+-- what was fetched comes with a call that decodes
+abbrev pub HasAsset : Op → Option Fetched → Type 0
+HasAsset (op.DecodeAudioData name path) None = ⊥
+HasAsset (op.DecodeAudioData name path) (Some asset) = IsWithin max_asset asset
+HasAsset other asset = Unit {0}
+
+-- it was fetched of what its path holds
+abbrev pub IsAssetOf : Paths → Op → Option Fetched → Type 0
+IsAssetOf held (op.DecodeAudioData name path) None = ⊥
+IsAssetOf held (op.DecodeAudioData name path) (Some asset) = IsFetchedOf (held path) asset
+IsAssetOf held other asset = Unit {0}
 
 -- something that a path may hold for which the store answers so: of a file that is too long it tells no bytes
 abbrev pub found_of : Fetched → Option (List ℕ)

@@ -1,13 +1,12 @@
 ghost use Rattle.std.specs.Prelude.{◌≡◌, ◌<◌, ◌≤◌, ◌+◌, false, true, length, None, Some, option_map, IsTrue, IfOk, IfSome, IsErrOf, IsSome, is_some, OnOk, OnErr};
-ghost use Rattle.io_edge.specs.Faults.{Rose};
-ghost use Rattle.io_edge.specs.Paths.{Paths, SamePaths};
+ghost use Rattle.io_edge.specs.Paths.{Paths};
 ghost use Rattle.wa_base.specs.Contexts.{IsSupported};
 ghost use Rattle.script_ast.specs.Operations.{IsInRange, new_name};
 ghost use Rattle.script_ast.specs.Ranges.{IsNewName};
 ghost use Rattle.meaning.specs.World.{plain};
 ghost use Rattle.meaning.specs.Validity.{IsValid};
 ghost use Rattle.meaning.specs.Changes.{Accepts, Grows, creates};
-ghost use Rattle.control_side.specs.Assets.{IsHeld};
+ghost use Rattle.control_side.specs.Assets.{HasAsset, IsAssetOf};
 ghost use Rattle.control_side.specs.Machine.{Machine, IsAccepted, first_machine, caught_up};
 ghost use Rattle.ctx_state.specs.Context.{IsInState, next, turn_of, start_refusal, with_start, resume_refusal, resumed, may_suspend, with_suspension};
 ghost use Rattle.control_side.specs.Steady.{IsSteady};
@@ -17,10 +16,9 @@ ghost use Rattle.control_side.specs.Step.{Steps, Sends, KeepsTime, RunsOnceStart
 
 use crate::decide::Decided;
 use crate::ends::ended_lines;
-use crate::stop::Stop;
 use control_msgs::mark_ended;
 use ctx_state::{Context, Turn};
-use io_edge::Files;
+use io_edge::Fetched;
 use meaning::{Change, Edit, World};
 use name_book::{Book, Object};
 use script_ast::{Call, Op};
@@ -76,11 +74,13 @@ impl Control {
 
 impl Control {
     /// Does one call at the time of the context. A refused call changes nothing but for its answer.
-    /// decodeAudioData settles within the call; its file is one of `files`. After a `Stop` all is as
-    /// before, and the call can be made again.
-    pub fn step<F: Files>(&mut self, call: &Call, files: &mut F) -> Result<Stepped, Stop>
-        requires { IsInRange call.now.op }
-        ensures ok { IfOk result (λ stepped. (held : Paths) × IsHeld (F.tells files.old) (F.paths files.old) held × Steps self.new (spec.step self.old held call.now) stepped.answer) }
+    /// decodeAudioData settles within the call: `asset` is what the folder of assets has at its path,
+    /// and nothing for any other call. After `NoMemory` all is as before, and the call can be made
+    /// again.
+    pub fn step(&mut self, call: &Call, asset: Option<Fetched>) -> Result<Stepped, NoMemory>
+        requires in_range { IsInRange call.now.op }
+        requires asset { HasAsset call.now.op asset }
+        ensures ok { IfOk result (λ stepped. (held : Paths) → IsAssetOf held call.now.op asset → Steps self.new (spec.step self.old held call.now) stepped.answer) }
         ensures sends { IfOk result (λ stepped. Sends self.old.world self.new.world stepped.change) }
         ensures kept { KeepsTime self.old self.new }
         ensures grows { Grows self.old.context.time self.old.world self.new.world }
@@ -88,14 +88,9 @@ impl Control {
         ensures started { spec.is_start call.now.op ≡ true → OnOk result (IsSome self.new.context.started) }
         ensures runs { RunsOnceStarted self.old → RunsOnceStarted self.new }
         ensures err { OnErr result (self.new ≡ self.old) }
-        ensures tells { F.tells files.new ≡ F.tells files.old }
-        ensures paths { IsTrue (F.tells files.old) → SamePaths (F.paths files.old) (F.paths files.new) }
-        ensures later { F.read_faults files.old ≤ F.read_faults files.new }
-        ensures writes { F.write_faults files.new ≡ F.write_faults files.old }
-        ensures cause { IsErrOf result Stop.AssetFault → Rose (F.read_faults files.old) (F.read_faults files.new) × (spec.is_decode call.now.op ≡ true) }
     {
-        let decided = self.decide_with(&call.op, files)?;
-        Ok(self.settle(call, decided)?)
+        let decided = self.decide_with(&call.op, asset)?;
+        self.settle(call, decided)
     }
 }
 

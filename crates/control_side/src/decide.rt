@@ -1,15 +1,13 @@
-ghost use Rattle.std.specs.Prelude.{◌≡◌, ◌≢◌, ◌≤◌, ◌<◌, true, length, IsTrue, IfOk, IfSome, IsErrOf};
-ghost use Rattle.io_edge.specs.Faults.{Rose};
-ghost use Rattle.io_edge.specs.Paths.{Paths, SamePaths};
+ghost use Rattle.std.specs.Prelude.{◌≡◌, ◌≢◌, ◌<◌, length, IfOk, IfSome};
+ghost use Rattle.io_edge.specs.Paths.{Paths};
 ghost use Rattle.script_ast.specs.Operations.{IsInRange, interface_of};
 ghost use Rattle.meaning.specs.Changes.{IsNamed};
-ghost use Rattle.control_side.specs.Assets.{IsHeld};
+ghost use Rattle.control_side.specs.Assets.{HasAsset, IsAssetOf};
 ghost use Rattle.control_side.specs.Steady.{IsSteady};
 ghost use Rattle.control_side.specs.Step as spec;
 
 use crate::control::Control;
-use crate::stop::Stop;
-use io_edge::Files;
+use io_edge::Fetched;
 use meaning::Edit;
 use name_book::Object;
 use script_ast::{Interface, Op};
@@ -33,22 +31,21 @@ pub(crate) enum Decided {
 
 // What operations come to. Nothing is changed.
 impl Control {
-    // What an operation comes to, where it may look into the folder of assets.
-    pub(crate) fn decide_with<F: Files>(&self, op: &Op, files: &mut F) -> Result<Decided, Stop>
-        requires { IsInRange op.now }
-        ensures decided { IfOk result (λ decided. (held : Paths) × IsHeld (F.tells files.old) (F.paths files.old) held × (decided ≡ spec.decided_with self.now held op.now)) }
+    // What an operation comes to, with the asset that it needs.
+    pub(crate) fn decide_with(&self, op: &Op, asset: Option<Fetched>) -> Result<Decided, NoMemory>
+        requires in_range { IsInRange op.now }
+        requires asset { HasAsset op.now asset }
+        ensures decided { IfOk result (λ decided. (held : Paths) → IsAssetOf held op.now asset → decided ≡ spec.decided_with self.now held op.now) }
         ensures fits { IfOk result (spec.IsFor self.now op.now) }
         ensures steady { IsSteady self.now }
-        ensures tells { F.tells files.new ≡ F.tells files.old }
-        ensures paths { IsTrue (F.tells files.old) → SamePaths (F.paths files.old) (F.paths files.new) }
-        ensures later { F.read_faults files.old ≤ F.read_faults files.new }
-        ensures writes { F.write_faults files.new ≡ F.write_faults files.old }
-        ensures cause { IsErrOf result Stop.AssetFault → Rose (F.read_faults files.old) (F.read_faults files.new) × (spec.is_decode op.now ≡ true) }
     {
         let alloc = self.alloc;
         match op {
-            Op::DecodeAudioData { path, .. } => self.decode(alloc, path, files),
-            _ => Ok(self.decide(op)?),
+            Op::DecodeAudioData { .. } => match asset {
+                Some(asset) => self.decode(alloc, asset),
+                None => unreachable!(),
+            },
+            _ => self.decide(op),
         }
     }
 

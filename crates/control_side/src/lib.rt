@@ -15,8 +15,6 @@ mod params;
 mod processors;
 mod shapers;
 mod sources;
-mod stop;
 
 pub use control::{Control, Stepped};
 pub use laws::ended_law;
-pub use stop::Stop;

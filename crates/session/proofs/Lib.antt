@@ -1,5 +1,6 @@
 mod CatchingUp
 mod Copying
+mod Fetching
 mod Finishing
 mod Folders
 mod Going

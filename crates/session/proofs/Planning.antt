@@ -2,7 +2,7 @@
 use Rattle.std.proofs.Common.{ℕ, ◌≡◌, ◌<◌, ◌≤◌, ◌-◌, ◌^◌, Option, Some, None, refl, sym, ap, ◌∙◌, subst, arith}
 use Rattle.std.specs.Prelude.{IfSome}
 use Rattle.conn_graph.specs.Walks.{GraphView, CountsEdits}
-use Rattle.quantum_render.specs.Plans.{PlanView, IsPlanned, IsUnedited}
+use Rattle.quantum_render.specs.Plans.{PlanView, IsPlanned}
 use Rattle.session.specs.View.{PlansFor}
 
 -- of no graph

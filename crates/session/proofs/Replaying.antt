@@ -13,7 +13,7 @@ use Rattle.script_ast.specs.declared.call_list.Call.{Call}
 use Rattle.script_ast.specs.declared.call_list.Script.{Script}
 use Rattle.transcript.specs.declared.lines.EndWord.TheVariants.{Refused}
 use Rattle.session.specs.declared.replay.Outcome.{Outcome}
-use Rattle.control_side.specs.declared.stop.Stop.{Stop}
+use Rattle.session.specs.declared.stop.Stop.{Stop}
 use Rattle.session.specs.Folders.{Folder, IsFolderOf, AgreeBetween}
 use Rattle.session.specs.Rendering.{IsOutcomeOf, rendering_of}
 use Rattle.session.specs.Session.{Told, Played, first_told, main_list, rendered, replayed, quanta_left, session_of, finished, turns, end_of, lines_at_end, TurnsDecode, Decodes}

@@ -13,7 +13,7 @@ ghost use Rattle.meaning.specs.declared.world.World.{World};
 use crate::observer::{NoObserver, Observer};
 use crate::rendered::Rendered;
 use crate::session::{Options, Session};
-use control_side::Stop;
+use crate::stop::Stop;
 use ctx_state::Turn;
 use io_edge::Files;
 use script_ast::{Call, Script};

@@ -18,11 +18,13 @@ ghost use Rattle.meaning.specs.World.{sounding};
 ghost use Rattle.meaning.specs.Worlds.{first_world};
 ghost use Rattle.quantum_render.specs.Stands.{StandsFor};
 
+use crate::assets::asset_for;
 use crate::render_side::RenderSide;
 use crate::rendered::Rendered;
 use crate::replay::Outcome;
+use crate::stop::Stop;
 use control_msgs::Message;
-use control_side::{Control, Stepped, Stop};
+use control_side::{Control, Stepped};
 use ctx_state::Turn;
 use io_edge::Files;
 use meaning::{Change, World};
@@ -121,7 +123,8 @@ impl Session {
         self.lines.reserve(2)?;
         reserve(&mut self.side, 1)?;
         let samples = self.samples_for(&call.op)?;
-        let Stepped { answer, change } = self.control.step(call, files)?;
+        let asset = asset_for(self.alloc, &call.op, files)?;
+        let Stepped { answer, change } = self.control.step(call, asset)?;
         send(&mut self.side, change);
         if let Some(samples) = samples {
             self.samples = samples;

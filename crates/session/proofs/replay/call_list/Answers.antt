@@ -3,11 +3,11 @@ use Rattle.std.specs.Prelude.{IsTrue, IsErrOf}
 use Rattle.std.proofs.lemmas.Result.{err_from_is_err_and}
 use Rattle.script_ast.specs.WellFormed.{AreCallsAfter}
 use Rattle.script_ast.specs.declared.call_list.Call.{Call}
-use Rattle.control_side.specs.declared.stop.Stop.{Stop}
-use Rattle.control_side.specs.declared.stop.Stop.TheVariants.{AssetFault}
+use Rattle.session.specs.declared.stop.Stop.{Stop}
+use Rattle.session.specs.declared.stop.Stop.TheVariants.{AssetFault}
 use Rattle.session.specs.Session.{after_calls, held_by}
 use Rattle.control_side.specs.Step.{is_decode}
-use Rattle.control_side.proofs.Finding.{rose_later}
+use Rattle.session.proofs.Fetching.{rose_later}
 use Rattle.session.proofs.Folders.{Found, found_more, more_lines, decode_at}
 use Rattle.session.proofs.Lists.{after_some, none_early, next_call, one_less}
 use Rattle.session.proofs.replay.call_list.Goals as goal

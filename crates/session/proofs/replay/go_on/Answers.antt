@@ -1,12 +1,12 @@
 use Rattle.std.proofs.Common.{Err, refl, sym, ap, ◌∙◌, subst, arith}
 use Rattle.std.specs.Prelude.{IsTrue, IsErrOf}
 use Rattle.std.proofs.lemmas.Result.{IfOk-weaker, err_from_is_err_and}
-use Rattle.control_side.specs.declared.stop.Stop.{Stop}
-use Rattle.control_side.specs.declared.stop.Stop.TheVariants.{AssetFault}
+use Rattle.session.specs.declared.stop.Stop.{Stop}
+use Rattle.session.specs.declared.stop.Stop.TheVariants.{AssetFault}
 use Rattle.session.specs.Session.{held_by, is_running}
 use Rattle.session.specs.View.{Shown}
 use Rattle.control_side.specs.Turns.{IsTurned}
-use Rattle.control_side.proofs.Finding.{rose_later}
+use Rattle.session.proofs.Fetching.{rose_later}
 use Rattle.session.proofs.Going.{shown_first, shown_more, begun_next, at_start, lists_of, goes_on, was_started, ends_closed, ends_stalled, is_resumed, decodes_due, decodes_done}
 use Rattle.session.proofs.replay.go_on.Goals as goal
 

@@ -2,9 +2,9 @@ use Rattle.std.proofs.Common.{◌≡◌, true, Err, refl, sym, ◌∙◌, subst,
 use Rattle.std.specs.Prelude.{IsErrOf, is_some}
 use Rattle.std.proofs.lemmas.Result.{err_from_is_err_and}
 use Rattle.wa_base.specs.Contexts.{IsSupported}
-use Rattle.control_side.specs.declared.stop.Stop.{Stop}
-use Rattle.control_side.specs.declared.stop.Stop.TheVariants.{AssetFault}
-use Rattle.control_side.proofs.Finding.{rose_later}
+use Rattle.session.specs.declared.stop.Stop.{Stop}
+use Rattle.session.specs.declared.stop.Stop.TheVariants.{AssetFault}
+use Rattle.session.proofs.Fetching.{rose_later}
 use Rattle.session.proofs.Replaying.{was_started, decodes_later, played_of, comes_of, both_ok}
 use Rattle.session.proofs.replay.replay_calls.Goals as goal
 

@@ -47,22 +47,23 @@ grows g c =
 pub returns-clause-told : goal.returns-clause-told
 returns-clause-told g c =
     let ok = c.in_ok-catch_up.ensures.ok in
-    let stepped = c.in_ok-answer.ensures.ok in
+    let held = c.in_ok-asset.ensures.held in
+    let stepped = c.in_ok-answer.ensures.ok held.0 held.2 in
     let said = c.in_ok-answer.field-0.answer in
     let told = λ (pushed : c.push_reserved.new.self.items ≡ c.reserve.new.self.items ++ line.Call c.args.call.now.ordinal said ∷ []).
-    told_called c.self.inside.behind c.catch_up.new.behind c.self.inside.control c.catch_up.new.control c.step.new.self stepped.0 c.args.call.now said c.self.inside.lines.items c.push_reserved.new.self.items
-    ok.0 ok.1 stepped.2 (pushed ∙ ap (λ (ls : List Line). ls ++ line.Call c.args.call.now.ordinal said ∷ []) c.in_ok-reserve.ensures.items)
-    ∙ ap (λ (v : SessionView). after_call v.told stepped.0 c.args.call.now) c.self.view_is in
-    elim c.match-samples-2.branch [
-      | in-Some w ↦ let pushed = rw w.self-inside-is at c.push_reserved.ensures.items in rw w.self-inside-is (stepped.0, stepped.1, told pushed)
-      | in_default w ↦ let pushed = rw w.self-inside-is at c.push_reserved.ensures.items in rw w.self-inside-is (stepped.0, stepped.1, told pushed)
+    told_called c.self.inside.behind c.catch_up.new.behind c.self.inside.control c.catch_up.new.control c.step.new.self held.0 c.args.call.now said c.self.inside.lines.items c.push_reserved.new.self.items
+    ok.0 ok.1 stepped (pushed ∙ ap (λ (ls : List Line). ls ++ line.Call c.args.call.now.ordinal said ∷ []) c.in_ok-reserve.ensures.items)
+    ∙ ap (λ (v : SessionView). after_call v.told held.0 c.args.call.now) c.self.view_is in
+    elim c.match-samples-3.branch [
+      | in-Some w ↦ let pushed = rw w.self-inside-is at c.push_reserved.ensures.items in rw w.self-inside-is (held.0, held.1, told pushed)
+      | in_default w ↦ let pushed = rw w.self-inside-is at c.push_reserved.ensures.items in rw w.self-inside-is (held.0, held.1, told pushed)
     ]
 
 pub returns-clause-stands : goal.returns-clause-stands
 returns-clause-stands g c = λ tape stands.
     let earlier = rw (← c.self.view_is) at stands in
     let started = ap (λ (m : Machine). m.context.started) (calm g c) in
-    elim c.match-samples-2.branch [
+    elim c.match-samples-3.branch [
       | in-Some w ↦
           let at_start = rw w.in-Some.is at c.in_ok-samples.ensures.at_start in
           let zeros = rw w.in-Some.is at c.in_ok-samples.ensures.zeros in

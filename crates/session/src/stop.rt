@@ -12,7 +12,7 @@ pub enum Stop {
 
 impl From<NoMemory> for Stop {
     ghost use Rattle.std.specs.Prelude.{◌≡◌};
-    ghost use Rattle.control_side.specs.declared.stop.Stop.TheVariants.{NoMemory as no_memory};
+    ghost use Rattle.session.specs.declared.stop.Stop.TheVariants.{NoMemory as no_memory};
 
     ghost from_gives = { λ _ stop. stop ≡ no_memory };
 
