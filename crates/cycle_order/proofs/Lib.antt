@@ -19,6 +19,9 @@ pub mod Ways
 pub mod Finishing
 pub mod Leading
 pub mod Turning
+pub mod Sorted
+pub mod EdgeLists
+pub mod Cycles
 pub mod Bounds
 pub mod Links
 pub mod TargetLaws

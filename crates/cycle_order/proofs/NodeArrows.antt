@@ -1,5 +1,5 @@
 -- Delays in a cycle, found among numbered nodes.
-use Rattle.std.proofs.Common.{ℕ, ◌≡◌, ◌<◌, length, List, [], map, get_or, Bool, true, false, ◌&&◌, refl, sym, ◌∙◌, ap, arith, subst, eq-eqb}
+use Rattle.std.proofs.Common.{ℕ, ◌≡◌, ◌<◌, length, List, [], map, get_or, true, false, ◌&&◌, refl, sym, ◌∙◌, ap, arith, subst, eq-eqb}
 use Rattle.std.specs.Prelude.{◌==◌}
 use Rattle.std.specs.List.{filter, list_any, range_with_len}
 use Rattle.std.proofs.lemmas.Bool.{eqb-true}
@@ -16,7 +16,7 @@ use Rattle.conn_graph.specs.Ends.{numbers_from, is_delay, connects, in_cycle}
 use Rattle.conn_graph.specs.Graph.{Connections, IsGraph}
 use Rattle.cycle_order.specs.Reach.{leads, vertices, reaches_itself, IsWithin, is_marked}
 use Rattle.cycle_order.specs.Arrows.{edges_from, edge_lists, node_targets, node_arrows}
-use Rattle.cycle_order.specs.Surveys.{node_id, delays_in_cycle, marked_delays, cycle_marks}
+use Rattle.cycle_order.specs.Surveys.{node_id, delays_in_cycle, marked_delays, cycle_marks, TellCycles}
 use Rattle.cycle_order.proofs.Lists.{IsIn-map, source_in, filter_agrees, IsIn-range, in_range, numbers_are}
 use Rattle.cycle_order.proofs.Searching.{is_led_to, leads_to, source_within}
 use Rattle.cycle_order.proofs.Renaming.{IsNaming, same_cycles, same_tests}
@@ -95,6 +95,9 @@ module _ (g : Connections) where
 
   mark_at : (i : ℕ) → i < length g.nodes → is_marked (cycle_marks g) i ≡ in_cycle g i
   mark_at i l = ap (λ ns. is_marked (map (in_cycle g) ns) i) (numbers_are 0 g.nodes) ∙ get_or-map-range_with_len (in_cycle g) 0 (length g.nodes) i i false l (omega arith)
+
+  pub cycle_marks_tell : TellCycles g (cycle_marks g)
+  cycle_marks_tell = record { number = length-cycle_marks; delays = λ i l d. mark_at i l }
 
   -- the delays among the nodes that are on a cycle
   pub marked_delays_are : marked_delays g (cycle_marks g) ≡ delays_in_cycle g

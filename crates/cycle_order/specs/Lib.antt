@@ -1,5 +1,6 @@
 pub mod Reach
 pub mod Passes
+pub mod Sorting
 pub mod Arrows
 pub mod Surveys
 pub mod Choices

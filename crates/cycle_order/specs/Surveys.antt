@@ -1,5 +1,5 @@
 -- What a survey of a graph says: the delays in a cycle, and the muted ends.
-use Rattle.std.specs.Prelude.{ℕ, ◌≡◌, List, Bool, map, filter, ◌&&◌}
+use Rattle.std.specs.Prelude.{ℕ, ◌≡◌, ◌<◌, List, Bool, true, length, map, filter, ◌&&◌}
 use Rattle.wa_base.specs.declared.graph_names.End.{End}
 use Rattle.wa_base.specs.declared.graph_names.NodeId.{NodeId}
 use Rattle.conn_graph.specs.Graph.{Connections}
@@ -26,6 +26,11 @@ pub record IsSurvey (g : Connections) (marks : Surveyed) : Type 0 where
 -- for each node, whether it reaches itself through connections
 abbrev pub cycle_marks : Connections → List Bool
 cycle_marks g = map (in_cycle g) (numbers_from 0 g.nodes)
+
+-- a mark for each node, which of a delay says whether it is in a cycle
+pub record TellCycles (g : Connections) (marks : List Bool) : Type 0 where
+  pub number : length marks ≡ length g.nodes
+  pub delays : (i : ℕ) → i < length g.nodes → is_delay g i ≡ true → is_marked marks i ≡ in_cycle g i
 
 -- the delays among the nodes with a mark, and the ends whose vertices have one
 abbrev pub marked_delays : Connections → List Bool → List NodeId

@@ -1,4 +1,4 @@
-ghost use Rattle.std.specs.Prelude.{◌≡◌, ◌<◌, ◌≤◌, ◌+◌, ◌==◌, ◌&&◌, not, length, map, IfOk, OnOk};
+ghost use Rattle.std.specs.Prelude.{◌≡◌, ◌<◌, ◌≤◌, ◌+◌, ◌++◌, ◌==◌, ◌&&◌, not, length, map, IfOk, OnOk};
 ghost use Rattle.std.specs.List.{list_any};
 ghost use Rattle.law_base.specs.Members.{IsIn};
 ghost use Rattle.conn_graph.specs.declared.edges.Edge.{Edge};
@@ -6,7 +6,7 @@ ghost use Rattle.conn_graph.specs.Edges.{target_node};
 ghost use Rattle.conn_graph.specs.Ends.{ends, arrives_at, is_delay, in_cycle as is_in_cycle};
 ghost use Rattle.conn_graph.specs.Graph.{IsGraph};
 ghost use Rattle.cycle_order.specs.Arrows as spec;
-ghost use Rattle.cycle_order.specs.Surveys.{delays_in_cycle};
+ghost use Rattle.cycle_order.specs.Surveys.{delays_in_cycle, TellCycles};
 
 use crate::parts::Parts;
 use crate::reaching::Arrows;
@@ -27,27 +27,27 @@ pub(crate) fn edge_lists<L: Ledger>(
     ensures cost { steps.new ≤ steps.old + length graph.now.value.edges + length graph.now.value.nodes }
 {
     let number = graph.len();
-    let mut lists = Parts::new(alloc)?;
     let mut edges = Vec::new(alloc);
+    let mut bounds = vec![in alloc; 0]?;
+    bounds.reserve(number as usize)?;
     for node in 0..number {
-        collect_edges_from(graph, NodeId(node), &mut edges, steps)?;
-        lists.push(edges.as_slice())?;
+        append_edges_from(&mut edges, graph, NodeId(node), steps)?;
+        bounds.push(edges.len())?;
     }
-    Ok(lists)
+    Ok(Parts::between(edges, bounds))
 }
 
-// Makes a list that of the connections that leave a node.
-fn collect_edges_from<L: Ledger>(
+// Appends the connections that leave a node.
+fn append_edges_from<L: Ledger>(
+    edges: &mut Vec<Edge>,
     graph: &Graph,
     node: NodeId,
-    edges: &mut Vec<Edge>,
     steps: &mut Steps<L>,
 ) -> Result<(), NoMemory>
     requires { node.0 < length graph.now.value.nodes }
-    ensures edges { OnOk result (edges.new.items ≡ spec.edges_from graph.now.value node.0) }
+    ensures edges { OnOk result (edges.new.items ≡ edges.old.items ++ spec.edges_from graph.now.value node.0) }
     ensures cost { steps.new ≤ steps.old + length (spec.edges_from graph.now.value node.0) + 1 }
 {
-    edges.clear();
     let mut after = None;
     while let Some((cell, edge)) = graph.next_out(node, after, steps) {
         edges.push(edge)?;
@@ -60,20 +60,21 @@ fn collect_edges_from<L: Ledger>(
 pub(crate) fn node_arrows(alloc: Global, lists: &Parts<Edge>) -> Result<Arrows, NoMemory>
     ensures { IfOk result (λ arrows. arrows ≡ map spec.node_targets lists.now) }
 {
-    let mut arrows = Arrows::new(alloc)?;
     let mut targets = Vec::new(alloc);
+    targets.reserve(lists.items().len())?;
+    let mut bounds = vec![in alloc; 0]?;
+    bounds.reserve(lists.len())?;
     for node in 0..lists.len() {
-        collect_node_targets(lists.part(node), &mut targets)?;
-        arrows.push(targets.as_slice())?;
+        append_node_targets(&mut targets, lists.part(node))?;
+        bounds.push(targets.len())?;
     }
-    Ok(arrows)
+    Ok(Parts::between(targets, bounds))
 }
 
-// Makes a list that of the nodes that connections lead to.
-fn collect_node_targets(edges: &[Edge], targets: &mut Vec<usize>) -> Result<(), NoMemory>
-    ensures { OnOk result (targets.new.items ≡ spec.node_targets edges.now) }
+// Appends the nodes that connections lead to.
+fn append_node_targets(targets: &mut Vec<usize>, edges: &[Edge]) -> Result<(), NoMemory>
+    ensures { OnOk result (targets.new.items ≡ targets.old.items ++ spec.node_targets edges.now) }
 {
-    targets.clear();
     for edge in edges {
         targets.push(edge.to.node().0 as usize)?;
     }
@@ -87,42 +88,44 @@ pub(crate) fn vertex_of(end: End) -> usize
     2 * end.node.0 as usize + usize::from(!end.writer)
 }
 
-// The arrows between ends, by the connections of each node and the delays that are in a cycle.
+// The arrows between ends, by the connections of each node and the marks of the delays that are in a
+// cycle.
 pub(crate) fn end_arrows(
     alloc: Global,
     graph: &Graph,
     lists: &Parts<Edge>,
-    in_cycle: &[NodeId],
+    cycles: &[bool],
 ) -> Result<Arrows, NoMemory>
     requires whole { IsGraph graph.now.value }
     requires lists { lists.now ≡ spec.edge_lists graph.now.value }
-    requires in_cycle { in_cycle.now ≡ delays_in_cycle graph.now.value }
+    requires cycles { TellCycles graph.now.value cycles.now }
     ensures { IfOk result (λ arrows. arrows ≡ spec.end_arrows graph.now.value) }
 {
-    let mut arrows = Arrows::new(alloc)?;
     let mut targets = Vec::new(alloc);
+    targets.reserve(lists.items().len())?;
+    let mut bounds = vec![in alloc; 0]?;
+    bounds.reserve(2 * graph.len() as usize)?;
     for i in 0..graph.len() {
-        collect_writer_targets(graph, NodeId(i), in_cycle, &mut targets)?;
-        arrows.push(targets.as_slice())?;
-        collect_reader_targets(graph, lists.part(i as usize), &mut targets)?;
-        arrows.push(targets.as_slice())?;
+        append_writer_targets(&mut targets, graph, NodeId(i), cycles)?;
+        bounds.push(targets.len())?;
+        append_reader_targets(&mut targets, graph, lists.part(i as usize))?;
+        bounds.push(targets.len())?;
     }
-    Ok(arrows)
+    Ok(Parts::between(targets, bounds))
 }
 
-// Makes a list that of the vertices to which arrows lead from a node's writer.
-fn collect_writer_targets(
+// Appends the vertices to which arrows lead from a node's writer.
+fn append_writer_targets(
+    targets: &mut Vec<usize>,
     graph: &Graph,
     node: NodeId,
-    in_cycle: &[NodeId],
-    targets: &mut Vec<usize>,
+    cycles: &[bool],
 ) -> Result<(), NoMemory>
     requires node { node.0 < length graph.now.value.nodes }
-    requires in_cycle { in_cycle.now ≡ delays_in_cycle graph.now.value }
-    ensures { OnOk result (targets.new.items ≡ spec.writer_targets graph.now.value node.0) }
+    requires cycles { TellCycles graph.now.value cycles.now }
+    ensures { OnOk result (targets.new.items ≡ targets.old.items ++ spec.writer_targets graph.now.value node.0) }
 {
-    targets.clear();
-    if is_passed_on(graph, node, in_cycle) {
+    if graph.is_delay(node) && !cycles[node.0 as usize] {
         let reader = End {
             node,
             writer: false,
@@ -147,16 +150,15 @@ fn is_listed(nodes: &[NodeId], node: NodeId) -> bool
     nodes.contains(&node)
 }
 
-// Makes a list that of the vertices to which the connections of a node lead from its reader.
-fn collect_reader_targets(
+// Appends the vertices to which the connections of a node lead from its reader.
+fn append_reader_targets(
+    targets: &mut Vec<usize>,
     graph: &Graph,
     edges: &[Edge],
-    targets: &mut Vec<usize>,
 ) -> Result<(), NoMemory>
     requires { (e : Edge) → IsIn e edges.now → target_node e.to < length graph.now.value.nodes }
-    ensures { OnOk result (targets.new.items ≡ spec.reader_targets graph.now.value edges.now) }
+    ensures { OnOk result (targets.new.items ≡ targets.old.items ++ spec.reader_targets graph.now.value edges.now) }
 {
-    targets.clear();
     for edge in edges {
         targets.push(vertex_of(arrives_at(graph, edge.to)))?;
     }

@@ -2,13 +2,16 @@ ghost use Rattle.std.specs.Prelude.{◌≡◌, ◌↔◌, ◌≤◌, ◌+◌, �
 ghost use Rattle.wa_base.specs.declared.graph_names.End.{End as an_end};
 ghost use Rattle.std.specs.List.{list_any};
 ghost use Rattle.conn_graph.specs.Ends.{same_end};
+ghost use Rattle.conn_graph.specs.Graph.{IsGraph};
 ghost use Rattle.conn_graph.specs.Orders.{IsLegalOrder};
+ghost use Rattle.cycle_order.specs.Arrows.{end_arrows};
 ghost use Rattle.cycle_order.specs.Choices as spec;
 ghost use Rattle.cycle_order.specs.Surveys.{muted_ends, IsSurvey};
 
 use crate::arrows::{edge_lists, end_arrows, ends};
 use crate::places::place_all;
-use crate::surveys::{Ends, Surveyed};
+use crate::reaching::Arrows;
+use crate::surveys::{Ends, Surveyed, marked};
 use conn_graph::Graph;
 use std::alloc::Global;
 use std::sync::ledger::Ledger;
@@ -38,9 +41,27 @@ pub fn order<L: Ledger>(
     ensures cost { steps.new ≤ steps.old + 4 * (length graph.now.value.edges + length graph.now.value.nodes) }
 {
     let lists = edge_lists(alloc, graph, steps)?;
-    let arrows = end_arrows(alloc, graph, &lists, marks.in_cycle.as_slice())?;
-    let unmuted = unmuted_ends(alloc, graph, marks.muted.as_slice())?;
-    let ends = place_all(alloc, &arrows, unmuted.as_slice(), tie)?;
+    let cycles = marked(alloc, graph.len(), marks.in_cycle.as_slice())?;
+    let arrows = end_arrows(alloc, graph, &lists, cycles.as_slice())?;
+    order_by_arrows(alloc, graph, marks.muted.as_slice(), &arrows, tie)
+}
+
+// The unmuted ends in a legal order, by the arrows between ends.
+pub(crate) fn order_by_arrows(
+    alloc: Global,
+    graph: &Graph,
+    muted: &[End],
+    arrows: &Arrows,
+    tie: Tie,
+) -> Result<Ordered, NoMemory>
+    requires whole { IsGraph graph.now.value }
+    requires muted { muted.now ≡ muted_ends graph.now.value }
+    requires arrows { arrows.now ≡ end_arrows graph.now.value }
+    ensures legal { IfOk result (λ ordered. IsLegalOrder graph.now.value ordered.ends) }
+    ensures tie { IfOk result (λ ordered. ordered.ends ≡ spec.chosen_order graph.now.value tie) }
+{
+    let unmuted = unmuted_ends(alloc, graph, muted)?;
+    let ends = place_all(alloc, arrows, unmuted.as_slice(), tie)?;
     Ok(Ordered { ends })
 }
 

@@ -1,4 +1,5 @@
-ghost use Rattle.std.specs.Prelude.{◌≡◌, ◌<◌, ◌≤◌, ◌-◌, ◌++◌, ◌∷◌, [], length, take, drop, slice_index_or, IfOk, OnOk};
+ghost use Rattle.std.specs.Prelude.{◌≡◌, ◌<◌, ◌≤◌, ◌-◌, [], length, take, drop, slice_index_or, IfOk};
+ghost use Rattle.std.specs.List.{flat_map};
 ghost use Rattle.cycle_order.specs.Parts.{parts_of, AreBounds};
 
 use std::alloc::Global;
@@ -43,6 +44,13 @@ impl<T: Drop> Parts<T> {
         Parts { items, bounds }
     }
 
+    // The items of all parts, those of one part behind those of the part before it.
+    pub(crate) fn items(&self) -> &[T]
+        ensures { result.now ≡ flat_map (λ part. part) self.now }
+    {
+        self.items.as_slice()
+    }
+
     // The number of parts.
     pub(crate) fn len(&self) -> usize
         ensures { result ≡ length self.now }
@@ -60,18 +68,6 @@ impl<T: Drop> Parts<T> {
             self.bounds[number],
             self.bounds[number + 1],
         )
-    }
-}
-
-impl<T: Copy + Drop> Parts<T> {
-    // Adds a part behind the others.
-    pub(crate) fn push(&mut self, part: &[T]) -> Result<(), NoMemory>
-        ensures { OnOk result (self.new ≡ self.old ++ part.now ∷ []) }
-    {
-        self.bounds.reserve(1)?;
-        self.items.extend_from_slice(part)?;
-        self.bounds.push(self.items.len())?;
-        Ok(())
     }
 }
 

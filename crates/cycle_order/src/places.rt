@@ -80,9 +80,9 @@ fn biases(alloc: Global, ends: &[End], vertices: usize) -> Result<Vec<usize>, No
 }
 
 // Adds one to the count of each vertex, as often as it is there.
-fn raise(targets: &[usize], counts: &mut [usize])
+pub(crate) fn raise(targets: &[usize], counts: &mut [usize])
     requires within { (v : ℕ) → IsIn v targets.now → v < length counts.old }
-    requires fits { (v : ℕ) → v < length counts.old → slice_index_or counts.old v 0 + times v targets.now < 2 ^ 63 }
+    requires fits { (v : ℕ) → v < length counts.old → slice_index_or counts.old v 0 + times v targets.now < 2 ^ 64 }
     ensures { (v : ℕ) → v < length counts.old → slice_index_or counts.new v 0 ≡ slice_index_or counts.old v 0 + times v targets.now }
 {
     for target in targets {

@@ -5,15 +5,27 @@ ghost use Rattle.cycle_order.specs.Reach.{vertices, reaches_itself, IsWithin};
 
 use crate::parts::Parts;
 use crate::passes::leaders;
+use crate::sorting::are_sorted;
 use std::alloc::Global;
 use wa_base::NoMemory;
 
 // For each vertex of a graph, the vertices that its arrows lead to.
 pub(crate) type Arrows = Parts<usize>;
 
-// For each vertex, whether it reaches itself by one or more arrows: one of its arrows leads to a
-// vertex with its own leader.
+// For each vertex, whether it reaches itself by one or more arrows.
 pub(crate) fn on_cycles(alloc: Global, arrows: &Arrows) -> Result<Vec<bool>, NoMemory>
+    requires { IsWithin arrows.now }
+    ensures { IfOk result (λ marks. marks.items ≡ map (reaches_itself arrows.now) (vertices arrows.now)) }
+{
+    if are_sorted(alloc, arrows)? {
+        let marks = vec![in alloc; false; arrows.len()]?;
+        return Ok(marks);
+    }
+    led_back(alloc, arrows)
+}
+
+// The same by the vertices' leaders: one of the vertex's arrows leads to a vertex with its own leader.
+fn led_back(alloc: Global, arrows: &Arrows) -> Result<Vec<bool>, NoMemory>
     requires { IsWithin arrows.now }
     ensures { IfOk result (λ marks. marks.items ≡ map (reaches_itself arrows.now) (vertices arrows.now)) }
 {

@@ -1,6 +1,7 @@
-ghost use Rattle.std.specs.Prelude.{◌*◌, ◌+◌, ◌≤◌, ◌≡◌, ◌<◌, [], length, IfOk};
+ghost use Rattle.std.specs.Prelude.{◌*◌, ◌+◌, ◌≤◌, ◌≡◌, ◌<◌, ◌==◌, ℕ, [], All, false, length, slice_index_or, IfOk};
 ghost use Rattle.std.specs.List.{list_any};
 ghost use Rattle.wa_base.specs.declared.graph_names.End.{End};
+ghost use Rattle.wa_base.specs.declared.graph_names.NodeId.{NodeId as a_node};
 ghost use Rattle.law_base.specs.Members.{IsIn};
 ghost use Rattle.conn_graph.specs.Graph.{IsGraph};
 ghost use Rattle.cycle_order.specs.Arrows as arrows_spec;
@@ -43,13 +44,28 @@ pub fn survey<L: Ledger>(
     ensures cost { steps.new ≤ steps.old + 4 * (length graph.now.value.edges + length graph.now.value.nodes) }
 {
     let lists = edge_lists(alloc, graph, steps)?;
-    let marks = cycle_marks(alloc, graph, &lists)?;
+    let cycles = cycle_marks(alloc, graph, &lists)?;
+    let arrows = end_arrows(alloc, graph, &lists, cycles.as_slice())?;
+    survey_by_arrows(alloc, graph, cycles, &arrows)
+}
+
+// What a survey says, by the marks of the nodes that are on a cycle and the arrows between ends.
+pub(crate) fn survey_by_arrows(
+    alloc: Global,
+    graph: &Graph,
+    marks: Vec<bool>,
+    arrows: &Arrows,
+) -> Result<Surveyed, NoMemory>
+    requires whole { IsGraph graph.now.value }
+    requires marks { marks.items ≡ spec.cycle_marks graph.now.value }
+    requires arrows { arrows.now ≡ arrows_spec.end_arrows graph.now.value }
+    ensures { IfOk result (λ marks. spec.IsSurvey graph.now.value marks) }
+{
     if !is_any_marked(marks.as_slice()) {
         return Ok(Surveyed::nothing(alloc));
     }
     let in_cycle = marked_delays(alloc, graph, marks.as_slice())?;
-    let arrows = end_arrows(alloc, graph, &lists, in_cycle.as_slice())?;
-    let muted = muted_ends(alloc, graph, &arrows)?;
+    let muted = muted_ends(alloc, graph, arrows)?;
     Ok(Surveyed { in_cycle, muted })
 }
 
@@ -67,7 +83,11 @@ impl Surveyed {
 }
 
 // For each node, whether it reaches itself through connections.
-fn cycle_marks(alloc: Global, graph: &Graph, lists: &Parts<Edge>) -> Result<Vec<bool>, NoMemory>
+pub(crate) fn cycle_marks(
+    alloc: Global,
+    graph: &Graph,
+    lists: &Parts<Edge>,
+) -> Result<Vec<bool>, NoMemory>
     requires whole { IsGraph graph.now.value }
     requires lists { lists.now ≡ arrows_spec.edge_lists graph.now.value }
     ensures { IfOk result (λ marks. marks.items ≡ spec.cycle_marks graph.now.value) }
@@ -119,4 +139,17 @@ fn marked_ends(alloc: Global, ends: &[End], marks: &[bool]) -> Result<Ends, NoMe
         }
     }
     Ok(marked)
+}
+
+/// For each node, whether it is listed.
+pub fn marked(alloc: Global, nodes: u32, listed: &[NodeId]) -> Result<Vec<bool>, NoMemory>
+    requires { All (λ (node : a_node). node.0 < nodes) listed.now }
+    ensures length { IfOk result (λ marks. length marks.items ≡ nodes) }
+    ensures each { IfOk result (λ marks. (n : ℕ) → n < nodes → slice_index_or marks.items n false ≡ list_any (λ (node : a_node). node.0 == n) listed.now) }
+{
+    let mut marks = vec![in alloc; false; nodes as usize]?;
+    for node in listed {
+        marks[node.0 as usize] = true;
+    }
+    Ok(marks)
 }

@@ -1,31 +1,10 @@
-use Rattle.std.proofs.Common.{◌≡◌, Bool, false, length, sym, ◌∙◌, ap}
-use Rattle.std.specs.List.{list_any}
+use Rattle.std.proofs.Common.{◌∙◌, sym, subst}
 use Rattle.conn_graph.specs.Graph.{Connections}
-use Rattle.cycle_order.specs.Surveys.{cycle_marks, marked_delays}
-use Rattle.cycle_order.proofs.NodeArrows.{length-cycle_marks, marked_delays_are}
-use Rattle.cycle_order.proofs.NoCycles.{no_delays, no_muted}
+use Rattle.cycle_order.specs.Surveys.{TellCycles}
+use Rattle.cycle_order.proofs.NodeArrows.{cycle_marks_tell}
 use Rattle.cycle_order.proofs.surveys.survey.Goals as goal
 
-pub returns-then-not-is_any_marked-clause-survey : goal.returns-then-not-is_any_marked-clause-survey
-returns-then-not-is_any_marked-clause-survey g c =
+pub end_arrows-requires-clause-cycles : goal.end_arrows-requires-clause-cycles
+end_arrows-requires-clause-cycles g c =
     let graph : Connections = c.args.graph.now.value in
-    let marks = c.as_slice.ensures.value ∙ c.in_ok-marks.ensures in
-    let none : list_any (λ (mark : Bool). mark) (cycle_marks graph) ≡ false =
-    sym (ap (list_any (λ (mark : Bool). mark)) marks) ∙ sym c.is_any_marked.ensures ∙ c.if-not-is_any_marked.true in
-    record { in_cycle = c.nothing.ensures.in_cycle ∙ no_delays graph none; muted = c.nothing.ensures.muted ∙ no_muted graph none }
-
-pub marked_delays-requires : goal.marked_delays-requires
-marked_delays-requires g c = ap length (c.as_slice-2.ensures.value ∙ c.in_ok-marks.ensures) ∙ length-cycle_marks c.args.graph.now.value
-
-pub end_arrows-requires-clause-in_cycle : goal.end_arrows-requires-clause-in_cycle
-end_arrows-requires-clause-in_cycle g c =
-    let graph : Connections = c.args.graph.now.value in
-    c.as_slice-3.ensures ∙ c.in_ok-in_cycle.ensures ∙ ap (marked_delays graph) (c.as_slice-2.ensures.value ∙ c.in_ok-marks.ensures) ∙ marked_delays_are graph
-
-pub returns-clause-survey : goal.returns-clause-survey
-returns-clause-survey g c =
-    let graph : Connections = c.args.graph.now.value in
-    record {
-      in_cycle = c.in_ok-in_cycle.ensures ∙ ap (marked_delays graph) (c.as_slice-2.ensures.value ∙ c.in_ok-marks.ensures) ∙ marked_delays_are graph;
-      muted = c.in_ok-muted.ensures;
-    }
+    subst (λ ms. TellCycles graph ms) (sym (c.as_slice.ensures.value ∙ c.in_ok-cycles.ensures)) (cycle_marks_tell graph)

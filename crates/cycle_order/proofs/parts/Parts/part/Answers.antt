@@ -42,7 +42,7 @@ between-requires-clause-order g c =
     let next : i + 1 ≡ suc i = omega arith in
     let start : c.index.result.now ≡ get_or bounds.items i 0 = get_or_read bounds.items i c.index.result.now (omega arith) c.index.ensures 0 in
     let end : c.index-2.result.now ≡ get_or bounds.items (suc i) 0 = get_or_read bounds.items (i + 1) c.index-2.result.now (omega arith) c.index-2.ensures 0 ∙ ap (λ n. get_or bounds.items n 0) next in
-    let rises = none_falls bounds.items (length c.self.inside.items.items) i c.self.invariant below in
+    let rises = none_falls bounds.items (length c.self.inside.items.items) i c.self.invariant.rising below in
     omega arith
 
 pub between-requires-clause-within : goal.between-requires-clause-within
@@ -54,7 +54,7 @@ between-requires-clause-within g c =
     let asked = c.requires in
     let below : i + 1 < length bounds.items = omega arith in
     let end : c.index-2.result.now ≡ get_or bounds.items (i + 1) 0 = get_or_read bounds.items (i + 1) c.index-2.result.now below c.index-2.ensures 0 in
-    let inside = below_end bounds.items (length c.self.inside.items.items) (i + 1) c.self.invariant below in
+    let inside = below_end bounds.items (length c.self.inside.items.items) (i + 1) c.self.invariant.rising below in
     let whole = ap length c.as_slice.ensures.value in
     omega arith
 

@@ -2,7 +2,7 @@ use Rattle.std.proofs.Common.{◌≡◌, ◌<◌, ◌+◌, ◌++◌, ◌∷◌, 
 use Rattle.std.proofs.lemmas.List.{length-map, append-nil, append_assoc}
 use Rattle.conn_graph.specs.Walks.{out_walk}
 use Rattle.cycle_order.proofs.WalkLaws.{rest_of, steps_edges, next_is, first_is, none_first, cell_in, rest_steps}
-use Rattle.cycle_order.proofs.arrows.collect_edges_from.Goals as goal
+use Rattle.cycle_order.proofs.arrows.append_edges_from.Goals as goal
 
 pub loop-cell-smaller : goal.loop-cell-smaller
 loop-cell-smaller g c =
@@ -40,7 +40,8 @@ returns-clause-edges g c =
     let walk = out_walk c.args.graph.now c.args.node.0 in
     let after = c.loop-cell.after in
     let empty = none_first (rest_of walk after) (sym (next_is walk after) ∙ sym c.next_out.ensures.next ∙ c.in_default.is) in
-    sym (append-nil c.loop-cell.edges.items) ∙ ap (λ xs. c.loop-cell.edges.items ++ steps_edges xs) (sym empty) ∙ c.loop-cell.invariant.edges ∙ c.next_out.ensures.walk.edges
+    sym (append-nil c.loop-cell.edges.items) ∙ ap (λ xs. c.loop-cell.edges.items ++ steps_edges xs) (sym empty) ∙ c.loop-cell.invariant.edges
+    ∙ ap (λ xs. c.args.edges.now.items ++ xs) c.next_out.ensures.walk.edges
 
 pub returns-clause-cost : goal.returns-clause-cost
 returns-clause-cost g c =

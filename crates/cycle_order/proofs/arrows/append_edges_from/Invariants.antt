@@ -1,13 +1,13 @@
 use Rattle.std.proofs.Common.{◌≡◌, ◌≤◌, ◌+◌, ◌++◌, length}
 use Rattle.conn_graph.specs.Walks.{out_walk, IsOnWalk}
 use Rattle.cycle_order.proofs.WalkLaws.{rest_of, steps_edges}
-use Rattle.cycle_order.proofs.arrows.collect_edges_from.Given as goal
+use Rattle.cycle_order.proofs.arrows.append_edges_from.Given as goal
 
 -- the rest of the walk gives what is missing
 abbrev pub invariant-loop-cell : goal.invariant-loop-cell
 invariant-loop-cell g l = record {
   on_walk : IsOnWalk (out_walk l.graph l.node.0) l.after;
-  edges : l.edges.items ++ steps_edges (rest_of (out_walk l.graph l.node.0) l.after) ≡ steps_edges (out_walk l.graph l.node.0);
+  edges : l.edges.items ++ steps_edges (rest_of (out_walk l.graph l.node.0) l.after) ≡ l.fn.edges.items ++ steps_edges (out_walk l.graph l.node.0);
   cost : l.steps + length (rest_of (out_walk l.graph l.node.0) l.after) ≤ l.fn.steps + length (out_walk l.graph l.node.0);
 }
 
