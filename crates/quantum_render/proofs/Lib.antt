@@ -1,13 +1,11 @@
 mod Automated
 pub mod InputLaws
 pub mod LevelLaws
-pub mod Cycles
 pub mod Ports
 pub mod CountingLaws
 pub mod ReaderCounts
 pub mod CountPass
 pub mod Passing
-pub mod Parts
 pub mod OutLaws
 pub mod SiteLaws
 pub mod Rendering

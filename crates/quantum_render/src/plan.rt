@@ -1,21 +1,18 @@
-ghost use Rattle.std.specs.List.{list_any};
-ghost use Rattle.wa_base.specs.declared.graph_names.NodeId.{NodeId as a_node};
-ghost use Rattle.std.specs.Prelude.{◌≡◌, ◌<◌, ◌≤◌, ◌+◌, ◌*◌, ◌++◌, ◌==◌, ◌↔◌, ℕ, All, false, length, filter, slice_index_or, Some, None, IsTrue, IfOk, OnOk, OnErr};
+ghost use Rattle.std.specs.Prelude.{◌≡◌, ◌≤◌, ◌+◌, ◌↔◌, length, Some, None, IsTrue, IfOk, OnOk, OnErr};
 ghost use Rattle.law_base.specs.Members.{IsIn};
-ghost use Rattle.conn_graph.specs.Cells.{leaves};
 ghost use Rattle.conn_graph.specs.Ends.{ends};
 ghost use Rattle.quantum_render.specs.Sites.{site_in};
 ghost use Rattle.quantum_render.specs.Plans.{IsPlan, IsPlanned, IsUnedited, AreCycles};
 
 use crate::site::{Quantum, Site};
 use conn_graph::{Edge, Graph};
-use cycle_order::{Ends, Parts, by_target, order, survey};
+use cycle_order::{Ends, Layout, Parts, lay_out, marked};
 use meaning::World;
 use quantum_blocks::{near_of, places_of};
 use std::alloc::Global;
 use std::marker::Model;
 use std::sync::ledger::Ledger;
-use wa_base::{End, NoMemory, NodeId, Steps, Tie};
+use wa_base::{End, NoMemory, Steps, Tie};
 
 // What a graph is rendered by, with the number of edits that the graph had.
 #[derive(Drop)]
@@ -65,7 +62,7 @@ impl Plan {
         })
     }
 
-    // Surveys and orders the graph of a world. Each connection is looked at nine times at most.
+    // Surveys and orders the graph of a world. Each connection is looked at once.
     fn of<L: Ledger>(
         alloc: Global,
         world: &World,
@@ -75,19 +72,16 @@ impl Plan {
         ensures plan { IfOk result (λ plan. IsPlanned world.now.graph.value plan) }
         ensures planned { IfOk result (λ plan. plan.planned ≡ Some world.now.graph.edits) }
         ensures tie { IfOk result (λ plan. plan.tie ≡ tie) }
-        ensures cost { steps.new ≤ steps.old + 10 * (length world.now.graph.value.edges + length world.now.graph.value.nodes) }
+        ensures cost { steps.new ≤ steps.old + length world.now.graph.value.edges + length world.now.graph.value.nodes }
     {
         let graph = &world.graph;
         let near = places_of(alloc, world)?;
-        let marks = survey(alloc, graph, steps)?;
-        let ordered = order(alloc, graph, &marks, tie, steps)?;
-        let all = connections(alloc, graph, steps)?;
-        let into = by_target(alloc, graph.len(), all.as_slice())?;
+        let Layout { marks, order, into } = lay_out(alloc, graph, tie, steps)?;
         let cycles = marked(alloc, graph.len(), marks.in_cycle.as_slice())?;
         Ok(Plan {
             planned: Some(graph.edits()),
             tie,
-            order: ordered.ends,
+            order: order.ends,
             muted: marks.muted,
             into,
             near,
@@ -109,7 +103,7 @@ impl Plan {
         ensures kept { IsUnedited self.old.planned world.now.graph → self.new ≡ self.old }
         ensures err { OnErr result (self.new ≡ self.old) }
         ensures tie { self.new.tie ≡ self.old.tie }
-        ensures cost { steps.new ≤ steps.old + 10 * (length world.now.graph.value.edges + length world.now.graph.value.nodes) }
+        ensures cost { steps.new ≤ steps.old + length world.now.graph.value.edges + length world.now.graph.value.nodes }
         ensures unedited_cost { IsUnedited self.old.planned world.now.graph → steps.new ≡ steps.old }
     {
         if self.is_unedited(&world.graph) {
@@ -180,52 +174,4 @@ impl Plan {
     {
         &self.into
     }
-}
-
-// All connections, in the graph's order.
-fn connections<L: Ledger>(
-    alloc: Global,
-    graph: &Graph,
-    steps: &mut Steps<L>,
-) -> Result<Vec<Edge>, NoMemory>
-    ensures all { IfOk result (λ all. all.items ≡ graph.now.value.edges) }
-    ensures cost { steps.new ≤ steps.old + length graph.now.value.edges + length graph.now.value.nodes }
-{
-    let mut all = Vec::new(alloc);
-    for node in 0..graph.len() {
-        append_from(&mut all, graph, NodeId(node), steps)?;
-    }
-    Ok(all)
-}
-
-// Appends the connections that leave a node.
-fn append_from<L: Ledger>(
-    all: &mut Vec<Edge>,
-    graph: &Graph,
-    node: NodeId,
-    steps: &mut Steps<L>,
-) -> Result<(), NoMemory>
-    requires { node.0 < length graph.now.value.nodes }
-    ensures all { OnOk result (all.new.items ≡ all.old.items ++ filter (leaves node.0) graph.now.value.edges) }
-    ensures cost { steps.new ≤ steps.old + length (filter (leaves node.0) graph.now.value.edges) + 1 }
-{
-    let mut after = None;
-    while let Some((cell, edge)) = graph.next_out(node, after, steps) {
-        all.push(edge)?;
-        after = Some(cell);
-    }
-    Ok(())
-}
-
-// For each node, whether it is listed.
-fn marked(alloc: Global, nodes: u32, listed: &[NodeId]) -> Result<Vec<bool>, NoMemory>
-    requires { All (λ (node : a_node). node.0 < nodes) listed.now }
-    ensures length { IfOk result (λ marks. length marks.items ≡ nodes) }
-    ensures each { IfOk result (λ marks. (n : ℕ) → n < nodes → slice_index_or marks.items n false ≡ list_any (λ (node : a_node). node.0 == n) listed.now) }
-{
-    let mut marks = vec![in alloc; false; nodes as usize]?;
-    for node in listed {
-        marks[node.0 as usize] = true;
-    }
-    Ok(marks)
 }

@@ -9,7 +9,7 @@ use Rattle.conn_graph.specs.Ends.{ends, muted}
 use Rattle.conn_graph.specs.Graph.{Connections}
 use Rattle.conn_graph.specs.Orders.{IsLegalOrder}
 use Rattle.cycle_order.specs.Surveys.{muted_ends, delays_in_cycle}
-use Rattle.quantum_render.proofs.Cycles.{has_number_of, listed_below, cycle_listed}
+use Rattle.cycle_order.proofs.Cycles.{has_number_of, listed_below, cycle_listed}
 use Rattle.wa_base.specs.declared.graph_names.NodeId.{NodeId}
 use Rattle.std.specs.List.{list_any}
 use Rattle.quantum_render.specs.Plans.{IsPlanOf, AreCycles}
@@ -34,15 +34,14 @@ cycles_are g listed marks is long each = record {
 
 pub returns-clause-plan : goal.returns-clause-plan
 returns-clause-plan g c =
-    let nodes = c.in_ok-into.ensures.length ∙ c.len.ensures.number in
+    let laid = c.in_ok-marks.ensures in
     record {
-      plan = plan_is c.args.world.now.graph.value _ _ _ c.in_ok-ordered.ensures.legal c.in_ok-marks.ensures.survey.muted nodes
-          (λ n l. c.in_ok-into.ensures.each n (subst (λ k. n < k) (sym c.len.ensures.number) l) ∙ ap (λ es. filter (enters n) es) (c.as_slice.ensures.value ∙ c.in_ok-all.ensures.all));
-      cycles = cycles_are c.args.world.now.graph.value _ _ (c.as_slice-2.ensures ∙ c.in_ok-marks.ensures.survey.in_cycle) (c.in_ok-cycles.ensures.length ∙ c.len-2.ensures.number) (λ n l. c.in_ok-cycles.ensures.each n (subst (λ k. n < k) (sym c.len-2.ensures.number) l));
-      order = c.in_ok-ordered.ensures.tie;
+      plan = plan_is c.args.world.now.graph.value _ _ _ laid.legal laid.survey.muted laid.length laid.each;
+      cycles = cycles_are c.args.world.now.graph.value _ _ (c.as_slice.ensures ∙ laid.survey.in_cycle) (c.in_ok-cycles.ensures.length ∙ c.len.ensures.number) (λ n l. c.in_ok-cycles.ensures.each n (subst (λ k. n < k) (sym c.len.ensures.number) l));
+      order = laid.tie;
     }
 
 pub marked-requires : goal.marked-requires
 marked-requires g c =
-    subst (λ (ids : List NodeId). All (λ (id : NodeId). id.0 < c.len-2.result) ids) (sym (c.as_slice-2.ensures ∙ c.in_ok-marks.ensures.survey.in_cycle))
-    (subst (λ k. All (λ (id : NodeId). id.0 < k) (delays_in_cycle c.args.world.now.graph.value)) (sym c.len-2.ensures.number) (listed_below c.args.world.now.graph.value))
+    subst (λ (ids : List NodeId). All (λ (id : NodeId). id.0 < c.len.result) ids) (sym (c.as_slice.ensures ∙ c.in_ok-marks.ensures.survey.in_cycle))
+    (subst (λ k. All (λ (id : NodeId). id.0 < k) (delays_in_cycle c.args.world.now.graph.value)) (sym c.len.ensures.number) (listed_below c.args.world.now.graph.value))
