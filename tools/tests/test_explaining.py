@@ -726,6 +726,14 @@ class Commands(unittest.TestCase):
                 (12, f"invalid {line}\n"),
             )
 
+    def test_frames_and_channels_are_written_in_one_way(self):
+        for word in ("+5", "05", "-0", "-5", " 5", "5_0", "5.0", "\u0665", "", "10000000000"):
+            for words in ((word, "0"), ("5", word)):
+                ran = fixtures.run("derive", self.script, *words, "d.txt", cwd=self.folder)
+                self.assertEqual((ran.returncode, ran.stdout), (2, b""), words)
+                self.assertIn("is no number of up to 10 digits", ran.stderr.decode(), words)
+        self.assertEqual(sorted(os.listdir(self.folder)), ["script.json"])
+
     def test_what_has_no_derivation(self):
         self.assertEqual(self.run_tool("derive", self.script, "128", "0"), (13, "out of range\n"))
         self.assertEqual(self.run_tool("derive", self.script, "0", "1"), (13, "out of range\n"))

@@ -19,6 +19,7 @@ from pathlib import Path
 from waplay_tools.expecting.nodes import AssetFault
 from waplay_tools.explaining.deriving import TooLong, derivation, sample_key
 from waplay_tools.explaining.tape import NoTape, tape_of
+from waplay_tools.explaining.words import place
 
 
 def arguments() -> argparse.Namespace:
@@ -29,8 +30,8 @@ def arguments() -> argparse.Namespace:
         formatter_class=argparse.RawDescriptionHelpFormatter,
     )
     words.add_argument("script", type=Path, metavar="SCRIPT", help="the script, a JSON file")
-    words.add_argument("frame", type=int, metavar="FRAME", help="the frame of the sample")
-    words.add_argument("channel", type=int, metavar="CHANNEL", help="its channel")
+    words.add_argument("frame", type=place, metavar="FRAME", help="the frame of the sample")
+    words.add_argument("channel", type=place, metavar="CHANNEL", help="its channel")
     words.add_argument("out", type=Path, nargs="?", metavar="OUT", help="the file for the lines")
     return words.parse_args()
 
@@ -39,7 +40,7 @@ def derived(asked: argparse.Namespace) -> tuple[int, list[str]]:
     """The status, and the lines of the derivation, or the one that is printed in their place."""
     try:
         tape = tape_of(asked.script.read_bytes(), os.curdir)
-        if not (0 <= asked.frame < tape.length and 0 <= asked.channel < tape.channels):
+        if asked.frame >= tape.length or asked.channel >= tape.channels:
             return 13, ["out of range\n"]
         return 0, derivation(tape, sample_key(asked.frame, asked.channel))
     except NoTape as no_tape:

@@ -15,6 +15,7 @@ import os
 import sys
 from pathlib import Path
 
+from waplay_tools.explaining.words import place
 from waplay_tools.places import as_called_here
 from waplay_tools.reporting import page, script_reading, takes, transcript_reading, wav_samples
 from waplay_tools.reporting.content import MOST_WHOLE, Content, File, Room
@@ -126,7 +127,7 @@ def parser() -> argparse.ArgumentParser:
         help="what two samples may differ by, 2^-16 where nothing is said",
     )
     made.add_argument(
-        "--explain", metavar=("FRAME", "CHANNEL"), nargs=2, type=int,
+        "--explain", metavar=("FRAME", "CHANNEL"), nargs=2, type=place,
         help="say why this sample of a session is what it is",
     )
     made.add_argument(
