@@ -376,11 +376,6 @@ class Prunings(unittest.TestCase):
         self.assertEqual(found.different, ())
         self.assertFalse(self.found([gain("g"), connect("g", "destination"), late]).is_late)
 
-    def test_a_program_that_is_not_there(self) -> None:
-        done = fixtures.run("prunings", "--program", "nowhere", text=True)
-        self.assertEqual((done.returncode, done.stdout), (2, ""))
-        self.assertIn("there is no program", done.stderr)
-
     def test_scripts_of_takes_are_told_by_their_folders(self) -> None:
         names = [prunings.name_of(Path(it)) for it in ("drums.waplay/1.json", "drums.json")]
         self.assertEqual(names, ["drums.waplay/1", "drums"])

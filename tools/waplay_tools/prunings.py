@@ -21,7 +21,6 @@ import argparse
 import concurrent.futures
 import functools
 import json
-import os
 import sys
 import tempfile
 from collections.abc import Callable, Iterator
@@ -31,7 +30,7 @@ from typing import Any, NamedTuple
 from waplay_tools.expecting.reading import script_of
 from waplay_tools.expecting.sessions import file_of, replayed
 from waplay_tools.expecting.writing import script_text
-from waplay_tools.places import SHIPPED
+from waplay_tools.program_words import asked_of
 from waplay_tools.pruning.heard import answers_of
 from waplay_tools.pruning.pruned import NotPruned, Pruned, pruned, pruned_by
 from waplay_tools.random_scripts import maker
@@ -166,21 +165,8 @@ def arguments() -> argparse.Namespace:
         metavar="SCRIPT",
         help="a script, whose assets are beside it; random ones where none is named",
     )
-    words.add_argument(
-        "--program", type=Path, default=SHIPPED, metavar="FILE", help="the program; the shipped one"
-    )
-    words.add_argument(
-        "--second-alone", action="store_true", help="the second calculation in the program's place"
-    )
-    words.add_argument("--seed", type=int, default=1, help="the seed of the scripts, 1 by default")
     words.add_argument("--count", type=int, default=1000, help="how many scripts, 1,000 by default")
-    words.add_argument(
-        "--jobs",
-        type=int,
-        default=len(os.sched_getaffinity(0)),
-        help="how many run at a time; one on each processor by default",
-    )
-    return words.parse_args()
+    return asked_of(words, "scripts")
 
 
 def name_of(path: Path) -> str:
@@ -203,13 +189,9 @@ def looked_through(give: Give, asked: argparse.Namespace) -> Iterator[tuple[str,
 def main() -> int:
     """Prunes scripts, and gives the status."""
     asked = arguments()
-    program = None if asked.second_alone else asked.program.resolve()
-    if program and not os.access(program, os.X_OK):
-        print(f"tools/prunings: there is no program {program}", file=sys.stderr)
-        return 2
     give: Give = worked_out
-    if program:
-        give = functools.partial(run_on, program)
+    if asked.program:
+        give = functools.partial(run_on, asked.program)
     found = []
     for name, it in looked_through(give, asked):
         tell(name, it, bool(asked.scripts))

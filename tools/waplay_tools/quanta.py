@@ -17,7 +17,6 @@ import concurrent.futures
 import copy
 import functools
 import json
-import os
 import sys
 import tempfile
 from collections.abc import Callable
@@ -28,7 +27,7 @@ from waplay_tools.expecting.graph import Graph
 from waplay_tools.expecting.nodes import BufferSource, Node
 from waplay_tools.expecting.numbers import QUANTA
 from waplay_tools.expecting.sessions import Session, replayed, wav_bytes
-from waplay_tools.places import SHIPPED
+from waplay_tools.program_words import asked_of
 from waplay_tools.random_scripts.assets import write_assets
 from waplay_tools.random_scripts.kinds import Script
 from waplay_tools.random_scripts.maker import operations, script_of
@@ -153,33 +152,16 @@ def arguments() -> argparse.Namespace:
         description=__doc__,
         formatter_class=argparse.RawDescriptionHelpFormatter,
     )
-    words.add_argument(
-        "--program", type=Path, default=SHIPPED, metavar="FILE", help="the program; the shipped one"
-    )
-    words.add_argument(
-        "--second-alone", action="store_true", help="the second calculation in the program's place"
-    )
-    words.add_argument("--seed", type=int, default=1, help="the seed of the scripts, 1 by default")
     words.add_argument("--count", type=int, default=1000, help="how many scripts, 1,000 by default")
-    words.add_argument(
-        "--jobs",
-        type=int,
-        default=len(os.sched_getaffinity(0)),
-        help="how many run at a time; one on each processor by default",
-    )
-    return words.parse_args()
+    return asked_of(words, "scripts")
 
 
 def main() -> int:
     """Compares scripts, and gives the status."""
     asked = arguments()
-    program = None if asked.second_alone else asked.program.resolve()
-    if program and not os.access(program, os.X_OK):
-        print(f"tools/quanta: there is no program {program}", file=sys.stderr)
-        return 2
     count = wrong = 0
     with concurrent.futures.ProcessPoolExecutor(asked.jobs) as pool:
-        of_number = functools.partial(compared, program, asked.seed)
+        of_number = functools.partial(compared, asked.program, asked.seed)
         for number, it in enumerate(pool.map(of_number, range(asked.count))):
             for different in it.different:
                 print(f"script {number}: {different}", flush=True)

@@ -25,7 +25,8 @@ from pathlib import Path
 from waplay_tools.cases.__main__ import files_in
 from waplay_tools.migrations.sessions import differences_of_case
 from waplay_tools.migrations.texts import differences_of_texts, scripts_of
-from waplay_tools.places import SHIPPED, TOP
+from waplay_tools.places import TOP
+from waplay_tools.program_words import asked_of
 
 
 def arguments() -> argparse.Namespace:
@@ -43,22 +44,9 @@ def arguments() -> argparse.Namespace:
         help="a case, an example, or a folder of them; all of them where none is named",
     )
     words.add_argument(
-        "--program", type=Path, default=SHIPPED, metavar="FILE", help="the program; the shipped one"
-    )
-    words.add_argument(
-        "--second-alone", action="store_true", help="the second calculation in the program's place"
-    )
-    words.add_argument(
         "--texts", type=int, default=20000, help="how many texts of seconds, 20,000 by default"
     )
-    words.add_argument("--seed", type=int, default=1, help="the seed of the texts, 1 by default")
-    words.add_argument(
-        "--jobs",
-        type=int,
-        default=len(os.sched_getaffinity(0)),
-        help="how many run at a time; one on each processor by default",
-    )
-    return words.parse_args()
+    return asked_of(words, "texts")
 
 
 def told(found: tuple[str, list[str]]) -> int:
@@ -72,15 +60,11 @@ def told(found: tuple[str, list[str]]) -> int:
 def main() -> int:
     """Migrates what the command line names, and tells what differs."""
     asked = arguments()
-    program = None if asked.second_alone else asked.program.resolve()
-    if program and not os.access(program, os.X_OK):
-        print(f"tools/migrations: there is no program {program}", file=sys.stderr)
-        return 2
     paths = files_in(asked.paths)
     scripts = scripts_of(asked.seed, asked.texts)
     with concurrent.futures.ProcessPoolExecutor(asked.jobs) as pool:
-        of_case = functools.partial(differences_of_case, program)
-        of_texts = functools.partial(differences_of_texts, program)
+        of_case = functools.partial(differences_of_case, asked.program)
+        of_texts = functools.partial(differences_of_texts, asked.program)
         names = [os.path.relpath(path, TOP) for path in paths]
         wrong = sum(map(told, zip(names, pool.map(of_case, paths))))
         wrong += sum(map(told, pool.map(of_texts, scripts, chunksize=20)))
