@@ -369,6 +369,16 @@ class Prunings(unittest.TestCase):
         self.assertEqual(found, prunings.Found(None, different=told))
         self.assertEqual(self.found([]).different, ())
 
+    def test_a_program_that_does_not_end_is_told(self) -> None:
+        with tempfile.TemporaryDirectory() as folder:
+            program = Path(fixtures.program(folder, "import time\ntime.sleep(60)\n"))
+            with unittest.mock.patch.object(prunings, "SECONDS", 0.1):
+                found = prunings.found_at(
+                    functools.partial(prunings.run_on, program), fixtures.script(A_QUANTUM), folder
+                )
+        told = ("the program did not end within 0.1 seconds",)
+        self.assertEqual(found, prunings.Found(None, different=told))
+
     def test_nodes_that_only_the_list_of_start_rendering_makes_live(self) -> None:
         late = call("startRendering", then=[connect("g", "destination")])
         found = self.found([gain("g"), late])

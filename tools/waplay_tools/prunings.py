@@ -38,6 +38,8 @@ from waplay_tools.random_scripts.assets import write_assets
 from waplay_tools.random_scripts.versions import Versions
 from waplay_tools.running import Terms, run
 
+SECONDS = 600.0  # for one run of the program
+
 
 class Outcome(NamedTuple):
     """What a script gives: its status, its lines, and the bytes of the file that it leaves."""
@@ -61,6 +63,10 @@ class Found(NamedTuple):
     different: tuple[str, ...] = ()
 
 
+class Late(Exception):
+    """A run of the program that was ended, since its time was over."""
+
+
 def worked_out(data: bytes, folder: str, mode: str) -> Outcome:
     """What the second calculation gives."""
     status, text, session = replayed(data, folder, is_checked=mode != "render")
@@ -71,7 +77,9 @@ def run_on(program: Path, data: bytes, folder: str, mode: str) -> Outcome:
     """What a program gives."""
     with tempfile.TemporaryDirectory() as room:
         out = Path(room, "out")
-        ran = run([program, "--mode", mode, out], folder, Terms(data))
+        ran = run([program, "--mode", mode, out], folder, Terms(data, seconds=SECONDS))
+        if ran.is_late:
+            raise Late(f"the program did not end within {SECONDS:g} seconds")
         file = out.read_bytes() if out.exists() else None
         return Outcome(ran.status, ran.text.decode().splitlines(), file)
 
@@ -106,6 +114,14 @@ def differences(
 
 def found_at(give: Give, data: bytes, folder: str) -> Found:
     """What becomes of a script of these bytes, whose assets are in the folder."""
+    try:
+        return found_in_time(give, data, folder)
+    except Late as late:
+        return Found(None, different=(str(late),))
+
+
+def found_in_time(give: Give, data: bytes, folder: str) -> Found:
+    """The same, where the program takes no longer than it may."""
     first = give(data, folder, "render")
     try:
         it = pruned(data, folder)
