@@ -13,6 +13,8 @@ from waplay_tools.random_scripts.kinds import TIME, Asset, Call
 MOST = 2**24  # bytes of a script
 RATE = 16384
 LONGEST_DELAY = 2**28
+LONGEST = 2**18  # the frames of such a delay
+ASSET = 2**26 - 44  # the samples of the longest asset
 CHECKED = ("--mode", "check", "out.wav")
 MIGRATED = ("--mode", "migrate", "out.json")
 
@@ -182,15 +184,21 @@ def named() -> str:
     return text_of({"op": "createBuffer", "as": f"b{at}", **shape} for at in range(200000))
 
 
-def delays_of_32_channels() -> str:
-    """As many frames of delays as there may be, each with 32 channels."""
-    calls: list[Call] = [
-        {"op": "createBuffer", "as": "b", "channels": 32, "length": 128, "rate": RATE}
+def wide_source(samples: list[int], loop: bool = True) -> list[Call]:
+    """A buffer with 32 channels of these samples, and a source that plays it."""
+    shape = {"channels": 32, "length": len(samples), "rate": RATE}
+    written = {"op": "copyToChannel", "buffer": "b", "samples": samples}
+    return [
+        {"op": "createBuffer", "as": "b", **shape},
+        *[{**written, "channel": channel} for channel in range(32)],
+        {"op": "createBufferSource", "as": "s", "buffer": "b", "loop": loop},
+        {"op": "start", "node": "s"},
     ]
-    written = {"op": "copyToChannel", "buffer": "b", "samples": list(range(128))}
-    calls += [{**written, "channel": channel} for channel in range(32)]
-    calls.append({"op": "createBufferSource", "as": "s", "buffer": "b", "loop": True})
-    calls.append({"op": "start", "node": "s"})
+
+
+def delays() -> list[Call]:
+    """As many frames of delays as there may be, each with 32 channels."""
+    calls = wide_source(list(range(128)))
     for number in range(16):
         name = f"d{number}"
         delay = {
@@ -201,12 +209,11 @@ def delays_of_32_channels() -> str:
         }
         calls += [delay, {"op": "connect", "from": "s", "to": name}]
         calls.append({"op": "connect", "from": name, "to": "destination"})
-    return text_of([*calls, START], length=2 * 2**18)
+    return calls
 
 
-def longest_responses() -> str:
-    """As many convolvers as there may be, of the longest and loudest response, which hear two
-    channels."""
+def rooms(count: int) -> list[Call]:
+    """So many convolvers of the longest and loudest response, which hear two channels."""
     response: Call = {"op": "createBuffer", "as": "h", "channels": 1, "length": 2**14, "rate": RATE}
     calls: list[Call] = [response, {**response, "as": "b", "channels": 2, "length": 1}]
     loudest = {"op": "copyToChannel", "channel": 0}
@@ -214,23 +221,33 @@ def longest_responses() -> str:
     calls.append({**loudest, "buffer": "b", "samples": [2**31 - 1]})
     calls.append({"op": "createBufferSource", "as": "s", "buffer": "b", "loop": True})
     calls.append({"op": "start", "node": "s"})
-    for number in range(1022):
+    for number in range(count):
         name = f"v{number}"
         room = {"op": "createConvolver", "as": name, "buffer": "h", "disableNormalization": True}
         calls += [room, {"op": "connect", "from": "s", "to": name}]
         calls.append({"op": "connect", "from": name, "to": "destination"})
-    return text_of([*calls, START], length=128)
+    return calls
+
+
+def all_at_once() -> str:
+    """The largest buffers, delays and rendering, and convolvers, which come to hear a quantum once
+    the delays are full. Then the asset is decoded again, for which no room is left, and the session
+    is stalled."""
+    left = 2**27 - ASSET - 32 * 128 - 2**14 - 2  # samples that the other buffers have not
+    rest = {"op": "createBuffer", "as": "r", "channels": 1, "length": left, "rate": RATE}
+    decoded = {"op": "decodeAudioData", "as": "w", "path": "long.wav"}
+    made = rooms(1005)
+    joined = [it for it in made if it["op"] == "connect"]
+    calls = [decoded, rest, *delays(), *(it for it in made if it["op"] != "connect")]
+    for number, it in enumerate([[*joined, {"op": "resume"}], [decoded]]):
+        calls.append({"op": "suspend", "time": LONGEST + 128 * number, "then": it})
+    return text_of([*calls, START], channels=32, length=2**21)
 
 
 def longest_programs() -> str:
     """As many processors as there may be, of the longest program, which hear 32 channels for three
     quanta."""
-    calls: list[Call] = [
-        {"op": "createBuffer", "as": "b", "channels": 32, "length": 384, "rate": RATE}
-    ]
-    written = {"op": "copyToChannel", "buffer": "b", "samples": list(range(384))}
-    calls += [{**written, "channel": channel} for channel in range(32)]
-    calls += [{"op": "createBufferSource", "as": "s", "buffer": "b"}, {"op": "start", "node": "s"}]
+    calls = wide_source(list(range(384)), loop=False)
     code = ["load 0", *["in", "mul", "in", "div 2147483647", "add"] * 50, "in", "add"]
     code += ["dup", "store 0", "neg"]
     for number in range(1022):
@@ -255,13 +272,7 @@ def sources_that_end(quantum: int) -> str:
 
 def largest_blocks() -> str:
     """As many gains as there may be, which hear 32 channels for a quantum of 1,024 frames."""
-    calls: list[Call] = [
-        {"op": "createBuffer", "as": "b", "channels": 32, "length": 2, "rate": RATE}
-    ]
-    written = {"op": "copyToChannel", "buffer": "b", "samples": [1, 2]}
-    calls += [{**written, "channel": channel} for channel in range(32)]
-    calls.append({"op": "createBufferSource", "as": "s", "buffer": "b", "loop": True})
-    calls.append({"op": "start", "node": "s"})
+    calls = wide_source([1, 2])
     for number in range(1022):
         name = f"g{number}"
         calls += [
@@ -280,7 +291,7 @@ def largest_buffers() -> str:
 
 def long_asset(rate: int) -> Callable[[], dict[str, Asset]]:
     """The longest asset, of samples of 8 bits."""
-    return lambda: {"long.wav": wav.file_of(wav.Form(1, rate, 8), bytes(2**26 - 44))}
+    return lambda: {"long.wav": wav.file_of(wav.Form(1, rate, 8), bytes(ASSET))}
 
 
 def decodes(count: int) -> str:
@@ -338,7 +349,7 @@ TEXTS = [
     Worst("a text of 16 MiB", lambda: filled(text_of([])[:-1] + ',"x":"', "\\u0000", '"}')),
     Worst(
         "16 MiB of calls",
-        lambda: filled(text_of([])[:-2], '{"op":"readTime"},', '{"op":"readTime"}]}'),
+        lambda: filled(text_of([])[:-2], '{"op":"resume"},', '{"op":"resume"}]}'),
     ),
     Worst(
         "16 MiB of samples",
@@ -382,8 +393,14 @@ ROOM = [
     ),
     Worst("10 decodings of a 64 MiB asset", lambda: decodes(10), assets=long_asset(RATE)),
     Worst("the largest buffers", largest_buffers),
-    Worst("the largest delays, of 32 channels", delays_of_32_channels),
-    Worst("a quantum of 1,022 convolvers of the longest response", longest_responses),
+    Worst(
+        "the largest delays, of 32 channels",
+        lambda: text_of([*delays(), START], length=2 * LONGEST),
+    ),
+    Worst(
+        "a quantum of 1,022 convolvers of the longest response",
+        lambda: text_of([*rooms(1022), START], length=128),
+    ),
     Worst("three quanta of 1,022 processors of the longest program", longest_programs),
     Worst("the largest rendering", lambda: text_of([START], channels=2, length=2**25)),
     Worst(
@@ -401,5 +418,6 @@ ROOM = [
     ],
     Worst("200,000 suspensions in falling order of time", scheduled, CHECKED),
     Worst("200,000 names", named),
+    Worst("all of a session at its limit at once", all_at_once, assets=long_asset(RATE)),
 ]
 TABLE = [*TIMELINES, *CONNECTIONS, *GRAPHS, *TEXTS, *MIGRATIONS, *ROOM]
