@@ -11,6 +11,8 @@ a text has at most that is changed."""
 import json
 import os
 import random
+import shlex
+import subprocess
 import tempfile
 import unittest
 import unittest.mock
@@ -733,6 +735,31 @@ class Commands(unittest.TestCase):
                 self.assertEqual((ran.returncode, ran.stdout), (2, b""), words)
                 self.assertIn("is no number of up to 10 digits", ran.stderr.decode(), words)
         self.assertEqual(sorted(os.listdir(self.folder)), ["script.json"])
+
+    def test_what_cannot_be_read_or_written(self):
+        fixtures.write(self.folder, "long.json", A_QUANTUM.ljust(2**24 + 1))
+        for script, status in (("nowhere.json", 6), (".", 6), ("long.json", 5)):
+            self.assertEqual(self.run_tool("derive", script, "5", "0", "d.txt"), (status, ""))
+            self.assertEqual(self.run_tool("check-derivation", script, "d.txt"), (status, ""))
+        self.assertFalse(os.path.exists(os.path.join(self.folder, "d.txt")))
+        told = self.run_tool("derive", self.script, "5", "0", "nowhere/d.txt")
+        self.assertEqual(told, (9, "facts 6\n"))
+        self.assertEqual(self.run_tool("check-derivation", self.script, "."), (7, ""))
+        for words in (("derive", "5", "0", ""), ("check-derivation", "")):
+            ran = fixtures.run(words[0], self.script, *words[1:], cwd=self.folder)
+            self.assertEqual((ran.returncode, ran.stdout), (2, b""), words)
+
+    @unittest.skipUnless(os.path.exists("/dev/full"), "there is no full device")
+    def test_what_does_not_go_out(self):
+        fixtures.write(self.folder, "z.txt", "")
+        for words in (("derive", "5", "0"), ("derive", "5", "0", "d.txt"),
+                      ("derive", "128", "0"), ("check-derivation", "z.txt")):
+            line = shlex.join([f"{fixtures.TOOLS}/{words[0]}", self.script, *words[1:]])
+            ran = subprocess.run(
+                ["sh", "-c", f"exec {line} > /dev/full"], cwd=self.folder, capture_output=True
+            )
+            self.assertEqual((ran.returncode, ran.stderr), (8, b""), words)
+        self.assertFalse(os.path.exists(os.path.join(self.folder, "d.txt")))
 
     def test_what_has_no_derivation(self):
         self.assertEqual(self.run_tool("derive", self.script, "128", "0"), (13, "out of range\n"))

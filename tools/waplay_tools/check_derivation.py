@@ -9,8 +9,9 @@ for a text without a byte, `invalid missing` where there is no TEXT, and `invali
 more than 67,108,864 bytes.
 
 The status is 0 for a valid text and 12 for another one. It is 3 for a session that does not
-complete, and 4 for a script with a fault: the line that says so is printed. It is 7 where an asset
-cannot be read.
+complete, and 4 for a script with a fault: the line that says so is printed. It is 5 for a script of
+more than 16,777,216 bytes, 6 for one that cannot be read, 7 where an asset or TEXT cannot be read,
+and 8 where the line cannot be printed.
 """
 
 import argparse
@@ -22,6 +23,7 @@ from waplay_tools.expecting.nodes import AssetFault
 from waplay_tools.explaining.checking import verdict
 from waplay_tools.explaining.deriving import MOST_BYTES
 from waplay_tools.explaining.tape import NoTape, Tape, tape_of
+from waplay_tools.script_tools import NoScript, bytes_of, is_told, path
 
 
 def arguments() -> argparse.Namespace:
@@ -31,18 +33,24 @@ def arguments() -> argparse.Namespace:
         description=__doc__,
         formatter_class=argparse.RawDescriptionHelpFormatter,
     )
-    words.add_argument("script", type=Path, metavar="SCRIPT", help="the script, a JSON file")
-    words.add_argument("text", type=Path, metavar="TEXT", help="the derivation")
+    words.add_argument("script", type=path, metavar="SCRIPT", help="the script, a JSON file")
+    words.add_argument("text", type=path, metavar="TEXT", help="the derivation")
     return words.parse_args()
 
 
-def judged(tape: Tape, path: Path) -> str:
+class NoText(Exception):
+    """A text that is there and cannot be read."""
+
+
+def judged(tape: Tape, text_path: Path) -> str:
     """The line that says whether the text of a file is checked."""
     try:
-        with open(path, "rb") as file:
+        with open(text_path, "rb") as file:
             text = file.read(MOST_BYTES + 1)
     except (FileNotFoundError, NotADirectoryError):
         return "invalid missing\n"
+    except OSError:
+        raise NoText from None
     return "invalid long\n" if len(text) > MOST_BYTES else verdict(tape, text)
 
 
@@ -50,14 +58,15 @@ def main() -> int:
     """Checks the derivation that is named."""
     asked = arguments()
     try:
-        line = judged(tape_of(asked.script.read_bytes(), os.curdir), asked.text)
+        line = judged(tape_of(bytes_of(asked.script), os.curdir), asked.text)
+        status = 0 if line.startswith("valid") else 12
+    except NoScript as fault:
+        return fault.status
     except NoTape as no_tape:
-        print(no_tape.line)
-        return no_tape.status
-    except AssetFault:
+        line, status = f"{no_tape.line}\n", no_tape.status
+    except (AssetFault, NoText):
         return 7
-    print(line, end="")
-    return 0 if line.startswith("valid") else 12
+    return status if is_told(line) else 8
 
 
 if __name__ == "__main__":

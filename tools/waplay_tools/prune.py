@@ -18,19 +18,10 @@ cannot be read, 8 where the line cannot be printed, and 9 where OUT cannot be wr
 import argparse
 import os
 import sys
-from pathlib import Path
 
 from waplay_tools.expecting.writing import script_text
 from waplay_tools.pruning.pruned import NotPruned, pruned
-
-MOST_BYTES = 2**24  # of a script
-
-
-def path(word: str) -> Path:
-    """The path that a word is."""
-    if not word:
-        raise argparse.ArgumentTypeError("an empty word is no path")
-    return Path(word)
+from waplay_tools.script_tools import NoScript, bytes_of, is_told, path
 
 
 def arguments() -> argparse.Namespace:
@@ -45,36 +36,16 @@ def arguments() -> argparse.Namespace:
     return words.parse_args()
 
 
-def bytes_of(script: Path) -> bytes:
-    """The bytes of a script, which may be neither unreadable nor too long."""
-    try:
-        with open(script, "rb") as file:
-            data = file.read(MOST_BYTES + 1)
-    except OSError:
-        raise NotPruned(6, "") from None
-    if len(data) > MOST_BYTES:
-        raise NotPruned(5, "")
-    return data
-
-
-def is_told(line: str) -> bool:
-    """Prints a line, and says whether it went out."""
-    try:
-        print(line, flush=True)
-    except OSError:
-        os.dup2(os.open(os.devnull, os.O_WRONLY), 1)  # where the rest goes when Python ends
-        return False
-    return True
-
-
 def main() -> int:
     """Prunes the script that is named, and gives the status."""
     asked = arguments()
     try:
         it = pruned(bytes_of(asked.script), os.curdir)
+    except NoScript as fault:
+        return fault.status
     except NotPruned as fault:
-        return 8 if fault.line and not is_told(fault.line) else fault.status
-    if not is_told(f"pruned {it.kept} of {it.of}"):
+        return 8 if fault.line and not is_told(f"{fault.line}\n") else fault.status
+    if not is_told(f"pruned {it.kept} of {it.of}\n"):
         return 8
     try:
         asked.out.write_bytes(script_text(it.script))
