@@ -369,6 +369,12 @@ class Prunings(unittest.TestCase):
         self.assertEqual(found, prunings.Found(None, different=told))
         self.assertEqual(self.found([]).different, ())
 
+    def test_a_script_that_is_too_long_is_not_pruned(self) -> None:
+        data = fixtures.script(A_QUANTUM).ljust(2**24 + 1)
+        outcome = prunings.Outcome(5, [], None)
+        found = prunings.found_at(lambda *_: outcome, data, os.curdir)
+        self.assertEqual(found, prunings.Found(None))
+
     def test_a_program_that_does_not_end_is_told(self) -> None:
         with tempfile.TemporaryDirectory() as folder:
             program = Path(fixtures.program(folder, "import time\ntime.sleep(60)\n"))

@@ -6,6 +6,7 @@ from typing import Any, NamedTuple
 from waplay_tools.expecting.reading import HELD, READ, Call, NumberedCall, numbered
 from waplay_tools.expecting.sessions import replayed
 from waplay_tools.pruning.heard import Hearing, every
+from waplay_tools.script_tools import MOST_BYTES
 
 
 class Pruned(NamedTuple):
@@ -17,8 +18,8 @@ class Pruned(NamedTuple):
 
 
 class NotPruned(Exception):
-    """A script whose session does not complete: the status, and the line that says why, which is
-    empty where nothing does."""
+    """A script that is too long or whose session does not complete: the status, and the line that
+    says why, which is empty where nothing does."""
 
     def __init__(self, status: int, line: str) -> None:
         super().__init__(line)
@@ -43,6 +44,8 @@ def pruned_by(script: dict[str, Any], lines: Iterable[str]) -> Pruned:
 
 def pruned(data: bytes, folder: str) -> Pruned:
     """The pruned script of one of these bytes, whose assets are in the folder."""
+    if len(data) > MOST_BYTES:
+        raise NotPruned(5, "")
     status, text, session = replayed(data, folder, is_checked=True)
     if status != 0 or session is None:
         raise NotPruned(status, "".join(text.splitlines()[-1:]))
