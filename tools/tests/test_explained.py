@@ -291,7 +291,7 @@ class Page(unittest.TestCase):
             told = self.refused(*words, "--explain", frame, channel)
             self.assertIn(f"has no frame {frame} of channel {channel}: it has 64 frames and 1"
                           " channel", told)
-        for word in ("x", "+5", "05", "-1"):
+        for word in ("x", "+5", "5_0", "-1"):
             self.assertIn("--explain", self.refused(*words, "--explain", word, "0"))
         idle = self.paths(fixtures.script(A_GAIN), "idle")
         self.assertIn("the session was not rendered, so it has no sample to explain",

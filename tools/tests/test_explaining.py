@@ -728,13 +728,17 @@ class Commands(unittest.TestCase):
                 (12, f"invalid {line}\n"),
             )
 
-    def test_frames_and_channels_are_written_in_one_way(self):
-        for word in ("+5", "05", "-0", "-5", " 5", "5_0", "5.0", "\u0665", "", "10000000000"):
+    def test_frames_and_channels_are_digits_alone(self):
+        for word in ("+5", "-0", "-5", " 5", "5_0", "5.0", "\u0665", "", "10000000000"):
             for words in ((word, "0"), ("5", word)):
                 ran = fixtures.run("derive", self.script, *words, "d.txt", cwd=self.folder)
                 self.assertEqual((ran.returncode, ran.stdout), (2, b""), words)
-                self.assertIn("is no number of up to 10 digits", ran.stderr.decode(), words)
+                self.assertIn("is no number of 1 to 10 digits", ran.stderr.decode(), words)
         self.assertEqual(sorted(os.listdir(self.folder)), ["script.json"])
+        self.assertEqual(
+            self.run_tool("derive", self.script, "0000000005", "00"),
+            self.run_tool("derive", self.script, "5", "0"),
+        )
 
     def test_what_cannot_be_read_or_written(self):
         fixtures.write(self.folder, "long.json", A_QUANTUM.ljust(2**24 + 1))
