@@ -1,4 +1,4 @@
-ghost use Rattle.std.specs.Prelude.{◌≡◌, ◌<◌, ◌≤◌, ◌+◌, false, true, length, None, Some, option_map, IsTrue, IfOk, IfSome, IsErrOf, IsSome, is_some, OnOk, OnErr};
+ghost use Rattle.std.specs.Prelude.{◌≡◌, ◌<◌, ◌≤◌, ◌+◌, false, true, length, None, Some, option_map, IfOk, IfSome, IsSome, is_some, OnOk, OnErr};
 ghost use Rattle.io_edge.specs.Paths.{Paths};
 ghost use Rattle.wa_base.specs.Contexts.{IsSupported};
 ghost use Rattle.script_ast.specs.Operations.{IsInRange, new_name};

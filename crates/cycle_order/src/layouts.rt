@@ -17,7 +17,9 @@ use wa_base::{NoMemory, Steps, Tie};
 /// What a graph is rendered by.
 #[derive(Drop)]
 pub struct Layout {
+    /// The muted ends, and the delays that are in a cycle.
     pub marks: Surveyed,
+    /// The unmuted ends, each behind those that it hears.
     pub order: Ordered,
     /// For each node, the connections that lead to it, in the graph's order.
     pub into: Parts<Edge>,

@@ -21,9 +21,9 @@ pub needs_none : (o : Op) → ((name path : List ℕ) → o ≡ op.DecodeAudioDa
 needs_none (op.DecodeAudioData name path) other = other name path refl
 needs_none o other = tt
 
-pub none_held : (held : Paths) (o : Op) → ((name path : List ℕ) → o ≡ op.DecodeAudioData name path → ⊥) → IsAssetOf held o None
-none_held held (op.DecodeAudioData name path) other = other name path refl
-none_held held o other = tt
+pub no_asset_held : (held : Paths) (o : Op) → ((name path : List ℕ) → o ≡ op.DecodeAudioData name path → ⊥) → IsAssetOf held o None
+no_asset_held held (op.DecodeAudioData name path) other = other name path refl
+no_asset_held held o other = tt
 
 -- a count that rose later rose
 pub rose_later : (a b d : ℕ) → a ≤ b → Rose b d → Rose a d

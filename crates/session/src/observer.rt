@@ -10,7 +10,8 @@ pub trait Observer {
     /// Whether these are the worlds that it was shown, as they sound.
     ghost saw: { Self → List a_world → Type 0 };
 
-    /// Is shown the world in force in the quantum that comes next.
+    /// Is shown the world in force in the quantum that comes next. Where there is no memory for it, the
+    /// session stops.
     fn show(&mut self, world: &World) -> Result<(), NoMemory>
         ensures { OnOk result ((worlds : List a_world) → saw self.old worlds → saw self.new (worlds ++ sounding world.now ∷ [])) };
 }

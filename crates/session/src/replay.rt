@@ -59,7 +59,7 @@ pub fn run<F: Files>(
 }
 
 /// Replays a script as `run` does, and shows an observer the world of each quantum before it is
-/// rendered.
+/// rendered. It stops with NoMemory too where the observer has none.
 #[tactic(auto, unfolding(crate::specs::Session::session_of))]
 pub fn run_observed<F: Files, O: Observer>(
     alloc: Global,

@@ -4,7 +4,7 @@ use Rattle.io_edge.specs.Fetch.{IsFetchedOf}
 use Rattle.io_edge.specs.Paths.{Paths}
 use Rattle.script_ast.specs.declared.operations.Op.{Op}
 use Rattle.control_side.specs.Assets.{IsAssetOf, found_of}
-use Rattle.session.proofs.Fetching.{found_is, needs_none, none_held}
+use Rattle.session.proofs.Fetching.{found_is, needs_none, no_asset_held}
 use Rattle.session.proofs.assets.asset_for.Goals as goal
 
 pub returns-in_default-clause-asset : goal.returns-in_default-clause-asset
@@ -13,7 +13,7 @@ returns-in_default-clause-asset g c = needs_none c.args.op.now c.in_default.not-
 pub returns-in_default-clause-held : goal.returns-in_default-clause-held
 returns-in_default-clause-held g c =
     let held = g.F.Files.paths c.args.files.now in
-    (held, (λ told q. refl), none_held held c.args.op.now c.in_default.not-DecodeAudioData)
+    (held, (λ told q. refl), no_asset_held held c.args.op.now c.in_default.not-DecodeAudioData)
 
 pub returns-in-Ok-clause-held : goal.returns-in-Ok-clause-held
 returns-in-Ok-clause-held g c =

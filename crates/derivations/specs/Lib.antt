@@ -1,0 +1,12 @@
+pub mod Tapes
+pub mod Marks
+pub mod Stretches
+pub mod Names
+pub mod Places
+pub mod Groups
+pub mod Reaches
+pub mod Searches
+pub mod Contexts
+pub mod Heard
+pub mod Searched
+pub mod Laws
