@@ -1,4 +1,5 @@
 pub mod Mixed
+pub mod Mono
 pub mod OutputForms
 pub mod Shifts
 pub mod Sums

@@ -6,4 +6,4 @@ mod mixing;
 mod outputs;
 
 pub use mix_rules::count;
-pub use mixing::mix_add;
+pub use mixing::{mix_add, takes_mono};

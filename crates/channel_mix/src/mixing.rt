@@ -1,4 +1,4 @@
-ghost use Rattle.std.specs.Prelude.{◌≡◌, ◌<◌, ◌≤◌, ◌-◌, ◌+◌, ◌*◌, ◌^◌, ◌+ℤ◌, ℕ, length, All};
+ghost use Rattle.std.specs.Prelude.{◌≡◌, ◌<◌, ◌≤◌, ◌-◌, ◌+◌, ◌*◌, ◌^◌, ◌+ℤ◌, ℕ, ℤ, pos, length, All, if◌then◌else◌};
 ghost use Rattle.lane_kern.specs.Blocks.{IsWithin};
 ghost use Rattle.mix_rules.specs.Blocks.{sample, frame_at};
 ghost use Rattle.channel_mix.specs.Adding.{Adds};
@@ -42,6 +42,19 @@ pub fn mix_add(acc: &mut [i64], to: usize, src: &[i32], from: usize, interp: Int
         let first = channel * frames;
         let output = Output::new(interp, from, to, channel);
         add_output(&mut acc[first..first + frames], output, src);
+    }
+}
+
+/// Whether an output channel, of so many, is what a mono input is. If not, it is silent.
+///
+/// So a sum of mono connections may be mixed once, in place of each of them.
+pub fn takes_mono(interp: Interp, to: usize, channel: usize) -> bool
+    requires { channel < to }
+    ensures { (frame : ℕ → ℤ) → mix interp 1 to frame channel ≡ (if result then frame 0 else pos 0) }
+{
+    match Output::new(interp, 1, to, channel) {
+        Output::Channel(_) => true,
+        _ => false,
     }
 }
 

@@ -1,11 +1,13 @@
-ghost use Rattle.std.specs.Prelude.{◌≡◌, ◌≤◌, ◌<◌, ◌+◌, ◌*◌, ◌+ℤ◌, ℕ, pos, length, slice_index_or, map, filter, if◌then◌else◌, take, IfOk, IfSome};
+ghost use Rattle.std.specs.Prelude.{◌≡◌, ◌≤◌, ◌<◌, ◌+◌, ◌*◌, ◌+ℤ◌, ℕ, pos, length, slice_index_or, map, filter, if◌then◌else◌, take, IfOk, IfSome, IsTrue};
 ghost use Rattle.mix_rules.specs.Blocks.{sample, frame_at};
 ghost use Rattle.wa_base.specs.Contexts.{IsQuantumSize};
 ghost use Rattle.wa_base.specs.Numbers.{sat as saturated};
 ghost use Rattle.mix_rules.specs.Mixing.{mix, total};
+ghost use Rattle.conn_graph.specs.declared.edges.Edge.{Edge as an_edge};
+ghost use Rattle.conn_graph.specs.Ends.{reader_of};
 ghost use Rattle.meaning.specs.declared.world.World.{World as world};
 ghost use Rattle.meaning.specs.Values.{part};
-ghost use Rattle.quantum_blocks.specs.Blocks.{frame_of};
+ghost use Rattle.quantum_blocks.specs.Blocks.{frame_of, slot as slot_of, counts_in};
 ghost use Rattle.quantum_blocks.specs.Connections.{leads_to};
 ghost use Rattle.quantum_blocks.specs.Fits.{IsSource, AreSources};
 ghost use Rattle.quantum_blocks.specs.Sums.{sum_at};
@@ -13,7 +15,7 @@ ghost use Rattle.quantum_blocks.specs.Sums.{sum_at};
 use crate::block::Block;
 use crate::ends::{reader, slot};
 use crate::held::Held;
-use crate::kernels::{clear_unless, each_level, each_level_on, fill, settle};
+use crate::kernels::{clear_unless, each_level, each_level_on, fill, settle, widen, widen_if};
 use channel_mix::mix_add;
 use conn_graph::{Edge, Target};
 use std::alloc::Global;
@@ -200,9 +202,8 @@ impl Sums {
         }
     }
 
-    /// Adds up what those of the connections carry that lead to an inlet, with the channels of each end by
-    /// its slot.
-    pub fn gather(&mut self, blocks: &[Block], into: &[Edge], counts: &[u32], inlet: Inlet)
+    // Adds up what those of the connections carry that lead to an inlet, each mixed by itself.
+    fn gather_each(&mut self, blocks: &[Block], into: &[Edge], counts: &[u32], inlet: Inlet)
         requires low { 1 ≤ inlet.count }
         requires high { inlet.count ≤ 32 }
         requires few { length into.now ≤ 8192 }
@@ -217,4 +218,57 @@ impl Sums {
             self.hear(blocks, counts, edge, inlet);
         }
     }
+
+    // Of one channel, makes so many: what a mono input is mixed to.
+    fn widen(&mut self, count: usize, interp: Interp)
+        requires mono { self.old.count ≡ 1 }
+        requires low { 1 ≤ count }
+        requires high { count ≤ 32 }
+        ensures frames { self.new.frames ≡ self.old.frames }
+        ensures count { self.new.count ≡ count }
+        ensures sums { (c m : ℕ) → c < count → m < self.old.frames → sum_at self.new c m ≡ mix interp 1 count (λ i. sum_at self.old 0 m) c }
+    {
+        widen(&mut self.held[0..count], count, 1, interp);
+        let sums = &mut self.moving[0..count * self.frames];
+        widen_if(sums, count, self.frames, interp, self.moves);
+        self.count = count;
+    }
+
+    /// Adds up what those of the connections carry that lead to an inlet, with the channels of each end by
+    /// its slot. Where all connections are mono, it is their sum that is mixed, once.
+    pub fn gather(&mut self, blocks: &[Block], into: &[Edge], counts: &[u32], inlet: Inlet)
+        requires low { 1 ≤ inlet.count }
+        requires high { inlet.count ≤ 32 }
+        requires few { length into.now ≤ 8192 }
+        requires sources { AreSources self.old.frames counts.now blocks.now into.now }
+        ensures frames { self.new.frames ≡ self.old.frames }
+        ensures count { self.new.count ≡ inlet.count }
+        ensures sums { (w : world) (c m : ℕ) → c < inlet.count → m < self.old.frames →
+            sum_at self.new c m ≡ total (map (part (frame_of w blocks.now counts.now m) inlet.interp inlet.count c) (filter (leads_to inlet.target) into.now)) }
+    {
+        if inlet.count > 1 && are_mono(into, counts) {
+            let mono = Inlet {
+                target: inlet.target,
+                count: 1,
+                interp: inlet.interp,
+            };
+            self.gather_each(blocks, into, counts, mono);
+            self.widen(inlet.count, inlet.interp);
+            return;
+        }
+        self.gather_each(blocks, into, counts, inlet);
+    }
+}
+
+// Whether each connection comes from an end of one channel.
+fn are_mono(into: &[Edge], counts: &[u32]) -> bool
+    requires { (i : ℕ) (d : an_edge) → i < length into.now → slot_of (reader_of (slice_index_or into.now i d).from.0) < length counts.now }
+    ensures { IsTrue result → (i : ℕ) (d : an_edge) → i < length into.now → counts_in counts.now (reader_of (slice_index_or into.now i d).from.0) ≡ 1 }
+{
+    for edge in into {
+        if counts[slot(reader(edge.from))] != 1 {
+            return false;
+        }
+    }
+    true
 }

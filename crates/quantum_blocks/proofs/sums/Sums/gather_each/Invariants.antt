@@ -5,7 +5,7 @@ use Rattle.meaning.specs.Values.{part}
 use Rattle.quantum_blocks.specs.Blocks.{frame_of}
 use Rattle.quantum_blocks.specs.Connections.{leads_to}
 use Rattle.quantum_blocks.specs.Sums.{sum_at}
-use Rattle.quantum_blocks.proofs.sums.Sums.gather.Given as goal
+use Rattle.quantum_blocks.proofs.sums.Sums.gather_each.Given as goal
 
 -- what the sums have, and what is left to be added, are the whole
 abbrev pub invariant-loop-edge : goal.invariant-loop-edge
