@@ -37,6 +37,19 @@ pub fn mix_add(acc: &mut [i64], to: usize, src: &[i32], from: usize, interp: Int
         add_channel(acc, src);
         return;
     }
+    mix_each(acc, to, src, from, interp);
+}
+
+// The same one output channel after another. It stands apart from `mix_add`, which is then so small that
+// it is compiled in the place of each call.
+fn mix_each(acc: &mut [i64], to: usize, src: &[i32], from: usize, interp: Interp)
+    requires to { 1 ≤ to }
+    requires lengths { (frames : ℕ) × (length acc.old ≡ to * frames) × (length src.now ≡ from * frames) }
+    requires room { All (IsWithin (2 ^ 47 - 2 ^ 34)) acc.old }
+    ensures sums { (frames c k : ℕ) → length acc.old ≡ to * frames → c < to → k < frames →
+        sample frames acc.new c k ≡ sample frames acc.old c k +ℤ mix interp from to (frame_at frames src.now k) c }
+    ensures room { (bound : ℕ) → All (IsWithin bound) acc.old → All (IsWithin (bound + 2 ^ 34)) acc.new }
+{
     let frames = acc.len() / to;
     for channel in 0..to {
         let first = channel * frames;
