@@ -1,4 +1,4 @@
-ghost use Rattle.std.specs.Prelude.{◌≡◌, ◌≤◌, ◌<◌, ◌+◌, ◌*◌, ◌+ℤ◌, ℕ, pos, length, slice_index_or, map, filter, if◌then◌else◌, take, IfOk, IfSome, IsTrue};
+ghost use Rattle.std.specs.Prelude.{◌≡◌, ◌↔◌, ◌≤◌, ◌<◌, ◌+◌, ◌*◌, ◌+ℤ◌, ℕ, pos, length, slice_index_or, map, filter, if◌then◌else◌, take, IfOk, IfSome, IsTrue};
 ghost use Rattle.mix_rules.specs.Blocks.{sample, frame_at};
 ghost use Rattle.wa_base.specs.Contexts.{IsQuantumSize};
 ghost use Rattle.wa_base.specs.Numbers.{sat as saturated};
@@ -263,7 +263,7 @@ impl Sums {
 // Whether each connection comes from an end of one channel.
 fn are_mono(into: &[Edge], counts: &[u32]) -> bool
     requires { (i : ℕ) (d : an_edge) → i < length into.now → slot_of (reader_of (slice_index_or into.now i d).from.0) < length counts.now }
-    ensures { IsTrue result → (i : ℕ) (d : an_edge) → i < length into.now → counts_in counts.now (reader_of (slice_index_or into.now i d).from.0) ≡ 1 }
+    ensures { IsTrue result ↔ ((i : ℕ) (d : an_edge) → i < length into.now → counts_in counts.now (reader_of (slice_index_or into.now i d).from.0) ≡ 1) }
 {
     for edge in into {
         if counts[slot(reader(edge.from))] != 1 {

@@ -14,4 +14,4 @@ returns-then-are_mono-clause-sums c w channel m in_range now =
     c.widen.ensures.sums channel m in_range (subst (λ q. m < q) (sym c.gather_each.ensures.frames) now)
     ∙ ap (λ (v : ℤ). mix c.args.inlet.interp 1 c.args.inlet.count (λ i. v) channel) (c.gather_each.ensures.sums w 0 m (omega arith) now)
     ∙ total_mixed c.args.inlet.interp c.args.inlet.count channel c.args.inlet.target one each c.args.into.now
-    (λ i d l. part_mono x c.args.inlet.interp c.args.inlet.count channel (slice_index_or c.args.into.now i d) (c.are_mono.ensures c.if-are_mono.true i d l))
+    (λ i d l. part_mono x c.args.inlet.interp c.args.inlet.count channel (slice_index_or c.args.into.now i d) (c.are_mono.ensures.0 c.if-are_mono.true i d l))
