@@ -146,8 +146,8 @@ fn next_writer_count(
 }
 
 impl Stretch {
-    // Whether an end is muted.
-    pub(crate) fn is_muted(&self, end: End) -> bool
+    /// Whether an end is muted.
+    pub fn is_muted(&self, end: End) -> bool
         requires marks { AreMarks self.now.piece.world.graph.value self.now.marks }
         requires end { IsIn end (ends self.now.piece.world.graph.value) }
         ensures { result ≡ muted self.now.piece.world.graph.value end }
@@ -158,9 +158,9 @@ impl Stretch {
         self.marks.muted[end.node.0 as usize]
     }
 
-    // Up to which quantum the writer of a delay is counted for its reader in a quantum: in a cycle up to
-    // the one before.
-    fn counted_until(&self, quantum: u64, node: NodeId) -> u64
+    /// Up to which quantum the writer of a delay is counted for its reader in a quantum: in a cycle up to
+    /// the one before.
+    pub fn counted_until(&self, quantum: u64, node: NodeId) -> u64
         requires marks { AreMarks self.now.piece.world.graph.value self.now.marks }
         requires node { node.0 < length self.now.piece.world.graph.value.nodes }
         requires delay { is_delay self.now.piece.world.graph.value node.0 ≡ true }

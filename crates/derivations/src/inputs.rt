@@ -14,8 +14,8 @@ use meaning::World;
 use wa_base::{NodeId, ParamId, Rate};
 
 impl<'a> Context<'a> {
-    // The piece that is in force in a quantum.
-    pub(crate) fn piece(self, quantum: u64) -> &'a Stretch
+    /// The piece that is in force in a quantum.
+    pub fn piece(self, quantum: u64) -> &'a Stretch
         requires { quantum < length (tape_in self) }
         ensures piece { IsInForce (tape_in self.entry) quantum result.now }
         ensures few { quantum < 2 ^ 62 }
@@ -26,8 +26,8 @@ impl<'a> Context<'a> {
         }
     }
 
-    // The piece that is in force at a frame.
-    pub(crate) fn piece_at(self, frame: u64) -> &'a Stretch
+    /// The piece that is in force at a frame.
+    pub fn piece_at(self, frame: u64) -> &'a Stretch
         requires ready { IsReady self }
         requires frame { HasFrame self frame }
         ensures { IsInForce (tape_in self.entry) (frame / self.entry.quantum) result.now }
@@ -78,8 +78,8 @@ pub(crate) fn next_of_param(
     next_led(context, taken, Target::Param(id), edges, place)
 }
 
-// The frame at which a parameter takes its connections: at k-rate the first of the quantum.
-fn param_frame(quantum: u32, world: &World, frame: u64, id: ParamId) -> u64
+/// The frame at which a parameter takes its connections: at k-rate the first of the quantum.
+pub fn param_frame(quantum: u32, world: &World, frame: u64, id: ParamId) -> u64
     requires some { 0 < quantum }
     requires valid { IsValid world.now }
     ensures { result ≡ (if has_k_rate (sounding world.now) id then quantum * (frame / quantum) else frame) }

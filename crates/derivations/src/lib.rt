@@ -15,10 +15,13 @@ mod outputs;
 mod places;
 mod tape;
 
+pub use inputs::param_frame;
 pub use known::Known;
+pub use marks::Marks;
 pub use needs::Search;
+pub use outputs::sounds;
 pub use places::{Context, Place};
-pub use tape::{Piece, Tape};
+pub use tape::{Piece, Stretch, Tape};
 
 /// How far a walk came stays so when one more fact is known.
 pub fn searched_law()

@@ -11,15 +11,15 @@ use std::alloc::Global;
 use std::sync::ledger::{Blank, Ledger};
 use wa_base::{End, NoMemory, NodeId, Steps};
 
-// What a graph says of each of its nodes.
+/// What a graph says of each of its nodes.
 #[derive(Drop)]
-pub(crate) struct Marks {
-    // The connections that lead to it, in the graph's order.
-    pub(crate) into: Parts<Edge>,
-    // Whether it is a delay in a cycle.
-    pub(crate) cycles: Vec<bool>,
-    // Whether its reader is muted.
-    pub(crate) muted: Vec<bool>,
+pub struct Marks {
+    /// The connections that lead to it, in the graph's order.
+    pub into: Parts<Edge>,
+    /// Whether it is a delay in a cycle.
+    pub cycles: Vec<bool>,
+    /// Whether its reader is muted.
+    pub muted: Vec<bool>,
 }
 
 // Surveys a graph, and counts no steps.

@@ -163,8 +163,8 @@ fn missing_offset(context: Context<'_>, world: &World, sample: Sample) -> Option
     context.missing(sample.param(ParamName::Offset))
 }
 
-// Whether a source sounds at a frame.
-fn sounds(world: &World, node: NodeId, frame: u64) -> bool
+/// Whether a source sounds at a frame.
+pub fn sounds(world: &World, node: NodeId, frame: u64) -> bool
     ensures { result ≡ sounds_at (sounding world.now) node.0 frame }
 {
     match world.scheds.find(node) {
@@ -219,8 +219,8 @@ fn next_delayed(
 }
 
 impl Stretch {
-    // How many frames a delay lasts whose delayTime has a value.
-    fn delay_frames(&self, quantum: u32, node: NodeId, time: Fix) -> u64
+    /// How many frames a delay lasts whose delayTime has a value.
+    pub fn delay_frames(&self, quantum: u32, node: NodeId, time: Fix) -> u64
         requires marks { AreMarks self.now.piece.world.graph.value self.now.marks }
         requires node { node.0 < length self.now.piece.world.graph.value.nodes }
         requires delay { is_delay self.now.piece.world.graph.value node.0 ≡ true }

@@ -16,12 +16,12 @@ pub struct Piece {
     pub quanta: u64,
 }
 
-// A piece with the number of quanta up to its end, and what the graph of its world says.
+/// A piece with the number of quanta up to its end, and what the graph of its world says.
 #[derive(Drop)]
-pub(crate) struct Stretch {
-    pub(crate) piece: Piece,
-    pub(crate) end: u64,
-    pub(crate) marks: Marks,
+pub struct Stretch {
+    pub piece: Piece,
+    pub end: u64,
+    pub marks: Marks,
 }
 
 /// The worlds of a session, one after the other. Contracts see it as the list of its pieces.

@@ -1,0 +1,5 @@
+pub mod Faults
+pub mod Steps
+pub mod Derived
+pub mod Stacks
+pub mod Laws
