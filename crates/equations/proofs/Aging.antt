@@ -35,6 +35,7 @@ module _ (x : Context) (given : IsGiven x) (f n : ℕ) (short : HasFrame x f) (t
   pub birth_and : f ≡ (node_at (world_of x f) n).attrs.birth + (f - a.birth)
   birth_and = let low = born_low in let same = birth_is in omega (arith, low, same)
 
+-- what is known of its history
 module _ (x : Context) (given : IsGiven x) (heard : Heard) (past : HasPast x heard) (s : Stretch) (force : IsInForce (tape_in x) (heard.frame / x.quantum) s) where
   pub kind_now : (k : Kind) → kind_at s.piece.world.nodes heard.node.0 ≡ Some k → kind_of (world_of x heard.frame) heard.node.0 ≡ k
   kind_now k found = kind x given (heard.frame / x.quantum) s force heard.node.0 k past.node found

@@ -1,5 +1,5 @@
 -- What the reader of a delay gives.
-use Rattle.std.proofs.Common.{ℕ, ℤ, pos, negsuc, length, [], inl, inr, ◌≡◌, ◌+◌, ◌-◌, ◌/◌, ◌<◌, ◌≤◌, Bool, true, false, refl, sym, ◌∙◌, ap, subst, arith}
+use Rattle.std.proofs.Common.{ℕ, ℤ, pos, negsuc, length, [], inr, ◌≡◌, ◌+◌, ◌-◌, ◌/◌, ◌<◌, ◌≤◌, Bool, true, false, refl, sym, ◌∙◌, ap, subst, arith}
 use Rattle.std.specs.Prelude.{if◌then◌else◌, nat_lt, max}
 use Rattle.std.proofs.lemmas.Bool.Decides.{nat_tests}
 use Rattle.std.proofs.lemmas.Int.{ints}
@@ -22,13 +22,12 @@ use Rattle.meaning.proofs.Joined.{joined_in}
 use Rattle.meaning.proofs.MixedUp.{mix_fix}
 use Rattle.meaning.proofs.ValueLaws.{value_solves}
 use Rattle.meaning.proofs.Successors.{div-le-div}
-use Rattle.explain.specs.declared.facts.Key.TheVariants.{Par}
 use Rattle.explain.specs.Facts.{HasOutput}
 use Rattle.explain.specs.Needs.{carried, delayed_needs}
 use Rattle.explain.proofs.Agreeing.{seen_is}
 use Rattle.derivations.specs.declared.places.Context.{Context}
 use Rattle.derivations.specs.declared.tape.Stretch.{Stretch}
-use Rattle.derivations.specs.Contexts.{tape_in, world_of, StandsIn, HasFrame}
+use Rattle.derivations.specs.Contexts.{tape_in, world_of, HasFrame}
 use Rattle.derivations.specs.Stretches.{IsInForce}
 use Rattle.derivations.proofs.Staying.{writer_there}
 use Rattle.derivations.proofs.Worlds.{world_is}
@@ -70,9 +69,6 @@ module _ (x : Context) (given : IsGiven x) (f n : ℕ) where
       frames_is ∙ ap (lasting_in s.piece.world) time_is ∙ ap (λ (y : World). lasting_in y time) (sym (world_is (tape_in x) (f / x.quantum) s.piece.world in_force.there))
 
   -- ---- what is known
-
-  pub time_known : AllKnown x (delayed_needs x.quantum (tape_in x) (meaning_of x) f n) → StandsIn x (Par f (record { 0 = n }) param.DelayTime)
-  time_known known = known (Par f (record { 0 = n }) param.DelayTime) (inl refl)
 
   pub carried_known : AllKnown x (delayed_needs x.quantum (tape_in x) (meaning_of x) f n) → (node_at w n).attrs.birth + d ≤ f → AllKnown x (carried x.quantum (tape_in x) (meaning_of x) (f - d) (writer_of n) 0)
   carried_known known born k h =

@@ -1,5 +1,5 @@
 -- The computed value of a parameter, by the connections that lead to its node.
-use Rattle.std.proofs.Common.{ℕ, ℤ, ◌≡◌, ◌*◌, ◌/◌, ◌<◌, ◌≤◌, ◌^◌, ◌+ℤ◌, map, filter, Bool, true, false, refl, sym, ◌∙◌, ap, ap₂, arith}
+use Rattle.std.proofs.Common.{ℕ, ℤ, ◌≡◌, ◌*◌, ◌/◌, ◌<◌, ◌≤◌, ◌^◌, ◌+ℤ◌, map, filter, Bool, true, false, sym, ◌∙◌, ap, ap₂, arith}
 use Rattle.std.specs.Prelude.{if◌then◌else◌}
 use Rattle.wa_base.specs.Numbers.{sat}
 use Rattle.wa_base.specs.declared.graph_names.Interp.TheVariants.{Speakers}
@@ -15,7 +15,6 @@ use Rattle.meaning.specs.Values.{Frame, mixed_sum, computed_value}
 use Rattle.explain.proofs.Agreeing.{seen_is}
 use Rattle.derivations.specs.declared.places.Context.{Context}
 use Rattle.derivations.specs.Contexts.{tape_in, world_of}
-use Rattle.derivations.proofs.Worlds.{quantum_of_first}
 use Rattle.equations.specs.declared.sums.Lane.{Lane}
 use Rattle.equations.specs.Given.{IsGiven, meaning_of, frame_of, frames_before}
 use Rattle.equations.specs.Sums.{led_part}
@@ -41,14 +40,6 @@ module _ (x : Context) (given : IsGiven x) (f : ℕ) (id : ParamId) where
 
   pub early : taken ≤ f
   early = early_by (is_k_rate w id)
-
-  same_by : (t : Bool) → taken_by t / x.quantum ≡ f / x.quantum
-  same_by true = quantum_of_first x.quantum (f / x.quantum) given.ready.some
-  same_by false = refl
-
-  -- it is a frame of the same quantum
-  pub same_quantum : taken / x.quantum ≡ f / x.quantum
-  same_quantum = same_by (is_k_rate w id)
 
   abbrev mono : Lane
   mono = record { interp = Speakers; channels = 1; channel = 0 }

@@ -1,7 +1,6 @@
 -- An end of the world that is in force, by the row of its node's kind.
-use Rattle.std.proofs.Common.{ℕ, ◌≡◌, ◌*◌, ◌<◌, ◌≤◌, ◌^◌, length, Bool, true, false, Some, sym, ◌∙◌, ap, subst, arith}
+use Rattle.std.proofs.Common.{ℕ, ◌≡◌, ◌<◌, length, Bool, true, false, Some, sym, ◌∙◌, ap, subst}
 use Rattle.std.specs.Prelude.{◌&&◌, not}
-use Rattle.std.proofs.Math.Nat.{mul-le-mul_left}
 use Rattle.wa_base.specs.declared.graph_names.End.{End}
 use Rattle.law_base.specs.Members.{IsIn}
 use Rattle.node_table.specs.Kinds.{row, is_delay_kind}
@@ -22,13 +21,10 @@ use Rattle.derivations.proofs.Counted.{delay_is, channels_are, node_there}
 use Rattle.equations.specs.Given.{IsGiven}
 use Rattle.equations.proofs.InForce.{is, kind}
 
+-- the end of a delay that is not its writer is its reader
 pub both_are : (a b : Bool) → a ≡ true → not b ≡ true → (a && not b) ≡ true
 both_are true b h reader = reader
 both_are false b h reader = absurd cc
-
--- the first frame of a quantum of a short tape
-pub first_low : (q j long : ℕ) → j < long → q * long ≤ 2 ^ 62 → q * j ≤ 2 ^ 62
-first_low q j long there short = let less = mul-le-mul_left q (let l : j ≤ long = omega arith in l) in omega (arith, less, short)
 
 module _ (x : Context) (given : IsGiven x) (j : ℕ) (s : Stretch) (force : IsInForce (tape_in x) j s) (e : End) (there : IsIn e (ends (world_in (tape_in x) j).graph.value)) where
   abbrev w : World
@@ -37,6 +33,7 @@ module _ (x : Context) (given : IsGiven x) (j : ℕ) (s : Stretch) (force : IsIn
   pub node_in : e.node.0 < length w.nodes
   node_in = subst (λ (y : World). e.node.0 < length y.nodes) (sym (is x given j s force)) (node_there x.quantum (tape_in x) given.ready.regular j e s force there)
 
+  -- whether it is muted is what the piece says
   pub muted_here : (t b : Bool) → t ≡ muted s.piece.world.graph.value e → t ≡ b → muted w.graph.value e ≡ b
   muted_here t b told same = ap (λ (y : World). muted y.graph.value e) (is x given j s force) ∙ sym told ∙ same
 

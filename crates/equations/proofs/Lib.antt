@@ -9,8 +9,7 @@ pub mod Counting
 pub mod Ending
 pub mod Driving
 pub mod Playing
-pub mod MixForms
-pub mod Weighing
+pub mod Weights
 pub mod Dots
 pub mod Backs
 pub mod Limits

@@ -1,16 +1,14 @@
 -- What a node with a history was created with.
 use Rattle.std.proofs.Common.{ℕ, ℤ, ◌≡◌, ◌/◌, ◌≤◌, length, List, Bool, true, false, Option, None, Some, refl, subst, arith}
-use Rattle.std.specs.Prelude.{if◌then◌else◌, ◌&&◌, not, nat_le, nat_lt}
+use Rattle.std.specs.Prelude.{if◌then◌else◌, ◌&&◌, not, nat_le}
 use Rattle.std.proofs.lemmas.Bool.Decides.{nat_tests}
 use Rattle.wa_base.specs.declared.exceptions.Exc.TheVariants.{NotSupported, InvalidState}
-use Rattle.wa_base.specs.declared.features.Feature.TheVariants.{LongResponse, LoudResponse}
 use Rattle.law_base.proofs.Tests.{and_parts}
-use Rattle.node_table.specs.Convolutions.{all_small, response_refusal}
 use Rattle.node_table.specs.Curves.{IsCurve}
 use Rattle.node_table.specs.Filters.{is_order, is_zero, all_zero, filter_refusal, IsFilter}
 use Rattle.node_table.specs.Frames.{item}
 use Rattle.node_table.specs.Kinds.{IsInLimits}
-use Rattle.node_table.specs.declared.equation.Equation.TheVariants.{Filter, Convolution}
+use Rattle.node_table.specs.declared.equation.Equation.TheVariants.{Filter}
 use Rattle.node_table.specs.declared.kinds.Kind.TheVariants.{Shaper, Causal}
 use Rattle.node_table.proofs.NodeLists.{curve_allowed}
 use Rattle.meaning.specs.World.{no_world, kind_of}
@@ -40,13 +38,6 @@ filter_allowed forward back fine = by_order (is_order forward && is_order back) 
         let second = order_is back both.1 in
         record { forward_some = first.0; forward_most = first.1; back_some = second.0; back_most = second.1; divisor = zero }
 
-response_allowed : (response : List ℤ) → response_refusal response ≡ None → length response ≤ 16384
-response_allowed response fine = by_length (nat_lt 16384 (length response)) (all_small response) refl fine
-  where
-    by_length : (a b : Bool) → nat_lt 16384 (length response) ≡ a → (if a then Some (NotSupported (Some LongResponse)) else if not b then Some (NotSupported (Some LoudResponse)) else None) ≡ None → length response ≤ 16384
-    by_length true b is h = absurd cc
-    by_length false b is h = grind (arith, nat_tests)
-
 module _ (x : Context) (given : IsGiven x) (f n : ℕ) (short : HasFrame x f) where
   limits : IsInLimits (kind_of (world_of x f) n)
   limits = limits_there _ (given.ready.regular.valid (f / x.quantum) no_world short) n
@@ -56,6 +47,3 @@ module _ (x : Context) (given : IsGiven x) (f n : ℕ) (short : HasFrame x f) wh
 
   pub filter_of : (forward back : List ℤ) → kind_of (world_of x f) n ≡ Causal (Filter forward back) → IsFilter forward back
   filter_of forward back is = filter_allowed forward back (subst IsInLimits is limits)
-
-  pub response_of : (response : List ℤ) → kind_of (world_of x f) n ≡ Causal (Convolution response) → length response ≤ 16384
-  response_of response is = response_allowed response (subst IsInLimits is limits)

@@ -1,5 +1,5 @@
 -- What is known where the needs of a key are, by its form; and a fact by its parts.
-use Rattle.std.proofs.Common.{ℕ, ℤ, ◌≡◌, List, false, Option, None, refl, sym, ◌∙◌, ap}
+use Rattle.std.proofs.Common.{ℕ, ℤ, ◌≡◌, List, Option, sym, ◌∙◌, ap}
 use Rattle.wa_base.specs.declared.graph_names.End.{End}
 use Rattle.wa_base.specs.declared.graph_names.NodeId.{NodeId}
 use Rattle.wa_base.specs.declared.graph_names.ParamName.{ParamName}
@@ -12,7 +12,6 @@ use Rattle.explain.specs.Needs.{connections_needs, param_needs, count_needs, his
 use Rattle.derivations.specs.declared.places.Context.{Context}
 use Rattle.derivations.specs.Contexts.{tape_in, world_of}
 use Rattle.equations.specs.Given.{meaning_of, AllKnown}
-use Rattle.equations.specs.Histories.{is_history}
 
 module _ (x : Context) where
   pub count_known : (j : ℕ) (e : End) (o : ℕ) → AllKnown x (needs x.quantum (tape_in x) (meaning_of x) (Count j e o)) → AllKnown x (count_needs x.quantum (tape_in x) (meaning_of x) j e)
@@ -43,11 +42,3 @@ module _ (x : Context) where
       ap (λ y. let f : Fact = record { key = y; value = value_by_equation x.quantum (tape_in x) (meaning_of x) k; cells = cells_in x.quantum (tape_in x) (meaning_of x) k } in f) (sym own)
       ∙ ap (λ y. let f : Fact = record { key = key; value = y; cells = cells_in x.quantum (tape_in x) (meaning_of x) k } in f) (sym is)
       ∙ ap (λ y. let f : Fact = record { key = key; value = v; cells = y } in f) (sym left)
-
-  -- nothing but a history leaves cells
-  pub no_cells : (k : Key) → is_history k ≡ false → None ≡ cells_in x.quantum (tape_in x) (meaning_of x) k
-  no_cells (Count j e o) is = refl
-  no_cells (Inlet f e i c) is = refl
-  no_cells (Par f node name) is = refl
-  no_cells (Out f e o c) is = refl
-  no_cells (Hist f node c) is = absurd cc

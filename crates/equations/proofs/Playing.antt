@@ -1,6 +1,6 @@
 -- What a source plays, by its schedule and its buffer.
 use Rattle.std.proofs.Common.{ℕ, zero, suc, ℤ, pos, ◌≡◌, ◌+◌, ◌*◌, ◌<◌, ◌≤◌, List, [], ◌∷◌, length, take, drop, Bool, true, false, Option, Some, None, refl, sym, ◌∙◌, ap, subst, arith}
-use Rattle.std.specs.Prelude.{if◌then◌else◌, option_map, option_and_then, slice_get, IsSome, IfSome, unwrap_or}
+use Rattle.std.specs.Prelude.{if◌then◌else◌, option_map, slice_get, IsSome, IfSome, unwrap_or}
 use Rattle.std.specs.Option.{option_map_or}
 use Rattle.std.proofs.lemmas.List.{length-drop, length-take-le}
 use Rattle.std.proofs.Math.Nat.{mul-le-mul_right}
@@ -9,48 +9,24 @@ use Rattle.buffer_store.specs.declared.buffers.Buffer.{Buffer as AudioBuffer}
 use Rattle.buffer_store.specs.declared.buffers.Shape.{Shape}
 use Rattle.buffer_store.specs.Buffers.{channel_of, channel_at, shape_at, HasChannel, IsBuffer, AreBuffers}
 use Rattle.sched_source.specs.declared.content.Content.{Content}
-use Rattle.sched_source.specs.Schedule.{Schedule, plays_at, plays_in, end_frame, is_between, sample_at, played}
+use Rattle.sched_source.specs.Schedule.{Schedule, plays_at, end_frame, is_between, sample_at, played}
 use Rattle.node_table.specs.declared.rows.Plays.{Plays}
 use Rattle.node_table.specs.declared.rows.Plays.TheVariants as plays
 use Rattle.meaning.specs.declared.scheds.Play.{Play}
 use Rattle.meaning.specs.declared.world.World.{World}
-use Rattle.meaning.specs.World.{sounding, find_play, frames_in, channels_in, samples_in, sounds_at, played_at, played_channels}
+use Rattle.meaning.specs.World.{sounding, find_play, frames_in, channels_in, samples_in, sounds_at, played_at}
 use Rattle.meaning.specs.Validity.{IsPlay}
 use Rattle.derivations.proofs.Filing.{got_at, got_low}
 
--- the schedule of a source, as it is looked up
-pub found_play : (plays : List Play) (node : ℕ) (place : Option ℕ) (i : ℕ) (p : Play) → option_and_then (slice_get plays) place ≡ find_play plays node → place ≡ Some i → slice_get plays i ≡ Some p → find_play plays node ≡ Some p
-found_play plays node place i p item is there = sym item ∙ ap (option_and_then (slice_get plays)) is ∙ there
-
-pub no_play : (plays : List Play) (node : ℕ) (place : Option ℕ) → option_and_then (slice_get plays) place ≡ find_play plays node → place ≡ None → find_play plays node ≡ None
-no_play plays node place item is = sym item ∙ ap (option_and_then (slice_get plays)) is
-
 module _ (w : World) (node : ℕ) where
-  abbrev channels_by : ℕ → ℕ → Option Play → ℕ
-  channels_by count first o = option_map_or (λ p. if plays_in count p.sched first then channels_in w.store p.buffer else 1) o 1
-
-  pub channels_none : (count first : ℕ) → find_play w.scheds.items node ≡ None → 1 ≡ played_channels (sounding w) node count first
-  channels_none count first none = sym (ap (channels_by count first) none)
-
-  pub channels_some : (count first : ℕ) (p : Play) → find_play w.scheds.items node ≡ Some p → (if plays_in count p.sched first then channels_in w.store p.buffer else 1) ≡ played_channels (sounding w) node count first
-  channels_some count first p found = sym (ap (channels_by count first) found)
-
   abbrev sample_by : ℕ → ℕ → Option Play → ℤ
   sample_by c f o = option_map_or (λ p. played p.sched (samples_in w.store p.buffer c) f) o (pos 0)
-
-  pub sample_none : (c f : ℕ) → find_play w.scheds.items node ≡ None → pos 0 ≡ played_at (sounding w) node c f
-  sample_none c f none = sym (ap (sample_by c f) none)
 
   pub sample_some : (c f : ℕ) (p : Play) → find_play w.scheds.items node ≡ Some p → played p.sched (samples_in w.store p.buffer c) f ≡ played_at (sounding w) node c f
   sample_some c f p found = sym (ap (sample_by c f) found)
 
   pub sounds_by : (f : ℕ) (p : Play) → find_play w.scheds.items node ≡ Some p → sounds_at (sounding w) node f ≡ plays_at p.sched f
   sounds_by f p found = ap (λ (o : Option Play). option_map_or (λ p. plays_at p.sched f) o false) found
-
--- without a buffer it is one channel, and silence
-pub unbuffered_channels : (store : List AudioBuffer) (b : Bool) (source : Option BufId) → source ≡ None → 1 ≡ (if b then channels_in store source else 1)
-unbuffered_channels store true source none = sym (ap (channels_in store) none)
-unbuffered_channels store false source none = refl
 
 no_sample : (content : Option Content) (start : Option ℕ) (f : ℕ) → pos 0 ≡ sample_at content start [] f
 no_sample (Some content) (Some start) f = refl
@@ -74,13 +50,6 @@ channels_are store b shape is = by_found (slice_get store b.0) is
     by_found : (o : Option AudioBuffer) → option_map (λ (x : AudioBuffer). x.shape) o ≡ Some shape → shape.channels ≡ option_map_or (λ (x : AudioBuffer). x.shape.channels) o 1
     by_found None is = absurd cc
     by_found (Some x) is = ap (λ (o : Option Shape). (unwrap_or o shape).channels) (sym is)
-
-pub samples_are : (store : List AudioBuffer) (b : BufId) (c : ℕ) (samples : List ℤ) → channel_at store b.0 c ≡ Some samples → samples_in store (Some b) c ≡ samples
-samples_are store b c samples is = by_found (slice_get store b.0) is
-  where
-    by_found : (o : Option AudioBuffer) → option_map (λ (x : AudioBuffer). channel_of x c) o ≡ Some samples → option_map_or (λ (x : AudioBuffer). channel_of x c) o [] ≡ samples
-    by_found None is = absurd cc
-    by_found (Some x) is = ap (λ (o : Option (List ℤ)). unwrap_or o []) is
 
 -- ---- the buffer of a source
 

@@ -4,8 +4,6 @@ use Rattle.std.specs.Prelude.{if◌then◌else◌, nat_lt}
 use Rattle.std.proofs.lemmas.Bool.Decides.{nat_tests}
 use Rattle.wa_base.specs.Numbers.{sat}
 use Rattle.wa_base.specs.declared.graph_names.Interp.{Interp}
-use Rattle.wa_base.specs.declared.graph_names.Mode.{Mode}
-use Rattle.wa_base.specs.declared.graph_names.Mode.TheVariants.{Max, ClampedMax, Explicit}
 use Rattle.law_base.specs.Members.{IsIn}
 use Rattle.mix_rules.specs.Counts.{greatest, input_count}
 use Rattle.mix_rules.specs.Mixing.{total}
@@ -74,11 +72,6 @@ channels_are w counts n i most attrs own is =
     ap (λ (a : Attrs). input_count a.mode a.count (most ∷ [])) (sym own)
     ∙ ap (λ k. input_count (node_at w n).attrs.mode (node_at w n).attrs.count (k ∷ [])) (is ∙ greatest_led (input_of n i) counts w.graph.value.edges)
     ∙ by_greatest (node_at w n).attrs.mode (node_at w n).attrs.count _
-
-pub channels_few : (mode : Mode) (channels most : ℕ) → channels ≤ 32 → most ≤ 32 → input_count mode channels (most ∷ []) ≤ 32
-channels_few Max channels most own others = omega arith
-channels_few ClampedMax channels most own others = omega arith
-channels_few Explicit channels most own others = own
 
 -- ---- what it takes in
 

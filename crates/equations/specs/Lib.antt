@@ -1,5 +1,5 @@
 pub mod Given
-pub mod Forms
+pub mod Weights
 pub mod Sums
 pub mod Histories
 pub mod Outputs

@@ -29,35 +29,37 @@ pub(crate) fn convolver_output(response: &[Fix], inputs: &[i64]) -> Fix
 fn dot(coefficients: &[Fix], items: &[i64]) -> i128
     requires { length coefficients.now ≤ 16384 }
     ensures value { result ≡ filters.dot coefficients.now items.now }
-    ensures small { unsigned_abs result ≤ 2 ^ 110 }
+    ensures small { unsigned_abs result ≤ 2 ^ 112 }
 {
     let mut sum: i128 = 0;
     for i in 0..coefficients.len().min(items.len()) {
-        sum = with_product(sum, coefficients[i], items[i]);
+        sum = with_product(sum, i64::from(coefficients[i]), items[i]);
     }
     sum
 }
 
-fn with_product(sum: i128, coefficient: Fix, item: i64) -> i128
-    requires { unsigned_abs sum ≤ 2 ^ 110 }
+// The exact sum with one product more.
+pub(crate) fn with_product(sum: i128, coefficient: i64, item: i64) -> i128
+    requires sum { unsigned_abs sum ≤ 2 ^ 112 }
+    requires coefficient { unsigned_abs coefficient ≤ 2 ^ 34 }
     ensures value { result ≡ sum +ℤ coefficient *ℤ item }
-    ensures small { unsigned_abs result ≤ unsigned_abs sum + 2 ^ 95 }
+    ensures small { unsigned_abs result ≤ unsigned_abs sum + 2 ^ 97 }
 {
     sum + i128::from(coefficient) * i128::from(item)
 }
 
 fn difference(a: i128, b: i128) -> i128
-    requires a { unsigned_abs a ≤ 2 ^ 110 }
-    requires b { unsigned_abs b ≤ 2 ^ 110 }
+    requires a { unsigned_abs a ≤ 2 ^ 112 }
+    requires b { unsigned_abs b ≤ 2 ^ 112 }
     ensures value { result ≡ a -ℤ b }
-    ensures small { unsigned_abs result ≤ 2 ^ 112 }
+    ensures small { unsigned_abs result ≤ 2 ^ 114 }
 {
     a - b
 }
 
 // A sum over the first feedback coefficient, rounded once and saturated.
 fn quotient(sum: i128, divisor: Fix) -> Fix
-    requires sum { unsigned_abs sum ≤ 2 ^ 112 }
+    requires sum { unsigned_abs sum ≤ 2 ^ 114 }
     requires divisor { is_zero divisor ≡ false }
     ensures { result ≡ filters.quotient sum divisor }
 {
@@ -70,7 +72,7 @@ fn quotient(sum: i128, divisor: Fix) -> Fix
 
 // The same over a number above 0.
 fn quotient_up(sum: i128, divisor: i128) -> Fix
-    requires sum { unsigned_abs sum ≤ 2 ^ 112 }
+    requires sum { unsigned_abs sum ≤ 2 ^ 114 }
     requires low { pos 1 ≤ℤ divisor }
     requires high { divisor ≤ℤ pos (2 ^ 31) }
     ensures { result ≡ saturated (rnd sum divisor) }

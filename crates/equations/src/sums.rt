@@ -1,5 +1,6 @@
 ghost use Rattle.std.specs.Prelude.{◌≡◌, ◌<◌, ◌≤◌, ◌+◌, ◌^◌, ◌+ℤ◌, length, map, unsigned_abs};
 ghost use Rattle.law_base.specs.Members.{IsIn};
+ghost use Rattle.lane_kern.specs.Blocks.{IsWithin};
 ghost use Rattle.conn_graph.specs.declared.edges.Edge.{Edge as an_edge};
 ghost use Rattle.mix_rules.specs.Counts.{greatest};
 ghost use Rattle.mix_rules.specs.Mixing.{total};
@@ -8,7 +9,6 @@ ghost use Rattle.conn_graph.specs.Ends.{reader_of};
 ghost use Rattle.derivations.specs.Contexts.{tape_in};
 ghost use Rattle.derivations.specs.Groups.{led, one, source_keys};
 ghost use Rattle.equations.specs.Given.{IsGiven, meaning_of, AllKnown, frame_of};
-ghost use Rattle.equations.specs.Forms.{IsWithin};
 ghost use Rattle.equations.specs.Sums as spec;
 
 use crate::mixing::mix;
@@ -35,6 +35,7 @@ pub(crate) fn total_led(
 ) -> i128
     requires given { IsGiven context }
     requires few { length edges.now ≤ 8192 }
+    requires channels { lane.channels ≤ 32 }
     requires lane { lane.channel < lane.channels }
     requires known { (x : an_edge) → IsIn x edges.now → AllKnown context (led target (source_keys context.quantum (tape_in context) (meaning_of context) frame) x) }
     ensures { result ≡ total (map (spec.led_part target (frame_of context.entry frame) lane) edges.now) }
@@ -59,6 +60,7 @@ fn with_part(sum: i128, part: i128) -> i128
 // What a connection carries, mixed to a lane, where it leads to the target.
 fn led_part(context: Context<'_>, frame: u64, target: Target, edge: Edge, lane: Lane) -> i128
     requires given { IsGiven context }
+    requires channels { lane.channels ≤ 32 }
     requires lane { lane.channel < lane.channels }
     requires known { AllKnown context (led target (source_keys context.quantum (tape_in context) (meaning_of context) frame) edge) }
     ensures value { result ≡ spec.led_part target (frame_of context.entry frame) lane edge }

@@ -1,11 +1,10 @@
-ghost use Rattle.std.specs.Prelude.{◌≡◌, ◌≤◌, ◌/◌, ◌<◌, ℕ, pos, Some, IfSome};
-ghost use Rattle.wa_base.specs.Numbers.{IsFix};
+ghost use Rattle.std.specs.Prelude.{◌≡◌, ◌≤◌, ◌/◌, ◌<◌, ℕ};
+ghost use Rattle.lane_kern.specs.Blocks.{at};
 ghost use Rattle.explain.specs.declared.facts.Key.TheVariants as keys;
 ghost use Rattle.explain.specs.Accounts.{value_in, cells_in};
 ghost use Rattle.explain.specs.Needs.{carried};
 ghost use Rattle.derivations.specs.Contexts.{tape_in, StandsIn};
 ghost use Rattle.equations.specs.Given.{IsGiven, meaning_of, AllKnown};
-ghost use Rattle.equations.specs.Forms.{sample_of};
 
 use crate::mixing::{Carried, MAX_CHANNELS};
 use derivations::Context;
@@ -99,7 +98,7 @@ pub(crate) fn carried_by(context: Context<'_>, frame: u64, end: End, output: u32
     requires known { AllKnown context (carried context.quantum (tape_in context) (meaning_of context) frame end output) }
     ensures count { result.count ≡ (meaning_of context.entry).counts (frame / context.entry.quantum) end }
     ensures few { result.count ≤ 32 }
-    ensures samples { (c : ℕ) → c < result.count → sample_of result.samples c ≡ (meaning_of context.entry).values frame end output c }
+    ensures samples { (c : ℕ) → c < result.count → at result.samples c ≡ (meaning_of context.entry).values frame end output c }
 {
     let count = count_of(context, frame / u64::from(context.quantum), end, output);
     let mut samples = [0; MAX_CHANNELS];

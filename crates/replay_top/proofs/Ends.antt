@@ -1,10 +1,10 @@
 -- How the ends of a run meet the answer.
 use Rattle.std.proofs.Common.{◌≡◌, ◌≤◌, ◌<◌, ℕ, List, [], length, Option, Some, None, Bool, true, false, if◌then◌else◌, Result, Ok, Err, nat_lt, arith, refl, sym, inl, inr, ◌∙◌, ◌&&◌, ap, subst}
-use Rattle.std.specs.Prelude.{unwrap_or, take, IsTrue, is_none}
+use Rattle.std.specs.Prelude.{unwrap_or, IsTrue, is_none}
 use Rattle.std.proofs.Math.Bool.{and-false}
 use Rattle.std.specs.Io.KnownBytes.{IsAtEnd}
 use Rattle.std.proofs.lemmas.Bool.Decides.{nat_tests}
-use Rattle.io_edge.specs.Paths.{Paths, SamePaths, Sets}
+use Rattle.io_edge.specs.Paths.{Paths, SamePaths}
 use Rattle.io_edge.specs.Told.{IsToldAs}
 use Rattle.script_ast.specs.declared.call_list.Script.{Script}
 use Rattle.script_json.specs.Script.{script_of}
@@ -15,8 +15,10 @@ use Rattle.command_line.specs.Words.{Reading, reading_by_word}
 use Rattle.load_gen.specs.Generator as generator
 use Rattle.session.specs.Folders.{Folder}
 use Rattle.session.specs.Session.{session_of}
-use Rattle.replay_top.specs.Answer.{Answer, File, Decodes, AskedDecodes, status_of, without_file, answer, answer_to_reading, answer_to_bytes, answer_to_script}
-use Rattle.replay_top.specs.Run.{Outside, outside, SameFiles, HasFile, HasFrontOfFile, IsWhole, IsCutShort, Answers, Replays, Counts, Ran, IsReadToEnd, TextEnds}
+use Rattle.answers.specs.Outside.{Outside, outside}
+use Rattle.answers.proofs.Since.{gives_since, text_fault_since, file_fault_since, cut_short_since}
+use Rattle.replay_top.specs.Answer.{Answer, Decodes, AskedDecodes, status_of, without_file, answer, answer_to_reading, answer_to_bytes, answer_to_script}
+use Rattle.replay_top.specs.Run.{IsWhole, Answers, Replays, Counts, Ran, IsReadToEnd, TextEnds}
 use Rattle.replay_top.specs.Words.{reads_source, asks_source, script_by, script_asked}
 use Rattle.replay_top.specs.declared.status.Status.{Status}
 use Rattle.replay_top.specs.declared.status.Status.TheVariants.{Rendered, Unrendered, BadWords, BadScript, ScriptTooLong, ScriptFault, AssetFault, TranscriptFault, WavFault, NoMemory}
@@ -50,44 +52,20 @@ replays NoMemory answer decodes faults now old new ends = ends
 -- ---- a store whose files were read in between, of which none changed
 
 module _ (written : Option (List ℕ)) (sink_faults : ℕ) (tells : Bool) (paths later : Paths) (write_faults : ℕ) (new : Outside) (same : IsTrue tells → SamePaths paths later) where
-  abbrev before : Outside
-  before = outside written sink_faults tells paths write_faults
+  whole_since : (status : Status) (answer : Answer) → IsWhole status answer (outside written sink_faults tells later write_faults) new → IsWhole status answer (outside written sink_faults tells paths write_faults) new
+  whole_since status answer ends = (ends.0, gives_since written sink_faults tells paths later write_faults new same answer.text answer.file ends.1)
 
-  abbrev since : Outside
-  since = outside written sink_faults tells later write_faults
-
-  files_since : SameFiles since new → SameFiles before new
-  files_since is told q = is told q ∙ same told q
-
-  sets_since : (path bytes : List ℕ) → IsTrue tells → Sets later new.paths path bytes → Sets paths new.paths path bytes
-  sets_since path bytes told sets = record { here = sets.here; others = λ q other. sets.others q other ∙ same told q }
-
-  file_since : (file : Option File) → HasFile since new file → HasFile before new file
-  file_since None has = files_since has
-  file_since (Some file) has = λ told. sets_since file.path file.bytes told (has told)
-
-  front_since : (file : Option File) → HasFrontOfFile since new file → HasFrontOfFile before new file
-  front_since None has = files_since has
-  front_since (Some file) has = λ told. elim (has told) [
-    | inl is ↦ inl (λ q. is q ∙ same told q)
-    | inr part ↦ inr (part.0, sets_since file.path (take part.0 file.bytes) told part.1)
-  ]
-
-  cut_since : (answer : Answer) → IsCutShort answer since new → IsCutShort answer before new
-  cut_since answer (inl (text, files)) = inl (text, files_since files)
-  cut_since answer (inr (text, file)) = inr (text, front_since answer.file file)
-
-  pub answers_since : (status : Status) (answer : Answer) → Answers status answer since new → Answers status answer before new
-  answers_since Rendered answer ends = (ends.0, ends.1, file_since answer.file ends.2)
-  answers_since Unrendered answer ends = (ends.0, ends.1, file_since answer.file ends.2)
-  answers_since BadWords answer ends = (ends.0, ends.1, file_since answer.file ends.2)
-  answers_since BadScript answer ends = (ends.0, ends.1, file_since answer.file ends.2)
-  answers_since ScriptTooLong answer ends = (ends.0, ends.1, file_since answer.file ends.2)
+  pub answers_since : (status : Status) (answer : Answer) → Answers status answer (outside written sink_faults tells later write_faults) new → Answers status answer (outside written sink_faults tells paths write_faults) new
+  answers_since Rendered answer ends = whole_since Rendered answer ends
+  answers_since Unrendered answer ends = whole_since Unrendered answer ends
+  answers_since BadWords answer ends = whole_since BadWords answer ends
+  answers_since BadScript answer ends = whole_since BadScript answer ends
+  answers_since ScriptTooLong answer ends = whole_since ScriptTooLong answer ends
   answers_since ScriptFault answer ends = absurd ends
   answers_since AssetFault answer ends = absurd ends
-  answers_since TranscriptFault answer ends = record { cause = ends.cause; text = ends.text; files = files_since ends.files }
-  answers_since WavFault answer ends = record { cause = ends.cause; due = ends.due; text = ends.text; files = front_since answer.file ends.files }
-  answers_since NoMemory answer ends = cut_since answer ends
+  answers_since TranscriptFault answer ends = text_fault_since written sink_faults tells paths later write_faults new same answer.text ends
+  answers_since WavFault answer ends = file_fault_since written sink_faults tells paths later write_faults new same answer.text answer.file ends
+  answers_since NoMemory answer ends = cut_short_since written sink_faults tells paths later write_faults new same answer.text answer.file ends
 
 -- how a run ended whose whole answer is a text
 pub text_answered : (result status : Status) (text : List ℕ) (old new : Option (List ℕ)) (faults now : ℕ) (tells : Bool) (paths : Paths) (write_faults : ℕ)
@@ -95,9 +73,9 @@ pub text_answered : (result status : Status) (text : List ℕ) (old new : Option
     → Answers status (without_file status text) (outside old faults tells paths write_faults) (outside new now tells paths write_faults))
     → TextEnds result status text old new faults now
     → Answers result (without_file status text) (outside old faults tells paths write_faults) (outside new now tells paths write_faults)
-text_answered result status text old new faults now tells paths write_faults whole (inl (is, all)) = rw is (whole (refl, all, λ told q. refl))
+text_answered result status text old new faults now tells paths write_faults whole (inl (is, all)) = rw is (whole (refl, (all, λ told q. refl)))
 text_answered result status text old new faults now tells paths write_faults whole (inr (inl (is, cause, front))) =
-    rw is (record { cause = cause; text = front; files = λ told q. refl })
+    rw is (record { cause = cause; front = front; files = λ told q. refl })
 text_answered result status text old new faults now tells paths write_faults whole (inr (inr (is, front))) = rw is (inl (front, λ told q. refl))
 
 -- some bytes that a source may be said to have

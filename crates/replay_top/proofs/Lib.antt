@@ -1,6 +1,5 @@
 mod Completeness
 mod Ends
-mod FaultLines
 mod FrameRows
 mod Outcomes
 mod Turns

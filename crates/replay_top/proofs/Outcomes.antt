@@ -23,7 +23,8 @@ use Rattle.session.specs.Session.{Played, session_of}
 use Rattle.meaning.specs.declared.world.World.{World}
 use Rattle.command_line.specs.Words.{Reading, renders}
 use Rattle.session.proofs.Interleaving.{interleaved_rendered}
-use Rattle.replay_top.specs.Answer.{Answer, File, status_of, wav_of_tape, file_of, text_in, has_samples, runs, is_migrated, migrated, without_file, answer_to_session}
+use Rattle.answers.specs.Outside.{File}
+use Rattle.replay_top.specs.Answer.{Answer, status_of, wav_of_tape, file_of, text_in, has_samples, runs, is_migrated, migrated, without_file, answer_to_session}
 use Rattle.replay_top.specs.Outcome.{answer_to_rendering, answer_unrendered, with_file, loudness_left, text_to}
 use Rattle.replay_top.specs.declared.status.Status.{Status}
 use Rattle.replay_top.specs.Words.{reads_source}

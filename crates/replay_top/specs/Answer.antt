@@ -20,15 +20,11 @@ use Rattle.session.specs.Session as session
 use Rattle.session.specs.Session.{Played, session_of}
 use Rattle.meaning.specs.declared.world.World.{World}
 use Rattle.meaning.specs.Rendered.{rows}
-use Rattle.replay_top.specs.FaultLine.{fault_line}
+use Rattle.answers.specs.FaultLine.{fault_line}
+use Rattle.answers.specs.Outside.{File}
 use Rattle.replay_top.specs.Words.{reads_source, script_asked}
 use Rattle.replay_top.specs.declared.status.Status.{Status}
 use Rattle.replay_top.specs.declared.status.Status.TheVariants.{Rendered, Unrendered, BadWords, BadScript, ScriptTooLong}
-
--- a file to be written
-pub record File : Type 0 where
-  pub path : List ℕ
-  pub bytes : List ℕ
 
 -- how the run is to end, what the sink is to get, and the file of OUT, where there is one
 pub record Answer : Type 0 where

@@ -1,6 +1,5 @@
 pub mod Answer
 pub mod ExitStatus
-pub mod FaultLine
 pub mod Laws
 pub mod Outcome
 pub mod Run

@@ -10,7 +10,8 @@ use Rattle.transcript.specs.Text.{text_of}
 use Rattle.session.specs.Rows.{interleaved}
 use Rattle.session.specs.declared.rendered.Rendered.{Rendered}
 use Rattle.command_line.specs.Words.{Reading}
-use Rattle.replay_top.specs.Answer.{Answer, File, file_at_out, is_migrated, migrated, status_of, without_file}
+use Rattle.answers.specs.Outside.{File}
+use Rattle.replay_top.specs.Answer.{Answer, file_at_out, is_migrated, migrated, status_of, without_file}
 use Rattle.replay_top.specs.WavFile.{wav_of}
 use Rattle.replay_top.specs.Words.{reads_source}
 use Rattle.replay_top.specs.declared.status.Status.{Status}

@@ -1,63 +1,18 @@
 -- What a run leaves outside, against the answer of the program.
-use Rattle.std.specs.Prelude.{ℕ, ◌≡◌, ◌⊎◌, List, Bool, true, false, IsTrue, IsSome, take, Option, Some, None}
+use Rattle.std.specs.Prelude.{ℕ, ◌≡◌, ◌⊎◌, List, Bool, true, false, IsTrue, Option}
 use Rattle.std.specs.Io.KnownBytes.{Appends, Keeps, IsAtEnd}
 use Rattle.io_edge.specs.Faults.{Rose}
-use Rattle.io_edge.specs.Paths.{Paths, SamePaths, Sets}
 use Rattle.io_edge.specs.Told.{AppendsFront, AppendsProperFront}
 use Rattle.command_line.specs.Words.{Reading}
-use Rattle.replay_top.specs.Answer.{Answer, File}
+use Rattle.answers.specs.Outside.{Outside, SameFiles, Gives, IsTextFault, IsFileFault, IsCutShort}
+use Rattle.replay_top.specs.Answer.{Answer}
 use Rattle.replay_top.specs.Words.{asks_source}
 use Rattle.replay_top.specs.declared.status.Status.{Status}
 use Rattle.replay_top.specs.declared.status.Status.TheVariants.{Rendered, Unrendered, BadWords, BadScript, ScriptTooLong, ScriptFault, AssetFault, TranscriptFault, WavFault, NoMemory}
 
--- the sink and the file store at one moment: what they tell and how often they failed
-pub record Outside : Type 0 where
-  pub written : Option (List ℕ)
-  pub sink_faults : ℕ
-  pub tells : Bool
-  pub paths : Paths
-  pub write_faults : ℕ
-
-abbrev pub outside : Option (List ℕ) → ℕ → Bool → Paths → ℕ → Outside
-outside written sink_faults tells paths write_faults =
-    record { written = written; sink_faults = sink_faults; tells = tells; paths = paths; write_faults = write_faults }
-
--- no file changed
-abbrev pub SameFiles : Outside → Outside → Type 0
-SameFiles old new = IsTrue old.tells → SamePaths old.paths new.paths
-
--- the file is written, where there is one, and nothing else changed
-abbrev pub HasFile : Outside → Outside → Option File → Type 0
-HasFile old new None = SameFiles old new
-HasFile old new (Some file) = IsTrue old.tells → Sets old.paths new.paths file.path file.bytes
-
--- the file is as before or holds a front part of what it is to hold, and nothing else changed
-abbrev pub HasFrontOfFile : Outside → Outside → Option File → Type 0
-HasFrontOfFile old new None = SameFiles old new
-HasFrontOfFile old new (Some file) = IsTrue old.tells → SamePaths old.paths new.paths ⊎ ((n : ℕ) × Sets old.paths new.paths file.path (take n file.bytes))
-
 -- the run ended as the answer says, with all of its text and its file
 abbrev pub IsWhole : Status → Answer → Outside → Outside → Type 0
-IsWhole status answer old new = (status ≡ answer.status) × Appends old.written new.written answer.text × HasFile old new answer.file
-
--- the sink failed before it had the whole text, and no file changed
-pub record IsTranscriptFault (answer : Answer) (old new : Outside) : Type 0 where
-  pub cause : Rose old.sink_faults new.sink_faults
-  pub text : AppendsProperFront old.written new.written answer.text
-  pub files : SameFiles old new
-
--- there is a file to be written, and the store failed, after the sink got the whole text
-pub record IsWavFault (answer : Answer) (old new : Outside) : Type 0 where
-  pub cause : Rose old.write_faults new.write_faults
-  pub due : IsSome answer.file
-  pub text : Appends old.written new.written answer.text
-  pub files : HasFrontOfFile old new answer.file
-
--- memory ran out: the sink got a front part of the text and no file changed, or it got the whole text and the file was begun
-abbrev pub IsCutShort : Answer → Outside → Outside → Type 0
-IsCutShort answer old new =
-    (AppendsFront old.written new.written answer.text × SameFiles old new)
-    ⊎ (Appends old.written new.written answer.text × HasFrontOfFile old new answer.file)
+IsWhole status answer old new = (status ≡ answer.status) × Gives answer.text answer.file old new
 
 -- a session that looks into the folder of assets could not read a file, before anything was written
 pub record IsAssetFault (decodes : Type 0) (faults now : ℕ) (old new : Outside) : Type 0 where
@@ -68,9 +23,9 @@ pub record IsAssetFault (decodes : Type 0) (faults now : ℕ) (old new : Outside
 
 -- how a run ended that is told its answer
 abbrev pub Answers : Status → Answer → Outside → Outside → Type 0
-Answers TranscriptFault answer old new = IsTranscriptFault answer old new
-Answers WavFault answer old new = IsWavFault answer old new
-Answers NoMemory answer old new = IsCutShort answer old new
+Answers TranscriptFault answer old new = IsTextFault answer.text old new
+Answers WavFault answer old new = IsFileFault answer.text answer.file old new
+Answers NoMemory answer old new = IsCutShort answer.text answer.file old new
 Answers ScriptFault answer old new = ⊥
 Answers AssetFault answer old new = ⊥
 Answers status answer old new = IsWhole status answer old new

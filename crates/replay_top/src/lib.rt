@@ -4,9 +4,7 @@
 
 ghost use Rattle.replay_top.specs.Laws.{CompletenessLaw};
 
-mod fault_line;
 mod replay;
-mod script_file;
 mod status;
 mod wav_file;
 

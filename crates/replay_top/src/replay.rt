@@ -5,18 +5,18 @@ ghost use Rattle.script_ast.specs.WellFormed.{IsWellFormed};
 ghost use Rattle.script_json.specs.Script.{script_of};
 ghost use Rattle.session.specs.Folders.{Folder, IsFolderOf};
 ghost use Rattle.session.specs.Session.{session_of};
-ghost use Rattle.replay_top.specs.Answer as answers;
-ghost use Rattle.replay_top.specs.FaultLine as faults;
+ghost use Rattle.answers.specs.FaultLine as faults;
+ghost use Rattle.answers.specs.Outside.{outside};
+ghost use Rattle.replay_top.specs.Answer as answer_spec;
 ghost use Rattle.replay_top.specs.Outcome.{answer_to_rendering, loudness_left, text_to, wav_file, with_file};
-ghost use Rattle.replay_top.specs.Run.{outside, counts, Ran, Replays, Answers, IsRead, TextEnds};
+ghost use Rattle.replay_top.specs.Run.{counts, Ran, Replays, Answers, IsRead, TextEnds};
 ghost use Rattle.replay_top.specs.WavFile.{IsWritable};
 ghost use Rattle.replay_top.specs.Words.{asks_source};
 ghost use Rattle.load_gen.specs.Generator as generator;
 
-use crate::fault_line::fault_line;
-use crate::script_file::write_script;
 use crate::status::Status;
 use crate::wav_file::write_wav;
+use answers::{GiveErr, OutFile, fault_line, give};
 use command_line::{Reading, USAGE, reading_of};
 use io_edge::{EdgeErr, Files, ReadErr, Sink, Source, read_all, write_all};
 use script_ast::Script;
@@ -51,7 +51,7 @@ pub fn run<S: Source, F: Files, T: Sink>(
         let count = counts (S.faults script.old) (S.faults script.new) (F.read_faults files.old) (F.read_faults files.new) in
         (bytes : List ℕ) × IsToldAs (S.left script.old) bytes
         × ((folder : Folder) × IsFolderOf (F.tells files.old) (F.paths files.old) folder
-        × Ran result (reading_by_word (map string_bytes words.now)) (answers.answer (map string_bytes words.now) bytes folder) (answers.AskedDecodes (reading_by_word (map string_bytes words.now)) folder bytes) count before after) }
+        × Ran result (reading_by_word (map string_bytes words.now)) (answer_spec.answer (map string_bytes words.now) bytes folder) (answer_spec.AskedDecodes (reading_by_word (map string_bytes words.now)) folder bytes) count before after) }
     ensures read { IsRead (asks_source (reading_by_word (map string_bytes words.now))) result (S.left script.old) (S.left script.new) }
     ensures tells { F.tells files.new ≡ F.tells files.old }
     ensures source_later { S.faults script.old ≤ S.faults script.new }
@@ -86,7 +86,7 @@ fn replay_generated<F: Files, T: Sink>(
     ensures ends { let before = outside (T.written transcript.old) (T.faults transcript.old) (F.tells files.old) (F.paths files.old) (F.write_faults files.old) in
         let after = outside (T.written transcript.new) (T.faults transcript.new) (F.tells files.new) (F.paths files.new) (F.write_faults files.new) in
         (folder : Folder) × IsFolderOf (F.tells files.old) (F.paths files.old) folder
-        × Replays result (answers.answer_to_script reading.now folder (Ok (generator.script number))) (answers.Decodes folder (Ok (generator.script number))) (F.read_faults files.old) (F.read_faults files.new) before after }
+        × Replays result (answer_spec.answer_to_script reading.now folder (Ok (generator.script number))) (answer_spec.Decodes folder (Ok (generator.script number))) (F.read_faults files.old) (F.read_faults files.new) before after }
     ensures tells { F.tells files.new ≡ F.tells files.old }
     ensures sink_later { T.faults transcript.old ≤ T.faults transcript.new }
     ensures read_later { F.read_faults files.old ≤ F.read_faults files.new }
@@ -109,7 +109,7 @@ fn replay_bytes<F: Files, T: Sink>(
     ensures ends { let before = outside (T.written transcript.old) (T.faults transcript.old) (F.tells files.old) (F.paths files.old) (F.write_faults files.old) in
         let after = outside (T.written transcript.new) (T.faults transcript.new) (F.tells files.new) (F.paths files.new) (F.write_faults files.new) in
         (folder : Folder) × IsFolderOf (F.tells files.old) (F.paths files.old) folder
-        × Replays result (answers.answer_to_script reading.now folder (script_of bytes)) (answers.Decodes folder (script_of bytes)) (F.read_faults files.old) (F.read_faults files.new) before after }
+        × Replays result (answer_spec.answer_to_script reading.now folder (script_of bytes)) (answer_spec.Decodes folder (script_of bytes)) (F.read_faults files.old) (F.read_faults files.new) before after }
     ensures tells { F.tells files.new ≡ F.tells files.old }
     ensures sink_later { T.faults transcript.old ≤ T.faults transcript.new }
     ensures read_later { F.read_faults files.old ≤ F.read_faults files.new }
@@ -136,7 +136,7 @@ fn replay_script<F: Files, T: Sink>(
     ensures ends { let before = outside (T.written transcript.old) (T.faults transcript.old) (F.tells files.old) (F.paths files.old) (F.write_faults files.old) in
         let after = outside (T.written transcript.new) (T.faults transcript.new) (F.tells files.new) (F.paths files.new) (F.write_faults files.new) in
         (folder : Folder) × IsFolderOf (F.tells files.old) (F.paths files.old) folder
-        × Replays result (answers.answer_to_session reading.now script.now (session_of folder script.now)) (answers.Decodes folder (Ok script.now)) (F.read_faults files.old) (F.read_faults files.new) before after }
+        × Replays result (answer_spec.answer_to_session reading.now script.now (session_of folder script.now)) (answer_spec.Decodes folder (Ok script.now)) (F.read_faults files.old) (F.read_faults files.new) before after }
     ensures tells { F.tells files.new ≡ F.tells files.old }
     ensures sink_later { T.faults transcript.old ≤ T.faults transcript.new }
     ensures read_later { F.read_faults files.old ≤ F.read_faults files.new }
@@ -164,7 +164,7 @@ fn answer_outcome<F: Files, T: Sink>(
 ) -> Status
     requires writable { IfSome outcome.now.rendered IsWritable }
     requires formed { IsWellFormed script.now }
-    requires rate { answers.runs outcome.now.end ≡ true → 1 ≤ script.now.context.rate }
+    requires rate { answer_spec.runs outcome.now.end ≡ true → 1 ≤ script.now.context.rate }
     ensures ends { let before = outside (T.written transcript.old) (T.faults transcript.old) (F.tells files.old) (F.paths files.old) (F.write_faults files.old) in
         let after = outside (T.written transcript.new) (T.faults transcript.new) (F.tells files.new) (F.paths files.new) (F.write_faults files.new) in
         Answers result (answer_to_rendering reading.now outcome.now.end (text_to reading.now outcome.now.lines.items outcome.now.quanta outcome.now.end outcome.now.rendered) script.now outcome.now.rendered) before after }
@@ -191,7 +191,7 @@ fn answer_outcome<F: Files, T: Sink>(
 
 // Whether the script is written.
 fn is_migrated(reading: &Reading<'_>, end: EndWord) -> bool
-    ensures { result ≡ answers.is_migrated reading.now end }
+    ensures { result ≡ answer_spec.is_migrated reading.now end }
 {
     match end {
         EndWord::Completed | EndWord::Stalled(_) | EndWord::Idle => reading.mode.migrates(),
@@ -230,7 +230,7 @@ fn loudness_of(rendered: &Option<Rendered>) -> Option<Loudness>
 
 // The status of a session that ended so.
 fn status_of(end: EndWord) -> Status
-    ensures { result ≡ answers.status_of end }
+    ensures { result ≡ answer_spec.status_of end }
 {
     match end {
         EndWord::Completed => Status::Rendered,
@@ -278,21 +278,21 @@ fn answer_migrated<F: Files, T: Sink>(
 ) -> Status
     ensures ends { let before = outside (T.written transcript.old) (T.faults transcript.old) (F.tells files.old) (F.paths files.old) (F.write_faults files.old) in
         let after = outside (T.written transcript.new) (T.faults transcript.new) (F.tells files.new) (F.paths files.new) (F.write_faults files.new) in
-        Answers result (with_file (answers.status_of end) text.now (answers.file_at_out reading.now script.now)) before after }
+        Answers result (with_file (answer_spec.status_of end) text.now (answer_spec.file_at_out reading.now script.now)) before after }
     ensures tells { F.tells files.new ≡ F.tells files.old }
     ensures sink_later { T.faults transcript.old ≤ T.faults transcript.new }
     ensures read_later { F.read_faults files.old ≤ F.read_faults files.new }
     ensures store_later { F.write_faults files.old ≤ F.write_faults files.new }
 {
-    match write_all(transcript, text) {
-        Ok(()) => {}
-        Err(EdgeErr::Failed) => return Status::TranscriptFault,
-        Err(EdgeErr::NoMemory) => return Status::NoMemory,
-    }
-    match write_script(files, reading.out, script) {
+    let file = OutFile {
+        path: reading.out,
+        bytes: script,
+    };
+    match give(files, transcript, text, Some(file)) {
         Ok(()) => status_of(end),
-        Err(EdgeErr::Failed) => Status::WavFault,
-        Err(EdgeErr::NoMemory) => Status::NoMemory,
+        Err(GiveErr::Text) => Status::TranscriptFault,
+        Err(GiveErr::File) => Status::WavFault,
+        Err(GiveErr::NoMemory) => Status::NoMemory,
     }
 }
 

@@ -1,9 +1,10 @@
 -- A session that goes on turn by turn.
 use Rattle.std.proofs.Common.{◌≡◌, ◌<◌, ◌≤◌, ◌+◌, ◌∷◌, ◌++◌, [], List, ℕ, suc, length, Bool, true, false, refl, sym, ap, ◌∙◌, subst, arith}
 use Rattle.std.specs.Prelude.{IsTrue, IsSome, map}
-use Rattle.std.proofs.lemmas.List.{append_assoc, append-nil, map-append}
+use Rattle.std.proofs.lemmas.List.{map-append}
 use Rattle.io_edge.specs.Paths.{Paths, SamePaths}
-use Rattle.wa_base.specs.Contexts.{quantum_of, IsQuantumSize}
+use Rattle.wa_base.specs.Contexts.{quantum_of, IsQuantumSize, IsSupported}
+use Rattle.wa_base.specs.declared.contexts.ContextSpec.{ContextSpec}
 use Rattle.wa_base.specs.declared.contexts.State.{State}
 use Rattle.wa_base.specs.declared.contexts.State.TheVariants as state
 use Rattle.wa_base.specs.declared.contexts.State.TheVariants.{Running}
@@ -16,13 +17,15 @@ use Rattle.session.specs.Folders.{Folder, IsFolderOf, AgreeBetween}
 use Rattle.session.specs.Session.{after_turn, after_calls, after_list, held_by, is_running, quanta_left, finished, turns, HasDecode, TurnsDecode}
 use Rattle.control_side.specs.Step.{KeepsTime}
 use Rattle.control_side.specs.Turns.{IsTurned}
-use Rattle.session.specs.View.{SessionView, Stands, Shown, IsPlayed, ComesToDecode, turns_of}
+use Rattle.session.specs.View.{SessionView, Stands, IsPlayed, ComesToDecode, turns_of}
+use Rattle.session.specs.Observing.{Saw}
+use Rattle.session.proofs.Showing.{IsAgain, none_again, again_after}
 use Rattle.session.proofs.Folders.{spliced, spliced_before, spliced_from, splice_of}
 use Rattle.control_side.proofs.Stepping.{turned_started}
 use Rattle.session.proofs.Quanta.{one_left, more_left, as_many_left, turns_went, decode_went, turns_due, turns_stalled, decode_due, decode_later, turns_done, decode_done, longer_after}
 
 -- how far a session went on: what is left of it, over what a folder held so far, is what there was to come
-pub record IsOnItsWay (shown : List World → Type 0) (tells : Bool) (paths : Paths) (calls : List Call) (start now : SessionView) : Type 0 where
+pub record IsOnItsWay (shown : List World → Type 0) (again : Bool) (tells : Bool) (paths : Paths) (calls : List Call) (start now : SessionView) : Type 0 where
   pub running : now.told.machine.context.state ≡ Running
   pub begun : IsSome now.told.machine.context.started
   pub folder : Folder
@@ -36,9 +39,11 @@ pub record IsOnItsWay (shown : List World → Type 0) (tells : Bool) (paths : Pa
   pub longer : length start.told.lines ≤ length now.told.lines
   pub audio : now.audio ≡ start.audio
   pub spec : now.told.machine.world.spec ≡ start.told.machine.world.spec
+  pub short : now.told.machine.context.time ≤ 33555456
+  pub last : IsAgain again tape now.told.machine.world
 
 pub at_start : (shown : List World → Type 0) (tells : Bool) (paths : Paths) (calls : List Call) (start : SessionView) → start.told.machine.context.state ≡ Running → IsSome start.told.machine.context.started → Stands start [] → shown []
-    → IsOnItsWay shown tells paths calls start start
+    → IsOnItsWay shown false tells paths calls start start
 at_start shown tells paths calls start running begun stands seen = record {
   running = running;
   begun = begun;
@@ -52,19 +57,14 @@ at_start shown tells paths calls start running begun stands seen = record {
   longer = omega arith;
   audio = refl;
   spec = refl;
+  short = let time = stands.time in omega (arith, time);
+  last = none_again [] start.told.machine.world;
 }
 
--- what nothing was shown to saw what it had seen
-pub shown_first : (saw : List World → Type 0) → Shown saw saw []
-shown_first saw worlds before = subst saw (sym (append-nil worlds)) before
-
 -- a world that sounds as the machine's is shown
-pub shown_more : (before now next : List World → Type 0) (w told : World) → sounding w ≡ sounding told → ((worlds : List World) → now worlds → next (worlds ++ sounding w ∷ [])) → (tape : List World) → Shown before now tape
-    → Shown before next (tape ++ told ∷ [])
-shown_more before now next w told same shows tape seen worlds had =
-    subst next
-    (append_assoc worlds (map sounding tape) (sounding w ∷ []) ∙ ap (λ ws. worlds ++ ws) (ap (λ (x : World). map sounding tape ++ x ∷ []) same ∙ sym (map-append sounding tape (told ∷ []))))
-    (shows (worlds ++ map sounding tape) (seen worlds had))
+pub shown_more : (now next : List World → Type 0) (w told : World) → sounding w ≡ sounding told → ((worlds : List World) → now worlds → next (worlds ++ sounding w ∷ [])) → (tape : List World) → Saw now tape → Saw next (tape ++ told ∷ [])
+shown_more now next w told same shows tape seen =
+    subst next (ap (λ (x : World). map sounding tape ++ x ∷ []) same ∙ sym (map-append sounding tape (told ∷ []))) (shows (map sounding tape) seen)
 
 -- what a turn leaves
 pub record Advances (old new : SessionView) : Type 0 where
@@ -108,7 +108,7 @@ running_is state.Suspended is = absurd cc
 running_is Running is = refl
 running_is state.Closed is = absurd cc
 
-module _ (before shown : List World → Type 0) (tells : Bool) (paths : Paths) (calls : List Call) (start now next : SessionView) (way : IsOnItsWay before tells paths calls start now) (turn : Advances now next)
+module _ (before shown : List World → Type 0) (again : Bool) (tells : Bool) (paths : Paths) (calls : List Call) (start now next : SessionView) (way : IsOnItsWay before again tells paths calls start now) (turn : Advances now next)
     (shows : (tape : List World) → before tape → shown (tape ++ now.told.machine.world ∷ [])) where
   some : 0 < quantum_of now.told.machine.world.spec
   some = let low = turn.size.low in omega (arith, low)
@@ -116,9 +116,17 @@ module _ (before shown : List World → Type 0) (tells : Bool) (paths : Paths) (
   pub begun_next : IsSome next.told.machine.context.started
   begun_next = subst IsSome (sym (ap (λ t. t.machine.context.started) turn.told ∙ turned_started now.told.machine.context)) way.begun
 
+  spec_next : next.told.machine.world.spec ≡ start.told.machine.world.spec
+  spec_next = ap (λ t. t.machine.world.spec) turn.told ∙ way.spec
+
+  -- before the end of a context there are not too many frames
+  few : IsSupported start.told.machine.world.spec → next.told.machine.context.time < next.told.machine.world.spec.length → next.told.machine.context.time ≤ 33555456
+  few supported left = let most = supported.length_high in let long = ap (λ (s : ContextSpec). s.length) spec_next in omega (arith, left, most, long)
+
   -- rendering goes on
-  pub goes_on : turn_of now.told.machine.context ≡ Went → IsTurned Went now.told.machine next.told.machine → IsOnItsWay shown tells paths calls start next
-  goes_on went turned =
+  pub goes_on : (same : Bool) → (IsTrue same → length next.told.lines ≡ length now.told.lines) → IsSupported start.told.machine.world.spec → turn_of now.told.machine.context ≡ Went → IsTurned Went now.told.machine next.told.machine
+      → IsOnItsWay shown same tells paths calls start next
+  goes_on same quiet supported went turned =
       let long = longer_after now.told next.told turn.told in
       let more = more_left now.told next.told some turn.told turn.time turned.1 in
       let early : (other : Folder) → AgreeBetween (length start.told.lines) (length next.told.lines) way.folder other → AgreeBetween (length start.told.lines) (length now.told.lines) way.folder other =
@@ -139,7 +147,9 @@ module _ (before shown : List World → Type 0) (tells : Bool) (paths : Paths) (
             way.decodes other (early other agree) (decode_went other calls now.told way.tape (quanta_left next.told.machine) went more (subst (λ t. TurnsDecode (quanta_left next.told.machine) other calls t) turn.told later));
         longer = omega (arith, long, way.longer);
         audio = turn.audio ∙ way.audio;
-        spec = ap (λ t. t.machine.world.spec) turn.told ∙ way.spec;
+        spec = spec_next;
+        short = few supported turned.1;
+        last = again_after same way.tape now.told next.told quiet turn.told went;
       }
 
   module _ (ordinal : ℕ) (last : SessionView) (list : Lists tells paths (held_by ordinal calls) next last) where
@@ -200,8 +210,8 @@ module _ (before shown : List World → Type 0) (tells : Bool) (paths : Paths) (
       pub ends_stalled : is_running last.told.machine.context.state ≡ false → IsPlayed shown tells paths calls start last
       ends_stalled waits = played (λ other agree. turns_stalled other calls now.told way.tape (quanta_left last.told.machine) ordinal due more (state_is other agree false waits))
 
-      pub is_resumed : is_running last.told.machine.context.state ≡ true → IsOnItsWay shown tells paths calls start last
-      is_resumed runs =
+      pub is_resumed : IsSupported start.told.machine.world.spec → is_running last.told.machine.context.state ≡ true → IsOnItsWay shown false tells paths calls start last
+      is_resumed supported runs =
           record {
             running = running_is last.told.machine.context.state runs;
             begun = list.started begun_next;
@@ -219,7 +229,9 @@ module _ (before shown : List World → Type 0) (tells : Bool) (paths : Paths) (
                 (decode_later other calls now.told way.tape (quanta_left last.told.machine) ordinal due more (state_is other agree true runs) (subst (λ t. TurnsDecode (quanta_left last.told.machine) other calls t) (after other agree) later));
             longer = let so_far = way.longer in let listed = list.longer in omega (arith, long, so_far, listed);
             audio = list.audio ∙ turn.audio ∙ way.audio;
-            spec = list.spec ∙ ap (λ t. t.machine.world.spec) turn.told ∙ way.spec;
+            spec = list.spec ∙ spec_next;
+            short = let time = list.time in let before = few supported turned in omega (arith, time, before);
+            last = none_again (way.tape ++ now.told.machine.world ∷ []) last.told.machine.world;
           }
 
   -- a decodeAudioData in the list of a turn, however far that came

@@ -11,7 +11,8 @@ mod Planning
 mod Quanta
 mod Replaying
 mod Samples
+mod Showing
 mod Sides
 mod Standing
-mod Tapes
+pub mod Tapes
 mod Turning

@@ -1,5 +1,5 @@
 -- What a session comes to once its main list ran.
-use Rattle.std.proofs.Common.{ℕ, ◌≡◌, ◌/◌, List, [], length, Bool, true, false, ◌&&◌, Option, Some, None, inr, refl, sym, ◌∙◌, ap, subst}
+use Rattle.std.proofs.Common.{ℕ, ◌≡◌, ◌≤◌, ◌/◌, List, [], length, Bool, true, false, ◌&&◌, Option, Some, None, inr, refl, sym, ◌∙◌, ap, subst, arith}
 use Rattle.std.specs.Prelude.{is_some, IsSome, IsTrue, OnOk, if◌then◌else◌, Result, Ok, Err}
 use Rattle.io_edge.specs.Paths.{Paths, SamePaths}
 use Rattle.wa_base.specs.Contexts.{is_supported, IsSupported, quantum_of}
@@ -11,15 +11,17 @@ use Rattle.wa_base.specs.declared.exceptions.Exc.TheVariants.{NotSupported}
 use Rattle.meaning.specs.declared.world.World.{World}
 use Rattle.script_ast.specs.declared.call_list.Call.{Call}
 use Rattle.script_ast.specs.declared.call_list.Script.{Script}
-use Rattle.transcript.specs.declared.lines.EndWord.TheVariants.{Refused}
+use Rattle.transcript.specs.declared.lines.EndWord.TheVariants.{Completed, Stalled, Idle, Refused}
 use Rattle.session.specs.declared.replay.Outcome.{Outcome}
 use Rattle.session.specs.declared.stop.Stop.{Stop}
 use Rattle.session.specs.Folders.{Folder, IsFolderOf, AgreeBetween}
-use Rattle.session.specs.Rendering.{IsOutcomeOf, rendering_of}
+use Rattle.session.specs.Rendering.{IsOutcomeOf, completes, rendering_of}
 use Rattle.session.specs.Session.{Told, Played, first_told, main_list, rendered, replayed, quanta_left, session_of, finished, turns, end_of, lines_at_end, TurnsDecode, Decodes}
-use Rattle.session.specs.View.{SessionView, IsFirst, Shown, IsPlayed, IsReplayed, ComesToDecode}
+use Rattle.session.specs.View.{SessionView, IsFirst, IsPlayed, IsReplayed, ComesToDecode, Stands}
 use Rattle.session.proofs.Finishing.{outcome_is}
-use Rattle.session.proofs.Going.{shown_first}
+use Rattle.session.specs.Observing.{Saw}
+use Rattle.session.specs.Tapes.{HasTape}
+use Rattle.session.proofs.Tapes.{regular_front}
 use Rattle.session.proofs.Folders.{spliced, spliced_before, spliced_from, splice_of}
 
 -- by whether rendering was started
@@ -143,6 +145,45 @@ replayed_shown tells paths script audio first last shown is supported fresh =
     rw supported (subst (λ (p : Played). shown p.tape) told is.seen)
 
 -- and nothing of a context that was refused
-pub refused_shown : (folder : Folder) (script : Script) (saw : List World → Type 0) → is_supported script.context ≡ false → Shown saw saw (session_of folder script).tape
+pub refused_shown : (folder : Folder) (script : Script) (saw : List World → Type 0) → is_supported script.context ≡ false → Saw saw [] → Saw saw (session_of folder script).tape
 unfolding session_of
-refused_shown folder script saw unsupported = rw unsupported (shown_first saw)
+refused_shown folder script saw unsupported unseen = rw unsupported unseen
+
+-- ---- the tape
+
+-- a context that is at its end has no frames left
+none_left : (s : State) (started : Option ℕ) (time frames : ℕ) → IsInState s started time frames → completes (if is_closed s then Completed else if is_some started then Stalled time else Idle) ≡ true → frames ≤ time
+none_left state.Closed started time frames is closed = is.1
+none_left state.Suspended (Some ordinal) time frames is closed = absurd cc
+none_left state.Suspended None time frames is closed = absurd cc
+none_left state.Running (Some ordinal) time frames is closed = absurd cc
+none_left state.Running None time frames is closed = absurd cc
+
+tape_is : (view : SessionView) (tape : List World) → IsSupported view.told.machine.world.spec → Stands view tape → IsInState view.told.machine.context.state view.told.machine.context.started view.told.machine.context.time view.told.machine.world.spec.length → view.told.machine.context.time ≤ 33555456
+    → HasTape view.told.machine.world.spec (finished view.told tape)
+tape_is view tape supported stands state short = record {
+  regular = regular_front (quantum_of view.told.machine.world.spec) tape view.told.machine.world stands.regular;
+  short = let time = stands.time in omega (arith, time, short);
+  whole = λ ended. let time = stands.time in let none = none_left view.told.machine.context.state view.told.machine.context.started view.told.machine.context.time view.told.machine.world.spec.length state ended in omega (arith, time, none);
+  supported = λ ended. supported;
+}
+
+-- the tape of a session that was replayed
+pub replayed_tape : (tells : Bool) (paths : Paths) (script : Script) (audio : Bool) (first last : SessionView) (shown : List World → Type 0) (is : IsReplayed shown tells paths script.calls first last) → is_supported script.context ≡ true
+    → IsFirst script.context audio first → IsInState last.told.machine.context.state last.told.machine.context.started last.told.machine.context.time last.told.machine.world.spec.length → last.told.machine.context.time ≤ 33555456
+    → HasTape script.context (session_of is.folder script)
+unfolding session_of
+replayed_tape tells paths script audio first last shown is supported fresh state short =
+    let spec : last.told.machine.world.spec ≡ script.context = is.spec ∙ ap (λ t. t.machine.world.spec) fresh.told in
+    let told : finished last.told is.tape ≡ replayed is.folder script.calls (first_told script.context) = sym is.played ∙ ap (replayed is.folder script.calls) fresh.told in
+    rw supported (subst (HasTape script.context) told (subst (λ (s : ContextSpec). HasTape s (finished last.told is.tape)) spec (tape_is last is.tape is.supported is.stands state short)))
+
+-- and that of a context that was refused
+pub refused_tape : (folder : Folder) (script : Script) → is_supported script.context ≡ false → HasTape script.context (session_of folder script)
+unfolding session_of
+refused_tape folder script unsupported = rw unsupported record {
+  regular = record { valid = λ k d l. absurd (omega arith); spec = λ j l. absurd (omega arith); capacity = λ j i l. absurd (omega arith); stays = λ j i l below. absurd (omega arith); born = λ j i l is. absurd (omega arith) };
+  short = omega arith;
+  whole = λ ended. absurd cc;
+  supported = λ ended. absurd cc;
+}

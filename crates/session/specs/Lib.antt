@@ -1,7 +1,9 @@
 pub mod Folders
 pub mod Frames
 pub mod Lists
+pub mod Observing
 pub mod Rendering
 pub mod Rows
 pub mod Session
+pub mod Tapes
 pub mod View

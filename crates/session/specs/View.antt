@@ -150,10 +150,6 @@ pub record IsAsBefore (old new : SessionView) : Type 0 where
 abbrev pub turns_of : Folder → SessionView → List Call → Played
 turns_of folder view calls = turns (quanta_left view.told.machine) folder calls view.told []
 
--- An observer that had seen worlds has then seen those of the tape too, as they sound.
-abbrev pub Shown : (List World → Type 0) → (List World → Type 0) → List World → Type 0
-Shown before after tape = (worlds : List World) → before worlds → after (worlds ++ map sounding tape)
-
 -- Over a folder of the store a session came to its end, turn by turn, and stands for its tape then, which was shown: whatever a folder holds at other moments.
 pub record IsPlayed (shown : List World → Type 0) (tells : Bool) (paths : Paths) (calls : List Call) (old new : SessionView) : Type 0 where
   pub folder : Folder

@@ -1,6 +1,7 @@
-ghost use Rattle.std.specs.Prelude.{◌++◌, ◌∷◌, [], List, OnOk};
+ghost use Rattle.std.specs.Prelude.{◌≡◌, ◌++◌, ◌∷◌, [], List, OnOk};
 ghost use Rattle.meaning.specs.declared.world.World.{World as a_world};
 ghost use Rattle.meaning.specs.World.{sounding};
+ghost use Rattle.session.specs.Observing.{ComesNext};
 
 use meaning::World;
 use wa_base::NoMemory;
@@ -10,9 +11,11 @@ pub trait Observer {
     /// Whether these are the worlds that it was shown, as they sound.
     ghost saw: { Self → List a_world → Type 0 };
 
-    /// Is shown the world in force in the quantum that comes next. Where there is no memory for it, the
-    /// session stops.
-    fn show(&mut self, world: &World) -> Result<(), NoMemory>
+    /// Is shown the world in force in the quantum that comes next, and told whether it comes again: then
+    /// no call came and no source ended since the quantum before, and it sounds as it did there. Where
+    /// there is no memory for it, the session stops.
+    fn show(&mut self, world: &World, again: bool) -> Result<(), NoMemory>
+        requires { (worlds : List a_world) × saw self.old worlds × ComesNext again worlds world.now }
         ensures { OnOk result ((worlds : List a_world) → saw self.old worlds → saw self.new (worlds ++ sounding world.now ∷ [])) };
 }
 
@@ -25,7 +28,7 @@ impl Observer for NoObserver {
 
     ghost saw = { λ observer worlds. Unit {0} };
 
-    fn show(&mut self, _: &World) -> Result<(), NoMemory> {
+    fn show(&mut self, _: &World, _: bool) -> Result<(), NoMemory> {
         Ok(())
     }
 }

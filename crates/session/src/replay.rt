@@ -2,12 +2,15 @@ ghost use Rattle.std.specs.Prelude.{◌≡◌, ◌≤◌, List, [], length, true
 ghost use Rattle.io_edge.specs.Faults.{Rose};
 ghost use Rattle.io_edge.specs.Paths.{SamePaths};
 ghost use Rattle.script_ast.specs.WellFormed.{AreCallsAfter};
+ghost use Rattle.wa_base.specs.Contexts.{IsSupported};
 ghost use Rattle.session.specs.Folders.{Folder, IsFolderOf, AgreeBetween};
 ghost use Rattle.session.specs.Rendering.{IsOutcomeOf};
 ghost use Rattle.session.specs.Session.{after_calls, held_by, is_running as runs, session_of, HasDecode, Decodes, SessionDecodes};
 ghost use Rattle.control_side.specs.Step.{KeepsTime, RunsOnceStarted};
 ghost use Rattle.session.specs.Lists.{AreLengths};
-ghost use Rattle.session.specs.View.{Stands, Shown, IsPlayed, IsReplayed, ComesToDecode};
+ghost use Rattle.session.specs.View.{Stands, IsPlayed, IsReplayed, ComesToDecode};
+ghost use Rattle.session.specs.Observing.{Saw};
+ghost use Rattle.session.specs.Tapes.{HasTape};
 ghost use Rattle.meaning.specs.declared.world.World.{World};
 
 use crate::observer::{NoObserver, Observer};
@@ -58,8 +61,8 @@ pub fn run<F: Files>(
     run_observed(alloc, script, options, files, &mut NoObserver)
 }
 
-/// Replays a script as `run` does, and shows an observer the world of each quantum before it is
-/// rendered. It stops with NoMemory too where the observer has none.
+/// Replays a script as `run` does, and shows an observer, who saw nothing yet, the world of each quantum
+/// before it is rendered. It stops with NoMemory too where the observer has none.
 #[tactic(auto, unfolding(crate::specs::Session::session_of))]
 pub fn run_observed<F: Files, O: Observer>(
     alloc: Global,
@@ -68,9 +71,10 @@ pub fn run_observed<F: Files, O: Observer>(
     files: &mut F,
     observer: &mut O,
 ) -> Result<Outcome, Stop>
-    requires { AreCallsAfter 0 script.now.calls }
+    requires calls { AreCallsAfter 0 script.now.calls }
+    requires unseen { Saw (O.saw observer.old) [] }
     ensures outcome { IfOk result (λ outcome. (folder : Folder) × IsFolderOf (F.tells files.old) (F.paths files.old) folder × IsOutcomeOf options.audio script.now.context (session_of folder script.now) outcome
-        × Shown (O.saw observer.old) (O.saw observer.new) (session_of folder script.now).tape) }
+        × Saw (O.saw observer.new) (session_of folder script.now).tape × HasTape script.now.context (session_of folder script.now)) }
     ensures tells { F.tells files.new ≡ F.tells files.old }
     ensures paths { IsTrue (F.tells files.old) → SamePaths (F.paths files.old) (F.paths files.new) }
     ensures later { F.read_faults files.old ≤ F.read_faults files.new }
@@ -116,7 +120,8 @@ fn replay_calls<F: Files, O: Observer>(
     requires calls { AreCallsAfter 0 calls.now }
     requires idle { session.old.told.machine.context.started ≡ None }
     requires fresh { Stands session.old [] }
-    ensures ok { OnOk result (IsReplayed (Shown (O.saw observer.old) (O.saw observer.new)) (F.tells files.old) (F.paths files.old) calls.now session.old session.new) }
+    requires unseen { Saw (O.saw observer.old) [] }
+    ensures ok { OnOk result (IsReplayed (Saw (O.saw observer.new)) (F.tells files.old) (F.paths files.old) calls.now session.old session.new) }
     ensures audio { session.new.audio ≡ session.old.audio }
     ensures tells { F.tells files.new ≡ F.tells files.old }
     ensures paths { IsTrue (F.tells files.old) → SamePaths (F.paths files.old) (F.paths files.new) }
@@ -147,8 +152,10 @@ fn go_on<F: Files, O: Observer>(
     requires lengths { AreLengths lengths.now calls.now }
     requires running { session.old.told.machine.context.state ≡ State.Running }
     requires started { IsSome session.old.told.machine.context.started }
+    requires supported { IsSupported session.old.told.machine.world.spec }
     requires fresh { Stands session.old [] }
-    ensures ok { OnOk result (IsPlayed (Shown (O.saw observer.old) (O.saw observer.new)) (F.tells files.old) (F.paths files.old) calls.now session.old session.new) }
+    requires unseen { Saw (O.saw observer.old) [] }
+    ensures ok { OnOk result (IsPlayed (Saw (O.saw observer.new)) (F.tells files.old) (F.paths files.old) calls.now session.old session.new) }
     ensures longer { length session.old.told.lines ≤ length session.new.told.lines }
     ensures audio { session.new.audio ≡ session.old.audio }
     ensures spec { session.new.told.machine.world.spec ≡ session.old.told.machine.world.spec }
@@ -160,15 +167,18 @@ fn go_on<F: Files, O: Observer>(
     ensures cause { IsErrOf result Stop.AssetFault → Rose (F.read_faults files.old) (F.read_faults files.new)
         × ComesToDecode (F.tells files.old) (F.paths files.old) calls.now session.old session.new }
 {
+    let mut again = false;
     loop {
-        observer.show(session.world())?;
+        observer.show(session.world(), again)?;
+        let told = session.line_count();
         match session.advance()? {
-            Turn::Went => {}
+            Turn::Went => again = session.line_count() == told,
             Turn::Due(ordinal) => {
                 call_list(session, calls, lengths, ordinal, files)?;
                 if !is_running(session.state()) {
                     return Ok(());
                 }
+                again = false;
             }
             Turn::Done(ordinal) => return call_list(session, calls, lengths, ordinal, files),
         }

@@ -203,12 +203,14 @@ impl Session {
         ensures lines { result.lines.items ≡ lines_at_end self.told }
         ensures end { result.end ≡ end_of self.told.machine.context }
         ensures quanta { result.quanta ≡ self.told.machine.context.time / quantum_of self.told.machine.world.spec }
+        ensures state { IsInState self.told.machine.context.state self.told.machine.context.started self.told.machine.context.time self.told.machine.world.spec.length }
+        ensures short { self.told.machine.context.time ≤ 33555456 }
         ensures rendered { result.rendered ≡ (if self.audio && is_closed self.told.machine.context.state then Some (record { spec = self.told.machine.world.spec; samples = self.samples }) else None) }
     {
         let end = self.end();
         let completed = self.is_closed();
         let spec = self.control.spec();
-        let quanta = self.control.now() / u64::from(spec.quantum);
+        let quanta = self.control.context().now() / u64::from(spec.quantum);
         let Session {
             control,
             mut lines,
@@ -254,6 +256,13 @@ impl Session {
         ensures { sounding result.now ≡ sounding self.now.told.machine.world }
     {
         self.control.world()
+    }
+
+    // How many lines were told so far.
+    pub(crate) fn line_count(&self) -> usize
+        ensures { result ≡ length self.now.told.lines }
+    {
+        self.lines.len()
     }
 
     /// The state of the context.

@@ -14,8 +14,8 @@ loop-i-preserved c =
     let i = c.loop-i.i in
     let value : c.with_product-sum.result ≡ c.loop-i.sum +ℤ get_or cs i (pos 0) *ℤ get_or xs i (pos 0) = search rules in
     let before : c.loop-i.sum ≡ dot (take i cs) xs = search rules in
-    let bound : unsigned_abs c.with_product-sum.result ≤ unsigned_abs c.loop-i.sum + 2 ^ 95 = search rules in
-    let so_far : unsigned_abs c.loop-i.sum ≤ i * 2 ^ 95 = search rules in
+    let bound : unsigned_abs c.with_product-sum.result ≤ unsigned_abs c.loop-i.sum + 2 ^ 97 = search rules in
+    let so_far : unsigned_abs c.loop-i.sum ≤ i * 2 ^ 97 = search rules in
     record {
       value = to_z-of_z _ _ fits ∙ value ∙ ap (λ (z : ℤ). z +ℤ get_or cs i (pos 0) *ℤ get_or xs i (pos 0)) before ∙ sym (dot_more i cs xs (omega arith) (omega arith));
       small = simp (to_z-of_z _ _ fits) (omega (arith, bound, so_far));

@@ -7,5 +7,5 @@ use Rattle.equations.proofs.filters.dot.Given as goal
 abbrev pub invariant-loop-i : goal.invariant-loop-i
 invariant-loop-i l = record {
   value : l.sum ≡ dot (take l.i l.coefficients) l.items;
-  small : unsigned_abs l.sum ≤ l.i * 2 ^ 95;
+  small : unsigned_abs l.sum ≤ l.i * 2 ^ 97;
 }

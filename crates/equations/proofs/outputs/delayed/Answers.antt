@@ -2,6 +2,7 @@ use Rattle.std.proofs.Common.{rules, ℕ, ◌≡◌, ◌+◌, ◌-◌, ◌/◌, 
 use Rattle.std.specs.Int.{w32, w64, w128}
 use Rattle.std.proofs.lemmas.Int.{to_z-of_z}
 use Rattle.wa_base.specs.Numbers.{sat}
+use Rattle.lane_kern.specs.Blocks.{at}
 use Rattle.node_table.specs.Kinds.{is_delay_kind}
 use Rattle.conn_graph.specs.Ends.{writer_of}
 use Rattle.meaning.specs.declared.world.World.{World}
@@ -10,7 +11,6 @@ use Rattle.explain.specs.Needs.{carried}
 use Rattle.derivations.specs.Contexts.{tape_in, world_of}
 use Rattle.derivations.proofs.Writers.{node_low, delay_there}
 use Rattle.equations.specs.Given.{meaning_of, AllKnown}
-use Rattle.equations.specs.Forms.{sample_of}
 use Rattle.equations.proofs.Aging.{birth_is, born_low}
 use Rattle.equations.proofs.Delaying.{d, lasts, carried_known, young}
 use Rattle.equations.proofs.Ending.{node_in}
@@ -104,6 +104,6 @@ returns c =
     c.count_of-channels.ensures.value ∙ ap (λ q. (meaning_of c.args.context).counts (f / q) c.args.sample.end) c.from.ensures in
     to_z-of_z _ _ wide ∙ c.from-2.ensures ∙ to_z-of_z _ _ narrow ∙ c.nearest.ensures ∙ ap sat (to_z-of_z _ _ exact)
     ∙ given_later c.args.context c.requires.given f c.args.sample.end c.args.sample.channel c.requires.present.there there c.requires.delay c.requires.reader c.requires.present.loud c.delay_frames-frames.result long aged
-    c.attrs-attrs.result c.carried_by-carried.result.count c.count_of-channels.result (sample_of c.carried_by-carried.result.samples) c.mix.result
+    c.attrs-attrs.result c.carried_by-carried.result.count c.count_of-channels.result (at c.carried_by-carried.result.samples) c.mix.result
     (attrs c.args.context c.requires.given j c.args.stretch.now c.requires.piece n c.attrs-attrs.result there c.attrs-attrs.ensures.value)
     c.carried_by-carried.ensures.count channels c.carried_by-carried.ensures.samples c.mix.ensures.value

@@ -1,7 +1,7 @@
 use Rattle.std.proofs.Common.{◌≡◌, ◌*◌, ◌^◌, map, take}
+use Rattle.lane_kern.specs.Blocks.{IsWithin}
 use Rattle.mix_rules.specs.Mixing.{total}
 use Rattle.equations.specs.Given.{frame_of}
-use Rattle.equations.specs.Forms.{IsWithin}
 use Rattle.equations.specs.Sums.{led_part}
 use Rattle.equations.proofs.sums.total_led.Given as goal
 

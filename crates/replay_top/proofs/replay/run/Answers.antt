@@ -67,7 +67,7 @@ returns-in-Err-TooLong-clause-ran g c =
       (
         folder,
         (λ n told q. refl),
-        rw (← c.in-Ok-Some.ensures.by_word, c.in-Ok-Some.field-0-is, answer_to_bytes-past c.in-Ok-Some.reading folder long.0 none long.2) (refl, Appends-nil (g.T.Sink.written c.args.transcript.now), λ told q. refl),
+        rw (← c.in-Ok-Some.ensures.by_word, c.in-Ok-Some.field-0-is, answer_to_bytes-past c.in-Ok-Some.reading folder long.0 none long.2) (refl, (Appends-nil (g.T.Sink.written c.args.transcript.now), λ told q. refl)),
       ),
     )
 

@@ -1,0 +1,9 @@
+pub mod Cuts
+pub mod Ending
+pub mod Faulty
+pub mod Keeping
+pub mod Numbers
+pub mod Samples
+pub mod Stacks
+pub mod Taping
+pub mod Telling

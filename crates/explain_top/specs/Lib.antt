@@ -1,0 +1,10 @@
+pub mod Faults
+pub mod Steps
+pub mod Derived
+pub mod Stacks
+pub mod Laws
+pub mod Words
+pub mod ExitStatus
+pub mod Tapes
+pub mod Answer
+pub mod Run
