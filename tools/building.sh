@@ -1,25 +1,34 @@
-# What ./waplay, tools/prove and tools/ship share, as functions of sh. They want the repository's folder in `top`.
+# What tools/start, tools/prove and tools/ship share, as functions of sh. They want the repository's folder in `top`.
 
-shipped=$top/bin/waplay-x86_64-linux
-shipped_from=$top/bin/built-from
-built=$top/crates/waplay/out/waplay
-built_from=$top/crates/waplay/out/built-from
-log=$top/crates/waplay/out/build.log
+programs='waplay waexplain'
 
 say() {
-    echo "waplay: $1" >&2
+    echo "$program: $1" >&2
+}
+
+# Takes one of the programs: the functions below are about the one that was taken last. It is the crate of its name.
+take() {
+    program=$1
+    shipped_name=bin/$program-x86_64-linux
+    shipped_from_name=bin/$program-built-from
+    shipped=$top/$shipped_name
+    shipped_from=$top/$shipped_from_name
+    built=$top/crates/$program/out/$program
+    built_from=$top/crates/$program/out/built-from
+    log=$top/crates/$program/out/build.log
+    digest=$(digest_of_sources)
 }
 
 # The crates that the program is made of, its own among them, a line each.
 crates_below() {
-    awk -F: '!/^#/ && NF > 1 { split($1, name, " "); below[name[1]] = $2 }
+    awk -F: -v program="$program" '!/^#/ && NF > 1 { split($1, name, " "); below[name[1]] = $2 }
         function visit(crate,    all, at, number) {
             if (!(crate in below) || seen[crate]++) return
             print crate
             number = split(below[crate], all, " ")
             for (at = 1; at <= number; at++) visit(all[at])
         }
-        END { visit("waplay") }' "$top/crates.txt" | LC_ALL=C sort
+        END { visit(program) }' "$top/crates.txt" | LC_ALL=C sort
 }
 
 # The digest of what the program is made of: the lines of these crates in crates.txt, and every file of
@@ -62,7 +71,7 @@ build() {
     number=0
     count=$(crates_below | wc -l)
     (
-        cd "$top/crates/waplay" || exit
+        cd "$top/crates/$program" || exit
         { rt all check --jobs "$(at_once)"; rt run; } </dev/null 2>&1
     ) | while IFS= read -r line; do
         printf '%s\n' "$line"
@@ -90,16 +99,16 @@ write_built_from() {
 # Compares the shipped program with another one, byte for byte, and says what comes of it.
 compare_shipped() {
     if [ ! -r "$shipped" ]; then
-        echo "bin/waplay-x86_64-linux is not there; tools/ship puts it there"
+        echo "$shipped_name is not there; tools/ship puts it there"
         return 1
     fi
     if ! is_built_from "$shipped" "$shipped_from"; then
-        echo "bin/built-from names other sources than these; tools/ship mends it"
+        echo "$shipped_from_name names other sources than these; tools/ship mends it"
         return 1
     fi
     if ! cmp -s "$shipped" "$1"; then
-        echo "bin/waplay-x86_64-linux is NOT the program that these sources make"
+        echo "$shipped_name is NOT the program that these sources make"
         return 1
     fi
-    echo "bin/waplay-x86_64-linux is the program that these sources make, byte for byte"
+    echo "$shipped_name is the program that these sources make, byte for byte"
 }

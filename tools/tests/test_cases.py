@@ -1,19 +1,21 @@
 """Tests of how cases are read, written short, run and compared."""
 
 import dataclasses
+import hashlib
 import json
 import tempfile
 import unittest
 from pathlib import Path
 
+import fixtures
 from waplay_tools import wav
 from waplay_tools.cases.__main__ import CASES, files_in
-from waplay_tools.cases.case import Case, CaseFault, case_of, read_case
+from waplay_tools.cases.case import OF_VARIANTS, Case, CaseFault, case_of, read_case
 from waplay_tools.cases.differences import differences, wanted_file
 from waplay_tools.cases.expansion import calls_in, lines_in, runs_in, runs_of
 from waplay_tools.cases.folder import changes_in, content_of, write_files
 from waplay_tools.cases.layout import layout
-from waplay_tools.cases.performers import Outcome
+from waplay_tools.cases.performers import Outcome, calculate
 from waplay_tools.cases.words import words_of
 from waplay_tools.places import TOP
 
@@ -116,6 +118,14 @@ class Reading(unittest.TestCase):
         self.assertEqual(runs[2][0], "over its first 2 bytes, ")
         self.assertEqual(case_with().each(), [("", case_with())])
 
+    def test_variants_are_a_run_each(self):
+        runs = case_with(variants=[{"status": 3}, {"words": ["x"], "transcript": []}]).each()
+        self.assertEqual([which for which, _ in runs], ["variant 1, ", "variant 2, "])
+        self.assertEqual([it.status for _, it in runs], [3, 0])
+        self.assertEqual(runs[1][1].each(), [("", case_with(words=["x"], transcript=[]))])
+        with self.assertRaises(CaseFault):
+            case_with(variants=[{"script": {}}])
+
     def test_a_last_line_that_is_cut(self):
         self.assertEqual(case_with(is_cut=True).text(), "1 ok\nend completed")
         self.assertEqual(case_with(transcript=[], is_cut=True).text(), "")
@@ -123,6 +133,8 @@ class Reading(unittest.TestCase):
     def test_the_schema_has_the_members_of_a_case(self):
         names = {field.name for field in dataclasses.fields(Case)} - {"is_example", "path"}
         self.assertEqual(set(SCHEMA["properties"]), (names - {"source"}) | {"from"})
+        of_variants = SCHEMA["properties"]["variants"]["items"]["properties"]
+        self.assertEqual(set(of_variants), OF_VARIANTS)
 
     def test_each_case_has_the_one_layout(self):
         for path in files_in([CASES]):
@@ -193,6 +205,21 @@ class Comparing(unittest.TestCase):
         self.assertEqual(len(wanted_file(case_with())), 44 + 9 + 1)
 
 
+class Performing(unittest.TestCase):
+    def test_the_second_calculation_writes_a_derivation(self):
+        path = CASES / "deriving" / "a_constant_for_one_quantum.json"
+        with tempfile.TemporaryDirectory() as room:
+            outcome = calculate(read_case(path), Path(room))
+            self.assertEqual(outcome, Outcome(0, b"facts 6\n", None))
+            self.assertEqual((Path(room) / "d.txt").read_bytes().count(b"\n"), 6)
+
+    def test_a_program_that_is_not_there(self):
+        for option in ("--program", "--explain-program"):
+            done = fixtures.run("cases", "--program", "/bin/sh", option, "/nowhere", text=True)
+            self.assertEqual((done.returncode, done.stdout), (2, ""))
+            self.assertIn("there is no program /nowhere", done.stderr)
+
+
 class Folders(unittest.TestCase):
     def test_files_are_written_and_changes_are_told(self):
         files = {
@@ -211,6 +238,18 @@ class Folders(unittest.TestCase):
             (folder / "d").rmdir()
             self.assertEqual(len(changes_in(folder, files, {}, None)), 3)
             self.assertEqual(changes_in(folder, files, {"e": {"text": "y"}, "d": None}, "new"), [])
+
+    def test_a_file_of_lines_and_one_that_is_told_by_its_digest(self):
+        digest = hashlib.sha256(b"a\nb\n").hexdigest()
+        with tempfile.TemporaryDirectory() as room:
+            folder = Path(room)
+            write_files(folder, {"x": {"lines": ["a", "b"]}})
+            self.assertEqual((folder / "x").read_bytes(), b"a\nb\n")
+            self.assertEqual(changes_in(folder, {}, {"x": {"sha256": digest}}, None), [])
+            (folder / "x").write_text("a\n")
+            self.assertEqual(len(changes_in(folder, {}, {"x": {"sha256": digest}}, None)), 1)
+            (folder / "x").unlink()
+            self.assertEqual(len(changes_in(folder, {}, {"x": {"sha256": digest}}, None)), 1)
 
     def test_fronts_of_a_file_are_a_file_each(self):
         files = {"cut/{n}": {"fronts": {"hex": "00ff"}}, "whole": {"text": "x"}}

@@ -8,6 +8,7 @@ import re
 import tempfile
 import unittest
 import unittest.mock
+from pathlib import Path
 
 import fixtures
 from test_explaining import (
@@ -34,9 +35,22 @@ from waplay_tools.random_scripts.maker import operations, script_of
 from waplay_tools.reporting import explained
 from waplay_tools.reporting.explained import Explained
 from waplay_tools.reporting.facts_html import Telling, value_text
+from waplay_tools.reporting.text import BadInput
 
 COUNT = int(os.environ.get("EXPLAINED_SESSIONS", "40"))
 HEADING = "<h3>Why a sample is what it is</h3>"
+# What answers as waexplain does.
+A_PROGRAM = """
+import sys
+from pathlib import Path
+from waplay_tools.waexplain import answer_to
+
+answer = answer_to(sys.argv[1:], sys.stdin.buffer.read(), ".")
+print(answer.text, end="")
+if answer.derivation is not None:
+    Path(sys.argv[-1]).write_text(answer.derivation)
+sys.exit(answer.status)
+"""
 A_GAIN = through("g", create("Gain", "g", gain=ONE // 4), ONE // 2)
 
 
@@ -236,10 +250,11 @@ class Page(unittest.TestCase):
         told = text_of(page[page.index(HEADING):])
         self.assertIn(
             "Frame 5 of channel 0 is 0.125. The file has 1,048,576 there, which is that in 24"
-            " bits. 10 facts of the second calculation lead to it, each of which follows from"
-            " those under it.", told)
+            " bits. 10 facts lead to it, each of which follows from those under it.", told)
         self.assertIn("Numbers of channels (3 facts)", told)
-        self.assertIn("As a text (10 lines) count 0 1 0 = 1 ", told)
+        self.assertIn("As a text (10 lines) Run where the script stands, waexplain derive 5 0"
+                      " why.txt < it.json writes this text, and waexplain check why.txt < it.json"
+                      " checks it. count 0 1 0 = 1 ", told)
         self.assertIn("out 5 0 0 0 = 2097152 ", told)
         self.assertNotIn(HEADING, self.page(*words))
 
@@ -271,10 +286,38 @@ class Page(unittest.TestCase):
 
     def test_too_many_facts(self):
         words = self.paths(data_of(A_GAIN))
-        with unittest.mock.patch.object(deriving, "MOST_KEYS", 5):
+        nothing = unittest.mock.patch.object(explained, "newest_of", lambda name: None)
+        with nothing, unittest.mock.patch.object(deriving, "MOST_KEYS", 5):
             page = self.page(*words, "--explain", "5", "0")
         self.assertIn("To frame 5 of channel 0 lead more than 1,048,576 facts or 67,108,864 bytes,"
                       " which are too many.", text_of(page))
+
+    def page_by(self, text):
+        """The text of a page that is made where waexplain is a program of this text in Python;
+        where there is none, it is not there."""
+        program = text and Path(fixtures.program(self.folder, text))
+        words = self.paths(data_of(A_GAIN))
+        with unittest.mock.patch.object(explained, "newest_of", lambda name: program):
+            return text_of(self.page(*words, "--explain", "5", "0"))
+
+    def test_who_derives_it(self):
+        self.assertIn("The second calculation derived them.", self.page_by(""))
+        told = self.page_by(A_PROGRAM)
+        self.assertIn("waexplain derived them, and the second calculation finds each of them"
+                      " right.", told)
+        self.assertIn("As a text (10 lines)", told)
+        self.assertIn("The second calculation derived them.", self.page_by("raise SystemExit(10)"))
+        self.assertIn("which are too many.", self.page_by("raise SystemExit(11)"))
+        for wrong in ('.replace("5 0 0 0 = 2", "5 0 0 0 = 3")', '.replace("out 5 0 0 0", "x")',
+                      '.partition("in 5")[0]'):
+            with self.assertRaisesRegex(BadInput, "is no derivation to the second calculation"):
+                self.page_by(A_PROGRAM.replace("answer.derivation)", f"answer.derivation{wrong})"))
+
+    def test_a_program_that_cannot_be_run(self):
+        words = self.paths(data_of(A_GAIN))
+        with unittest.mock.patch.object(explained, "newest_of", lambda name: Path(words[0])):
+            told = text_of(self.page(*words, "--explain", "5", "0"))
+        self.assertIn("The second calculation derived them.", told)
 
     def test_assets_are_beside_the_script(self):
         samples = [2**20, 2**21]

@@ -1,9 +1,9 @@
 """Tests of how samples are derived and derivations are checked.
 
-Derivations of small sessions stand here as they were worked out by hand. Those of random sessions
-are held against the samples of the second calculation, and each of their facts against a third one,
-by recursion (meaning.py). Then they are changed at one place, and have to be refused at the line
-where it is.
+Derivations of small sessions, worked out by hand, are cases below tests/cases. Those of random
+sessions are held against the samples of the second calculation, and each of their facts against a
+third one, by recursion (meaning.py). Then they are changed at one place, and have to be refused at
+the line where it is.
 
 The variables name how many random sessions there are, how many samples of each, and how many lines
 a text has at most that is changed."""
@@ -20,6 +20,7 @@ from typing import Any
 
 import fixtures
 import meaning
+from waplay_tools.cases.case import read_case
 from waplay_tools.expecting import sessions
 from waplay_tools.expecting.nodes import AssetFault
 from waplay_tools.expecting.numbers import ONE, rounded_quotient, saturated
@@ -29,6 +30,8 @@ from waplay_tools.explaining.deriving import TooLong, derivation, sample_key
 from waplay_tools.explaining.equations import Equations
 from waplay_tools.explaining.facts import Count, Fact, Hist, In, Key, Numbers, Par, fact_of
 from waplay_tools.explaining.tape import NoTape, Tape, tape_of
+from waplay_tools.explanations import changed
+from waplay_tools.places import CASES
 from waplay_tools.random_scripts.assets import write_assets
 from waplay_tools.random_scripts.maker import operations, script_of
 
@@ -36,7 +39,6 @@ COUNT = int(os.environ.get("EXPLAINED_SESSIONS", "40"))
 SAMPLES = int(os.environ.get("EXPLAINED_SAMPLES", "5"))
 LINES = int(os.environ.get("CHANGED_LINES", "300"))
 CHANGES = 20  # of each text
-CHARACTERS = 3 * b"0123456789" + b" -+w=\ncounthispr.eg"
 
 RATE = 16384  # 1,024 is the time of one frame
 START = {"op": "startRendering"}
@@ -94,21 +96,26 @@ def lines_of(text: str) -> list[str]:
 
 ONE_CONSTANT = [*constant("c"), connect("c", "destination")]
 A_QUANTUM = fixtures.script([*ONE_CONSTANT, START])
-COUNTS = """
-    count 0 1 0 = 1
-    count 0 2 0 = 1
-    count 0 0 0 = 1
-"""
 CELLS = " 0" * 15
 
 
 class ByHand(unittest.TestCase):
-    """Derivations that were worked out by hand."""
+    """Derivations that were worked out by hand: those of the cases below tests/cases/deriving."""
 
-    def derive(self, calls, frame, wanted, channel=0, **context):
-        tape = tape_of_calls(calls, **context)
-        lines = derivation(tape, sample_key(frame, channel))
-        self.assertEqual(lines, lines_of(wanted))
+    def test_each_line_is_needed_and_has_the_one_value(self):
+        derived = 0
+        for path in sorted((CASES / "deriving").glob("*.json")):
+            for _, case in read_case(path).each():
+                lines = case.left.get("d.txt", {}).get("lines")
+                if case.script is not None and lines and not case.files:
+                    with self.subTest(path.stem):
+                        tape = tape_of(case.input_bytes(), os.curdir)
+                        self.look_at(tape, [line + "\n" for line in lines])
+                        derived += 1
+        self.assertGreater(derived, 30)
+
+    def look_at(self, tape, lines):
+        """Looks at what comes of a derivation without a line, and with another number."""
         self.assertEqual(verdict(tape, "".join(lines).encode()), "valid " + lines[-1])
         for number in range(1, len(lines)):  # each but the last one is needed
             text = "".join(lines[: number - 1] + lines[number:]).encode()
@@ -130,238 +137,6 @@ class ByHand(unittest.TestCase):
                     found = checked(tape, "".join(text).encode())
                     self.assertEqual(found, Wrong(number, "another value"), text[number - 1])
 
-    def test_a_constant_for_one_quantum(self):
-        self.derive(ONE_CONSTANT, 5, """
-            count 0 1 0 = 1
-            count 0 0 0 = 1
-            par 5 1 offset = 16777216
-            out 5 1 0 0 = 16777216
-            in 5 0 0 0 = 16777216
-            out 5 0 0 0 = 16777216
-        """)
-
-    def test_a_source_that_does_not_play(self):
-        for calls in (
-            [create("ConstantSource", "c")],
-            [create("ConstantSource", "c"), call("start", node="c", when=6)],
-            [*constant("c"), call("stop", node="c", when=5)],
-            [create("BufferSource", "c"), call("start", node="c")],
-        ):
-            self.derive([*calls, connect("c", "destination")], 5, """
-                count 0 1 0 = 1
-                count 0 0 0 = 1
-                out 5 1 0 0 = 0
-                in 5 0 0 0 = 0
-                out 5 0 0 0 = 0
-            """)
-
-    def test_a_buffer_in_a_loop_needs_no_more_than_its_count(self):
-        calls = [*buffer([1, 2, 3]), create("BufferSource", "s", buffer="b", loop=True)]
-        calls += [call("start", node="s", when=3), connect("s", "destination")]
-        self.derive(calls, 8, """
-            count 0 1 0 = 1
-            count 0 0 0 = 1
-            out 8 1 0 0 = 3
-            in 8 0 0 0 = 3
-            out 8 0 0 0 = 3
-        """)
-
-    def test_one_channel_becomes_two(self):
-        self.derive(ONE_CONSTANT, 5, """
-            count 0 1 0 = 1
-            count 0 0 0 = 2
-            par 5 1 offset = 16777216
-            out 5 1 0 0 = 16777216
-            in 5 0 0 1 = 16777216
-            out 5 0 0 1 = 16777216
-        """, channel=1, channels=2)
-
-    def test_one_channel_and_two_are_summed(self):
-        calls = [*buffer([100], [201]), create("BufferSource", "s", buffer="b")]
-        calls += [call("start", node="s"), *constant("c", 7), create("Gain", "g", gain=ONE)]
-        calls += [connect("s", "g"), connect("c", "g"), connect("g", "destination")]
-        self.derive(calls, 0, """
-            count 0 1 0 = 2
-            count 0 2 0 = 1
-            count 0 3 0 = 2
-            count 0 0 0 = 1
-            par 0 3 gain = 16777216
-            out 0 1 0 0 = 100
-            out 0 1 0 1 = 201
-            par 0 2 offset = 7
-            out 0 2 0 0 = 7
-            in 0 3 0 0 = 107
-            out 0 3 0 0 = 107
-            in 0 3 0 1 = 208
-            out 0 3 0 1 = 208
-            in 0 0 0 0 = 158
-            out 0 0 0 0 = 158
-        """)
-
-    def test_a_sum_is_held_in_the_range_once(self):
-        most = 2**31 - 1
-        calls = [*constant("c", most), *constant("d", most), *constant("e", -most)]
-        calls += [connect(name, "destination") for name in "cde"]
-        self.derive(calls, 5, f"""
-            count 0 1 0 = 1
-            count 0 2 0 = 1
-            count 0 3 0 = 1
-            count 0 0 0 = 1
-            par 5 1 offset = {most}
-            out 5 1 0 0 = {most}
-            par 5 2 offset = {most}
-            out 5 2 0 0 = {most}
-            par 5 3 offset = {-most}
-            out 5 3 0 0 = {-most}
-            in 5 0 0 0 = {most}
-            out 5 0 0 0 = {most}
-        """)
-
-    def test_a_ramp_at_both_rates(self):
-        ramp = call("linearRampToValueAtTime", node="c", param="offset", value=64, time=64)
-        rate = call("setAutomationRate", node="c", param="offset", value="k-rate")
-        calls = [*constant("c", 0), connect("c", "destination"), ramp]
-        for more, value in (([], 40), ([rate], 32)):
-            self.derive([*calls, *more], 40, f"""
-                count 1 1 0 = 1
-                count 1 0 0 = 1
-                par 40 1 offset = {value}
-                out 40 1 0 0 = {value}
-                in 40 0 0 0 = {value}
-                out 40 0 0 0 = {value}
-            """)
-
-    def test_connections_that_are_made_and_cut_at_a_suspension(self):
-        cut = {"op": "disconnect", "from": "c", "to": "destination"}
-        calls = [*ONE_CONSTANT, *constant("d", 7), suspend(cut, connect("d", "destination"))]
-        for frame, node, value in ((31, 1, ONE), (32, 2, 7)):
-            self.derive(calls, frame, f"""
-                count {frame // 32} {node} 0 = 1
-                count {frame // 32} 0 0 = 1
-                par {frame} {node} offset = {value}
-                out {frame} {node} 0 0 = {value}
-                in {frame} 0 0 0 = {value}
-                out {frame} 0 0 0 = {value}
-            """)
-
-    def test_a_delay_whose_own_delay_time_it_feeds(self):
-        control = {"op": "connectParam", "from": "d", "to": "d", "param": "delayTime"}
-        self.derive([*through("d", create("Delay", "d")), control], 40, """
-            count 1 2 0 = 1
-            count 1 0 0 = 1
-            out 40 2 0 0 = 0
-            in 40 0 0 0 = 0
-            out 40 0 0 0 = 0
-        """)
-
-    def test_a_gain_at_k_rate_that_hears_another_source(self):
-        control = {"op": "connectParam", "from": "k", "to": "g", "param": "gain"}
-        rate = call("setAutomationRate", node="g", param="gain", value="k-rate")
-        calls = [*constant("c", ONE // 2), *constant("k", ONE // 8)]
-        calls += [create("Gain", "g", gain=ONE // 4), rate, control]
-        calls += [connect("c", "g"), connect("g", "destination")]
-        self.derive(calls, 33, """
-            count 1 1 0 = 1
-            count 1 3 0 = 1
-            count 1 0 0 = 1
-            count 1 2 0 = 1
-            par 32 2 offset = 2097152
-            out 32 2 0 0 = 2097152
-            par 33 3 gain = 6291456
-            par 33 1 offset = 8388608
-            out 33 1 0 0 = 8388608
-            in 33 3 0 0 = 8388608
-            out 33 3 0 0 = 3145728
-            in 33 0 0 0 = 3145728
-            out 33 0 0 0 = 3145728
-        """)
-
-    def test_a_delay(self):
-        calls = through("d", create("Delay", "d", delayTime=2048), 100)
-        calls.append(call("setValueAtTime", node="c", param="offset", value=200, time=4))
-        self.derive(calls, 5, """
-            count 0 1 0 = 1
-            count 0 2w 0 = 1
-            count 0 2 0 = 1
-            count 0 0 0 = 1
-            par 5 2 delayTime = 2048
-            par 3 1 offset = 100
-            out 3 1 0 0 = 100
-            in 3 2w 0 0 = 100
-            out 3 2w 0 0 = 100
-            out 5 2 0 0 = 100
-            in 5 0 0 0 = 100
-            out 5 0 0 0 = 100
-        """)
-        self.derive(calls, 1, """
-            count 0 1 0 = 1
-            count 0 2w 0 = 1
-            count 0 2 0 = 1
-            count 0 0 0 = 1
-            par 1 2 delayTime = 2048
-            out 1 2 0 0 = 0
-            in 1 0 0 0 = 0
-            out 1 0 0 0 = 0
-        """)
-
-    def test_a_delay_in_a_cycle(self):
-        calls = [*buffer([ONE]), create("BufferSource", "s", buffer="b"), call("start", node="s")]
-        calls += [create("Delay", "d"), create("Gain", "g", gain=ONE // 2)]
-        ways = [("g", "d"), ("d", "g"), ("g", "destination"), ("s", "d"), ("s", "destination")]
-        calls += [connect(*way) for way in ways]
-        self.derive(calls, 32, """
-            count 1 1 0 = 1
-            count 0 1 0 = 1
-            count 0 2 0 = 1
-            count 0 3 0 = 1
-            count 0 2w 0 = 1
-            count 1 2 0 = 1
-            count 1 3 0 = 1
-            count 1 0 0 = 1
-            out 32 1 0 0 = 0
-            par 32 3 gain = 8388608
-            par 32 2 delayTime = 0
-            out 0 1 0 0 = 16777216
-            par 0 3 gain = 8388608
-            par 0 2 delayTime = 0
-            out 0 2 0 0 = 0
-            in 0 3 0 0 = 0
-            out 0 3 0 0 = 0
-            in 0 2w 0 0 = 16777216
-            out 0 2w 0 0 = 16777216
-            out 32 2 0 0 = 16777216
-            in 32 3 0 0 = 16777216
-            out 32 3 0 0 = 8388608
-            in 32 0 0 0 = 8388608
-            out 32 0 0 0 = 8388608
-        """)
-
-    def test_a_splitter_and_a_merger(self):
-        calls = [*buffer([100], [200]), create("BufferSource", "s", buffer="b")]
-        calls += [call("start", node="s"), create("ChannelSplitter", "p", numberOfOutputs=2)]
-        calls += [create("ChannelMerger", "m", numberOfInputs=2), connect("s", "p")]
-        calls += [connect("p", "m", output=0, input=1), connect("p", "m", output=1, input=0)]
-        calls += [connect("m", "destination")]
-        self.derive(calls, 0, """
-            count 0 3 0 = 2
-            count 0 0 0 = 2
-            count 0 2 1 = 1
-            count 0 1 0 = 2
-            out 0 1 0 0 = 100
-            out 0 1 0 1 = 200
-            in 0 2 0 1 = 200
-            out 0 2 1 0 = 200
-            in 0 3 0 0 = 200
-            out 0 3 0 0 = 200
-            count 0 2 0 = 1
-            in 0 2 0 0 = 100
-            out 0 2 0 0 = 100
-            in 0 3 1 0 = 100
-            out 0 3 0 1 = 100
-            in 0 0 0 1 = 100
-            out 0 0 0 1 = 100
-        """, channel=1, channels=2)
-
     def test_connections_are_in_the_order_of_their_sources_and_then_as_they_were_made(self):
         calls = [*constant("c", 1), *constant("e", 4), create("ChannelSplitter", "p")]
         calls += [connect("c", "p"), connect("p", "destination", output=2)]
@@ -381,118 +156,6 @@ class ByHand(unittest.TestCase):
         """))
         self.assertEqual(lines[-1], "out 0 0 0 0 = 6\n")
 
-    def test_a_shaper(self):
-        self.derive(through("w", create("WaveShaper", "w", curve=[0, ONE]), 0), 0, COUNTS + """
-            par 0 1 offset = 0
-            out 0 1 0 0 = 0
-            in 0 2 0 0 = 0
-            hist 0 2 0 = 8388608
-            out 0 2 0 0 = 8388608
-            in 0 0 0 0 = 8388608
-            out 0 0 0 0 = 8388608
-        """)
-
-    def test_a_filter_reads_at_the_place_of_each_coefficient(self):
-        made = create("IIRFilter", "f", feedforward=[ONE // 2, 0], feedback=[ONE, -(ONE // 2)])
-        self.derive(through("f", made), 1, COUNTS + """
-            par 1 1 offset = 16777216
-            out 1 1 0 0 = 16777216
-            in 1 2 0 0 = 16777216
-            par 0 1 offset = 16777216
-            out 0 1 0 0 = 16777216
-            in 0 2 0 0 = 16777216
-            hist 0 2 0 = 8388608
-            hist 1 2 0 = 12582912
-            out 1 2 0 0 = 12582912
-            in 1 0 0 0 = 12582912
-            out 1 0 0 0 = 12582912
-        """)
-
-    def test_a_filter_of_which_coefficients_are_0(self):
-        for forward, back in (([ONE, 0], [ONE]), ([ONE], [ONE, 0])):
-            made = create("IIRFilter", "f", feedforward=forward, feedback=back)
-            past = ["hist 0 2 0 = 16777216"] if len(back) > 1 else []
-            self.derive(through("f", made), 1, COUNTS + "\n".join([
-                "par 1 1 offset = 16777216",
-                "out 1 1 0 0 = 16777216",
-                "in 1 2 0 0 = 16777216",
-                "par 0 1 offset = 16777216",
-                "out 0 1 0 0 = 16777216",
-                "in 0 2 0 0 = 16777216",
-                *past,
-                "hist 1 2 0 = 16777216",
-                "out 1 2 0 0 = 16777216",
-                "in 1 0 0 0 = 16777216",
-                "out 1 0 0 0 = 16777216",
-            ]))
-
-    def test_a_filter_that_goes_to_the_end_of_the_range(self):
-        made = create("IIRFilter", "f", feedforward=[ONE], feedback=[-1])
-        self.derive(through("f", made), 0, COUNTS + """
-            par 0 1 offset = 16777216
-            out 0 1 0 0 = 16777216
-            in 0 2 0 0 = 16777216
-            hist 0 2 0 = -2147483648
-            out 0 2 0 0 = -2147483648
-            in 0 0 0 0 = -2147483648
-            out 0 0 0 0 = -2147483648
-        """)
-
-    def test_a_convolver_reads_at_the_place_of_each_sample(self):
-        made = create("Convolver", "v", buffer="b", disableNormalization=True)
-        calls = buffer([ONE, 0, ONE // 2]) + through("v", made, ONE // 4)
-        self.derive(calls, 2, COUNTS + """
-            par 2 1 offset = 4194304
-            out 2 1 0 0 = 4194304
-            in 2 2 0 0 = 4194304
-            par 1 1 offset = 4194304
-            out 1 1 0 0 = 4194304
-            in 1 2 0 0 = 4194304
-            par 0 1 offset = 4194304
-            out 0 1 0 0 = 4194304
-            in 0 2 0 0 = 4194304
-            hist 2 2 0 = 6291456
-            out 2 2 0 0 = 6291456
-            in 2 0 0 0 = 6291456
-            out 2 0 0 0 = 6291456
-        """)
-
-    def test_a_convolver_without_a_response_reads_nothing(self):
-        made = create("Convolver", "v", disableNormalization=True)
-        self.derive(through("v", made), 2, COUNTS + """
-            hist 2 2 0 = 0
-            out 2 2 0 0 = 0
-            in 2 0 0 0 = 0
-            out 2 0 0 0 = 0
-        """)
-
-    def test_a_processor(self):
-        code = ["load 0", "push 7", "add", "dup", "store 0", "in", "sub"]
-        self.derive(through("p", create("Processor", "p", code=code), 100), 1, COUNTS + f"""
-            par 1 1 offset = 100
-            out 1 1 0 0 = 100
-            in 1 2 0 0 = 100
-            par 0 1 offset = 100
-            out 0 1 0 0 = 100
-            in 0 2 0 0 = 100
-            hist 0 2 0 = -93 7{CELLS}
-            hist 1 2 0 = -86 14{CELLS}
-            out 1 2 0 0 = -86
-            in 1 0 0 0 = -86
-            out 1 0 0 0 = -86
-        """)
-
-    def test_a_muted_end_needs_nothing(self):
-        calls = [*constant("c"), create("Gain", "g"), create("Gain", "h"), connect("c", "g")]
-        calls += [connect("g", "h"), connect("h", "g"), connect("h", "destination")]
-        self.derive(calls, 40, """
-            count 1 3 0 = 1
-            count 1 0 0 = 1
-            out 40 3 0 0 = 0
-            in 40 0 0 0 = 0
-            out 40 0 0 0 = 0
-        """)
-
     def test_a_filter_goes_on_while_it_is_muted(self):
         made = create("IIRFilter", "f", feedforward=[ONE], feedback=[ONE, -(ONE // 2)])
         parted = {"op": "disconnect", "from": "f", "to": "f"}
@@ -507,74 +170,6 @@ class ByHand(unittest.TestCase):
         lines = derivation(tape, sample_key(33, 0))
         self.assertEqual(lines[-1], "out 33 0 0 0 = 25165824\n")
         self.assertNotIn("in 31 2 0 0", "".join(lines))
-
-    def born_later(self, name, made):
-        """Calls that lead a constant through a node that is made at frame 32."""
-        ways = [connect("c", name), connect(name, "destination")]
-        return [*constant("c", 100), suspend(made, *ways)]
-
-    def test_a_delay_that_is_born_later(self):
-        calls = self.born_later("d", create("Delay", "d", delayTime=32 * 1024))
-        self.derive(calls, 40, """
-            count 1 1 0 = 1
-            count 1 2w 0 = 1
-            count 1 2 0 = 1
-            count 1 0 0 = 1
-            par 40 2 delayTime = 32768
-            out 40 2 0 0 = 0
-            in 40 0 0 0 = 0
-            out 40 0 0 0 = 0
-        """)
-
-    def test_a_filter_that_is_born_later(self):
-        made = create("IIRFilter", "f", feedforward=[ONE, ONE], feedback=[ONE, ONE])
-        self.derive(self.born_later("f", made), 32, """
-            count 1 1 0 = 1
-            count 1 2 0 = 1
-            count 1 0 0 = 1
-            par 32 1 offset = 100
-            out 32 1 0 0 = 100
-            in 32 2 0 0 = 100
-            hist 32 2 0 = 100
-            out 32 2 0 0 = 100
-            in 32 0 0 0 = 100
-            out 32 0 0 0 = 100
-        """)
-
-    def test_a_processor_that_is_born_later(self):
-        made = create("Processor", "p", code=["load 0", "push 7", "add", "dup", "store 0"])
-        self.derive(self.born_later("p", made), 33, f"""
-            count 1 1 0 = 1
-            count 1 2 0 = 1
-            count 1 0 0 = 1
-            par 33 1 offset = 100
-            out 33 1 0 0 = 100
-            in 33 2 0 0 = 100
-            par 32 1 offset = 100
-            out 32 1 0 0 = 100
-            in 32 2 0 0 = 100
-            hist 32 2 0 = 7 7{CELLS}
-            hist 33 2 0 = 14 14{CELLS}
-            out 33 2 0 0 = 14
-            in 33 0 0 0 = 14
-            out 33 0 0 0 = 14
-        """)
-
-    def test_a_timeline_that_is_edited_later(self):
-        events = [call("setValueAtTime", node="c", param="offset", value=ONE, time=0)]
-        events.append(
-            suspend(call("linearRampToValueAtTime", node="c", param="offset", value=0, time=64))
-        )
-        for frame, value in ((5, ONE), (48, ONE // 4)):
-            quantum = frame // 32
-            self.derive([*ONE_CONSTANT, *events], frame, f"""
-                count {quantum} 1 0 = 1
-                count {quantum} 0 0 = 1
-                par {frame} 1 offset = {value}
-                out {frame} 1 0 0 = {value}
-                in {frame} 0 0 0 = {value}
-                out {frame} 0 0 0 = {value}
-            """)
 
 
 class Checking(unittest.TestCase):
@@ -866,16 +461,6 @@ class Changed:
         if line.find("\n") != len(line) - 1 or not self.is_right(place, line[:-1]):
             return place + 1
         return self.needed.get(self.facts[place].key)
-
-
-def changed(rng: random.Random, line: str) -> str:
-    """A line with its end, of which one character is another one, or there is one less or one
-    more. It ends with a line's end where that was not touched."""
-    while True:
-        at, new = rng.randrange(len(line)), chr(rng.choice(CHARACTERS))
-        made = line[:at] + rng.choice([new, new, "", new + line[at]]) + line[at + 1:]
-        if made != line:
-            return made
 
 
 class Random(unittest.TestCase):

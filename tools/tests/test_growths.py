@@ -1,7 +1,7 @@
 """Tests of how growths are refused, and that a run ends with status 10 then.
 
-The program is the one that the variable WAPLAY names, or else the shipped one. Where there is no
-program, or no C compiler, the tests are skipped."""
+The programs are those that the variables WAPLAY and WAEXPLAIN name, or else the shipped ones. Where
+there is no program, or no C compiler, the tests are skipped."""
 
 import contextlib
 import io
@@ -11,10 +11,11 @@ import unittest
 from pathlib import Path
 
 from waplay_tools.growths.__main__ import BEFORE, compiled, judged, performed, refused_in, whole_of
-from waplay_tools.growths.scripts import ASSET, RUNS
-from waplay_tools.places import SHIPPED
+from waplay_tools.growths.scripts import ASSET, EXPLAIN_RUNS, RUNS
+from waplay_tools.places import EXPLAIN_SHIPPED, SHIPPED
 
 PROGRAM = Path(os.environ.get("WAPLAY") or SHIPPED).absolute()
+EXPLAIN_PROGRAM = Path(os.environ.get("WAEXPLAIN") or EXPLAIN_SHIPPED).absolute()
 
 
 @unittest.skipUnless(os.access(PROGRAM, os.X_OK), "there is no program")
@@ -49,6 +50,16 @@ class Growths(unittest.TestCase):
         self.assertEqual(set(left.files), set(BEFORE))
         found = judged(PROGRAM, self.library, RUNS[0], whole, told)
         self.assertEqual(found.faults, ["status 0 in place of 10"])
+
+    @unittest.skipUnless(os.access(EXPLAIN_PROGRAM, os.X_OK), "there is no waexplain")
+    def test_so_it_is_with_waexplain(self) -> None:
+        for it in EXPLAIN_RUNS:
+            whole = whole_of(EXPLAIN_PROGRAM, self.library, it)
+            self.assertGreater(whole.growths, 5, it.shows)
+            self.assertIn(whole.answer.status, (0, 2, 3, 4, 12, 13), it.shows)
+        for it in EXPLAIN_RUNS[:2]:
+            with contextlib.redirect_stdout(io.StringIO()):
+                self.assertEqual(refused_in(EXPLAIN_PROGRAM, self.library, it)[1], [])
 
 
 if __name__ == "__main__":

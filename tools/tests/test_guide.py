@@ -7,6 +7,7 @@ from pathlib import Path
 
 import fixtures
 from waplay_tools.expecting.sessions import file_of, replayed
+from waplay_tools.waexplain import answer_to
 
 TOP = Path(fixtures.TOP)
 EXAMPLES = TOP / "examples"
@@ -61,6 +62,29 @@ class Documents(unittest.TestCase):
         migrated = block_with("docs/FORMATS.md", '"version":2}').replace("\n", "")
         _, _, session = replayed(script.encode(), is_checked=True)
         self.assertEqual(migrated.encode(), file_of(session, "migrate"))
+
+    def test_derivations_stand_as_they_are(self):
+        piece = (EXAMPLES / "first_piece.json").read_bytes()
+        for document, data, frame in (
+            ("README.md", piece, "50000"),
+            ("docs/GUIDE.md", block_with("docs/GUIDE.md", '"version"').encode(), "22100"),
+        ):
+            answer = answer_to(["derive", frame, "0", "why.txt"], data, str(EXAMPLES))
+            self.assertEqual(block_with(document, "count "), (answer.derivation or "").strip())
+            command = f"../waexplain derive {frame} 0 "
+            self.assertIn(command, block_with(document, "waexplain derive"))
+            text = (TOP / document).read_text(encoding="utf-8")
+            self.assertIn(f"prints `{answer.text.strip()}`", text)
+
+    def test_derivations_of_pieces_have_as_many_facts_as_is_told(self):
+        page = (TOP / "docs" / "EXAMPLES.md").read_text(encoding="utf-8")
+        rows = re.findall(r"^\| (\w+) \| ([\d,]+) \| (\d{1,3}) \|$", page, re.M)
+        told = [(name, frame, facts) for name, frame, facts in rows if "," in frame]
+        self.assertGreater(len(told), 3)
+        for name, frame, facts in told:
+            words = ["derive", frame.replace(",", ""), "0", "why.txt"]
+            data = (EXAMPLES / f"{name}.json").read_bytes()
+            self.assertEqual(answer_to(words, data, str(EXAMPLES)).text, f"facts {facts}\n")
 
     def test_every_piece_stands_in_the_page_of_pieces(self):
         page = (TOP / "docs" / "EXAMPLES.md").read_text(encoding="utf-8")

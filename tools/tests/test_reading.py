@@ -346,11 +346,8 @@ class Following(unittest.TestCase):
     def test_transcripts_of_cases_belong_to_their_scripts(self):
         for path in files_in([CASES]):
             case = read_case(path)
-            if case.script is not None and case.status in (
-                0,
-                3,
-                9,
-            ):  # with others there is no transcript
+            has_transcript = case.program == "waplay" and case.status in (0, 3, 9)
+            if case.script is not None and has_transcript:
                 self.belongs_to_its_script(path.stem, case.input_bytes(), case.text())
 
     def belongs_to_its_script(self, name, data, text):

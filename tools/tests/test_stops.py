@@ -1,8 +1,8 @@
 """Tests of a stop at every call to the outside, on the built program: a preloaded library lets its
 calls to the system take few bytes, and one of them fail.
 
-The program is the one that the variable WAPLAY names, or else the shipped one. Where there is no
-program, or no C compiler, the tests are skipped."""
+The programs are those that the variables WAPLAY and WAEXPLAIN name, or else the shipped ones. Where
+there is no program, or no C compiler, the tests are skipped."""
 
 import os
 import tempfile
@@ -10,20 +10,22 @@ import unittest
 from pathlib import Path
 
 from waplay_tools.growths.__main__ import SOURCE, compiled
-from waplay_tools.growths.scripts import ASSET, RUNS
-from waplay_tools.places import SHIPPED
+from waplay_tools.growths.scripts import ASSET, DERIVATION, RUNS
+from waplay_tools.places import EXPLAIN_SHIPPED, SHIPPED
 from waplay_tools.running import Ran, Terms, run
 from waplay_tools.wav import Form, wav_bytes
 
 PROGRAM = Path(os.environ.get("WAPLAY") or SHIPPED).absolute()
+EXPLAIN_PROGRAM = Path(os.environ.get("WAEXPLAIN") or EXPLAIN_SHIPPED).absolute()
 ONE = RUNS[0].given  # a constant of 1.0 for one quantum
 LINES = b"1 ok\n2 ok\n3 ok\n4 pending\n4 resolved\ncomplete 128\nend completed\n"
 FILE = wav_bytes(Form(1, 48000, 24), [[2**23 - 1] * 128])
 BEFORE = b"abc"
 
 
-@unittest.skipUnless(os.access(PROGRAM, os.X_OK), "there is no program")
-class Stops(unittest.TestCase):
+class Room(unittest.TestCase):
+    """A folder, and the library that fails."""
+
     def setUp(self) -> None:
         room = tempfile.TemporaryDirectory()
         self.addCleanup(room.cleanup)
@@ -34,12 +36,18 @@ class Stops(unittest.TestCase):
         self.folder = Path(room.name, "folder")
         self.folder.mkdir()
 
+    def terms(self, given: bytes, variables: dict[str, int]) -> Terms:
+        """What a run has to do with whose calls fail as the variables tell."""
+        told = {name: str(number) for name, number in variables.items()}
+        return Terms(given, variables={"LD_PRELOAD": self.library, **told})
+
+
+@unittest.skipUnless(os.access(PROGRAM, os.X_OK), "there is no program")
+class Stops(Room):
     def ran(self, given: bytes = ONE, **variables: int) -> tuple[Ran, bytes]:
         """What a run gives over an OUT that is there, and what stands at OUT then."""
         (self.folder / "out.wav").write_bytes(BEFORE)
-        told = {name: str(number) for name, number in variables.items()}
-        terms = Terms(given, variables={"LD_PRELOAD": self.library, **told})
-        ran = run([PROGRAM, "out.wav"], self.folder, terms)
+        ran = run([PROGRAM, "out.wav"], self.folder, self.terms(given, variables))
         self.assertLessEqual(set(os.listdir(self.folder)), {"out.wav", "two.wav"})
         return ran, (self.folder / "out.wav").read_bytes()
 
@@ -100,6 +108,61 @@ class Stops(unittest.TestCase):
             if ran.status:
                 self.assertEqual((ran.status, ran.text, file), (7, b"", BEFORE))
         self.assertGreater(len(statuses), len(ASSET) // 7)
+
+
+@unittest.skipUnless(os.access(EXPLAIN_PROGRAM, os.X_OK), "there is no waexplain")
+class ExplainStops(Room):
+    def ran(self, *words: str, **variables: int) -> tuple[int, bytes, bytes]:
+        """The status and the text of a run over an OUT that is there, and what stands there
+        then."""
+        (self.folder / "out.txt").write_bytes(BEFORE)
+        (self.folder / "in.txt").write_bytes(DERIVATION)
+        ran = run([EXPLAIN_PROGRAM, *words], self.folder, self.terms(ONE, variables))
+        self.assertEqual(set(os.listdir(self.folder)), {"out.txt", "in.txt"})
+        self.assertEqual((self.folder / "in.txt").read_bytes(), DERIVATION)
+        return ran.status, ran.text, (self.folder / "out.txt").read_bytes()
+
+    def derived(self, **variables: int) -> tuple[int, bytes, bytes]:
+        return self.ran("derive", "5", "0", "out.txt", **variables)
+
+    def checked(self, **variables: int) -> tuple[int, bytes, bytes]:
+        return self.ran("check", "in.txt", **variables)
+
+    def test_nothing_fails(self) -> None:
+        most = {"READ_MOST": 7, "FETCH_MOST": 5, "WRITE_MOST": 1, "APPEND_MOST": 3}
+        self.assertEqual(self.derived(**most), (0, b"facts 6\n", DERIVATION))
+        told = b"valid out 5 0 0 0 = 16777216\n"
+        self.assertEqual(self.checked(**most), (0, told, BEFORE))
+
+    def test_each_write_of_one_byte_of_the_line(self) -> None:
+        for call in range(1, 9):
+            found = self.derived(WRITE_MOST=1, WRITE_FAILS=call)
+            self.assertEqual(found, (8, b"facts 6\n"[: call - 1], BEFORE))
+        self.assertEqual(self.derived(WRITE_MOST=1, WRITE_FAILS=9)[0], 0)
+
+    def test_each_append_of_five_bytes(self) -> None:
+        appends = -(-len(DERIVATION) // 5)
+        for call in range(1, appends + 1):
+            found = self.derived(APPEND_MOST=5, APPEND_FAILS=call, APPEND_LEAVES=0)
+            self.assertEqual(found, (9, b"facts 6\n", DERIVATION[: 5 * (call - 1)]))
+        self.assertEqual(self.derived(APPEND_MOST=5, APPEND_FAILS=appends + 1)[0], 0)
+        self.assertEqual(self.derived(OPEN_FAILS=1), (9, b"facts 6\n", BEFORE))
+
+    def test_each_read_of_seven_bytes(self) -> None:
+        reads = -(-len(ONE) // 7) + 1  # the last one finds the end
+        for call in range(1, reads + 1):
+            for found in (self.derived, self.checked):
+                self.assertEqual(found(READ_MOST=7, READ_FAILS=call), (6, b"", BEFORE))
+        self.assertEqual(self.checked(READ_MOST=7, READ_FAILS=reads + 1)[0], 0)
+
+    def test_each_read_of_seven_bytes_of_a_text(self) -> None:
+        statuses = []
+        while 0 not in statuses:
+            status, text, _ = self.checked(FETCH_MOST=7, FETCH_FAILS=len(statuses) + 1)
+            statuses.append(status)
+            if status:
+                self.assertEqual((status, text), (7, b""))
+        self.assertGreater(len(statuses), len(DERIVATION) // 7)
 
 
 if __name__ == "__main__":

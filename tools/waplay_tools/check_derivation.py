@@ -20,10 +20,9 @@ import sys
 from pathlib import Path
 
 from waplay_tools.expecting.nodes import AssetFault
-from waplay_tools.explaining.checking import verdict
 from waplay_tools.explaining.deriving import MOST_BYTES
-from waplay_tools.explaining.tape import NoTape, Tape, tape_of
 from waplay_tools.script_tools import NoScript, bytes_of, is_told, path
+from waplay_tools.waexplain import Answer, answered, checked
 
 
 def arguments() -> argparse.Namespace:
@@ -38,35 +37,27 @@ def arguments() -> argparse.Namespace:
     return words.parse_args()
 
 
-class NoText(Exception):
-    """A text that is there and cannot be read."""
-
-
-def judged(tape: Tape, text_path: Path) -> str:
-    """The line that says whether the text of a file is checked."""
+def text_at(place: Path) -> bytes | None:
+    """The text of a file, so much of it that it tells whether it is too long; None where there is
+    no file. One that is there and cannot be read is a fault as an asset is."""
     try:
-        with open(text_path, "rb") as file:
-            text = file.read(MOST_BYTES + 1)
+        with open(place, "rb") as file:
+            return file.read(MOST_BYTES + 1)
     except (FileNotFoundError, NotADirectoryError):
-        return "invalid missing\n"
+        return None
     except OSError:
-        raise NoText from None
-    return "invalid long\n" if len(text) > MOST_BYTES else verdict(tape, text)
+        raise AssetFault from None
 
 
 def main() -> int:
     """Checks the derivation that is named."""
     asked = arguments()
     try:
-        line = judged(tape_of(bytes_of(asked.script), os.curdir), asked.text)
-        status = 0 if line.startswith("valid") else 12
+        data = bytes_of(asked.script)
+        answer = answered(data, os.curdir, lambda tape: checked(tape, text_at(asked.text)))
     except NoScript as fault:
-        return fault.status
-    except NoTape as no_tape:
-        line, status = f"{no_tape.line}\n", no_tape.status
-    except (AssetFault, NoText):
-        return 7
-    return status if is_told(line) else 8
+        answer = Answer(fault.status, "")
+    return answer.status if is_told(answer.text) else 8
 
 
 if __name__ == "__main__":

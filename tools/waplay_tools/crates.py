@@ -4,7 +4,7 @@ from pathlib import Path
 
 from waplay_tools.reference.scanning import Unreadable
 
-PROGRAM = "waplay"  # the crate that is the program
+PROGRAMS = ("waplay", "waexplain")  # the crates that are the shipped programs
 
 Bases = dict[str, tuple[str, ...]]
 
@@ -36,5 +36,6 @@ def below(name: str, bases: Bases) -> set[str]:
 
 
 def product(bases: Bases) -> set[str]:
-    """The crates that the program is made of, its own among them."""
-    return below(PROGRAM, bases) | {PROGRAM}
+    """The crates that the shipped programs are made of, their own among them."""
+    programs = {name for name in PROGRAMS if name in bases}
+    return programs.union(*(below(name, bases) for name in programs))

@@ -17,11 +17,9 @@ import argparse
 import os
 import sys
 
-from waplay_tools.expecting.nodes import AssetFault
-from waplay_tools.explaining.deriving import TooLong, derivation, sample_key
-from waplay_tools.explaining.tape import NoTape, tape_of
 from waplay_tools.explaining.words import place
 from waplay_tools.script_tools import NoScript, bytes_of, is_told, path
+from waplay_tools.waexplain import Answer, answered, derived
 
 
 def arguments() -> argparse.Namespace:
@@ -38,33 +36,26 @@ def arguments() -> argparse.Namespace:
     return words.parse_args()
 
 
-def derived(asked: argparse.Namespace) -> tuple[int, list[str]]:
-    """The status, and the lines of the derivation, or the one that is printed in their place."""
+def answer_to(asked: argparse.Namespace) -> Answer:
+    """The answer to what the command line asks for."""
     try:
-        tape = tape_of(bytes_of(asked.script), os.curdir)
-        if asked.frame >= tape.length or asked.channel >= tape.channels:
-            return 13, ["out of range\n"]
-        return 0, derivation(tape, sample_key(asked.frame, asked.channel))
+        data = bytes_of(asked.script)
     except NoScript as fault:
-        return fault.status, []
-    except NoTape as no_tape:
-        return no_tape.status, [f"{no_tape.line}\n"]
-    except AssetFault:
-        return 7, []
-    except TooLong:
-        return 11, ["too long\n"]
+        return Answer(fault.status, "")
+    return answered(data, os.curdir, lambda tape: derived(tape, asked.frame, asked.channel))
 
 
 def main() -> int:
     """Derives the sample that is asked for."""
     asked = arguments()
-    status, lines = derived(asked)
-    if status != 0 or asked.out is None:
-        return status if is_told("".join(lines)) else 8
-    if not is_told(f"facts {len(lines)}\n"):
+    answer = answer_to(asked)
+    lines = answer.derivation
+    if lines is None or asked.out is None:
+        return answer.status if is_told(lines or answer.text) else 8
+    if not is_told(answer.text):
         return 8
     try:
-        asked.out.write_text("".join(lines), encoding="ascii")
+        asked.out.write_text(lines, encoding="ascii")
     except OSError:
         return 9
     return 0

@@ -1,6 +1,6 @@
 """Runs the gate and says what its parts took of the processor, against their budget.
 
-The parts are the proofs of the crates that the program is made of, the must-fail edits with the
+The parts are the proofs of the crates that the programs are made of, the must-fail edits with the
 proofs that they begin with, and the proofs of the crates of tests and tools. A part is told by the
 folder and the words of each process below the gate, which is looked at twice a second; what is too
 short to be seen is the rest. What an earlier run on the machine passed is kept, so the figures are

@@ -1,4 +1,4 @@
-"""What an installed package starts: the program and the tools, each as a command of its own."""
+"""What an installed package starts: the programs and the tools, each as a command of its own."""
 
 import os
 import runpy
@@ -8,14 +8,24 @@ from typing import NoReturn
 from waplay_tools.places import PACKAGED
 
 
-def program() -> NoReturn:
-    """Becomes the program, with the words of this command."""
-    path = PACKAGED / "waplay"
+def _become(program: str) -> NoReturn:
+    """Becomes a program, with the words of this command."""
+    path = PACKAGED / program
     try:
         os.execv(path, [str(path), *sys.argv[1:]])
     except OSError as fault:
-        print(f"waplay: {path} can't be run: {fault.strerror}", file=sys.stderr)
+        print(f"{program}: {path} can't be run: {fault.strerror}", file=sys.stderr)
         sys.exit(2)
+
+
+def waplay() -> NoReturn:
+    """Becomes the replayer."""
+    _become("waplay")
+
+
+def waexplain() -> NoReturn:
+    """Becomes what derives samples and checks derivations."""
+    _become("waexplain")
 
 
 def _run(module: str) -> NoReturn:

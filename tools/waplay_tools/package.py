@@ -1,10 +1,10 @@
-"""Makes a package of the program, the recorder and the tools: a wheel for Linux on x86-64, or a
+"""Makes a package of the programs, the recorder and the tools: a wheel for Linux on x86-64, or a
 Debian package.
 
-Both have the commands waplay, waplay-piece, waplay-record, waplay-report, waplay-compare and
-waplay-archive, and the documents in share/doc/waplay. A wheel wants setuptools and wheel, a Debian
-package dpkg-deb, and both esbuild; nothing is fetched. The same sources give the same bytes. The
-status is 0, or 2 with a sentence on standard error.
+Both have the commands waplay, waexplain, waplay-piece, waplay-record, waplay-report, waplay-compare
+and waplay-archive, and the documents in share/doc/waplay. A wheel wants setuptools and wheel, a
+Debian package dpkg-deb, and both esbuild; nothing is fetched. The same sources give the same bytes.
+The status is 0, or 2 with a sentence on standard error.
 """
 
 import argparse
@@ -17,7 +17,7 @@ import sys
 import tempfile
 from pathlib import Path
 
-from waplay_tools.places import SHIPPED, TOP
+from waplay_tools.places import EXPLAIN_SHIPPED, SHIPPED, TOP
 from waplay_tools.recorder.bundle import NoBundle, recorder_text
 from waplay_tools.reporting.text import BadInput
 
@@ -26,7 +26,8 @@ PACKAGE = TOP / "tools" / "waplay_tools"
 PARTS = ("__init__.py", "archive", "chromium.py", "compare.py", "expecting", "explaining",
          "launching.py", "piece", "places.py", "pruning", "recorder", "report.py", "reporting",
          "wav.py")
-COMMANDS = ("piece", "record", "report", "compare", "archive")  # beside the program
+PROGRAMS = {"waplay": SHIPPED, "waexplain": EXPLAIN_SHIPPED}
+COMMANDS = ("piece", "record", "report", "compare", "archive")  # beside the programs
 SUMMARY = "Replays sessions of the Web Audio API, offline and in whole numbers"
 
 PYPROJECT = """[build-system]
@@ -70,7 +71,8 @@ Suggests: python3-distributed, python3-junitparser
 Section: sound
 Priority: optional
 Description: {summary}
- Records the Web Audio calls of a page, replays them, and makes reports and archives of them.
+ Records the Web Audio calls of a page, replays them, says why a sample is what it is, and makes
+ reports and archives.
 """
 
 PRERM = """#!/bin/sh
@@ -107,7 +109,7 @@ def put_documents(folder: Path) -> None:
 
 
 def stage(folder: Path) -> None:
-    """Puts the parts of the package into a folder: the tools, the program and the recorder."""
+    """Puts the parts of the package into a folder: the tools, the programs and the recorder."""
     ignored = shutil.ignore_patterns("__pycache__", "*.pyc")
     made = folder / "waplay_tools"
     made.mkdir(parents=True)
@@ -118,9 +120,11 @@ def stage(folder: Path) -> None:
             shutil.copyfile(part, made / part.name)
     packaged = made / "packaged"
     packaged.mkdir()
-    shutil.copyfile(SHIPPED, packaged / "waplay")
-    (packaged / "waplay").chmod(0o755)
-    shutil.copyfile(SHIPPED.parent / "built-from", packaged / "built-from")
+    for name, shipped in PROGRAMS.items():
+        shutil.copyfile(shipped, packaged / name)
+        (packaged / name).chmod(0o755)
+        told = f"{name}-built-from"
+        shutil.copyfile(shipped.with_name(told), packaged / told)
     (packaged / "recorder.js").write_text(recorder_text(), encoding="utf-8")
 
 
@@ -139,7 +143,7 @@ def wheel(out: Path) -> Path:
             path.parent.relative_to(folder).as_posix().replace("/", ".")
             for path in folder.rglob("__init__.py")
         )
-        scripts = ['waplay = "waplay_tools.launching:program"']
+        scripts = [f'{name} = "waplay_tools.launching:{name}"' for name in PROGRAMS]
         scripts += [f'waplay-{name} = "waplay_tools.launching:{name}"' for name in COMMANDS]
         text = PYPROJECT.format(version=version(), summary=SUMMARY, scripts="\n".join(scripts),
                                 packages=packages)
@@ -164,8 +168,9 @@ def debian(out: Path) -> Path:
         stage(folder / "usr/lib/python3/dist-packages")
         binaries = folder / "usr/bin"
         binaries.mkdir()
-        program = "../lib/python3/dist-packages/waplay_tools/packaged/waplay"
-        (binaries / "waplay").symlink_to(program)
+        for name in PROGRAMS:
+            packaged = "../lib/python3/dist-packages/waplay_tools/packaged"
+            (binaries / name).symlink_to(f"{packaged}/{name}")
         for name in COMMANDS:
             path = binaries / f"waplay-{name}"
             path.write_text(COMMAND.format(name=name), encoding="utf-8")

@@ -7,9 +7,19 @@ TOP = Path(__file__).resolve().parents[2]
 EXAMPLES = TOP / "examples"
 CASES = TOP / "tests" / "cases"
 SHIPPED = TOP / "bin" / "waplay-x86_64-linux"
+EXPLAIN_SHIPPED = TOP / "bin" / "waexplain-x86_64-linux"
 BUILT = TOP / "crates" / "waplay" / "out" / "waplay"
 # In an installed package there is no repository: the program and the recorder lie here.
 PACKAGED = Path(__file__).resolve().parent / "packaged"
+
+
+def newest_of(program: str, top: Path = TOP) -> Path | None:
+    """The program of this name that a checkout has, the newer one of what was built there and what
+    comes with it; or that of an installed package."""
+    built = top / "crates" / program / "out" / program
+    places = [top / "bin" / f"{program}-x86_64-linux", built, PACKAGED / program]
+    there = [path for path in places if path.is_file()]
+    return max(there, key=lambda path: path.stat().st_mtime, default=None)
 
 
 def as_called_here(text: str) -> str:

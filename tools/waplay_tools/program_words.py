@@ -26,7 +26,13 @@ def asked_of(words: argparse.ArgumentParser, drawn: str) -> argparse.Namespace:
         help="how many run at a time; one on each processor by default",
     )
     asked = words.parse_args()
-    asked.program = None if asked.second_alone else asked.program.resolve()
-    if asked.program and not os.access(asked.program, os.X_OK):
-        words.exit(2, f"{words.prog}: there is no program {asked.program}\n")
+    asked.program = None if asked.second_alone else there(words, asked.program)
     return asked
+
+
+def there(words: argparse.ArgumentParser, program: Path) -> Path:
+    """The path of a program that is there; the tool ends here with status 2 where it is not."""
+    path = program.resolve()
+    if not os.access(path, os.X_OK):
+        words.exit(2, f"{words.prog}: there is no program {path}\n")
+    return path

@@ -1,4 +1,4 @@
-"""Runs what tells whether waplay works: the cases on built programs and on the second calculation,
+"""Runs what tells whether the programs work: the cases on built ones and on the second calculation,
 and the tests of the tools and of the recorder that need no browser. It needs Python 3 and nothing
 else; what is skipped because something is not installed is said."""
 
@@ -24,12 +24,17 @@ LONG = (
     "test_command_lines",
     "test_delays",
     "test_explaining",
+    "test_explanations",
     "test_generated",
     "test_reading",
     "test_report",
     "test_schema",
     "test_worst",
 )
+
+# The words that name the programs which are tested, here and for the cases.
+OPTIONS = {"waplay": "--program", "waexplain": "--explain-program"}
+Programs = dict[str, list[Path]]
 
 _RAN = re.compile(r"^Ran (\d+) tests?", re.M)
 _NOT_PASSED = re.compile(r"^FAILED \((.*)\)$", re.M)
@@ -44,8 +49,8 @@ def modules(with_browser: bool) -> list[Path]:
     return [path for path in found if with_browser or BROWSER not in path.stem]
 
 
-def environment(program: Path | None, room: Path) -> dict[str, str]:
-    """The environment of tests: where the tools are, the program that they run, and this Python,
+def environment(programs: Programs, room: Path) -> dict[str, str]:
+    """The environment of tests: where the tools are, the programs that they run, and this Python,
     which keeps in a folder of its own what it compiles of the tools, once for all of its runs."""
     paths = [TOP / "tools", *FOLDERS, TOP / "recorder"]
     told = {
@@ -54,7 +59,8 @@ def environment(program: Path | None, room: Path) -> dict[str, str]:
         "PYTHONPYCACHEPREFIX": str(room),
         "PYTHONDONTWRITEBYTECODE": "",
     }
-    return {**os.environ, **told, **({"WAPLAY": str(program)} if program else {})}
+    run = {name.upper(): str(files[0]) for name, files in programs.items() if files}
+    return {**os.environ, **told, **run}
 
 
 def run_module(path: Path, told: dict[str, str]) -> tuple[str, int, int, int, str]:
@@ -99,10 +105,12 @@ def run_modules(paths: list[Path], told: dict[str, str]) -> tuple[int, int]:
     return passed_by_all, failed_by_all
 
 
-def run_cases(programs: list[Path], told: dict[str, str]) -> tuple[int, int]:
-    """Runs the cases on these programs, and on the shipped one where there are none."""
-    words = [word for program in programs for word in ("--program", str(program))]
-    command = [sys.executable, "-m", "waplay_tools.cases", *words]
+def run_cases(programs: Programs, told: dict[str, str]) -> tuple[int, int]:
+    """Runs the cases on these programs, and on the shipped ones where there are none."""
+    command = [sys.executable, "-m", "waplay_tools.cases"]
+    for name, files in programs.items():
+        for file in files:
+            command += [OPTIONS[name], str(file)]
     done = subprocess.run(command, env=told, stdout=subprocess.PIPE, text=True, check=False)
     *lines, last = done.stdout.splitlines() or [""]
     print("\n".join(lines), flush=True)
@@ -138,14 +146,11 @@ def main() -> int:
     """Runs all that the command line asks for. The last line has the counts, and the status is 0
     where nothing failed."""
     parser = argparse.ArgumentParser(prog="./test", description=__doc__)
-    parser.add_argument(
-        "--program",
-        action="append",
-        type=Path,
-        default=[],
-        metavar="FILE",
-        help="test this program; may stand several times; the shipped one where it is absent",
-    )
+    for name, option in OPTIONS.items():
+        told = f"test this {name}; may stand several times; the shipped one where it is absent"
+        parser.add_argument(
+            option, dest=name, action="append", type=Path, default=[], metavar="FILE", help=told
+        )
     parser.add_argument(
         "--browser", action="store_true", help="also run the tests that want a browser"
     )
@@ -157,10 +162,10 @@ def main() -> int:
     )
     asked = parser.parse_args()
     begun = time.monotonic()
-    programs = [program.resolve() for program in asked.program]
+    programs = {name: [it.resolve() for it in getattr(asked, name)] for name in OPTIONS}
     counts = [tuple(map(int, re.findall(r"(\d+) (?:passed|failed)", asked.before)))]
     with tempfile.TemporaryDirectory(prefix="waplay-test-") as room:
-        told = environment(programs[0] if programs else None, Path(room))
+        told = environment(programs, Path(room))
         counts.append(run_cases(programs, told))
         counts.append(run_modules(modules(asked.browser), told))
     counts.append(run_linters())

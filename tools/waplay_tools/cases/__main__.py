@@ -2,6 +2,7 @@
 
 import argparse
 import concurrent.futures
+import itertools
 import os
 import sys
 import tempfile
@@ -13,9 +14,11 @@ from waplay_tools.cases.changing import changed
 from waplay_tools.cases.differences import differences
 from waplay_tools.cases.examples import example_of
 from waplay_tools.cases.performers import Outcome, calculate, perform
-from waplay_tools.places import CASES, EXAMPLES, SHIPPED, TOP
+from waplay_tools.places import CASES, EXAMPLES, EXPLAIN_SHIPPED, SHIPPED, TOP
 
 SECOND = "the second calculation"
+# The programs that are run on the cases of waplay, and on those of waexplain.
+Programs = dict[str, list[Path]]
 
 
 def words() -> argparse.Namespace:
@@ -34,6 +37,13 @@ def words() -> argparse.Namespace:
         type=Path,
         metavar="FILE",
         help="run this program; may stand several times; the shipped one where it is absent",
+    )
+    parser.add_argument(
+        "--explain-program",
+        action="append",
+        type=Path,
+        metavar="FILE",
+        help="run this program on the cases of waexplain, in the same way",
     )
     parser.add_argument(
         "--second-alone", action="store_true", help="run the second calculation and no program"
@@ -93,18 +103,19 @@ def told_of(case: Case, programs: list[Path]) -> dict[str, list[str]]:
     return told
 
 
-def looked_at(path: Path, programs: list[Path]) -> dict[str, list[str]]:
+def looked_at(path: Path, programs: Programs) -> dict[str, list[str]]:
     """The same of the case of a file, which may be none."""
     try:
-        return told_of(case_at(path), programs)
+        case = case_at(path)
+        return told_of(case, programs[case.program])
     except (CaseFault, OSError, ValueError, KeyError, TypeError) as fault:
         return {"the case itself": [f"{type(fault).__name__}: {fault}"]}
 
 
-def changes_untold(path: Path, programs: list[Path]) -> dict[str, list[str]]:
+def changes_untold(path: Path, programs: Programs) -> dict[str, list[str]]:
     """Changes of the case that no performer's outcome tells."""
     _, case = case_at(path).each()[0]
-    found = outcomes_of(case, programs)
+    found = outcomes_of(case, programs[case.program])
     untold = {}
     for what, other in changed(case):
         silent = [name for name, outcome in found.items() if not differences(other, outcome, None)]
@@ -112,12 +123,22 @@ def changes_untold(path: Path, programs: list[Path]) -> dict[str, list[str]]:
     return untold
 
 
+def programs_of(asked: argparse.Namespace) -> Programs:
+    """The programs that the command line asks for."""
+    if asked.second_alone:
+        return {"waplay": [], "waexplain": []}
+    return {
+        "waplay": [it.resolve() for it in asked.program or [SHIPPED]],
+        "waexplain": [it.resolve() for it in asked.explain_program or [EXPLAIN_SHIPPED]],
+    }
+
+
 def main() -> int:
     """Runs what the command line names, tells what is otherwise than wanted, and gives the
     status."""
     asked = words()
-    programs = [] if asked.second_alone else [it.resolve() for it in asked.program or [SHIPPED]]
-    for program in programs:
+    programs = programs_of(asked)
+    for program in itertools.chain(*programs.values()):
         if not os.access(program, os.X_OK):
             print(f"tools/cases: there is no program {program}", file=sys.stderr)
             return 2

@@ -1,4 +1,4 @@
-"""A case: a run of the program, and what it must give."""
+"""A case: a run of a program, and what it must give."""
 
 import base64
 import dataclasses
@@ -10,6 +10,8 @@ from waplay_tools.cases.expansion import calls_in, lines_in
 
 # How the input of a case may be told. A case has exactly one of them.
 INPUTS = ("script", "input", "input_base64", "input_zeros", "input_folder")
+# The members of a variant: what it has in place of the case's own.
+OF_VARIANTS = {"words", "output", "file_most", "files", "status", "transcript", "is_cut", "left"}
 
 
 class CaseFault(Exception):
@@ -22,6 +24,7 @@ class Case:
 
     shows: str
     source: str  # `from` in the file
+    program: str = "waplay"  # or "waexplain"
     words: list[str] = dataclasses.field(default_factory=lambda: ["out.wav"])
     script: dict[str, Any] | None = None
     input: str | None = None
@@ -29,6 +32,7 @@ class Case:
     input_zeros: int | None = None
     input_folder: bool = False
     fronts: bool = False
+    variants: list[dict[str, Any]] | None = None
     output: str | int | None = None
     file_most: int | None = None
     files: dict[str, Any] = dataclasses.field(default_factory=dict)
@@ -64,8 +68,13 @@ class Case:
         return text.removesuffix("\n") if self.is_cut else text
 
     def each(self) -> list[tuple[str, "Case"]]:
-        """The runs that the case stands for, with what each is called: one, or one for each front
-        of its input that is not all of it."""
+        """The runs that the case stands for, with what each is called: one, or one for each of its
+        variants, or one for each front of its input that is not all of it."""
+        if self.variants is not None:
+            return [
+                (f"variant {number}, ", dataclasses.replace(self, **{**members, "variants": None}))
+                for number, members in enumerate(self.variants, 1)
+            ]
         whole = self.input_bytes()
         if not self.fronts or whole is None:
             return [("", self)]
@@ -103,6 +112,8 @@ def case_of(members: dict[str, Any], path: Path) -> Case:
         raise CaseFault(f"not exactly one of {', '.join(INPUTS)}")
     if "samples_at" in members and "frames" not in members:
         raise CaseFault("samples_at without frames")
+    if any(not set(variant) <= OF_VARIANTS for variant in members.get("variants", ())):
+        raise CaseFault(f"a variant with others than {', '.join(sorted(OF_VARIANTS))}")
     return Case(**named, path=path)
 
 

@@ -1,6 +1,7 @@
 """The folder that a case's run stands in: its files before, and what is there after."""
 
 import base64
+import hashlib
 from collections.abc import Callable
 from pathlib import Path
 from typing import Any
@@ -23,6 +24,7 @@ def content_of(told: dict[str, Any]) -> Content:
         "hex": lambda: bytes.fromhex("".join(value) if isinstance(value, list) else value),
         "base64": lambda: base64.b64decode(value),
         "text": lambda: value.encode(),
+        "lines": lambda: "".join(f"{line}\n" for line in value).encode(),
         "zeros": lambda: value,
         "folder": lambda: None,
         "copy": lambda: (TOP / value).read_bytes(),
@@ -59,7 +61,11 @@ def write_files(folder: Path, files: dict[str, Any]) -> None:
             target.write_bytes(content)
 
 
-def _is_so(target: Path, content: Content) -> bool:
+def _is_so(target: Path, told: dict[str, Any]) -> bool:
+    if "sha256" in told:
+        is_file = target.is_file()
+        return is_file and hashlib.sha256(target.read_bytes()).hexdigest() == told["sha256"]
+    content = content_of(told)
     if content is None:
         return target.is_dir()
     if not target.is_file() or target.is_symlink():
@@ -79,7 +85,7 @@ def changes_in(
     differences = [
         f"left in the folder: {path} is not what it must be"
         for path, told in wanted.items()
-        if path != out and not _is_so(folder / path, content_of(told))
+        if path != out and not _is_so(folder / path, told)
     ]
     for target in sorted(folder.rglob("*")):
         path = str(target.relative_to(folder))

@@ -9,6 +9,7 @@ from waplay_tools.cases.case import Case
 from waplay_tools.cases.folder import changes_in, write_files
 from waplay_tools.cases.words import words_of
 from waplay_tools.running import SECONDS, Terms, run
+from waplay_tools.waexplain import Derive, answer_to, request_of
 
 
 @dataclasses.dataclass
@@ -43,6 +44,8 @@ def perform(program: Path, case: Case, folder: Path) -> Outcome:
 def calculate(case: Case, folder: Path) -> Outcome:
     """What the second calculation gives for a case, whose files it reads in this empty folder."""
     write_files(folder, case.files)
+    if case.program == "waexplain":
+        return _explained(case, folder)
     asked = words_of(case.words)
     if asked is None or asked.is_generated:
         raise ValueError(f"{case.path}: the second calculation has no such words")
@@ -50,3 +53,13 @@ def calculate(case: Case, folder: Path) -> Outcome:
     status, text, session = replayed(case.input_bytes() or b"", str(folder), is_checked)
     file = file_of(session, asked.mode, asked.bits) if session else None
     return Outcome(status, text.encode(), file)
+
+
+def _explained(case: Case, folder: Path) -> Outcome:
+    """What it gives for a case of waexplain, whose files are in this folder."""
+    answer = answer_to(case.words, case.input_bytes() or b"", str(folder))
+    asked = request_of(case.words)
+    if answer.derivation is not None and isinstance(asked, Derive):
+        (folder / asked.out).write_text(answer.derivation, encoding="ascii")
+    faults = changes_in(folder, case.files, case.left, None)
+    return Outcome(answer.status, answer.text.encode(), None, faults)

@@ -1,4 +1,4 @@
-"""Runs a program again and again, and refuses another growth of its memory each time.
+"""Runs each program again and again, and refuses another growth of its memory each time.
 
 Each growth of a few runs is refused in turn: first that one alone, and then that one with all that
 come behind it. The status has to be 10, standard output may have a front part of the text, OUT is
@@ -23,13 +23,19 @@ import tempfile
 from pathlib import Path
 from typing import NamedTuple
 
-from waplay_tools.growths.scripts import ASSET, RUNS, Run
-from waplay_tools.places import SHIPPED
+from waplay_tools.growths.scripts import ASSET, DERIVATION, EXPLAIN_RUNS, RUNS, Run
+from waplay_tools.places import EXPLAIN_SHIPPED, SHIPPED
+from waplay_tools.program_words import there
 from waplay_tools.running import Ran, Terms, run
 from waplay_tools.standing import NO_MEMORY, Answer, Files, changed_in, files_in, wrong_after
 
 SOURCE = Path(__file__).with_name("refusing.c")
-BEFORE: Files = {"out.wav": b"before\n", "two.wav": ASSET, "beside": b"beside\n"}
+BEFORE: Files = {
+    "out.wav": b"before\n",
+    "two.wav": ASSET,
+    "derivation.txt": DERIVATION,
+    "beside": b"beside\n",
+}
 
 
 class Left(NamedTuple):
@@ -138,18 +144,26 @@ def main() -> int:
         formatter_class=argparse.RawDescriptionHelpFormatter,
     )
     parser.add_argument(
-        "--program", type=Path, default=SHIPPED, metavar="FILE", help="the program that is run"
+        "--program", type=Path, default=SHIPPED, metavar="FILE", help="waplay; the shipped one"
     )
-    program = parser.parse_args().program.resolve()
-    if not os.access(program, os.X_OK):
-        print(f"tools/growths: there is no program {program}", file=sys.stderr)
-        return 2
+    parser.add_argument(
+        "--explain-program",
+        type=Path,
+        default=EXPLAIN_SHIPPED,
+        metavar="FILE",
+        help="waexplain; the shipped one",
+    )
+    asked = parser.parse_args()
+    runs = {there(parser, asked.program): RUNS}
+    runs[there(parser, asked.explain_program)] = EXPLAIN_RUNS
     with tempfile.TemporaryDirectory(prefix="waplay-growths-") as room:
         library = compiled(Path(room))
         if library is None:
             print("tools/growths: there is no C compiler (cc, gcc or clang)", file=sys.stderr)
             return 2
-        told = [refused_in(program, library, it) for it in RUNS]
+        told = [
+            refused_in(program, library, it) for program, some in runs.items() for it in some
+        ]
     wrong = [line for _, lines in told for line in lines]
     print(*wrong, sep="\n", end="\n" * bool(wrong))
     print(f"{sum(number for number, _ in told)} growths refused in turn, {len(wrong)} otherwise")

@@ -6,6 +6,15 @@ from typing import Any, NamedTuple
 Call = dict[str, Any]
 ONE = 2**24
 
+# Frame 5 of a constant, derived.
+DERIVATION = b"""count 0 1 0 = 1
+count 0 0 0 = 1
+par 5 1 offset = 16777216
+out 5 1 0 0 = 16777216
+in 5 0 0 0 = 16777216
+out 5 0 0 0 = 16777216
+"""
+
 # Two frames of 0.5 and -0.5 behind a chunk that is passed over, and one byte more.
 ASSET = bytes.fromhex(
     "52494646ffffffff574156454c4953540300000041424300666d742028000000feff010080bb000000770100"
@@ -86,8 +95,10 @@ STEREO: list[Call] = [
 ]
 BENT: Call = {"op": "createWaveShaper", "as": "w", "curve": [-ONE, 0, ONE]}
 
+ONE_QUANTUM = script(128, CONSTANT, *joined("c", "destination"), START)
+
 RUNS = [
-    Run("a constant for one quantum", script(128, CONSTANT, *joined("c", "destination"), START)),
+    Run("a constant for one quantum", ONE_QUANTUM),
     Run(
         "a curve that is cancelled at a suspension",
         script(
@@ -146,4 +157,36 @@ RUNS = [
         )
         for quantum in (32, 1024)
     ],
+]
+
+# Those of waexplain.
+EXPLAIN_RUNS = [
+    Run("a constant that is derived", ONE_QUANTUM, ("derive", "5", "0", "out.wav")),
+    Run("a derivation that is checked", ONE_QUANTUM, ("check", "derivation.txt")),
+    Run(
+        "feedback through one delay that is derived",
+        script(384, *IMPULSE, *joined("s", "destination"), *ECHO),
+        ("derive", "300", "0", "out.wav"),
+    ),
+    Run(
+        "a processor, a filter and a shaper that are derived",
+        script(384, *IMPULSE, SUM, FILTER, BENT, *joined("s", "p", "i", "w", "destination")),
+        ("derive", "40", "0", "out.wav"),
+    ),
+    Run(
+        "a convolver that is derived",
+        script(384, *IMPULSE, ROOM, *joined("s", "v", "destination")),
+        ("derive", "0", "0", "out.wav"),
+    ),
+    Run("an asset that is decoded", script(128, *DECODED), ("derive", "1", "0", "out.wav")),
+    Run("a sample that is not rendered", ONE_QUANTUM, ("derive", "128", "0", "out.wav")),
+    Run("a text that is not there", ONE_QUANTUM, ("check", "nowhere.txt")),
+    Run("a text that is none", ONE_QUANTUM, ("check", "beside")),
+    Run(
+        "a session that does not start",
+        ONE_QUANTUM.replace(b', {"op": "startRendering"}', b""),
+        ("check", "derivation.txt"),
+    ),
+    Run("a fault of a call", script(128, {"op": "createFoo"}), ("check", "derivation.txt")),
+    Run("words without a reading", b"", ("derive",)),
 ]

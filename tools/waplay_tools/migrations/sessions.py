@@ -30,15 +30,16 @@ def runner(program: Path | None) -> Run:
 
 
 def is_session(case: Case, program: Path | None) -> bool:
-    """Whether a case is a session that can be migrated: with words for a script that is read, a
-    place for OUT, and streams that do not fail."""
+    """Whether a case is a session that can be migrated: of waplay, with words for a script that is
+    read, a place for OUT, and streams that do not fail."""
     asked = words_of(case.words)
     is_run = program is not None or case.only_program is None
+    is_replayed = case.program == "waplay"
     is_plain = case.output is None and case.file_most is None and not case.fronts
     is_read = case.input_bytes() is not None and case.input_zeros is None and not case.input_folder
     has_place = case.status not in (BAD_WORDS, WAV_FAULT)
     is_asked = asked is not None and not asked.is_generated and has_place
-    return is_run and is_plain and is_read and is_asked
+    return is_run and is_replayed and is_plain and is_read and is_asked
 
 
 def migrating(case: Case) -> Case:

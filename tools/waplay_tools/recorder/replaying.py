@@ -17,7 +17,7 @@ from pathlib import Path
 from typing import Any
 
 from waplay_tools.expecting.reading import in_frames, rate_of
-from waplay_tools.places import PACKAGED, TOP
+from waplay_tools.places import TOP, newest_of
 from waplay_tools.recorder.departures import all_calls, known_departures
 from waplay_tools.recorder.results import Recorded
 from waplay_tools.reporting.wav_samples import TOLERANCE
@@ -47,14 +47,11 @@ def is_launcher(path: Path) -> bool:
 
 
 def find_built(top: Path) -> tuple[Path | None, str]:
-    """The program that a checkout has: what was built there, or what comes with it; or that of an
-    installed package."""
-    places = [top / "bin" / "waplay-x86_64-linux", top / "crates" / "waplay" / "out" / "waplay",
-              PACKAGED / "waplay"]
-    there = [path for path in places if path.is_file()]
-    if not there:
+    """The program that a checkout has, or an installed package."""
+    found = newest_of("waplay", top)
+    if found is None:
         return None, "waplay is not built, and no build is started; --waplay names a program"
-    return max(there, key=lambda path: path.stat().st_mtime), ""  # the newer one
+    return found, ""
 
 
 @dataclasses.dataclass

@@ -58,10 +58,21 @@ def place_of(house: House, use: Use, where: str) -> Place | None:
         return Place(crate, file, name)
     if len(rest) == 3 and house.definition(crate, file, rest[1]):
         return Place(crate, file, rest[1])
+    for definition in house.crates[crate].specs[file].definitions:
+        if is_variant(definition, name):
+            return Place(crate, file, definition.name)
     for other in house.crates[crate].specs[file].uses:
         if other.is_public and other.name == name:
             return place_of(house, other, where)
     raise Unreadable(f"{where}: {'.'.join(use.path)} is no definition")
+
+
+def is_variant(definition: Definition, name: str) -> bool:
+    """Whether a definition is that of a type that has a variant of this name."""
+    return bool(
+        re.match(r"(pub )?data ", definition.text)
+        and re.search(rf"^  {re.escape(name)} :", definition.text, re.M)
+    )
 
 
 def named_in(house: House, file: Place, name: str) -> Place | None:

@@ -314,7 +314,7 @@ def index_page(house: House) -> str:
         "",
         "[All names](names.md). [The operations of a script](operations.md).",
         "",
-        "## The crates of the program, the lowest first",
+        "## The crates of the programs, the lowest first",
         "",
         "| crate | what it is | stands on |",
         "|---|---|---|",
@@ -324,7 +324,7 @@ def index_page(house: House) -> str:
         lines.append(
             f"| {crate_link(house, name)} | {one_line(house.crates[name].about)} | {bases} |"
         )
-    lines += ["", "## Beside the program", "", "| crate | what it is |", "|---|---|"]
+    lines += ["", "## Beside the programs", "", "| crate | what it is |", "|---|---|"]
     lines += [
         f"| `{name}` | {one_line(crate.about)} |"
         for name, crate in house.crates.items()

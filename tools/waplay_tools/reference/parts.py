@@ -24,7 +24,7 @@ PICTURE = Path("docs/pictures/crates.svg")
 
 
 def crates_table(house: House) -> list[str]:
-    """The crates of the program: what each is, and what it stands on."""
+    """The crates of the programs: what each is, and what it stands on."""
     lines = ["| crate | what it is | stands on |", "|---|---|---|"]
     for name in house.product:
         bases = ", ".join(f"`{it}`" for it in house.direct_bases(name)) or "std alone"
@@ -33,7 +33,7 @@ def crates_table(house: House) -> list[str]:
 
 
 def beside_table(house: House) -> list[str]:
-    """The crates that the program does not stand on."""
+    """The crates that no program stands on."""
     beside = [it for it in house.crates.values() if it.name not in house.product]
     return [
         "| crate | what it is |",

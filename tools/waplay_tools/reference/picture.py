@@ -20,6 +20,7 @@ The script
     2 script_fields   members of objects
     3 script_json     bytes to calls
     4 script_text     calls to bytes
+    5 answers         text, then file
 Calls
     1 name_book       names of objects
     2 ctx_state       when it renders
@@ -33,6 +34,13 @@ Rendering
     3 filter_bank     all causal nodes
     4 quantum_blocks  a quantum each
     5 quantum_render  one pass
+Why it is so
+    0 waexplain       the program
+    1 explain_top     the call run
+    2 answers         given out
+    3 equations       what follows
+    4 derivations     needs of facts
+    5 explain         facts, their lines
 The graph
     0 conn_graph      connections
     1 node_table      nodes
@@ -174,7 +182,7 @@ def svg(house: House) -> str:
     size = f'width="{width}" height="{height}"'
     lines = [
         f'<svg xmlns="http://www.w3.org/2000/svg" viewBox="0 0 {width} {height}" {size}>',
-        "<title>The crates of waplay, and the way from a script to a file</title>",
+        "<title>The crates of both programs, and the way from a script to a file</title>",
         f"<style>{STYLE}</style>",
         TIP,
         f'<rect {size} fill="#fff"/>',

@@ -1,6 +1,8 @@
 """The part of a page that says why a sample is what it is."""
 
 import itertools
+import os
+import shlex
 
 from waplay_tools.expecting.numbers import sample_of
 from waplay_tools.explaining.deriving import MOST_BYTES, MOST_KEYS
@@ -23,11 +25,14 @@ _EXPLAINED = """<h3>Why a sample is what it is</h3>
 _TOO_LONG = """<p>To frame {frame} of channel {channel} lead more than {most}, which are too\
  many.</p>"""
 
-_TOLD = """<p>Frame {frame} of channel {channel} is {value}. {there}{facts} of the second\
- calculation lead to it, each of which follows from those under it.</p>
+_TOLD = """<p>Frame {frame} of channel {channel} is {value}. {there}{facts} lead to it, each of\
+ which follows from those under it. {by}</p>
 {wrong}<ul class="why">{steps}</ul>
 {counts}
 {text}"""
+
+_BY_PROGRAM = "waexplain derived them, and the second calculation finds each of them right."
+_BY_SECOND = "The second calculation derived them."
 
 
 def explained_html(content: Content) -> Html:
@@ -36,14 +41,14 @@ def explained_html(content: Content) -> Html:
     if it is None:
         return Html()
     if it.lines:
-        return filled(_EXPLAINED, told=_told(it, content.sound))
+        return filled(_EXPLAINED, told=_told(it, content.sound, content.paths[0]))
     most = f"{grouped(MOST_KEYS)} facts or {counted(MOST_BYTES, 'byte')}"
     told = filled(_TOO_LONG, frame=frame_html(it.frame), channel=it.channel, most=most)
     return filled(_EXPLAINED, told=told)
 
 
-def _told(it: Explained, file: File | None) -> Html:
-    """The steps, the numbers of channels, and the text."""
+def _told(it: Explained, file: File | None, script: str) -> Html:
+    """The steps, the numbers of channels, and the text. The script is the path of its file."""
     telling = Telling(it.tape, it.known)
     there, wrong = _there(it, file) if file else ("", Html())
     return filled(
@@ -53,10 +58,11 @@ def _told(it: Explained, file: File | None) -> Html:
         value=value_text(it.value()),
         there=there,
         facts=counted(len(it.lines), "fact"),
+        by=_BY_PROGRAM if it.is_by_program else _BY_SECOND,
         wrong=wrong,
         steps=_step(telling, it.steps(), 1),
         counts=_counts(telling, list(it.counts())),
-        text=_text(it.lines),
+        text=_text(it, script),
     )
 
 
@@ -118,11 +124,18 @@ def _counts(telling: Telling, counts: list[Count]) -> Html:
     return folded(f"Numbers of channels ({counted(len(counts), 'fact')})", shown, is_open=False)
 
 
-def _text(lines: list[str]) -> Html:
-    """The derivation as a text, folded."""
+_COMMANDS = """<p class="aside">Run where the script stands, <code>waexplain derive {frame}\
+ {channel} why.txt &lt; {script}</code> writes this text, and <code>waexplain check why.txt &lt;\
+ {script}</code> checks it.</p>"""
+
+
+def _text(it: Explained, script: str) -> Html:
+    """The derivation as a text, folded, and the commands that write and check it."""
+    lines, name = it.lines, shlex.quote(os.path.basename(script))
     more, first = len(lines) - MOST_LINES, itertools.islice(lines, MOST_LINES)
     shown = [
+        filled(_COMMANDS, frame=it.frame, channel=it.channel, script=name),
         plain("The derivation", (line.rstrip("\n") for line in first)),
         filled('<p class="aside">and {more} more</p>' if more > 0 else "", more=grouped(more)),
     ]
-    return folded(f"As a text ({counted(len(lines), 'line')})", joined(shown), is_open=False)
+    return folded(f"As a text ({counted(len(lines), 'line')})", joined(shown, "\n"), is_open=False)
