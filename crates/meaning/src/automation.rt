@@ -1,4 +1,5 @@
-ghost use Rattle.std.specs.Prelude.{◌≡◌, ◌≤◌, ◌^◌, map, None, IsOk, IsErr, OnOk, OnErr};
+ghost use Rattle.std.specs.Prelude.{◌≡◌, ◌≤◌, ◌^◌, map, None, IsOk, IsErr, IfErr, OnOk, OnErr};
+ghost use Rattle.param_events.specs.Edits.{IsCause};
 ghost use Rattle.meaning.specs.Automation as spec;
 ghost use Rattle.meaning.specs.Validity.{IsValid};
 ghost use Rattle.meaning.specs.World.{plain, slot_of};
@@ -166,13 +167,15 @@ fn exception_of(refusal: ParamErr) -> Exc
     }
 }
 
-// An edit that is accepted fails only for want of memory.
+// An edit that the timeline accepts fails only for want of memory.
 fn made(edit: Result<(), ParamErr>) -> Result<(), NoMemory>
+    requires accepted { IfErr edit (λ error. IsCause error None) }
     ensures ok { OnOk result (IsOk edit) }
     ensures err { OnErr result (IsErr edit) }
 {
     match edit {
         Ok(()) => Ok(()),
-        Err(_) => Err(NoMemory),
+        Err(ParamErr::NoMemory) => Err(NoMemory),
+        Err(_) => unreachable!(),
     }
 }

@@ -1,4 +1,6 @@
-ghost use Rattle.std.specs.Prelude.{◌≡◌, ◌∷◌, ◌++◌, [], None, IsOk, IsErr, IfOk, OnOk, OnErr};
+ghost use Rattle.std.specs.Prelude.{◌≡◌, ◌∷◌, ◌++◌, [], None, IsOk, IsErr, IfOk, OnOk, OnErr, IsErrOf};
+ghost use Rattle.wa_base.specs.declared.exceptions.Exc.{Exc as an_exception};
+ghost use Rattle.wa_base.specs.declared.exceptions.Refusal.TheVariants as refusal;
 ghost use Rattle.buffer_store.specs.Recordings.{IsRecording};
 ghost use Rattle.buffer_store.specs.Buffers.{adoption_refusal, recorded};
 ghost use Rattle.meaning.specs.Sources as spec;
@@ -104,13 +106,15 @@ fn copy_of(wav: &Wav) -> Result<Wav, NoMemory>
     })
 }
 
-// A buffer that is accepted is refused only for want of memory.
+// A buffer that the world accepts fails only for want of memory.
 fn made(buffer: Result<BufId, Refusal>) -> Result<(), NoMemory>
+    requires accepted { (exc : an_exception) → IsErrOf buffer (refusal.Exc exc) → ⊥ }
     ensures ok { OnOk result (IsOk buffer) }
     ensures err { OnErr result (IsErr buffer) }
 {
     match buffer {
         Ok(_) => Ok(()),
-        Err(_) => Err(NoMemory),
+        Err(Refusal::NoMemory) => Err(NoMemory),
+        Err(Refusal::Exc(_)) => unreachable!(),
     }
 }

@@ -15,7 +15,7 @@ use crate::world::World;
 use conn_graph::{Edge, Form};
 use node_table::Kind;
 use sched_source::Loop;
-use wa_base::{BufId, Exc, Feature, Interp, Mode, NoMemory, NodeId, ParamId, Samples};
+use wa_base::{BufId, Exc, Feature, Interp, Mode, NoMemory, NodeId, ParamId, Refusal, Samples};
 
 /// What a control call edits in a world. It names nodes by their numbers.
 #[derive(Drop)]
@@ -176,7 +176,10 @@ impl World {
                 Ok(())
             }
             Edit::Param { id, edit } => self.edit_param(now, *id, edit),
-            Edit::Attribute { node, edit } => done(self.set_attribute(*node, *edit)),
+            Edit::Attribute { node, edit } => {
+                done(self.set_attribute(*node, *edit));
+                Ok(())
+            }
             Edit::SetCurve { node, curve } => self.set_curve(*node, curve),
             Edit::Buffers { edit } => self.edit_buffers(edit),
         }
@@ -232,10 +235,10 @@ impl World {
         ensures err { OnErr result (plain self.new ≡ plain self.old) }
         ensures graph { CountsEdits self.old.graph self.new.graph }
     {
-        // A connection that is accepted is refused only for want of memory.
         match self.graph.connect(edge) {
             Ok(_) => Ok(()),
-            Err(_) => Err(NoMemory),
+            Err(Refusal::NoMemory) => Err(NoMemory),
+            Err(Refusal::Exc(_)) => unreachable!(),
         }
     }
 
@@ -247,7 +250,7 @@ impl World {
         ensures disconnected { plain self.new ≡ changes.with_graph (plain self.old) (disconnected self.old.graph.value from.0 form) }
         ensures graph { CountsEdits self.old.graph self.new.graph }
     {
-        let _accepted = self.graph.disconnect(from, form);
+        done(self.graph.disconnect(from, form));
     }
 
     fn set_attribute(&mut self, node: NodeId, edit: AttributeEdit) -> Result<(), Exc>
@@ -274,13 +277,17 @@ impl World {
             Some(points) => Some(points.copy()?),
             None => None,
         };
-        done(self.nodes.set_curve(node, copy))
+        done(self.nodes.set_curve(node, copy));
+        Ok(())
     }
 }
 
-// An edit that is accepted and takes no memory is done.
-fn done(_accepted: Result<(), Exc>) -> Result<(), NoMemory>
-    ensures { IsOk result }
+// An edit that the world accepts and that takes no memory is done.
+fn done(edit: Result<(), Exc>)
+    requires accepted { IsOk edit }
 {
-    Ok(())
+    match edit {
+        Ok(()) => (),
+        Err(_) => unreachable!(),
+    }
 }

@@ -14,7 +14,7 @@ use crate::world::World;
 use node_table::{Kind, ParamRow, Plays};
 use param_events::Timeline;
 use sched_source::{Loop, Sched};
-use wa_base::{BufId, NoMemory, NodeId, ParamId, Rate};
+use wa_base::{BufId, NoMemory, NodeId, ParamId, Rate, Refusal};
 
 // A buffer source is created without a loop.
 const NO_LOOP: Loop = Loop {
@@ -74,9 +74,10 @@ impl World {
         self.params.reserve()?;
         self.scheds.reserve()?;
         let row = kind.row();
-        // A kind that is accepted is refused only for want of memory.
-        let Ok(node) = self.nodes.create(kind, now) else {
-            return Err(NoMemory);
+        let node = match self.nodes.create(kind, now) {
+            Ok(node) => node,
+            Err(Refusal::NoMemory) => return Err(NoMemory),
+            Err(Refusal::Exc(_)) => unreachable!(),
         };
         self.graph
             .add_node(row.inputs, row.outputs, row.keeps.is_written())?;

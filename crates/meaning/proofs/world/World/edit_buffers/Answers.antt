@@ -1,0 +1,7 @@
+use Rattle.std.proofs.Common.{sym, ◌∙◌}
+use Rattle.meaning.proofs.world.World.edit_buffers.Goals as goal
+
+pub made-requires : goal.made-requires
+made-requires c =
+    let accepted = rw (c.in-Create.is) at c.requires.accepted in
+    record { accepted = λ exc refused. let no = sym accepted ∙ (c.create.ensures.refused exc).0 refused in cc }
