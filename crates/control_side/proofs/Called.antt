@@ -45,7 +45,7 @@ pub record Leaves (m next : Machine) (o : Op) : Type 0 where
 pub leaves_all : (m : Machine) (o : Op) → Leaves m m o
 leaves_all m o = record { grows = grows_same m.context.time m.world; kept = record { spec = refl; now = refl }; kept_start = λ other. refl; runs = λ runs. runs }
 
-settled_leaves : (m : Machine) → IsSteady m → (call : Call) (d : Decided) → IsFor m call.op d → Leaves m (settled m call d).machine call.op
+pub settled_leaves : (m : Machine) → IsSteady m → (call : Call) (d : Decided) → IsFor m call.op d → Leaves m (settled m call d).machine call.op
 settled_leaves m steady call (comes_to.Answer said) fits = leaves_all m call.op
 settled_leaves m steady call comes_to.Start fits = record {
   grows = grows_same m.context.time m.world;

@@ -1,5 +1,5 @@
-mod Called
-mod Deciding
+pub mod Called
+pub mod Deciding
 pub mod EndedOrder
 pub mod Finding
 mod Leaving

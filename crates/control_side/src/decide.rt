@@ -16,7 +16,7 @@ use wa_base::{BufId, Exc, Name, NoMemory, NodeId};
 
 /// What an operation comes to, before anything is changed.
 #[derive(Drop)]
-pub(crate) enum Decided {
+pub enum Decided {
     /// It is answered, and leaves all as it is.
     Answer(Answer),
     /// It starts the rendering.

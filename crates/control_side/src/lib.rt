@@ -17,4 +17,5 @@ mod shapers;
 mod sources;
 
 pub use control::{Control, Stepped};
+pub use decide::Decided;
 pub use laws::ended_law;

@@ -1,3 +1,4 @@
+pub mod Beginning
 mod CatchingUp
 mod Copying
 mod Fetching
@@ -5,6 +6,7 @@ mod Finishing
 mod Folders
 mod Going
 pub mod Interleaving
+pub mod Keeping
 pub mod Lasting
 mod Lists
 mod Planning
@@ -15,4 +17,5 @@ mod Showing
 mod Sides
 mod Standing
 pub mod Tapes
+pub mod Taping
 mod Turning

@@ -2,6 +2,7 @@
 #![tactic(auto)]
 
 mod assets;
+mod laws;
 mod observer;
 mod render_side;
 mod rendered;
@@ -10,6 +11,7 @@ mod session;
 mod stop;
 
 pub use ctx_state::Turn;
+pub use laws::tape_law;
 pub use observer::{NoObserver, Observer};
 pub use rendered::Rendered;
 pub use replay::{Outcome, run, run_observed};

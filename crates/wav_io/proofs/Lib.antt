@@ -6,5 +6,6 @@ mod Ranges
 mod FileBack
 mod HeaderBack
 mod ReadingBack
+pub mod Recorded
 mod Steps
 pub mod Widths
