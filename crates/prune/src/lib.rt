@@ -1,5 +1,4 @@
-//! What of a script is not heard, and the script without it: the law that what reaches no kept node
-//! can be left out, and what a script is pruned to, by the lines of its session.
+//! What of a tape is not heard: the law that what reaches no kept node can be left out.
 //!
 //! The crate has no code of its own.
 #![tactic(auto)]

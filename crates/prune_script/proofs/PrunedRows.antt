@@ -11,7 +11,7 @@ use Rattle.script_ast.specs.declared.operations.Op.TheVariants.{Create, Connect,
 use Rattle.name_book.specs.Book.{destination}
 use Rattle.transcript.specs.declared.lines.Answer.TheVariants.{Ok, Throw, Pending, Resolved, Time}
 use Rattle.transcript.specs.declared.lines.Line.TheVariants as line
-use Rattle.prune.specs.Pruned.{pruned}
+use Rattle.prune_script.specs.Pruned.{pruned}
 
 abbrev held : ℕ → ℕ → Op → Call
 held holder ordinal op = record { ordinal = ordinal; holder = holder; op = op }

@@ -1,0 +1,5 @@
+pub mod Pruned
+pub mod Names
+pub mod Deeds
+pub mod Live
+pub mod Keeping
