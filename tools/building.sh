@@ -1,6 +1,6 @@
 # What tools/start, tools/prove and tools/ship share, as functions of sh. They want the repository's folder in `top`.
 
-programs='waplay waexplain'
+programs='waplay waexplain waprune'
 
 say() {
     echo "$program: $1" >&2
@@ -17,6 +17,11 @@ take() {
     built_from=$top/crates/$program/out/built-from
     log=$top/crates/$program/out/build.log
     digest=$(digest_of_sources)
+    # The word of ./test that names it.
+    case $program in
+        waplay) option=--program ;;
+        *) option=--${program#wa}-program ;;
+    esac
 }
 
 # The crates that the program is made of, its own among them, a line each.

@@ -6,10 +6,11 @@ import random
 import shlex
 import subprocess
 import sys
+from pathlib import Path
 
 from waplay_tools.cases.case import read_case
 from waplay_tools.expecting import sessions
-from waplay_tools.places import CASES, EXAMPLES, TOP
+from waplay_tools.places import CASES, EXAMPLES, PROGRAMS, TOP
 from waplay_tools.wav import Form, wav_bytes
 
 TOOLS = TOP / "tools"
@@ -60,6 +61,12 @@ HOSTILE_NAMES = [
     "\\u003cscript>",
     "a\nb\tc",
 ]
+
+
+def tried(name):
+    """The file of a program that tests run: that which the variable of its name has, or else the
+    shipped one."""
+    return Path(os.environ.get(name.upper()) or PROGRAMS[name]).absolute()
 
 
 def wav(channels, rate=48000, bits=24):

@@ -17,7 +17,8 @@ from waplay_tools.cases.folder import changes_in, content_of, write_files
 from waplay_tools.cases.layout import layout
 from waplay_tools.cases.performers import Outcome, calculate
 from waplay_tools.cases.words import words_of
-from waplay_tools.places import TOP
+from waplay_tools.places import PROGRAMS, TOP
+from waplay_tools.program_words import option_of
 
 SCHEMA = json.loads((TOP / "tests" / "case.schema.json").read_text(encoding="utf-8"))
 CONTEXT = {"channels": 1, "length": 3, "rate": 8000}
@@ -133,6 +134,7 @@ class Reading(unittest.TestCase):
     def test_the_schema_has_the_members_of_a_case(self):
         names = {field.name for field in dataclasses.fields(Case)} - {"is_example", "path"}
         self.assertEqual(set(SCHEMA["properties"]), (names - {"source"}) | {"from"})
+        self.assertEqual(SCHEMA["properties"]["program"]["enum"], list(PROGRAMS))
         of_variants = SCHEMA["properties"]["variants"]["items"]["properties"]
         self.assertEqual(set(of_variants), OF_VARIANTS)
 
@@ -213,9 +215,17 @@ class Performing(unittest.TestCase):
             self.assertEqual(outcome, Outcome(0, b"facts 6\n", None))
             self.assertEqual((Path(room) / "d.txt").read_bytes().count(b"\n"), 6)
 
+    def test_the_second_calculation_writes_a_pruned_script(self):
+        path = CASES / "pruning" / "each_call_is_heard.json"
+        with tempfile.TemporaryDirectory() as room:
+            outcome = calculate(read_case(path), Path(room))
+            self.assertEqual(outcome, Outcome(0, b"pruned 4 of 4\n", None))
+            self.assertTrue((Path(room) / "out.json").read_bytes().startswith(b'{"calls":[{"as"'))
+
     def test_a_program_that_is_not_there(self):
-        for option in ("--program", "--explain-program"):
-            done = fixtures.run("cases", "--program", "/bin/sh", option, "/nowhere", text=True)
+        there = [word for name in PROGRAMS for word in (option_of(name), "/bin/sh")]
+        for name in PROGRAMS:
+            done = fixtures.run("cases", *there, option_of(name), "/nowhere", text=True)
             self.assertEqual((done.returncode, done.stdout), (2, ""))
             self.assertIn("there is no program /nowhere", done.stderr)
 
@@ -250,6 +260,16 @@ class Folders(unittest.TestCase):
             self.assertEqual(len(changes_in(folder, {}, {"x": {"sha256": digest}}, None)), 1)
             (folder / "x").unlink()
             self.assertEqual(len(changes_in(folder, {}, {"x": {"sha256": digest}}, None)), 1)
+
+    def test_a_file_that_is_a_script(self):
+        read = {"for": "n", "first": 1, "last": 2, "calls": [{"op": "readTime", "n": "{n}"}]}
+        context = {"channels": 1, "length": 1, "rate": 8000}
+        told = {"script": {"version": 1, "context": context, "calls": [read]}}
+        wanted = (
+            b'{"calls":[{"op":"readTime"},{"op":"readTime"}],"context":{"channels":1,"length":1,'
+            b'"rate":8000,"renderQuantum":128},"version":2}'
+        )
+        self.assertEqual(content_of(told), wanted)
 
     def test_fronts_of_a_file_are_a_file_each(self):
         files = {"cut/{n}": {"fronts": {"hex": "00ff"}}, "whole": {"text": "x"}}

@@ -16,11 +16,10 @@ from pathlib import Path
 import fixtures
 from waplay_tools import explanations
 from waplay_tools.explanations import Found, Outcome, Programs, Sizes
-from waplay_tools.places import EXPLAIN_SHIPPED, SHIPPED
 from waplay_tools.waexplain import USAGE, Check, Derive, answer_to, request_of
 
-PROGRAM = Path(os.environ.get("WAPLAY") or SHIPPED).absolute()
-EXPLAIN_PROGRAM = Path(os.environ.get("WAEXPLAIN") or EXPLAIN_SHIPPED).absolute()
+PROGRAM = fixtures.tried("waplay")
+EXPLAIN_PROGRAM = fixtures.tried("waexplain")
 COUNT = int(os.environ.get("EXPLAINED_SCRIPTS", "20"))
 SIZES = Sizes(3, 5, 300)
 SECOND = Programs(explanations.played, explanations.explained)

@@ -1,7 +1,7 @@
 """Tests of how growths are refused, and that a run ends with status 10 then.
 
-The programs are those that the variables WAPLAY and WAEXPLAIN name, or else the shipped ones. Where
-there is no program, or no C compiler, the tests are skipped."""
+The programs are those that the variables WAPLAY, WAEXPLAIN and WAPRUNE name, or else the shipped
+ones. Where there is no program, or no C compiler, the tests are skipped."""
 
 import contextlib
 import io
@@ -10,12 +10,13 @@ import tempfile
 import unittest
 from pathlib import Path
 
+import fixtures
 from waplay_tools.growths.__main__ import BEFORE, compiled, judged, performed, refused_in, whole_of
-from waplay_tools.growths.scripts import ASSET, EXPLAIN_RUNS, RUNS
-from waplay_tools.places import EXPLAIN_SHIPPED, SHIPPED
+from waplay_tools.growths.scripts import ASSET, EXPLAIN_RUNS, PRUNE_RUNS, RUNS
 
-PROGRAM = Path(os.environ.get("WAPLAY") or SHIPPED).absolute()
-EXPLAIN_PROGRAM = Path(os.environ.get("WAEXPLAIN") or EXPLAIN_SHIPPED).absolute()
+PROGRAM = fixtures.tried("waplay")
+EXPLAIN_PROGRAM = fixtures.tried("waexplain")
+PRUNE_PROGRAM = fixtures.tried("waprune")
 
 
 @unittest.skipUnless(os.access(PROGRAM, os.X_OK), "there is no program")
@@ -60,6 +61,15 @@ class Growths(unittest.TestCase):
         for it in EXPLAIN_RUNS[:2]:
             with contextlib.redirect_stdout(io.StringIO()):
                 self.assertEqual(refused_in(EXPLAIN_PROGRAM, self.library, it)[1], [])
+
+    @unittest.skipUnless(os.access(PRUNE_PROGRAM, os.X_OK), "there is no waprune")
+    def test_so_it_is_with_waprune(self) -> None:
+        for it in PRUNE_RUNS:
+            whole = whole_of(PRUNE_PROGRAM, self.library, it)
+            self.assertGreater(whole.growths, 5, it.shows)
+            self.assertIn(whole.answer.status, (0, 2, 3, 4), it.shows)
+        with contextlib.redirect_stdout(io.StringIO()):
+            self.assertEqual(refused_in(PRUNE_PROGRAM, self.library, PRUNE_RUNS[0])[1], [])
 
 
 if __name__ == "__main__":

@@ -8,6 +8,7 @@ from pathlib import Path
 import fixtures
 from waplay_tools.expecting.sessions import file_of, replayed
 from waplay_tools.waexplain import answer_to
+from waplay_tools.waprune import answer_to as prune_answer
 
 TOP = Path(fixtures.TOP)
 EXAMPLES = TOP / "examples"
@@ -75,6 +76,22 @@ class Documents(unittest.TestCase):
             self.assertIn(command, block_with(document, "waexplain derive"))
             text = (TOP / document).read_text(encoding="utf-8")
             self.assertIn(f"prints `{answer.text.strip()}`", text)
+
+    def test_pruned_scripts_stand_as_they_are(self):
+        page = (TOP / "docs" / "FORMATS.md").read_text(encoding="utf-8")
+        script = block_with("docs/FORMATS.md", '"version"').encode()
+        answer = prune_answer(["out.json"], script, ".")
+        self.assertIn(f"`waprune out.json` prints `{answer.text.strip()}`", page)
+        migrated = block_with("docs/FORMATS.md", '"version":2').replace("\n", "")
+        left_out = ',"then":[{"op":"readState"}]'
+        self.assertIn(f"without `{left_out}`", page)
+        self.assertEqual(migrated.replace(left_out, "").encode(), answer.script)
+        data = (EXAMPLES / "first_piece.json").read_bytes()
+        self.assertIn("../waprune ../shorter.json < first_piece.json",
+                      block_with("docs/EXAMPLES.md", "waprune"))
+        text = prune_answer(["shorter.json"], data, str(EXAMPLES)).text.strip()
+        examples = (TOP / "docs" / "EXAMPLES.md").read_text(encoding="utf-8")
+        self.assertIn(f"prints `{text}`", examples)
 
     def test_derivations_of_pieces_have_as_many_facts_as_is_told(self):
         page = (TOP / "docs" / "EXAMPLES.md").read_text(encoding="utf-8")

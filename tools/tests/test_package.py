@@ -13,6 +13,7 @@ from pathlib import Path
 import fixtures
 
 from waplay_tools import package
+from waplay_tools.places import PROGRAMS
 
 HAS_ESBUILD = shutil.which("esbuild") is not None
 HAS_WHEEL = all(importlib.util.find_spec(name) for name in ("setuptools", "wheel"))
@@ -38,13 +39,13 @@ class Packages(unittest.TestCase):
         self.assertRegex(path.name, r"\Awaplay-1\.\d{8}-py3-none-linux_x86_64\.whl\Z")
         with zipfile.ZipFile(path) as file:
             names = set(file.namelist())
-            for name, shipped in package.PROGRAMS.items():
+            for name, shipped in PROGRAMS.items():
                 program = file.getinfo(f"waplay_tools/packaged/{name}")
                 self.assertEqual(file.read(program), shipped.read_bytes())
                 self.assertEqual(program.external_attr >> 16 & 0o111, 0o111)
             told = next(name for name in names if name.endswith("entry_points.txt"))
             scripts = file.read(told).decode()
-        for name in (*package.PROGRAMS, *(f"waplay-{it}" for it in package.COMMANDS)):
+        for name in (*PROGRAMS, *(f"waplay-{it}" for it in package.COMMANDS)):
             self.assertIn(f"{name} = waplay_tools.launching:", scripts)
         for name in ("packaged/recorder.js", "reporting/page.css", "reporting/page.js",
                      "recorder/leaving.js", "archive/__main__.py"):
@@ -59,7 +60,7 @@ class Packages(unittest.TestCase):
         self.assertEqual(path.read_bytes(), self.made("deb", "again").read_bytes())
         root = self.folder / "root"
         subprocess.run(["dpkg-deb", "-x", path, root], check=True)
-        for name, shipped in package.PROGRAMS.items():
+        for name, shipped in PROGRAMS.items():
             program = (root / "usr/bin" / name).resolve()
             self.assertEqual(program.read_bytes(), shipped.read_bytes())
         self.assertTrue(os.access(root / "usr/bin/waplay-report", os.X_OK))

@@ -2,14 +2,16 @@
 
 import argparse
 import os
+import re
+import subprocess
 import sys
 import unittest
 import unittest.mock
 from pathlib import Path
 
 import fixtures
-from waplay_tools.places import SHIPPED
-from waplay_tools.program_words import asked_of
+from waplay_tools.places import PROGRAMS, SHIPPED
+from waplay_tools.program_words import asked_of, option_of
 
 
 def asked(*told: str) -> argparse.Namespace:
@@ -32,6 +34,17 @@ class ProgramWords(unittest.TestCase):
 
     def test_the_second_calculation_needs_no_program(self) -> None:
         self.assertIsNone(asked("--second-alone", "--program", "nowhere").program)
+
+    def test_the_names_of_the_programs(self) -> None:
+        """tools/building.sh has the same names and words of a command line."""
+        lines = (fixtures.TOOLS / "building.sh").read_text(encoding="utf-8")
+        names = re.search(r"^programs='(.*)'$", lines, re.M)
+        self.assertEqual(names and names[1].split(), list(PROGRAMS))
+        words = 'top=.; . tools/building.sh; digest_of_sources() { :; }; take "$0"; echo $option'
+        for name in PROGRAMS:
+            done = subprocess.run(["sh", "-c", words, name], cwd=fixtures.TOP, text=True,
+                                  capture_output=True, check=True)
+            self.assertEqual(done.stdout.strip(), option_of(name))
 
     def test_a_program_that_is_not_there(self) -> None:
         for tool in ("migrations", "prunings", "quanta"):

@@ -274,6 +274,8 @@ class Report(unittest.TestCase):
             "2 were never run: calls 8 to 9.",
             "2 came after the last sample: calls 11 to 12.",
             "1 only reads: call 6.",
+            "Run where the script stands, waprune shorter.json < it.json writes the script without"
+            " them.",
         ):
             self.assertIn(wanted, page.text())
         self.assertNotIn("never heard", page.text())

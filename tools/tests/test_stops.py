@@ -1,22 +1,23 @@
 """Tests of a stop at every call to the outside, on the built program: a preloaded library lets its
 calls to the system take few bytes, and one of them fail.
 
-The programs are those that the variables WAPLAY and WAEXPLAIN name, or else the shipped ones. Where
-there is no program, or no C compiler, the tests are skipped."""
+The programs are those that the variables WAPLAY, WAEXPLAIN and WAPRUNE name, or else the shipped
+ones. Where there is no program, or no C compiler, the tests are skipped."""
 
 import os
 import tempfile
 import unittest
 from pathlib import Path
 
+import fixtures
 from waplay_tools.growths.__main__ import SOURCE, compiled
-from waplay_tools.growths.scripts import ASSET, DERIVATION, RUNS
-from waplay_tools.places import EXPLAIN_SHIPPED, SHIPPED
+from waplay_tools.growths.scripts import ASSET, DERIVATION, PRUNE_RUNS, RUNS
 from waplay_tools.running import Ran, Terms, run
 from waplay_tools.wav import Form, wav_bytes
 
-PROGRAM = Path(os.environ.get("WAPLAY") or SHIPPED).absolute()
-EXPLAIN_PROGRAM = Path(os.environ.get("WAEXPLAIN") or EXPLAIN_SHIPPED).absolute()
+PROGRAM = fixtures.tried("waplay")
+EXPLAIN_PROGRAM = fixtures.tried("waexplain")
+PRUNE_PROGRAM = fixtures.tried("waprune")
 ONE = RUNS[0].given  # a constant of 1.0 for one quantum
 LINES = b"1 ok\n2 ok\n3 ok\n4 pending\n4 resolved\ncomplete 128\nend completed\n"
 FILE = wav_bytes(Form(1, 48000, 24), [[2**23 - 1] * 128])
@@ -163,6 +164,62 @@ class ExplainStops(Room):
             if status:
                 self.assertEqual((status, text), (7, b""))
         self.assertGreater(len(statuses), len(DERIVATION) // 7)
+
+
+@unittest.skipUnless(os.access(PRUNE_PROGRAM, os.X_OK), "there is no waprune")
+class PruneStops(Room):
+    LINE = b"pruned 4 of 7\n"
+    SCRIPT = (
+        b'{"calls":[{"as":"c","offset":16777216,"op":"createConstantSource"},'
+        b'{"from":"c","input":0,"op":"connect","output":0,"to":"destination"},'
+        b'{"duration":null,"node":"c","offset":"0.000000000","op":"start","when":"0.000000000"},'
+        b'{"op":"startRendering"}],'
+        b'"context":{"channels":1,"length":128,"rate":48000,"renderQuantum":128},"version":2}'
+    )
+
+    def pruned(self, given: bytes = PRUNE_RUNS[0].given, **variables: int) -> tuple:
+        """The status and the text of a run over an OUT that is there, and what stands there
+        then."""
+        (self.folder / "out.json").write_bytes(BEFORE)
+        ran = run([PRUNE_PROGRAM, "out.json"], self.folder, self.terms(given, variables))
+        self.assertLessEqual(set(os.listdir(self.folder)), {"out.json", "two.wav"})
+        return ran.status, ran.text, (self.folder / "out.json").read_bytes()
+
+    def test_nothing_fails(self) -> None:
+        found = self.pruned(READ_MOST=7, WRITE_MOST=1, APPEND_MOST=3)
+        self.assertEqual(found, (0, self.LINE, self.SCRIPT))
+
+    def test_each_write_of_one_byte_of_the_line(self) -> None:
+        for call in range(1, 15):
+            found = self.pruned(WRITE_MOST=1, WRITE_FAILS=call)
+            self.assertEqual(found, (8, self.LINE[: call - 1], BEFORE))
+        self.assertEqual(self.pruned(WRITE_MOST=1, WRITE_FAILS=15)[0], 0)
+
+    def test_each_append_of_five_bytes(self) -> None:
+        appends = -(-len(self.SCRIPT) // 5)
+        for call in range(1, appends + 1):
+            found = self.pruned(APPEND_MOST=5, APPEND_FAILS=call, APPEND_LEAVES=0)
+            self.assertEqual(found, (9, self.LINE, self.SCRIPT[: 5 * (call - 1)]))
+        self.assertEqual(self.pruned(APPEND_MOST=5, APPEND_FAILS=appends + 1)[0], 0)
+        self.assertEqual(self.pruned(OPEN_FAILS=1), (9, self.LINE, BEFORE))
+
+    def test_each_read_of_seven_bytes(self) -> None:
+        reads = -(-len(PRUNE_RUNS[0].given) // 7) + 1  # the last one finds the end
+        for call in range(1, reads + 1):
+            found = self.pruned(READ_MOST=7, READ_FAILS=call)
+            self.assertEqual(found, (6, b"", BEFORE))
+        self.assertEqual(self.pruned(READ_MOST=7, READ_FAILS=reads + 1)[0], 0)
+
+    def test_each_read_of_seven_bytes_of_an_asset(self) -> None:
+        (self.folder / "two.wav").write_bytes(ASSET)
+        statuses = []
+        while 0 not in statuses:
+            fails = len(statuses) + 1
+            status, text, file = self.pruned(RUNS[3].given, FETCH_MOST=7, FETCH_FAILS=fails)
+            statuses.append(status)
+            if status:
+                self.assertEqual((status, text, file), (7, b"", BEFORE))
+        self.assertGreater(len(statuses), len(ASSET) // 7)
 
 
 if __name__ == "__main__":

@@ -2,9 +2,8 @@
 
 from pathlib import Path
 
+from waplay_tools.places import PROGRAMS
 from waplay_tools.reference.scanning import Unreadable
-
-PROGRAMS = ("waplay", "waexplain")  # the crates that are the shipped programs
 
 Bases = dict[str, tuple[str, ...]]
 

@@ -33,7 +33,7 @@ from waplay_tools.expecting.sessions import file_of, replayed
 from waplay_tools.explaining.checking import verdict
 from waplay_tools.explaining.facts import fact_of
 from waplay_tools.explaining.tape import NoTape, Tape, tape_of
-from waplay_tools.places import EXPLAIN_SHIPPED
+from waplay_tools.places import PROGRAMS
 from waplay_tools.program_words import asked_of, there
 from waplay_tools.random_scripts import maker
 from waplay_tools.random_scripts.assets import write_assets
@@ -258,7 +258,7 @@ def arguments() -> argparse.Namespace:
     words.add_argument(
         "--explain-program",
         type=Path,
-        default=EXPLAIN_SHIPPED,
+        default=PROGRAMS["waexplain"],
         metavar="FILE",
         help="waexplain; the shipped one",
     )

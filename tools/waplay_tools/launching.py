@@ -28,6 +28,11 @@ def waexplain() -> NoReturn:
     _become("waexplain")
 
 
+def waprune() -> NoReturn:
+    """Becomes what leaves out calls that are not heard."""
+    _become("waprune")
+
+
 def _run(module: str) -> NoReturn:
     """Runs a module as a program."""
     runpy.run_module(f"waplay_tools.{module}", run_name="__main__", alter_sys=True)

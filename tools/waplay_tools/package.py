@@ -1,10 +1,10 @@
 """Makes a package of the programs, the recorder and the tools: a wheel for Linux on x86-64, or a
 Debian package.
 
-Both have the commands waplay, waexplain, waplay-piece, waplay-record, waplay-report, waplay-compare
-and waplay-archive, and the documents in share/doc/waplay. A wheel wants setuptools and wheel, a
-Debian package dpkg-deb, and both esbuild; nothing is fetched. The same sources give the same bytes.
-The status is 0, or 2 with a sentence on standard error.
+Both have the commands waplay, waexplain, waprune, waplay-piece, waplay-record, waplay-report,
+waplay-compare and waplay-archive, and the documents in share/doc/waplay. A wheel wants setuptools
+and wheel, a Debian package dpkg-deb, and both esbuild; nothing is fetched. The same sources give
+the same bytes. The status is 0, or 2 with a sentence on standard error.
 """
 
 import argparse
@@ -17,7 +17,7 @@ import sys
 import tempfile
 from pathlib import Path
 
-from waplay_tools.places import EXPLAIN_SHIPPED, SHIPPED, TOP
+from waplay_tools.places import PROGRAMS, TOP
 from waplay_tools.recorder.bundle import NoBundle, recorder_text
 from waplay_tools.reporting.text import BadInput
 
@@ -26,7 +26,6 @@ PACKAGE = TOP / "tools" / "waplay_tools"
 PARTS = ("__init__.py", "archive", "chromium.py", "compare.py", "expecting", "explaining",
          "launching.py", "piece", "places.py", "pruning", "recorder", "report.py", "reporting",
          "wav.py")
-PROGRAMS = {"waplay": SHIPPED, "waexplain": EXPLAIN_SHIPPED}
 COMMANDS = ("piece", "record", "report", "compare", "archive")  # beside the programs
 SUMMARY = "Replays sessions of the Web Audio API, offline and in whole numbers"
 
@@ -71,8 +70,8 @@ Suggests: python3-distributed, python3-junitparser
 Section: sound
 Priority: optional
 Description: {summary}
- Records the Web Audio calls of a page, replays them, says why a sample is what it is, and makes
- reports and archives.
+ Records the Web Audio calls of a page, replays them, says why a sample is what it is, leaves out
+ what is never heard, and makes reports and archives.
 """
 
 PRERM = """#!/bin/sh

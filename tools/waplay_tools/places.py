@@ -6,8 +6,11 @@ from pathlib import Path
 TOP = Path(__file__).resolve().parents[2]
 EXAMPLES = TOP / "examples"
 CASES = TOP / "tests" / "cases"
-SHIPPED = TOP / "bin" / "waplay-x86_64-linux"
-EXPLAIN_SHIPPED = TOP / "bin" / "waexplain-x86_64-linux"
+# The programs by their names, as they come with a checkout. tools/building.sh names them too.
+PROGRAMS = {
+    name: TOP / "bin" / f"{name}-x86_64-linux" for name in ("waplay", "waexplain", "waprune")
+}
+SHIPPED = PROGRAMS["waplay"]
 BUILT = TOP / "crates" / "waplay" / "out" / "waplay"
 # In an installed package there is no repository: the program and the recorder lie here.
 PACKAGED = Path(__file__).resolve().parent / "packaged"

@@ -8,6 +8,11 @@ from pathlib import Path
 from waplay_tools.places import SHIPPED
 
 
+def option_of(name: str) -> str:
+    """The word of a command line that names the file of one of the programs."""
+    return "--program" if name == "waplay" else f"--{name.removeprefix('wa')}-program"
+
+
 def asked_of(words: argparse.ArgumentParser, drawn: str) -> argparse.Namespace:
     """What a command line asks for, by a tool's own words and by these. Its program is None where
     the second calculation stands in its place, and is there where it does not: else the tool ends

@@ -1,4 +1,5 @@
-"""Prunes a script: leaves out the calls that are not heard. The same samples come of the rest.
+"""Prunes a script as waprune does, by the second calculation: leaves out the calls that are not
+heard. The same samples come of the rest.
 
 Left out is each call that was refused, with the calls that it holds; each call that only reads;
 each that creates or names a node which was never connected to the destination, not by way of other
@@ -6,8 +7,8 @@ nodes or of their parameters either; and the list of startRendering. The script 
 written to OUT, in version 2, as the program's mode `migrate` writes scripts. What is printed is
 `pruned KEPT of CALLS`.
 
-Which calls were refused is told by the second calculation, apart from the program. Assets are the
-files of the folder that it runs in. An asset that is not there is no fault: its call was refused.
+Assets are the files of the folder that it runs in. An asset that is not there is no fault: its
+call was refused.
 
 The status is 0 where the script is pruned. Else OUT is not touched, but for 9. It is 3 for a
 session that does not complete, and 4 for a script with a fault: the line that says so is printed.

@@ -1,16 +1,18 @@
-"""Prunes scripts, and looks at whether the same samples come of what is left.
+"""Prunes scripts by waprune, and looks at whether the same samples come of what is left.
 
 The scripts are those that are named, each with its assets beside it, or random ones, half of them
-in seconds: those of tools/random-scripts. Each is run on the program. Where its session completes,
-it is pruned as by tools/prune, and these have to hold:
+in seconds: those of tools/random-scripts. Each is run on waplay, and pruned by waprune. Where its
+session completes, these have to hold:
 
-- By the lines of the program the same calls are left out.
+- The line and the script that waprune leaves are those of tools/prune, byte for byte.
+- By the lines of waplay the same calls are left out.
 - The pruned script has the same WAV file, byte for byte, and no call of it is refused.
-- It stands as the program's mode `migrate` writes it.
-- Pruned again it stays as it is. Where the list of startRendering made a connection, it becomes
-  what the script without that list is pruned to: such a connection makes nodes live, too.
+- It stands as waplay's mode `migrate` writes it.
+- Pruned again by waprune it stays as it is. Where the list of startRendering made a connection, it
+  becomes what the script without that list is pruned to: such a connection makes nodes live, too.
 
-Where the session does not complete, the program has to give the same status and last line.
+Where the session does not complete, both programs have to give the same status and last line, and
+waprune writes no script.
 
 Of each script that is named a row of a table in Markdown is printed: its name, its calls, and how
 many are kept. A line is printed for each difference, and last how many scripts and calls there
@@ -30,27 +32,33 @@ from typing import Any, NamedTuple
 from waplay_tools.expecting.reading import script_of
 from waplay_tools.expecting.sessions import file_of, replayed
 from waplay_tools.expecting.writing import script_text
-from waplay_tools.program_words import asked_of
+from waplay_tools.places import PROGRAMS
+from waplay_tools.program_words import asked_of, option_of, there
 from waplay_tools.pruning.heard import answers_of
-from waplay_tools.pruning.pruned import NotPruned, Pruned, pruned, pruned_by
+from waplay_tools.pruning.pruned import pruned, pruned_by
 from waplay_tools.random_scripts import maker
 from waplay_tools.random_scripts.assets import write_assets
 from waplay_tools.random_scripts.versions import Versions
 from waplay_tools.running import Terms, run
+from waplay_tools.waprune import answer_to
 
-SECONDS = 600.0  # for one run of the program
+SECONDS = 600.0  # for one run of a program
 
 
 class Outcome(NamedTuple):
-    """What a script gives: its status, its lines, and the bytes of the file that it leaves."""
+    """What a run gives: its status, its text, and the bytes of the file that it leaves."""
 
     status: int
-    lines: list[str]
-    file: bytes | None
+    text: str
+    file: bytes | None = None
 
 
-# What a script of these bytes gives, whose assets are in this folder, in this mode.
-Give = Callable[[bytes, str, str], Outcome]
+class Programs(NamedTuple):
+    """What plays a script of these bytes, whose assets are in this folder, in this mode, and what
+    prunes it."""
+
+    play: Callable[[bytes, str, str], Outcome]
+    prune: Callable[[bytes, str], Outcome]
 
 
 class Found(NamedTuple):
@@ -64,24 +72,38 @@ class Found(NamedTuple):
 
 
 class Late(Exception):
-    """A run of the program that was ended, since its time was over."""
+    """A run of a program that was ended, since its time was over."""
 
 
-def worked_out(data: bytes, folder: str, mode: str) -> Outcome:
-    """What the second calculation gives."""
+def played(data: bytes, folder: str, mode: str) -> Outcome:
+    """What the second calculation gives in place of waplay."""
     status, text, session = replayed(data, folder, is_checked=mode != "render")
-    return Outcome(status, text.splitlines(), file_of(session, mode) if session else None)
+    return Outcome(status, text, file_of(session, mode) if session else None)
 
 
-def run_on(program: Path, data: bytes, folder: str, mode: str) -> Outcome:
-    """What a program gives."""
+def pruned_here(data: bytes, folder: str) -> Outcome:
+    """What the second calculation gives in place of waprune."""
+    return Outcome(*answer_to(["out"], data, folder))
+
+
+def run_on(program: Path, words: list[str], data: bytes, folder: str) -> Outcome:
+    """What a program gives that takes these words and OUT."""
     with tempfile.TemporaryDirectory() as room:
         out = Path(room, "out")
-        ran = run([program, "--mode", mode, out], folder, Terms(data, seconds=SECONDS))
+        ran = run([program, *words, out], folder, Terms(data, seconds=SECONDS))
         if ran.is_late:
-            raise Late(f"the program did not end within {SECONDS:g} seconds")
-        file = out.read_bytes() if out.exists() else None
-        return Outcome(ran.status, ran.text.decode().splitlines(), file)
+            raise Late(f"{program.name} did not end within {SECONDS:g} seconds")
+        return Outcome(ran.status, ran.text.decode(), out.read_bytes() if out.exists() else None)
+
+
+def played_on(program: Path, data: bytes, folder: str, mode: str) -> Outcome:
+    """What waplay gives."""
+    return run_on(program, ["--mode", mode], data, folder)
+
+
+def pruned_on(program: Path, data: bytes, folder: str) -> Outcome:
+    """What waprune gives."""
+    return run_on(program, [], data, folder)
 
 
 def without_late(script: dict[str, Any]) -> bytes:
@@ -93,60 +115,68 @@ def without_late(script: dict[str, Any]) -> bytes:
     return script_text({**script, "calls": calls})
 
 
-def differences(
-    give: Give, first: Outcome, it: Pruned, again: bytes, data: bytes, folder: str
+def of_outcome(name: str, found: Outcome, wanted: Outcome) -> Iterator[str]:
+    """What is wrong where a program of this name gave an outcome in place of another one."""
+    if found[:2] != wanted[:2]:
+        status, text, _ = wanted
+        yield f"{name} gives {found.status} {found.text!r}, and not {status} {text!r}"
+    if found.file != wanted.file:
+        yield f"{name} leaves another script than tools/prune"
+
+
+def of_pruned(
+    programs: Programs, text: bytes, folder: str, file: bytes | None, again: bytes
 ) -> Iterator[str]:
-    """What is wrong where a script of these bytes gave this outcome and was pruned so, and what is
-    left has to become this text when it is pruned again."""
-    text = script_text(it.script)
-    if pruned_by(script_of(data), first.lines) != it:
-        yield "by the lines of the program other calls are left out"
-    after = give(text, folder, "render")
-    if first.file is None or after.file != first.file:
+    """What is wrong with a pruned script of this text, where the whole one has this WAV file, and
+    pruned again it has to become another text."""
+    after = programs.play(text, folder, "render")
+    if file is None or after.file != file:
         yield "the pruned script has another WAV file"
-    if after.status != 0 or not all(answers_of(after.lines).values()):
+    if after.status != 0 or not all(answers_of(after.text.splitlines()).values()):
         yield "a call of the pruned script is refused"
-    if give(text, folder, "migrate").file != text:
+    if programs.play(text, folder, "migrate").file != text:
         yield "the pruned script stands otherwise in mode migrate"
-    if script_text(pruned(text, folder).script) != again:
+    if programs.prune(text, folder).file != again:
         yield "pruned again it is another script"
 
 
-def found_at(give: Give, data: bytes, folder: str) -> Found:
+def found_in_time(programs: Programs, data: bytes, folder: str) -> Found:
+    """What becomes of a script of these bytes, where no program takes longer than it may."""
+    first, told = programs.play(data, folder, "render"), programs.prune(data, folder)
+    wanted = pruned_here(data, folder)
+    different = list(of_outcome("waprune", told, wanted))
+    if wanted.file is None:
+        last = Outcome(first.status, "".join(first.text.splitlines(keepends=True)[-1:]))
+        return Found(None, different=(*different, *of_outcome("waplay", last, wanted)))
+    it, script = pruned(data, folder), script_of(data)
+    if pruned_by(script, first.text.splitlines()) != it:
+        different.append("by the lines of the program other calls are left out")
+    again = script_text(pruned(without_late(script), folder).script)
+    if told.file is not None:
+        different += of_pruned(programs, told.file, folder, first.file, again)
+    return Found(it.kept, it.of, again != wanted.file, tuple(different))
+
+
+def found_at(programs: Programs, data: bytes, folder: str) -> Found:
     """What becomes of a script of these bytes, whose assets are in the folder."""
     try:
-        return found_in_time(give, data, folder)
+        return found_in_time(programs, data, folder)
     except Late as late:
         return Found(None, different=(str(late),))
 
 
-def found_in_time(give: Give, data: bytes, folder: str) -> Found:
-    """The same, where the program takes no longer than it may."""
-    first = give(data, folder, "render")
-    try:
-        it = pruned(data, folder)
-    except NotPruned as fault:
-        found = first.status, "".join(first.lines[-1:])
-        wanted = fault.status, fault.line
-        return Found(None, different=() if found == wanted else (f"status and line {found}",))
-    again = script_text(pruned(without_late(script_of(data)), folder).script)
-    is_late = again != script_text(it.script)
-    different = differences(give, first, it, again, data, folder)
-    return Found(it.kept, it.of, is_late, tuple(different))
-
-
-def found_of_file(give: Give, path: Path) -> Found:
+def found_of_file(programs: Programs, path: Path) -> Found:
     """What becomes of the script of a file, whose assets are beside it."""
-    return found_at(give, path.read_bytes(), str(path.parent))
+    return found_at(programs, path.read_bytes(), str(path.parent))
 
 
-def found_of_number(give: Give, seed: int, number: int) -> Found:
+def found_of_number(programs: Programs, seed: int, number: int) -> Found:
     """What becomes of the random script of a number."""
     of = Versions(functools.partial(maker.script_of, read=maker.operations()), None)
     script, assets = of(seed, number)
     with tempfile.TemporaryDirectory() as folder:
         write_assets(folder, assets)
-        return found_at(give, json.dumps(script).encode(), folder)
+        return found_at(programs, json.dumps(script).encode(), folder)
 
 
 def tell(name: str, it: Found, has_row: bool) -> None:
@@ -182,7 +212,26 @@ def arguments() -> argparse.Namespace:
         help="a script, whose assets are beside it; random ones where none is named",
     )
     words.add_argument("--count", type=int, default=1000, help="how many scripts, 1,000 by default")
-    return asked_of(words, "scripts")
+    words.add_argument(
+        option_of("waprune"),
+        type=Path,
+        default=PROGRAMS["waprune"],
+        metavar="FILE",
+        help="waprune; the shipped one",
+    )
+    asked = asked_of(words, "scripts")
+    asked.prune_program = asked.program and there(words, asked.prune_program)
+    return asked
+
+
+def programs_of(asked: argparse.Namespace) -> Programs:
+    """What the command line asks for."""
+    if asked.program is None:
+        return Programs(played, pruned_here)
+    return Programs(
+        functools.partial(played_on, asked.program),
+        functools.partial(pruned_on, asked.prune_program),
+    )
 
 
 def name_of(path: Path) -> str:
@@ -190,14 +239,14 @@ def name_of(path: Path) -> str:
     return f"{path.parent.name}/{path.stem}" if path.stem.isdigit() else path.stem
 
 
-def looked_through(give: Give, asked: argparse.Namespace) -> Iterator[tuple[str, Found]]:
+def looked_through(programs: Programs, asked: argparse.Namespace) -> Iterator[tuple[str, Found]]:
     """What becomes of each script that is asked for, with its name."""
     with concurrent.futures.ProcessPoolExecutor(asked.jobs) as pool:
         if asked.scripts:
-            of_file = functools.partial(found_of_file, give)
+            of_file = functools.partial(found_of_file, programs)
             yield from zip(map(name_of, asked.scripts), pool.map(of_file, asked.scripts))
         else:
-            of_number = functools.partial(found_of_number, give, asked.seed)
+            of_number = functools.partial(found_of_number, programs, asked.seed)
             done = pool.map(of_number, range(asked.count), chunksize=10)
             yield from ((f"script {number}", it) for number, it in enumerate(done))
 
@@ -205,11 +254,8 @@ def looked_through(give: Give, asked: argparse.Namespace) -> Iterator[tuple[str,
 def main() -> int:
     """Prunes scripts, and gives the status."""
     asked = arguments()
-    give: Give = worked_out
-    if asked.program:
-        give = functools.partial(run_on, asked.program)
     found = []
-    for name, it in looked_through(give, asked):
+    for name, it in looked_through(programs_of(asked), asked):
         tell(name, it, bool(asked.scripts))
         found.append(it)
     tell_counts(found)

@@ -15,6 +15,11 @@ class NoScript(Exception):
         self.status = status
 
 
+def are_texts(words: list[str]) -> bool:
+    """Whether each of these words is UTF-8."""
+    return not any("\ud800" <= character <= "\udfff" for word in words for character in word)
+
+
 def path(word: str) -> Path:
     """The path that a word is."""
     if not word:

@@ -14,7 +14,8 @@ import time
 import tomllib
 from pathlib import Path
 
-from waplay_tools.places import TOP
+from waplay_tools.places import PROGRAMS, TOP
+from waplay_tools.program_words import option_of
 
 FOLDERS = (TOP / "tools" / "tests", TOP / "recorder" / "tests")
 BROWSER = "browser"  # a module of tests whose name has this word wants a browser
@@ -26,14 +27,14 @@ LONG = (
     "test_explaining",
     "test_explanations",
     "test_generated",
+    "test_pruning",
     "test_reading",
     "test_report",
     "test_schema",
     "test_worst",
 )
 
-# The words that name the programs which are tested, here and for the cases.
-OPTIONS = {"waplay": "--program", "waexplain": "--explain-program"}
+# The files of each program that are tested, by its name.
 Programs = dict[str, list[Path]]
 
 _RAN = re.compile(r"^Ran (\d+) tests?", re.M)
@@ -110,7 +111,7 @@ def run_cases(programs: Programs, told: dict[str, str]) -> tuple[int, int]:
     command = [sys.executable, "-m", "waplay_tools.cases"]
     for name, files in programs.items():
         for file in files:
-            command += [OPTIONS[name], str(file)]
+            command += [option_of(name), str(file)]
     done = subprocess.run(command, env=told, stdout=subprocess.PIPE, text=True, check=False)
     *lines, last = done.stdout.splitlines() or [""]
     print("\n".join(lines), flush=True)
@@ -146,10 +147,16 @@ def main() -> int:
     """Runs all that the command line asks for. The last line has the counts, and the status is 0
     where nothing failed."""
     parser = argparse.ArgumentParser(prog="./test", description=__doc__)
-    for name, option in OPTIONS.items():
+    for name in PROGRAMS:
         told = f"test this {name}; may stand several times; the shipped one where it is absent"
         parser.add_argument(
-            option, dest=name, action="append", type=Path, default=[], metavar="FILE", help=told
+            option_of(name),
+            dest=name,
+            action="append",
+            type=Path,
+            default=[],
+            metavar="FILE",
+            help=told,
         )
     parser.add_argument(
         "--browser", action="store_true", help="also run the tests that want a browser"
@@ -162,7 +169,7 @@ def main() -> int:
     )
     asked = parser.parse_args()
     begun = time.monotonic()
-    programs = {name: [it.resolve() for it in getattr(asked, name)] for name in OPTIONS}
+    programs = {name: [it.resolve() for it in getattr(asked, name)] for name in PROGRAMS}
     counts = [tuple(map(int, re.findall(r"(\d+) (?:passed|failed)", asked.before)))]
     with tempfile.TemporaryDirectory(prefix="waplay-test-") as room:
         told = environment(programs, Path(room))

@@ -9,6 +9,7 @@ from waplay_tools.explaining.deriving import MOST_BYTES, TooLong, derivation, sa
 from waplay_tools.explaining.tape import NoTape, Tape, tape_of
 from waplay_tools.explaining.words import is_place
 from waplay_tools.script_tools import MOST_BYTES as MOST_OF_SCRIPT
+from waplay_tools.script_tools import are_texts
 
 USAGE = "words: waexplain derive FRAME CHANNEL OUT | check IN\n"
 
@@ -70,7 +71,7 @@ class Check(NamedTuple):
 
 def request_of(words: list[str]) -> Derive | Check | None:
     """What words ask for; None where they have no reading, as one that is not UTF-8."""
-    if any("\ud800" <= character <= "\udfff" for word in words for character in word):
+    if not are_texts(words):
         return None
     match words:
         case ["derive", frame, channel, out] if is_place(frame) and is_place(channel):

@@ -14,10 +14,11 @@ from waplay_tools.cases.changing import changed
 from waplay_tools.cases.differences import differences
 from waplay_tools.cases.examples import example_of
 from waplay_tools.cases.performers import Outcome, calculate, perform
-from waplay_tools.places import CASES, EXAMPLES, EXPLAIN_SHIPPED, SHIPPED, TOP
+from waplay_tools.places import CASES, EXAMPLES, PROGRAMS, TOP
+from waplay_tools.program_words import option_of
 
 SECOND = "the second calculation"
-# The programs that are run on the cases of waplay, and on those of waexplain.
+# The files that are run on the cases of each program.
 Programs = dict[str, list[Path]]
 
 
@@ -31,20 +32,11 @@ def words() -> argparse.Namespace:
         metavar="CASE",
         help="a case, an example, or a folder of them; all of them where none is named",
     )
-    parser.add_argument(
-        "--program",
-        action="append",
-        type=Path,
-        metavar="FILE",
-        help="run this program; may stand several times; the shipped one where it is absent",
-    )
-    parser.add_argument(
-        "--explain-program",
-        action="append",
-        type=Path,
-        metavar="FILE",
-        help="run this program on the cases of waexplain, in the same way",
-    )
+    for name in PROGRAMS:
+        told = f"run this one on the cases of {name}; may stand several times; else the shipped one"
+        parser.add_argument(
+            option_of(name), dest=name, action="append", type=Path, metavar="FILE", help=told
+        )
     parser.add_argument(
         "--second-alone", action="store_true", help="run the second calculation and no program"
     )
@@ -126,10 +118,10 @@ def changes_untold(path: Path, programs: Programs) -> dict[str, list[str]]:
 def programs_of(asked: argparse.Namespace) -> Programs:
     """The programs that the command line asks for."""
     if asked.second_alone:
-        return {"waplay": [], "waexplain": []}
+        return {name: [] for name in PROGRAMS}
     return {
-        "waplay": [it.resolve() for it in asked.program or [SHIPPED]],
-        "waexplain": [it.resolve() for it in asked.explain_program or [EXPLAIN_SHIPPED]],
+        name: [it.resolve() for it in getattr(asked, name) or [shipped]]
+        for name, shipped in PROGRAMS.items()
     }
 
 

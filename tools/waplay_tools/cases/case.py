@@ -6,7 +6,7 @@ import json
 from pathlib import Path
 from typing import Any
 
-from waplay_tools.cases.expansion import calls_in, lines_in
+from waplay_tools.cases.expansion import lines_in, script_bytes
 
 # How the input of a case may be told. A case has exactly one of them.
 INPUTS = ("script", "input", "input_base64", "input_zeros", "input_folder")
@@ -24,7 +24,7 @@ class Case:
 
     shows: str
     source: str  # `from` in the file
-    program: str = "waplay"  # or "waexplain"
+    program: str = "waplay"  # one of places.PROGRAMS
     words: list[str] = dataclasses.field(default_factory=lambda: ["out.wav"])
     script: dict[str, Any] | None = None
     input: str | None = None
@@ -52,10 +52,7 @@ class Case:
     def input_bytes(self) -> bytes | None:
         """What the run reads; None where its standard input is closed."""
         if self.script is not None:
-            script = dict(self.script)
-            if isinstance(script.get("calls"), list):
-                script["calls"] = calls_in(script["calls"])
-            return json.dumps(script).encode()
+            return script_bytes(self.script)
         if self.input is not None:
             return self.input.encode("utf-8", "surrogatepass")
         if self.input_base64 is not None:

@@ -1,5 +1,6 @@
 """What a case writes short: runs of numbers, calls that are made again, ranges of lines."""
 
+import json
 import re
 from typing import Any
 
@@ -51,6 +52,14 @@ def calls_in(calls: list[Any]) -> list[Any]:
     In them "{n}" is the number, and "{n*128+1}" what it comes to, from left to right.
     """
     return _calls(calls, {})
+
+
+def script_bytes(told: dict[str, Any]) -> bytes:
+    """The text of a script whose calls may be written short."""
+    script = dict(told)
+    if isinstance(script.get("calls"), list):
+        script["calls"] = calls_in(script["calls"])
+    return json.dumps(script).encode()
 
 
 def _calls(calls: list[Any], numbers: dict[str, int]) -> list[Any]:

@@ -7,7 +7,9 @@ from pathlib import Path
 from typing import Any
 
 from waplay_tools import wav
-from waplay_tools.cases.expansion import runs_in
+from waplay_tools.cases.expansion import runs_in, script_bytes
+from waplay_tools.expecting.reading import script_of
+from waplay_tools.expecting.writing import script_text
 from waplay_tools.places import TOP
 
 # A file's content: its bytes, how many zero bytes, or None for a folder.
@@ -28,6 +30,7 @@ def content_of(told: dict[str, Any]) -> Content:
         "zeros": lambda: value,
         "folder": lambda: None,
         "copy": lambda: (TOP / value).read_bytes(),
+        "script": lambda: script_text(script_of(script_bytes(value))),
     }
     return readings[form]()
 

@@ -4,12 +4,12 @@ import dataclasses
 import os
 from pathlib import Path
 
+from waplay_tools import waexplain, waprune
 from waplay_tools.expecting.sessions import file_of, replayed
 from waplay_tools.cases.case import Case
 from waplay_tools.cases.folder import changes_in, write_files
 from waplay_tools.cases.words import words_of
 from waplay_tools.running import SECONDS, Terms, run
-from waplay_tools.waexplain import Derive, answer_to, request_of
 
 
 @dataclasses.dataclass
@@ -46,6 +46,8 @@ def calculate(case: Case, folder: Path) -> Outcome:
     write_files(folder, case.files)
     if case.program == "waexplain":
         return _explained(case, folder)
+    if case.program == "waprune":
+        return _pruned(case, folder)
     asked = words_of(case.words)
     if asked is None or asked.is_generated:
         raise ValueError(f"{case.path}: the second calculation has no such words")
@@ -57,9 +59,18 @@ def calculate(case: Case, folder: Path) -> Outcome:
 
 def _explained(case: Case, folder: Path) -> Outcome:
     """What it gives for a case of waexplain, whose files are in this folder."""
-    answer = answer_to(case.words, case.input_bytes() or b"", str(folder))
-    asked = request_of(case.words)
-    if answer.derivation is not None and isinstance(asked, Derive):
+    answer = waexplain.answer_to(case.words, case.input_bytes() or b"", str(folder))
+    asked = waexplain.request_of(case.words)
+    if answer.derivation is not None and isinstance(asked, waexplain.Derive):
         (folder / asked.out).write_text(answer.derivation, encoding="ascii")
+    faults = changes_in(folder, case.files, case.left, None)
+    return Outcome(answer.status, answer.text.encode(), None, faults)
+
+
+def _pruned(case: Case, folder: Path) -> Outcome:
+    """What it gives for a case of waprune, whose files are in this folder."""
+    answer = waprune.answer_to(case.words, case.input_bytes() or b"", str(folder))
+    if answer.script is not None:
+        (folder / case.words[0]).write_bytes(answer.script)
     faults = changes_in(folder, case.files, case.left, None)
     return Outcome(answer.status, answer.text.encode(), None, faults)

@@ -23,9 +23,9 @@ import tempfile
 from pathlib import Path
 from typing import NamedTuple
 
-from waplay_tools.growths.scripts import ASSET, DERIVATION, EXPLAIN_RUNS, RUNS, Run
-from waplay_tools.places import EXPLAIN_SHIPPED, SHIPPED
-from waplay_tools.program_words import there
+from waplay_tools.growths.scripts import ASSET, DERIVATION, RUNS_OF, Run
+from waplay_tools.places import PROGRAMS
+from waplay_tools.program_words import option_of, there
 from waplay_tools.running import Ran, Terms, run
 from waplay_tools.standing import NO_MEMORY, Answer, Files, changed_in, files_in, wrong_after
 
@@ -143,27 +143,19 @@ def main() -> int:
         description=__doc__,
         formatter_class=argparse.RawDescriptionHelpFormatter,
     )
-    parser.add_argument(
-        "--program", type=Path, default=SHIPPED, metavar="FILE", help="waplay; the shipped one"
-    )
-    parser.add_argument(
-        "--explain-program",
-        type=Path,
-        default=EXPLAIN_SHIPPED,
-        metavar="FILE",
-        help="waexplain; the shipped one",
-    )
+    for name, shipped in PROGRAMS.items():
+        told = f"{name}; the shipped one"
+        parser.add_argument(
+            option_of(name), dest=name, type=Path, default=shipped, metavar="FILE", help=told
+        )
     asked = parser.parse_args()
-    runs = {there(parser, asked.program): RUNS}
-    runs[there(parser, asked.explain_program)] = EXPLAIN_RUNS
+    runs = [(there(parser, getattr(asked, name)), some) for name, some in RUNS_OF.items()]
     with tempfile.TemporaryDirectory(prefix="waplay-growths-") as room:
         library = compiled(Path(room))
         if library is None:
             print("tools/growths: there is no C compiler (cc, gcc or clang)", file=sys.stderr)
             return 2
-        told = [
-            refused_in(program, library, it) for program, some in runs.items() for it in some
-        ]
+        told = [refused_in(program, library, it) for program, some in runs for it in some]
     wrong = [line for _, lines in told for line in lines]
     print(*wrong, sep="\n", end="\n" * bool(wrong))
     print(f"{sum(number for number, _ in told)} growths refused in turn, {len(wrong)} otherwise")

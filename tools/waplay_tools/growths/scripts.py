@@ -159,7 +159,7 @@ RUNS = [
     ],
 ]
 
-# Those of waexplain.
+# Runs of waexplain.
 EXPLAIN_RUNS = [
     Run("a constant that is derived", ONE_QUANTUM, ("derive", "5", "0", "out.wav")),
     Run("a derivation that is checked", ONE_QUANTUM, ("check", "derivation.txt")),
@@ -190,3 +190,53 @@ EXPLAIN_RUNS = [
     Run("a fault of a call", script(128, {"op": "createFoo"}), ("check", "derivation.txt")),
     Run("words without a reading", b"", ("derive",)),
 ]
+
+# A constant, an oscillator that is refused, and a gain that leads nowhere.
+UNHEARD: list[Call] = [{"op": "createGain", "as": "g"}, *joined("c", "g")]
+OSCILLATOR: Call = {"op": "createOscillator", "as": "o"}
+PRUNED = script(128, OSCILLATOR, CONSTANT, *joined("c", "destination"), START, *UNHEARD)
+
+# Runs of waprune.
+PRUNE_RUNS = [
+    Run("a constant and what is not heard", PRUNED),
+    Run("a script of which each call is heard", ONE_QUANTUM),
+    Run(
+        "lists of suspensions, a timeline and a read",
+        script(
+            384,
+            CONSTANT,
+            CURVE,
+            {"op": "suspend", "time": 128, "then": [*UNHEARD, {"op": "resume"}]},
+            {"op": "suspend", "time": 256, "then": HELD},
+            *joined("c", "destination"),
+            START,
+        ),
+    ),
+    Run("an asset that is decoded", script(128, *DECODED, *UNHEARD)),
+    Run(
+        "a convolver, a processor, a filter, a shaper and a delay in a cycle",
+        script(
+            384,
+            *IMPULSE,
+            *[ROOM, SUM, FILTER, BENT],
+            *ECHO,
+            *joined("s", "v", "p", "destination"),
+            *joined("s", "i", "w"),
+        ),
+    ),
+    Run(
+        "a script of version 2",
+        script(128, CONSTANT, START, {"op": "stop", "node": "c", "when": "0.001"}).replace(
+            b'"version": 1', b'"version": 2'
+        ),
+    ),
+    Run(
+        "a session that does not start",
+        ONE_QUANTUM.replace(b', {"op": "startRendering"}', b""),
+    ),
+    Run("a fault of a call", script(128, CONSTANT, {"op": "createFoo"})),
+    Run("words without a reading", b"", ("-x",)),
+]
+
+# The runs of each program, by its name.
+RUNS_OF = {"waplay": RUNS, "waexplain": EXPLAIN_RUNS, "waprune": PRUNE_RUNS}

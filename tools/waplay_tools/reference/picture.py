@@ -37,10 +37,14 @@ Rendering
 Why it is so
     0 waexplain       the program
     1 explain_top     the call run
-    2 answers         given out
-    3 equations       what follows
-    4 derivations     needs of facts
-    5 explain         facts, their lines
+    2 equations       what follows
+    3 derivations     needs of facts
+    4 explain         facts, their lines
+What is heard
+    0 waprune         the program
+    1 prune_top       the call run
+    2 prune_script    which calls stay
+    3 prune           parts of worlds
 The graph
     0 conn_graph      connections
     1 node_table      nodes
@@ -182,7 +186,7 @@ def svg(house: House) -> str:
     size = f'width="{width}" height="{height}"'
     lines = [
         f'<svg xmlns="http://www.w3.org/2000/svg" viewBox="0 0 {width} {height}" {size}>',
-        "<title>The crates of both programs, and the way from a script to a file</title>",
+        "<title>The crates of the programs, and the way from a script to a file</title>",
         f"<style>{STYLE}</style>",
         TIP,
         f'<rect {size} fill="#fff"/>',

@@ -1,5 +1,8 @@
 """The part of a page on what is not heard."""
 
+import os
+import shlex
+
 from waplay_tools.reporting import entries
 from waplay_tools.reporting.content import Content
 from waplay_tools.reporting.markup import Html, filled, isolated, joined
@@ -20,7 +23,9 @@ from waplay_tools.reporting.unheard import Unheard
 _UNHEARD = """<h3>What is not heard</h3>
 <p>{told}</p>
 <ul class="lines">{causes}</ul>
-{nodes}"""
+{nodes}
+<p class="aside">Run where the script stands, <code>waprune shorter.json &lt; {script}</code>\
+ writes the script without {them}.</p>"""
 
 _CAUSE = "<li>{count} {why}: {calls} {ordinals}.</li>"
 
@@ -76,9 +81,12 @@ def unheard_html(content: Content) -> Html:
         return Html()
     count, of = unheard.count(), len(content.session.script.calls)
     told = f"{grouped(count)} of {counted(of, 'call')} {'is' if count == 1 else 'are'} not heard:"
+    them = "it" if count == 1 else "them"
     return filled(
         _UNHEARD,
-        told=f"{told} the same samples come without {'it' if count == 1 else 'them'}.",
+        told=f"{told} the same samples come without {them}.",
         causes=_causes(unheard),
         nodes=_nodes(unheard.nodes),
+        script=shlex.quote(os.path.basename(content.paths[0])),
+        them=them,
     )
