@@ -67,7 +67,7 @@ minutes() {
 
 # Proves the crates side by side, and then builds the program. Each crate gets a line when it is through.
 build() {
-    say 'it is proved and built from the sources: about 20 minutes on four processors, where nothing was proved before'
+    say 'it is proved and built from the sources: 20 to 45 minutes on four processors, where nothing was proved before'
     say "what the prover says goes to $log"
     # Where a source is newer but says the same, only a program that is missing is linked again.
     rm -f "$built" "$built_from"
