@@ -1,6 +1,5 @@
 -- What was found to stand does so when one more fact is known.
 use Rattle.std.proofs.Common.{ℕ, List, [], ◌∷◌, ◌++◌, arith}
-use Rattle.law_base.specs.Members.{IsIn}
 use Rattle.law_base.proofs.Members.{IsIn-append_first}
 use Rattle.meaning.specs.declared.world.World.{World}
 use Rattle.explain.specs.declared.facts.Key.{Key}

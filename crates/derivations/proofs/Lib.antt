@@ -14,6 +14,7 @@ pub mod Staying
 pub mod Counting
 pub mod Heard
 pub mod Delaying
+pub mod Effects
 pub mod Making
 pub mod Tails
 pub mod Needed

@@ -1,19 +1,21 @@
 -- What the output of an end needs, by the kind of its node in the world that is in force.
-use Rattle.std.proofs.Common.{ℕ, ℤ, ◌≡◌, ◌/◌, ◌<◌, length, List, [], ◌∷◌, take, true, false, Some, refl, sym, ◌∙◌, ap, subst, arith}
-use Rattle.std.specs.Prelude.{if◌then◌else◌, Option, None, IfSome, IfNone}
+use Rattle.std.proofs.Common.{ℕ, ℤ, ◌≡◌, ◌/◌, ◌<◌, length, List, [], ◌∷◌, take, true, false, Some, sym, ◌∙◌, ap, subst, arith}
+use Rattle.std.specs.Prelude.{if◌then◌else◌, Option, None, IfSome, IfNone, option_map}
 use Rattle.wa_base.specs.declared.graph_names.End.{End}
 use Rattle.wa_base.specs.declared.graph_names.ParamName.{ParamName}
 use Rattle.wa_base.specs.declared.graph_names.ParamName.TheVariants as param
 use Rattle.law_base.specs.Members.{IsIn}
-use Rattle.node_table.specs.Kinds.{inputs, outputs, is_delay_kind, param_name}
+use Rattle.node_table.specs.Kinds.{row, inputs, outputs, is_delay_kind, param_name}
+use Rattle.node_table.specs.Rows.{is_written}
 use Rattle.node_table.specs.declared.kinds.Kind.{Kind}
-use Rattle.node_table.specs.declared.kinds.Kind.TheVariants.{Constant, Buffer, Gain, Delay, Merger}
+use Rattle.node_table.specs.declared.kinds.Kind.TheVariants.{Constant, Buffer, Delay, Splitter, Merger}
+use Rattle.node_table.specs.declared.rows.ParamRow.{ParamRow}
 use Rattle.conn_graph.specs.Ends.{ends, muted}
 use Rattle.conn_graph.proofs.EndLaws.{end_is}
 use Rattle.meaning.specs.declared.world.World.{World}
 use Rattle.meaning.specs.World.{sounding, kind_of, sounds_at}
 use Rattle.meaning.specs.Validity.{IsValid}
-use Rattle.meaning.specs.Values.{world_at}
+use Rattle.meaning.specs.Values.{taken_from, world_at}
 use Rattle.meaning.proofs.NodeKinds.{row_there}
 use Rattle.explain.specs.declared.facts.Key.{Key}
 use Rattle.explain.specs.declared.facts.Key.TheVariants.{Inlet, Par, Hist}
@@ -24,10 +26,11 @@ use Rattle.explain.specs.Needs.{output_by_kind, delayed_needs}
 use Rattle.explain.specs.Checked.{AllHold, Stands}
 use Rattle.derivations.specs.declared.tape.Stretch.{Stretch}
 use Rattle.derivations.specs.Groups.{delayed_keys, delay_keys}
-use Rattle.derivations.specs.Searches.{IsReady, AreKnown, IsMissing}
+use Rattle.derivations.specs.Heard.{IsEffect, HasParam}
+use Rattle.derivations.specs.Searches.{IsReady, AreKnown}
 use Rattle.derivations.specs.Stretches.{IsInForce}
-use Rattle.derivations.proofs.Heard.{plain_inlet, writer_inlet, merger_low, IsAnswer, single_answer, single_missing, first_of_two, second_of_two, two_known}
-use Rattle.derivations.proofs.Leading.{known_as, missing_as, nothing_known}
+use Rattle.derivations.proofs.Heard.{plain_inlet, writer_inlet, merger_low, IsAnswer, single_answer}
+use Rattle.derivations.proofs.Leading.{known_as, nothing_known}
 use Rattle.derivations.proofs.Worlds.{world_is, valid_there, nodes_are}
 
 module _ (q : ℕ) (tape : List World) (facts : List Fact) (ready : IsReady q tape facts) (f : ℕ) (e : End) (o c : ℕ) (short : f / q < length tape) (s : Stretch) (force : IsInForce tape (f / q) s)
@@ -104,40 +107,6 @@ module _ (q : ℕ) (tape : List World) (facts : List Fact) (ready : IsReady q ta
   pub buffer_known : (rate : ℕ) → kind_of s.piece.world e.node.0 ≡ Buffer rate → AreKnown q tape facts keys
   buffer_known rate same = known_as q tape facts (λ a. []) keys (by_kind (Buffer rate) same) (nothing_known q tape facts)
 
-  -- a gain needs its parameter, and then its input
-  module _ (gain : ℤ) (same : kind_of s.piece.world e.node.0 ≡ Gain gain) where
-    abbrev factor : Key
-    factor = Par f e.node param.Gain
-
-    abbrev heard : Key
-    heard = Inlet f e 0 c
-
-    two : (a : Account) → factor ∷ heard ∷ [] ≡ keys a
-    two = by_kind (Gain gain) same
-
-    pub factor_missing : (x : Key) → x ≡ factor → (k : Key) → (k ≡ x) × (Stands x facts → ⊥) → IsMissing q tape facts keys k
-    factor_missing x made k found =
-        let absent : Stands factor facts → ⊥ = subst (λ z. Stands z facts → ⊥) made found.1 in
-        let first : IsMissing q tape facts (λ a. factor ∷ []) factor = single_missing q tape facts factor absent (param_key (Gain gain) same param.Gain refl) in
-        missing_as q tape facts (λ a. factor ∷ heard ∷ []) keys two k
-        (subst (IsMissing q tape facts (λ a. factor ∷ heard ∷ [])) (sym (found.0 ∙ made)) (first_of_two q tape facts factor heard factor first))
-
-    pub gain_answer : c < 32 → (x y : Key) → x ≡ factor → y ≡ heard → Stands x facts
-        → (r : Option Key) → IfNone r (Stands y facts) → IfSome r (λ k. (k ≡ y) × (Stands y facts → ⊥)) → IsAnswer q tape facts keys r
-    gain_answer few x y made taken stands None none some = record {
-      none = known_as q tape facts (λ a. factor ∷ heard ∷ []) keys two
-          (two_known q tape facts factor heard (subst (λ z. Stands z facts) made stands) (subst (λ z. Stands z facts) taken none));
-      some = tt;
-    }
-    gain_answer few x y made taken stands (Some k) none some =
-        let absent : Stands heard facts → ⊥ = subst (λ z. Stands z facts → ⊥) taken some.1 in
-        let last : IsMissing q tape facts (λ a. heard ∷ []) heard = single_missing q tape facts heard absent (inlet_key (Gain gain) same refl 0 c (omega arith) few) in
-        record {
-          none = tt;
-          some = missing_as q tape facts (λ a. factor ∷ heard ∷ []) keys two k
-              (subst (IsMissing q tape facts (λ a. factor ∷ heard ∷ [])) (sym (some.0 ∙ taken)) (second_of_two q tape facts factor heard heard last));
-        }
-
   -- a delay needs what its writer takes in, or what it gives later
   module _ (longest time : ℤ) (capacity : ℕ) (same : kind_of s.piece.world e.node.0 ≡ Delay longest time capacity) where
     pub delay_is : is_delay_kind (kind_of s.piece.world e.node.0) ≡ true
@@ -159,6 +128,26 @@ module _ (q : ℕ) (tape : List World) (facts : List Fact) (ready : IsReady q ta
       pub reader_after : (item : ℕ) → AreKnown q tape facts (λ a. take item (delayed_keys q tape a f e.node.0)) → AreKnown q tape facts (λ a. take item (delay_keys q tape a f e (kind_of s.piece.world e.node.0)))
       reader_after item = known_as q tape facts (λ a. take item (delayed_keys q tape a f e.node.0)) (λ a. take item (delay_keys q tape a f e (kind_of s.piece.world e.node.0))) (λ a. sym (ap (take item) (later a)))
 
-  -- of a merger that is not muted it has no more channels than inputs
-  pub merger_input : (ports : ℕ) → kind_of s.piece.world e.node.0 ≡ Merger ports → muted (world_at q tape f).graph.value e ≡ false → ((a : Account) → AllHold q tape a facts → c < a.counts (f / q) e) → c < ports
-  merger_input ports same loud low = merger_low q tape facts ready f e o short has sizes ports c (kind_there ∙ same) loud low
+  -- all others need their parameter, and then a channel of their input
+  module _ (kind : Kind) (same : kind_of s.piece.world e.node.0 ≡ kind) (effect : IsEffect kind) where
+    abbrev pub taken : Key
+    taken = Inlet f e (taken_from kind o c).0 (taken_from kind o c).1
+
+    pub level_key : (param : Option ParamRow) → (row kind).param ≡ param → IfSome param (λ row. HasParam (world_at q tape f) e.node.0 row.name)
+    level_key None same_param = tt
+    level_key (Some row) same_param = record { node = node_there; named = ap param_name (there kind same) ∙ ap (option_map (λ r. r.name)) same_param }
+
+    module _ (loud : muted (world_at q tape f).graph.value e ≡ false) (low : (a : Account) → AllHold q tape a facts → c < a.counts (f / q) e) (few : c < 32) where
+      -- of a merger that is not muted it has no more channels than inputs
+      taken_low : (k : Kind) → kind_of s.piece.world e.node.0 ≡ k → (row k).plays ≡ None → ((taken_from k o c).0 < inputs k) × ((taken_from k o c).1 < 32)
+      taken_low (Constant offset) is none = absurd cc
+      taken_low (Buffer rate) is none = absurd cc
+      taken_low (Splitter ports) is none = (omega arith, output_few)
+      taken_low (Merger ports) is none = (merger_low q tape facts ready f e o short has sizes ports c (kind_there ∙ is) loud low, omega arith)
+      taken_low other is none = (omega arith, few)
+
+      taken_key : IsKeyOf q tape taken
+      taken_key = let are = taken_low kind same effect.plays in inlet_key kind same (ap is_written effect.keeps) (taken_from kind o c).0 (taken_from kind o c).1 are.0 are.1
+
+      pub taken_answer : (x : Key) → x ≡ taken → (r : Option Key) → IfNone r (Stands x facts) → IfSome r (λ k. (k ≡ x) × (Stands x facts → ⊥)) → IsAnswer q tape facts (λ a. taken ∷ []) r
+      taken_answer x made r none some = single_answer q tape facts (λ a. taken ∷ []) x (λ a. ap (λ z. z ∷ []) made) (subst (IsKeyOf q tape) (sym made) taken_key) r none some

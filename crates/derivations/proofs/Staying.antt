@@ -1,8 +1,8 @@
 -- What a node of a quantum was at each quantum since its birth.
-use Rattle.std.proofs.Common.{ℕ, ◌≡◌, ◌-◌, ◌/◌, ◌<◌, ◌≤◌, length, List, true, refl, sym, ◌∙◌, ap, subst, arith}
+use Rattle.std.proofs.Common.{ℕ, ◌≡◌, ◌/◌, ◌<◌, ◌≤◌, length, List, true, refl, sym, ◌∙◌, ap, subst, arith}
 use Rattle.node_table.specs.Kinds.{inputs, outputs, is_delay_kind, lasting}
 use Rattle.node_table.specs.declared.kinds.Kind.{Kind}
-use Rattle.node_table.specs.declared.kinds.Kind.TheVariants.{Destination, Constant, Buffer, Gain, Delay, Splitter, Merger, Shaper, Causal}
+use Rattle.node_table.specs.declared.kinds.Kind.TheVariants.{Delay, Shaper, Causal}
 use Rattle.conn_graph.specs.Ends.{writer_of, reader_of}
 use Rattle.conn_graph.proofs.EndLaws.{has_end, has_writer}
 use Rattle.meaning.specs.declared.world.World.{World}
@@ -17,15 +17,8 @@ use Rattle.explain.proofs.Lives.{lives}
 use Rattle.explain.proofs.Hearing.{one_end}
 
 history_stays : (k : Kind) → has_history (lasting k) ≡ has_history k
-history_stays Destination = refl
-history_stays (Constant offset) = refl
-history_stays (Buffer rate) = refl
-history_stays (Gain gain) = refl
-history_stays (Delay longest time capacity) = refl
-history_stays (Splitter ports) = refl
-history_stays (Merger ports) = refl
 history_stays (Shaper curve was_set) = refl
-history_stays (Causal equation) = refl
+history_stays other = refl
 
 history_lasts : (k k' : Kind) → lasting k' ≡ lasting k → has_history k' ≡ true → has_history k ≡ true
 history_lasts k k' same is = sym (history_stays k) ∙ ap has_history (sym same) ∙ history_stays k' ∙ is

@@ -19,7 +19,7 @@ pub use inputs::param_frame;
 pub use known::Known;
 pub use marks::Marks;
 pub use needs::Search;
-pub use outputs::sounds;
+pub use outputs::{sounds, taken_from};
 pub use places::{Context, Place};
 pub use tape::{Piece, Stretch, Tape};
 

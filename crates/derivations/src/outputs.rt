@@ -5,12 +5,13 @@ ghost use Rattle.node_table.specs.Delays.{frames_of as frames_in_seconds};
 ghost use Rattle.node_table.specs.Kinds.{is_delay_kind};
 ghost use Rattle.conn_graph.specs.Ends.{is_delay, in_cycle};
 ghost use Rattle.meaning.specs.World.{sounding, kind_of, sounds_at};
+ghost use Rattle.meaning.specs.Values.{taken_from as source_of};
 ghost use Rattle.explain.specs.declared.facts.Key.TheVariants as keys;
 ghost use Rattle.explain.specs.Facts.{HasOutput};
-ghost use Rattle.explain.specs.Needs.{output_by_kind, delayed_needs};
+ghost use Rattle.explain.specs.Needs.{output_by_kind, level_needs, delayed_needs};
 ghost use Rattle.derivations.specs.Contexts.{tape_in, world_of, IsReady, HasFrame, AreKnown, IsMissing, AreAllKnown, IsMissingIn, IsPast};
 ghost use Rattle.derivations.specs.Groups.{one, output_group, delay_keys, delayed_keys};
-ghost use Rattle.derivations.specs.Heard.{IsHeard, HasParam};
+ghost use Rattle.derivations.specs.Heard.{IsHeard, IsEffect, HasParam};
 ghost use Rattle.derivations.specs.Marks.{AreMarks};
 ghost use Rattle.derivations.specs.Stretches.{IsInForce};
 
@@ -19,7 +20,7 @@ use crate::places::{Context, Place};
 use crate::tape::Stretch;
 use explain::Key;
 use meaning::World;
-use node_table::{Kind, frames_of};
+use node_table::{Kind, ParamRow, frames_of};
 use sched_source::Sched;
 use wa_base::{End, Fix, NodeId, ParamName};
 
@@ -127,15 +128,8 @@ fn next_by_kind(
     ensures after { OnSome result (AreKnown context.entry (λ q tape a. take item.new (delay_keys q tape a sample.frame sample.end (kind_of stretch.now.piece.world sample.end.node.0)))) }
 {
     match stretch.piece.world.nodes.kind(sample.end.node) {
-        Kind::Destination => context.missing(sample.inlet(0, sample.channel)),
         Kind::Constant { .. } => missing_offset(context, &stretch.piece.world, sample),
         Kind::Buffer { .. } => None,
-        Kind::Gain { .. } => {
-            if let Some(key) = context.missing(sample.param(ParamName::Gain)) {
-                return Some(key);
-            }
-            context.missing(sample.inlet(0, sample.channel))
-        }
         Kind::Delay { .. } => {
             if sample.end.writer {
                 context.missing(sample.inlet(0, sample.channel))
@@ -143,9 +137,58 @@ fn next_by_kind(
                 next_delayed(context, stretch, sample.frame, sample.end.node, item)
             }
         }
-        Kind::Splitter { .. } => context.missing(sample.inlet(0, sample.output)),
-        Kind::Merger { .. } => context.missing(sample.inlet(sample.channel, 0)),
         Kind::Shaper { .. } | Kind::Causal { .. } => context.missing(sample.history()),
+        // All others are made of their input and of their parameter.
+        kind => next_of_effect(context, stretch, sample, kind),
+    }
+}
+
+// The first need that is missing of a node that is made of its input and of its parameter.
+fn next_of_effect(
+    context: Context<'_>,
+    stretch: &Stretch,
+    sample: Sample,
+    kind: &Kind,
+) -> Option<Key>
+    requires ready { IsReady context }
+    requires there { HasFrame context sample.frame }
+    requires piece { IsInForce (tape_in context) (sample.frame / context.quantum) stretch.now }
+    requires sample { IsHeard context sample }
+    requires kind { kind_of stretch.now.piece.world sample.end.node.0 ≡ kind.now }
+    requires effect { IsEffect kind.now }
+    ensures none { IfNone result (AreKnown context.entry (λ q tape a. output_by_kind q tape a sample.frame sample.end sample.output sample.channel kind.now)) }
+    ensures some { IfSome result (IsMissing context.entry (λ q tape a. output_by_kind q tape a sample.frame sample.end sample.output sample.channel kind.now)) }
+{
+    match missing_level(context, sample, kind.row().param) {
+        Some(key) => Some(key),
+        None => {
+            let (input, channel) = taken_from(kind, sample.output, sample.channel);
+            context.missing(sample.inlet(input, channel))
+        }
+    }
+}
+
+// The value of a parameter, where there is one and it is missing.
+fn missing_level(context: Context<'_>, sample: Sample, param: Option<ParamRow>) -> Option<Key>
+    requires there { HasFrame context sample.frame }
+    requires key { IfSome param (λ row. HasParam (world_of context sample.frame) sample.end.node.0 row.name) }
+    ensures none { IfNone result (AreKnown context.entry (λ q tape a. level_needs q tape a sample.frame sample.end.node param)) }
+    ensures some { IfSome result (IsMissing context.entry (λ q tape a. level_needs q tape a sample.frame sample.end.node param)) }
+{
+    match param {
+        Some(row) => context.missing(sample.param(row.name)),
+        None => None,
+    }
+}
+
+/// The input of a node of a kind, and the channel of it, of which a channel of an output is made.
+pub fn taken_from(kind: &Kind, output: u32, channel: u32) -> (u32, u32)
+    ensures { result ≡ source_of kind.now output channel }
+{
+    match kind {
+        Kind::Splitter { .. } => (0, output),
+        Kind::Merger { .. } => (channel, 0),
+        _ => (0, channel),
     }
 }
 

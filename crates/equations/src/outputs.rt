@@ -1,13 +1,12 @@
 ghost use Rattle.std.specs.Prelude.{◌≡◌, ◌/◌, false, true};
-ghost use Rattle.wa_base.specs.Numbers.{scale as scaled};
-ghost use Rattle.wa_base.specs.declared.graph_names.ParamName.TheVariants as params;
 ghost use Rattle.node_table.specs.Kinds.{is_delay_kind};
 ghost use Rattle.meaning.specs.World.{kind_of, param_id};
-ghost use Rattle.meaning.specs.Values.{equation, value_by_kind, delayed as delayed_value, computed_value, input_value};
+ghost use Rattle.meaning.specs.Values.{equation, value_by_kind, delayed as delayed_value, computed_value, input_value, level_of, made_of};
 ghost use Rattle.explain.specs.declared.facts.Key.TheVariants as keys;
 ghost use Rattle.explain.specs.Facts.{HasOutput, has_history};
-ghost use Rattle.explain.specs.Needs.{delayed_needs, output_by_kind, output_needs};
+ghost use Rattle.explain.specs.Needs.{delayed_needs, level_needs, output_by_kind, output_needs};
 ghost use Rattle.derivations.specs.Contexts.{tape_in, world_of, StandsIn, HasFrame};
+ghost use Rattle.derivations.specs.Heard.{IsEffect};
 ghost use Rattle.derivations.specs.Stretches.{IsInForce};
 ghost use Rattle.equations.specs.Given.{IsGiven, meaning_of, AllKnown, frame_of, frames_before};
 ghost use Rattle.equations.specs.Outputs.{IsPresent};
@@ -15,10 +14,10 @@ ghost use Rattle.equations.specs.Outputs.{IsPresent};
 use crate::mixing::{mix, nearest};
 use crate::sources::played_at;
 use crate::told::{carried_by, count_of, inlet_of, param_of, value_of};
-use derivations::{Context, Stretch, sounds};
+use derivations::{Context, Stretch, sounds, taken_from};
 use explain::Key;
-use node_table::Kind;
-use wa_base::{End, ParamName, scale};
+use node_table::{Kind, ParamRow};
+use wa_base::{End, Fix, ParamName, scale};
 
 // A channel of an output at a frame.
 #[derive(Clone, Copy)]
@@ -59,7 +58,6 @@ fn present_value(context: Context<'_>, stretch: &Stretch, sample: Sample) -> i64
     let world = &stretch.piece.world;
     let node = sample.end.node;
     match world.nodes.kind(node) {
-        Kind::Destination => inlet(context, sample, 0, sample.channel),
         Kind::Constant { .. } => {
             if sounds(world, node, sample.frame) {
                 param(context, sample, ParamName::Offset)
@@ -68,7 +66,6 @@ fn present_value(context: Context<'_>, stretch: &Stretch, sample: Sample) -> i64
             }
         }
         Kind::Buffer { .. } => i64::from(played_at(world, node, sample.channel, sample.frame)),
-        Kind::Gain { .. } => amplified(context, sample),
         Kind::Delay { .. } => {
             if sample.end.writer {
                 inlet(context, sample, 0, sample.channel)
@@ -76,9 +73,45 @@ fn present_value(context: Context<'_>, stretch: &Stretch, sample: Sample) -> i64
                 delayed(context, stretch, sample)
             }
         }
-        Kind::Splitter { .. } => inlet(context, sample, 0, sample.output),
-        Kind::Merger { .. } => inlet(context, sample, sample.channel, 0),
         Kind::Shaper { .. } | Kind::Causal { .. } => history(context, sample),
+        // All others are made of their input and of their parameter.
+        kind => effect(context, sample, kind),
+    }
+}
+
+// What a node makes of its input and of its parameter.
+fn effect(context: Context<'_>, sample: Sample, kind: &Kind) -> i64
+    requires given { IsGiven context }
+    requires effect { IsEffect kind.now }
+    requires known { AllKnown context (output_by_kind context.quantum (tape_in context) (meaning_of context) sample.frame sample.end sample.output sample.channel kind.now) }
+    ensures { result ≡ value_by_kind context.entry.quantum sample.frame (frames_before context.entry sample.frame) (frame_of context.entry sample.frame) kind.now sample.end sample.output sample.channel }
+{
+    let (input, channel) = taken_from(kind, sample.output, sample.channel);
+    let value = inlet_of(context, sample.frame, sample.end, input, channel);
+    let level = level_at(context, sample, kind.row().param);
+    i64::from(made(kind, value, level))
+}
+
+// The value of a parameter, where there is one.
+fn level_at(context: Context<'_>, sample: Sample, param: Option<ParamRow>) -> Fix
+    requires given { IsGiven context }
+    requires known { AllKnown context (level_needs context.quantum (tape_in context) (meaning_of context) sample.frame sample.end.node param) }
+    ensures { result ≡ level_of context.entry.quantum sample.frame (frames_before context.entry sample.frame) (frame_of context.entry sample.frame) sample.end.node.0 param }
+{
+    match param {
+        Some(row) => param_of(context, sample.frame, sample.end.node, row.name),
+        None => 0,
+    }
+}
+
+// What a node of a kind makes of a value of its input and of that of its parameter.
+fn made(kind: &Kind, value: Fix, level: Fix) -> Fix
+    requires effect { IsEffect kind.now }
+    ensures { result ≡ made_of kind.now value level }
+{
+    match kind {
+        Kind::Gain { .. } => scale(value, level),
+        _ => value,
     }
 }
 
@@ -98,18 +131,6 @@ fn param(context: Context<'_>, sample: Sample, name: ParamName) -> i64
     ensures { result ≡ computed_value context.entry.quantum sample.frame (frames_before context.entry sample.frame) (frame_of context.entry sample.frame) (param_id sample.end.node.0 name) }
 {
     i64::from(param_of(context, sample.frame, sample.end.node, name))
-}
-
-// What a gain takes in, times its gain.
-fn amplified(context: Context<'_>, sample: Sample) -> i64
-    requires given { IsGiven context }
-    requires input { StandsIn context (keys.Inlet sample.frame sample.end 0 sample.channel) }
-    requires gain { StandsIn context (keys.Par sample.frame sample.end.node params.Gain) }
-    ensures { result ≡ scaled (input_value (frame_of context.entry sample.frame) sample.end.node.0 0 sample.channel) (computed_value context.entry.quantum sample.frame (frames_before context.entry sample.frame) (frame_of context.entry sample.frame) (param_id sample.end.node.0 params.Gain)) }
-{
-    let gain = param_of(context, sample.frame, sample.end.node, ParamName::Gain);
-    let input = inlet_of(context, sample.frame, sample.end, 0, sample.channel);
-    i64::from(scale(input, gain))
 }
 
 // What its node makes of all that it took in.

@@ -1,26 +1,33 @@
 -- What a fact needs: the keys that its equation reads, in order.
-use Rattle.std.specs.Prelude.{ℕ, ◌+◌, ◌-◌, ◌*◌, ◌/◌, ◌==◌, nat_lt, nat_le, ◌&&◌, ◌||◌, not, Bool, false, List, [], ◌∷◌, ◌++◌, map, length, if◌then◌else◌}
+use Rattle.std.specs.Prelude.{ℕ, ◌+◌, ◌-◌, ◌*◌, ◌/◌, ◌==◌, nat_lt, nat_le, ◌&&◌, ◌||◌, not, Bool, false, List, [], ◌∷◌, ◌++◌, map, length, if◌then◌else◌, Option, Some, None}
 use Rattle.std.specs.List.{flat_map, range_with_len}
 use Rattle.wa_base.specs.declared.graph_names.End.{End}
+use Rattle.wa_base.specs.declared.graph_names.NodeId.{NodeId}
 use Rattle.wa_base.specs.declared.graph_names.ParamName.{ParamName}
 use Rattle.wa_base.specs.declared.graph_names.ParamName.TheVariants as param
 use Rattle.node_table.specs.Kinds.{row, is_delay_kind}
 use Rattle.node_table.specs.declared.equation.Equation.{Equation}
 use Rattle.node_table.specs.declared.equation.Equation.TheVariants.{Filter, Convolution, Processor}
 use Rattle.node_table.specs.declared.kinds.Kind.{Kind}
-use Rattle.node_table.specs.declared.kinds.Kind.TheVariants.{Destination, Constant, Buffer, Gain, Delay, Splitter, Merger, Shaper, Causal}
+use Rattle.node_table.specs.declared.kinds.Kind.TheVariants.{Shaper, Causal}
 use Rattle.node_table.specs.declared.rows.Channels.{Channels}
 use Rattle.node_table.specs.declared.rows.Channels.TheVariants.{Always, OfInput, OfBuffer}
+use Rattle.node_table.specs.declared.rows.Keeps.{Keeps}
+use Rattle.node_table.specs.declared.rows.Keeps.TheVariants.{Nothing, Heard, Written}
+use Rattle.node_table.specs.declared.rows.ParamRow.{ParamRow}
+use Rattle.node_table.specs.declared.rows.Plays.{Plays}
+use Rattle.node_table.specs.declared.rows.Plays.TheVariants.{Value, Content}
 use Rattle.conn_graph.specs.declared.edges.Edge.{Edge}
 use Rattle.conn_graph.specs.Graph.{edges_to_input, edges_to_param}
 use Rattle.conn_graph.specs.Ends.{writer_of, reader_of, in_cycle, muted}
 use Rattle.meaning.specs.declared.world.World.{World}
 use Rattle.meaning.specs.World.{node_at, kind_of, param_id, is_k_rate, sounds_at}
 use Rattle.meaning.specs.Counts.{world_in}
-use Rattle.meaning.specs.Values.{delay_frames, world_at}
+use Rattle.meaning.specs.Values.{delay_frames, taken_from, world_at}
 use Rattle.explain.specs.declared.facts.Key.{Key}
 use Rattle.explain.specs.declared.facts.Key.TheVariants.{Count, Inlet, Par, Hist, Out}
 use Rattle.explain.specs.Accounts.{Account, frame_in, frames_in}
+use Rattle.explain.specs.Facts.{has_history}
 
 -- whether an equation reads what its node took in so many frames ago: a filter at the place of each coefficient, a convolver of each sample of its response, and a processor at this frame
 abbrev pub reads_input : Equation → ℕ → Bool
@@ -114,17 +121,27 @@ module _ (q : ℕ) (tape : List World) (a : Account) where
       Par f (record { 0 = n }) param.DelayTime
       ∷ (if nat_lt f ((node_at (world_at q tape f) n).attrs.birth + d) then [] else carried (f - d) (writer_of n) 0)
 
-  -- channel c of output o of an end, by the kind of its node
+  -- the value of the parameter of a node, where it has one
+  abbrev pub level_needs : ℕ → NodeId → Option ParamRow → List Key
+  level_needs f node None = []
+  level_needs f node (Some row) = Par f node row.name ∷ []
+
+  -- what channel c of output o rests on, of an end whose node keeps nothing
+  abbrev pub play_needs : ℕ → End → ℕ → ℕ → Option Plays → Kind → List Key
+  play_needs f e o c None kind =
+      if has_history kind then Hist f e.node c ∷ [] else
+      level_needs f e.node (row kind).param ++ Inlet f e (taken_from kind o c).0 (taken_from kind o c).1 ∷ []
+  play_needs f e o c (Some Value) kind = if sounds_at (world_at q tape f) e.node.0 f then level_needs f e.node (row kind).param else []
+  play_needs f e o c (Some (Content rate)) kind = []
+
+  abbrev pub row_needs : ℕ → End → ℕ → ℕ → Keeps → Option Plays → Kind → List Key
+  row_needs f e o c Nothing plays kind = play_needs f e o c plays kind
+  row_needs f e o c Heard plays kind = Hist f e.node c ∷ []
+  row_needs f e o c (Written frames) plays kind = if e.writer then Inlet f e 0 c ∷ [] else delayed_needs f e.node.0
+
+  -- channel c of output o of an end, by the row of its node
   abbrev pub output_by_kind : ℕ → End → ℕ → ℕ → Kind → List Key
-  output_by_kind f e o c Destination = Inlet f e 0 c ∷ []
-  output_by_kind f e o c (Constant offset) = if sounds_at (world_at q tape f) e.node.0 f then Par f e.node param.Offset ∷ [] else []
-  output_by_kind f e o c (Buffer rate) = []
-  output_by_kind f e o c (Gain gain) = Par f e.node param.Gain ∷ Inlet f e 0 c ∷ []
-  output_by_kind f e o c (Delay longest time capacity) = if e.writer then Inlet f e 0 c ∷ [] else delayed_needs f e.node.0
-  output_by_kind f e o c (Splitter outputs) = Inlet f e 0 o ∷ []
-  output_by_kind f e o c (Merger inputs) = Inlet f e c 0 ∷ []
-  output_by_kind f e o c (Shaper curve was_set) = Hist f e.node c ∷ []
-  output_by_kind f e o c (Causal equation) = Hist f e.node c ∷ []
+  output_by_kind f e o c kind = row_needs f e o c (row kind).keeps (row kind).plays kind
 
   -- a muted end needs nothing, and of a channel that an end lacks the number of its channels is enough
   abbrev pub output_needs : ℕ → End → ℕ → ℕ → List Key

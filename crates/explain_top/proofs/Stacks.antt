@@ -5,8 +5,8 @@ use Rattle.std.proofs.lemmas.List.{append_assoc, append-nil, map-append, reverse
 use Rattle.law_base.specs.Members.{IsIn, AreDistinct}
 use Rattle.law_base.proofs.Members.{IsIn-append, IsIn-append_first, IsIn-append_second, without, IsIn-without}
 use Rattle.node_table.specs.declared.kinds.Kind.{Kind}
-use Rattle.node_table.specs.declared.kinds.Kind.TheVariants.{Destination, Constant, Buffer, Gain, Delay, Splitter, Merger, Shaper, Causal}
-use Rattle.node_table.specs.declared.equation.Equation.TheVariants.{Filter, Convolution, Processor}
+use Rattle.node_table.specs.declared.kinds.Kind.TheVariants.{Causal}
+use Rattle.node_table.specs.declared.equation.Equation.TheVariants.{Processor}
 use Rattle.meaning.specs.declared.world.World.{World}
 use Rattle.meaning.specs.World.{kind_of}
 use Rattle.meaning.specs.Counts.{world_in}
@@ -119,17 +119,8 @@ stands_more k xs x s = elim (IsIn-append xs (x ∷ []) s.0 s.1) [
 -- ---- cells stand where they are to stand
 
 cells_told : (kind : Kind) (frames : List ℤ) → is_some (cells_of kind frames) ≡ is_processor kind
-cells_told Destination frames = refl
-cells_told (Constant offset) frames = refl
-cells_told (Buffer rate) frames = refl
-cells_told (Gain gain) frames = refl
-cells_told (Delay longest time capacity) frames = refl
-cells_told (Splitter outputs) frames = refl
-cells_told (Merger inputs) frames = refl
-cells_told (Shaper curve was_set) frames = refl
-cells_told (Causal (Filter forward back)) frames = refl
-cells_told (Causal (Convolution response)) frames = refl
 cells_told (Causal (Processor program)) frames = refl
+cells_told other frames = refl
 
 has_its_cells : (q : ℕ) (tape : List World) (key : Key) → is_some (cells_in q tape (meant q tape) key) ≡ has_cells (world_in tape (quantum_of_key q key)) key
 has_its_cells q tape (Count j e o) = refl

@@ -25,6 +25,7 @@ pub mod Sounding
 pub mod Alike
 pub mod Loops
 pub mod Changing
+mod KindRows
 pub mod Rows
 pub mod DelayRows
 pub mod BufferRows

@@ -9,7 +9,6 @@ use Rattle.wa_base.specs.Numbers.{IsFix, sat}
 use Rattle.wa_base.specs.declared.graph_names.BufId.{BufId}
 use Rattle.wa_base.specs.declared.graph_names.End.{End}
 use Rattle.wa_base.specs.declared.graph_names.ParamId.{ParamId}
-use Rattle.wa_base.specs.declared.graph_names.ParamName.TheVariants as param
 use Rattle.law_base.proofs.SchemeLaws.{moment-zero}
 use Rattle.node_table.specs.Curves.{on_way, curve_at}
 use Rattle.node_table.specs.Filters.{dot, quotient, filtered, filter_value}
@@ -25,14 +24,18 @@ use Rattle.sched_source.specs.declared.content.Content.{Content}
 use Rattle.sched_source.specs.Playback.{position}
 use Rattle.sched_source.specs.Schedule.{plays_at, sample_at}
 use Rattle.mix_rules.specs.Mixing.{mix}
+use Rattle.node_table.specs.declared.rows.Keeps.{Keeps}
+use Rattle.node_table.specs.declared.rows.Keeps.TheVariants.{Nothing, Heard, Written}
 use Rattle.node_table.specs.declared.rows.ParamRow.{ParamRow}
+use Rattle.node_table.specs.declared.rows.Plays.{Plays}
+use Rattle.node_table.specs.declared.rows.Plays.TheVariants as plays
+use Rattle.node_table.specs.Rows.{is_written}
 use Rattle.node_table.specs.declared.rows.Range.{Range}
 use Rattle.node_table.specs.declared.rows.Range.TheVariants.{Any, UpTo}
 use Rattle.node_table.specs.Kinds.{row, is_delay_kind, IsInLimits}
 use Rattle.node_table.proofs.NodeLists.{IsRange, is_row}
 use Rattle.node_table.specs.declared.kinds.Kind.{Kind}
-use Rattle.node_table.specs.declared.kinds.Kind.TheVariants as kinds
-use Rattle.node_table.specs.declared.kinds.Kind.TheVariants.{Destination, Constant, Gain, Delay, Splitter, Merger, Shaper, Causal}
+use Rattle.node_table.specs.declared.kinds.Kind.TheVariants.{Gain, Shaper, Causal}
 use Rattle.node_table.specs.declared.nodes.Node.{Node}
 use Rattle.conn_graph.specs.Ends.{writer_of, reader_of, input_end, height, muted}
 use Rattle.meaning.specs.declared.world.World.{World}
@@ -42,7 +45,7 @@ use Rattle.meaning.specs.Lists.{since}
 use Rattle.meaning.specs.Validity.{IsValid}
 use Rattle.meaning.specs.Counts.{world_in, input_channels, count}
 use Rattle.meaning.specs.Laws.{HasFixes, HasFixPoints}
-use Rattle.meaning.specs.Values.{Frame, Values, no_frame, seen, input_value, taken_in, frames_heard, computed_value, delay_frames, delayed, value_by_kind, has_channel, equation, value_scheme, world_at, known_at, value_at, value, frame, frames_before, frame_at}
+use Rattle.meaning.specs.Values.{Frame, Values, no_frame, seen, input_value, taken_in, frames_heard, computed_value, delay_frames, delayed, taken_from, made_of, causal_value, level_of, value_by_row, value_by_kind, has_channel, equation, value_scheme, world_at, known_at, value_at, value, frame, frames_before, frame_at}
 use Rattle.meaning.proofs.Asking.{asked_count, delay_long}
 use Rattle.meaning.proofs.Joined.{joined_in}
 use Rattle.meaning.proofs.MixedUp.{mix_fix}
@@ -194,22 +197,36 @@ delayed_fix q f past here n c asked = by_birth (nat_lt f (node.attrs.birth + d))
         let there = asked (grind (arith, nat_tests)) in
         mix_fix (x.values (writer_of n) 0) there.1 node.attrs.interp (x.counts (writer_of n)) (here.counts (reader_of n)) c there.0
 
+-- what a node makes of a Fix
+made_fix : (kind : Kind) → HasFixPoints kind → (value level : ℤ) → IsFix value → IsFix (made_of kind value level)
+made_fix (Gain gain) points value level fix = sat_fix _
+made_fix (Shaper None was_set) points value level fix = fix
+made_fix (Shaper (Some curve) was_set) points value level fix = curve_fix curve (value +ℤ pos 16777216) (all_at curve points)
+made_fix other points value level fix = fix
+
+-- and of all the Fixes that it heard
+causal_value_fix : (kind : Kind) → HasFixPoints kind → (frames : List ℤ) → AreFixesAt frames → IsFix (causal_value kind frames)
+causal_value_fix (Causal equation) points frames heard = causal_fix equation frames points heard
+causal_value_fix other points frames heard = zero_fix
+
 kind_fix : (q f : ℕ) (past : ℕ → Frame) (here : Frame) → HasFixes here.world → (kind : Kind) → HasFixPoints kind → (e : End) → IsInLimits (kind_of here.world e.node.0)
     → (is_delay_kind kind ≡ true → e.writer ≡ false → AsksFixes q f past here e.node.0) → (o c : ℕ) → IsFix (value_by_kind q f past here kind e o c)
-kind_fix q f past here fixes Destination points e fine asks o c = input_fix here e.node.0 0 c
-kind_fix q f past here fixes (Constant offset) points e fine asks o c = either_fix (sounds_at here.world e.node.0 f) _ (pos 0) (computed_fix q f past here (param_id e.node.0 param.Offset) fine) zero_fix
-kind_fix q f past here fixes (kinds.Buffer rate) points e fine asks o c = played_fix here.world e.node.0 c f fixes
-kind_fix q f past here fixes (Gain gain) points e fine asks o c = sat_fix _
-kind_fix q f past here fixes (Delay longest time capacity) points e fine asks o c = by_end e.writer refl
+kind_fix q f past here fixes kind points e fine asks o c = by_row (row kind).keeps (row kind).plays refl
   where
-    by_end : (b : Bool) → e.writer ≡ b → IsFix (if b then input_value here e.node.0 0 c else delayed q f past here e.node.0 c)
-    by_end true writer = input_fix here e.node.0 0 c
-    by_end false reader = delayed_fix q f past here e.node.0 c (asks refl reader)
-kind_fix q f past here fixes (Splitter ports) points e fine asks o c = input_fix here e.node.0 0 o
-kind_fix q f past here fixes (Merger ports) points e fine asks o c = input_fix here e.node.0 c 0
-kind_fix q f past here fixes (Causal equation) points e fine asks o c = causal_fix equation (frames_heard f past here e.node.0 c) points (heard_fix f past here e.node.0 c)
-kind_fix q f past here fixes (Shaper None was_set) points e fine asks o c = input_fix here e.node.0 0 c
-kind_fix q f past here fixes (Shaper (Some curve) was_set) points e fine asks o c = curve_fix curve (input_value here e.node.0 0 c +ℤ pos 16777216) (all_at curve points)
+    level_fix : (param : Option ParamRow) → IsFix (level_of q f past here e.node.0 param)
+    level_fix None = zero_fix
+    level_fix (Some row) = computed_fix q f past here (param_id e.node.0 row.name) fine
+
+    by_end : is_delay_kind kind ≡ true → (b : Bool) → e.writer ≡ b → IsFix (if b then input_value here e.node.0 0 c else delayed q f past here e.node.0 c)
+    by_end delay true writer = input_fix here e.node.0 0 c
+    by_end delay false reader = delayed_fix q f past here e.node.0 c (asks delay reader)
+
+    by_row : (keeps : Keeps) (plays : Option Plays) → (row kind).keeps ≡ keeps → IsFix (value_by_row q f past here keeps plays kind e o c)
+    by_row Nothing None are = made_fix kind points _ _ (input_fix here e.node.0 (taken_from kind o c).0 (taken_from kind o c).1)
+    by_row Nothing (Some plays.Value) are = either_fix (sounds_at here.world e.node.0 f) _ (pos 0) (level_fix (row kind).param) zero_fix
+    by_row Nothing (Some (plays.Content rate)) are = played_fix here.world e.node.0 c f fixes
+    by_row Heard plays are = causal_value_fix kind points (frames_heard f past here e.node.0 c) (heard_fix f past here e.node.0 c)
+    by_row (Written frames) plays are = by_end (ap is_written are) e.writer refl
 
 equation_fix : (q f : ℕ) (past : ℕ → Frame) (here : Frame) → HasFixes here.world → (e : End) → IsInLimits (kind_of here.world e.node.0)
     → (is_delay_kind (kind_of here.world e.node.0) ≡ true → e.writer ≡ false → muted here.world.graph.value e ≡ false → AsksFixes q f past here e.node.0) → (o c : ℕ) → IsFix (equation q f past here e o c)

@@ -1,9 +1,8 @@
 -- What the equation of one end sees, of its own frame, of its own quantum, and of the quanta before.
-use Rattle.std.proofs.Common.{ℕ, zero, suc, ℤ, pos, ◌≡◌, ◌+◌, ◌-◌, ◌⊎◌, inl, inr, ap₂, ◌*◌, ◌/◌, ◌<◌, ◌≤◌, ◌+ℤ◌, List, [], ◌∷◌, Bool, true, false, refl, sym, ◌∙◌, ap, arith, subst}
+use Rattle.std.proofs.Common.{ℕ, zero, suc, ℤ, pos, ◌≡◌, ◌+◌, ◌-◌, ◌⊎◌, inl, inr, ap₂, ◌*◌, ◌/◌, ◌<◌, ◌≤◌, ◌+ℤ◌, List, ◌∷◌, Bool, true, false, refl, sym, ◌∙◌, ap, arith, subst}
 use mathlib.Core.Path.{fun_ext}
-use Rattle.std.specs.Prelude.{if◌then◌else◌, nat_lt, ◌==◌, ◌&&◌, max}
+use Rattle.std.specs.Prelude.{if◌then◌else◌, nat_lt, ◌==◌, ◌&&◌, max, Option, Some, None}
 use Rattle.std.proofs.lemmas.Bool.Decides.{nat_tests}
-use Rattle.wa_base.specs.Numbers.{scale}
 use Rattle.wa_base.specs.declared.graph_names.End.{End}
 use Rattle.wa_base.specs.declared.graph_names.Interp.{Interp}
 use Rattle.wa_base.specs.declared.graph_names.Interp.TheVariants.{Speakers}
@@ -14,12 +13,15 @@ use Rattle.law_base.specs.Members.{IsIn}
 use Rattle.law_base.proofs.Members.{same_map}
 use Rattle.mix_rules.specs.Counts.{input_count}
 use Rattle.mix_rules.specs.Mixing.{mix, fan_in}
-use Rattle.node_table.specs.Curves.{shaper_value}
-use Rattle.node_table.specs.Equations.{equation_value}
 use Rattle.node_table.specs.Delays.{frames_of}
-use Rattle.node_table.specs.Kinds.{is_delay_kind, outputs, remembers}
+use Rattle.node_table.specs.Kinds.{row, is_delay_kind, outputs, remembers}
 use Rattle.node_table.specs.declared.kinds.Kind.{Kind}
-use Rattle.node_table.specs.declared.kinds.Kind.TheVariants.{Destination, Constant, Buffer, Gain, Delay, Splitter, Merger, Shaper, Causal}
+use Rattle.node_table.specs.Rows.{is_written, is_heard}
+use Rattle.node_table.specs.declared.rows.Keeps.{Keeps}
+use Rattle.node_table.specs.declared.rows.Keeps.TheVariants.{Nothing, Heard, Written}
+use Rattle.node_table.specs.declared.rows.ParamRow.{ParamRow}
+use Rattle.node_table.specs.declared.rows.Plays.{Plays}
+use Rattle.node_table.specs.declared.rows.Plays.TheVariants.{Value, Content}
 use Rattle.node_table.specs.declared.nodes.Node.{Node}
 use Rattle.conn_graph.specs.declared.edges.Edge.{Edge}
 use Rattle.conn_graph.specs.Graph.{edges_to_input, edges_to_param}
@@ -30,7 +32,7 @@ use Rattle.meaning.specs.World.{node_at, kind_of, param_id, intrinsic_value, is_
 use Rattle.meaning.specs.Validity.{IsJoined}
 use Rattle.meaning.specs.Counts.{Counts, input_channels}
 use Rattle.meaning.specs.Lists.{since}
-use Rattle.meaning.specs.Values.{Frame, Values, seen, mixed_sum, input_value, taken_in, frames_heard, computed_value, delay_frames, delayed, value_by_kind, has_channel, equation}
+use Rattle.meaning.specs.Values.{Frame, Values, seen, mixed_sum, input_value, taken_in, frames_heard, computed_value, delay_frames, delayed, taken_from, made_of, causal_value, level_of, value_by_row, value_by_kind, has_channel, equation}
 
 -- an end of a node that is no delay is the one at which the node's inputs arrive
 pub plain_end : (w : World) → IsJoined w → (e : End) → IsIn e (ends w.graph.value) → is_delay_kind (kind_of w e.node.0) ≡ false → e ≡ input_end w.graph.value e.node.0
@@ -250,23 +252,27 @@ module _ (q : ℕ) (some : 0 < q) (w : World) (joined : IsJoined w) (f : ℕ) (p
           ∙ ap (λ to. mix node.attrs.interp ((seen f past' (here w n t) (f - d)).counts (writer_of e.node.0)) to ((seen f past (here w m s) (f - d)).values (writer_of e.node.0) 0) c) (subst (λ x. m x ≡ n x) reader own)
           ∙ ap (λ (values : ℕ → ℤ). mix node.attrs.interp ((seen f past' (here w n t) (f - d)).counts (writer_of e.node.0)) (n (reader_of e.node.0)) values c) asked.1
 
+  level_like : e ≡ reader_of e.node.0 → (param : Option ParamRow) → level_of q f past (here w m s) e.node.0 param ≡ level_of q f past' (here w n t) e.node.0 param
+  level_like is None = refl
+  level_like is (Some row) = computed_like is row.name
+
+  by_end : is_delay_kind (kind_of w e.node.0) ≡ true → (c : ℕ) (b : Bool) → e.writer ≡ b → (if b then input_value (here w m s) e.node.0 0 c else delayed q f past (here w m s) e.node.0 c)
+      ≡ (if b then input_value (here w n t) e.node.0 0 c else delayed q f past' (here w n t) e.node.0 c)
+  by_end delay c true writer = input_like w joined m n s t e (writer_end w joined e delay writer) agree_counts agree 0 c
+  by_end delay c false reader = delayed_like delay (reader_end e reader) c
+
+  by_row : (o c : ℕ) (k : Kind) → kind_of w e.node.0 ≡ k → (keeps : Keeps) (plays : Option Plays) → (row k).keeps ≡ keeps
+      → value_by_row q f past (here w m s) keeps plays k e o c ≡ value_by_row q f past' (here w n t) keeps plays k e o c
+  by_row o c k is Nothing None are =
+      let plain : is_delay_kind (kind_of w e.node.0) ≡ false = ap is_delay_kind is ∙ ap is_written are in
+      ap₂ (made_of k) (input_like w joined m n s t e (plain_end w joined e h plain) agree_counts agree (taken_from k o c).0 (taken_from k o c).1) (level_like (plain_reader w joined e h plain) (row k).param)
+  by_row o c k is Nothing (Some Value) are = ap (λ x. if sounds_at w e.node.0 f then x else pos 0) (level_like (plain_reader w joined e h (ap is_delay_kind is ∙ ap is_written are)) (row k).param)
+  by_row o c k is Nothing (Some (Content rate)) are = refl
+  by_row o c k is Heard plays are = ap (causal_value k) (heard_like (ap remembers is ∙ ap is_heard are) (plain_end w joined e h (ap is_delay_kind is ∙ ap is_written are)) c)
+  by_row o c k is (Written frames) plays are = by_end (ap is_delay_kind is ∙ ap is_written are) c e.writer refl
+
   by_kind : (o c : ℕ) (k : Kind) → kind_of w e.node.0 ≡ k → value_by_kind q f past (here w m s) k e o c ≡ value_by_kind q f past' (here w n t) k e o c
-  by_kind o c Destination is = input_like w joined m n s t e (plain_end w joined e h (ap is_delay_kind is)) agree_counts agree 0 c
-  by_kind o c (Constant offset) is = ap (λ x. if sounds_at w e.node.0 f then x else pos 0) (computed_like (plain_reader w joined e h (ap is_delay_kind is)) param.Offset)
-  by_kind o c (Buffer rate) is = refl
-  by_kind o c (Gain gain) is =
-      ap (λ x. scale x (computed_value q f past (here w m s) (param_id e.node.0 param.Gain))) (input_like w joined m n s t e (plain_end w joined e h (ap is_delay_kind is)) agree_counts agree 0 c)
-      ∙ ap (scale (input_value (here w n t) e.node.0 0 c)) (computed_like (plain_reader w joined e h (ap is_delay_kind is)) param.Gain)
-  by_kind o c (Delay longest time capacity) is = by_end e.writer refl
-    where
-      by_end : (b : Bool) → e.writer ≡ b → (if b then input_value (here w m s) e.node.0 0 c else delayed q f past (here w m s) e.node.0 c)
-          ≡ (if b then input_value (here w n t) e.node.0 0 c else delayed q f past' (here w n t) e.node.0 c)
-      by_end true writer = input_like w joined m n s t e (writer_end w joined e (ap is_delay_kind is) writer) agree_counts agree 0 c
-      by_end false reader = delayed_like (ap is_delay_kind is) (reader_end e reader) c
-  by_kind o c (Splitter ports) is = input_like w joined m n s t e (plain_end w joined e h (ap is_delay_kind is)) agree_counts agree 0 o
-  by_kind o c (Merger ports) is = input_like w joined m n s t e (plain_end w joined e h (ap is_delay_kind is)) agree_counts agree c 0
-  by_kind o c (Causal equation) is = ap (equation_value equation) (heard_like (ap remembers is) (plain_end w joined e h (ap is_delay_kind is)) c)
-  by_kind o c (Shaper curve was_set) is = ap (λ x. shaper_value curve (x ∷ [])) (input_like w joined m n s t e (plain_end w joined e h (ap is_delay_kind is)) agree_counts agree 0 c)
+  by_kind o c k is = by_row o c k is (row k).keeps (row k).plays refl
 
   pub equation_sees : equation q f past (here w m s) e ≡ equation q f past' (here w n t) e
   unfolding equation

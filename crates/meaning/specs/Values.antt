@@ -1,5 +1,5 @@
 -- What each end carries at each frame.
-use Rattle.std.specs.Prelude.{ℕ, ◌+◌, ◌-◌, max, ℤ, pos, ◌+ℤ◌, ◌*◌, ◌/◌, List, [], ◌∷◌, map, Bool, nat_lt, ◌==◌, ◌&&◌, if◌then◌else◌}
+use Rattle.std.specs.Prelude.{ℕ, ◌+◌, ◌-◌, max, ℤ, pos, ◌+ℤ◌, ◌*◌, ◌/◌, List, [], ◌∷◌, map, Bool, nat_lt, ◌==◌, ◌&&◌, if◌then◌else◌, Option, Some, None}
 use Rattle.wa_base.specs.Numbers.{scale}
 use Rattle.wa_base.specs.declared.graph_names.End.{End}
 use Rattle.wa_base.specs.declared.graph_names.Interp.{Interp}
@@ -11,9 +11,14 @@ use Rattle.node_table.specs.Curves.{shaper_value}
 use Rattle.node_table.specs.Equations.{equation_value}
 use Rattle.mix_rules.specs.Mixing.{mix, fan_in}
 use Rattle.node_table.specs.Delays.{frames_of}
-use Rattle.node_table.specs.Kinds.{outputs}
+use Rattle.node_table.specs.Kinds.{row, outputs}
 use Rattle.node_table.specs.declared.kinds.Kind.{Kind}
-use Rattle.node_table.specs.declared.kinds.Kind.TheVariants.{Destination, Constant, Buffer, Gain, Delay, Splitter, Merger, Shaper, Causal}
+use Rattle.node_table.specs.declared.kinds.Kind.TheVariants.{Gain, Splitter, Merger, Shaper, Causal}
+use Rattle.node_table.specs.declared.rows.Keeps.{Keeps}
+use Rattle.node_table.specs.declared.rows.Keeps.TheVariants.{Nothing, Heard, Written}
+use Rattle.node_table.specs.declared.rows.ParamRow.{ParamRow}
+use Rattle.node_table.specs.declared.rows.Plays.{Plays}
+use Rattle.node_table.specs.declared.rows.Plays.TheVariants.{Value, Content}
 use Rattle.conn_graph.specs.declared.edges.Edge.{Edge}
 use Rattle.conn_graph.specs.Graph.{edges_to_input, edges_to_param}
 use Rattle.conn_graph.specs.Ends.{writer_of, reader_of, input_end, in_cycle, height, muted}
@@ -92,22 +97,48 @@ delayed q f past here n c =
 
 -- ---- the equations
 
--- channel c of output o of an end, by the kind of its node; the writer of a delay takes in what its reader gives later
-abbrev pub value_by_kind : ℕ → ℕ → (ℕ → Frame) → Frame → Kind → End → ℕ → ℕ → ℤ
-value_by_kind q f past here Destination e o c = input_value here e.node.0 0 c
-value_by_kind q f past here (Constant offset) e o c =
-    if sounds_at here.world e.node.0 f then computed_value q f past here (param_id e.node.0 param.Offset) else pos 0
-value_by_kind q f past here (Buffer rate) e o c = played_at here.world e.node.0 c f
-value_by_kind q f past here (Gain gain) e o c =
-    scale (input_value here e.node.0 0 c) (computed_value q f past here (param_id e.node.0 param.Gain))
-value_by_kind q f past here (Delay longest time capacity) e o c = if e.writer then input_value here e.node.0 0 c else delayed q f past here e.node.0 c
--- an output of a splitter is a channel of its input, and a channel of a merger is one of its inputs, mixed to one channel
-value_by_kind q f past here (Splitter outputs) e o c = input_value here e.node.0 0 o
-value_by_kind q f past here (Merger inputs) e o c = input_value here e.node.0 c 0
--- a shaper hears its input, of which the newest frame alone counts
-value_by_kind q f past here (Shaper curve was_set) e o c = shaper_value curve (input_value here e.node.0 0 c ∷ [])
--- a causal node hears its input from its birth on
-value_by_kind q f past here (Causal equation) e o c = equation_value equation (frames_heard f past here e.node.0 c)
+-- The input of a node, and the channel of it, of which channel c of its output o is made. An output of a splitter is a channel of its input, and a channel of a merger is one of its inputs, mixed to one channel.
+abbrev pub taken_from : Kind → ℕ → ℕ → ℕ × ℕ
+taken_from (Splitter outputs) o c = (0, o)
+taken_from (Merger inputs) o c = (c, 0)
+taken_from other o c = (0, c)
+
+-- What a node makes of a value of its input and of the value of its parameter at the same frame. A gain multiplies them, a shaper looks the value up in its curve, and all others hand it on.
+abbrev pub made_of : Kind → ℤ → ℤ → ℤ
+made_of (Gain gain) value level = scale value level
+made_of (Shaper curve was_set) value level = shaper_value curve (value ∷ [])
+made_of other value level = value
+
+-- what a causal node puts out, of all that it heard on a channel
+abbrev pub causal_value : Kind → List ℤ → ℤ
+causal_value (Causal equation) values = equation_value equation values
+causal_value other values = pos 0
+
+module _ (q f : ℕ) (past : ℕ → Frame) (here : Frame) where
+  -- the computed value of the parameter of node n, where it has one
+  abbrev pub level_of : ℕ → Option ParamRow → ℤ
+  level_of n None = pos 0
+  level_of n (Some row) = computed_value q f past here (param_id n row.name)
+
+  -- channel c of output o of a node that is made of its input at this frame
+  abbrev pub effect_value : Kind → ℕ → ℕ → ℕ → ℤ
+  effect_value kind n o c = made_of kind (input_value here n (taken_from kind o c).0 (taken_from kind o c).1) (level_of n (row kind).param)
+
+  -- A source gives the value of its parameter while it sounds, or what it plays of its buffer.
+  abbrev pub value_by_play : Option Plays → Kind → ℕ → ℕ → ℕ → ℤ
+  value_by_play None kind n o c = effect_value kind n o c
+  value_by_play (Some Value) kind n o c = if sounds_at here.world n f then level_of n (row kind).param else pos 0
+  value_by_play (Some (Content rate)) kind n o c = played_at here.world n c f
+
+  -- The writer of a delay takes in what its reader gives later, and a causal node hears its input from its birth on.
+  abbrev pub value_by_row : Keeps → Option Plays → Kind → End → ℕ → ℕ → ℤ
+  value_by_row Nothing plays kind e o c = value_by_play plays kind e.node.0 o c
+  value_by_row Heard plays kind e o c = causal_value kind (frames_heard f past here e.node.0 c)
+  value_by_row (Written frames) plays kind e o c = if e.writer then input_value here e.node.0 0 c else delayed q f past here e.node.0 c
+
+  -- channel c of output o of an end, by the row of its node
+  abbrev pub value_by_kind : Kind → End → ℕ → ℕ → ℤ
+  value_by_kind kind e o c = value_by_row (row kind).keeps (row kind).plays kind e o c
 
 -- whether an end has channel c of output o
 abbrev pub has_channel : World → Counts → End → ℕ → ℕ → Bool

@@ -1,9 +1,8 @@
 -- The equation of an end of a part gives what that of its counterpart gives.
-use Rattle.std.proofs.Common.{ℕ, ℤ, pos, ◌≡◌, ◌+◌, ◌-◌, ◌*◌, ◌/◌, ◌<◌, ◌≤◌, ◌+ℤ◌, length, [], ◌∷◌, Bool, true, false, refl, sym, ◌∙◌, ap, ap₂, subst, arith}
+use Rattle.std.proofs.Common.{ℕ, ℤ, pos, ◌≡◌, ◌+◌, ◌-◌, ◌*◌, ◌/◌, ◌<◌, ◌≤◌, ◌+ℤ◌, length, Bool, true, false, Option, Some, None, refl, sym, ◌∙◌, ap, ap₂, subst, arith}
 use mathlib.Core.Path.{fun_ext}
 use Rattle.std.specs.Prelude.{if◌then◌else◌, nat_lt, ◌&&◌, max}
 use Rattle.std.proofs.lemmas.Bool.Decides.{nat_tests}
-use Rattle.wa_base.specs.Numbers.{scale}
 use Rattle.wa_base.specs.declared.graph_names.End.{End}
 use Rattle.wa_base.specs.declared.graph_names.Interp.TheVariants.{Speakers}
 use Rattle.wa_base.specs.declared.graph_names.ParamName.{ParamName}
@@ -11,20 +10,23 @@ use Rattle.wa_base.specs.declared.graph_names.ParamName.TheVariants as param
 use Rattle.wa_base.specs.declared.contexts.ContextSpec.{ContextSpec}
 use Rattle.law_base.specs.Members.{IsIn}
 use Rattle.mix_rules.specs.Mixing.{mix}
-use Rattle.node_table.specs.Curves.{shaper_value}
-use Rattle.node_table.specs.Equations.{equation_value}
 use Rattle.node_table.specs.Delays.{frames_of}
-use Rattle.node_table.specs.Kinds.{is_delay_kind, outputs}
+use Rattle.node_table.specs.Kinds.{row, is_delay_kind, outputs}
+use Rattle.node_table.specs.Rows.{is_written}
 use Rattle.node_table.specs.declared.kinds.Kind.{Kind}
-use Rattle.node_table.specs.declared.kinds.Kind.TheVariants.{Destination, Constant, Buffer, Gain, Delay, Splitter, Merger, Shaper, Causal}
 use Rattle.node_table.specs.declared.nodes.Node.{Node}
+use Rattle.node_table.specs.declared.rows.Keeps.{Keeps}
+use Rattle.node_table.specs.declared.rows.Keeps.TheVariants.{Nothing, Heard, Written}
+use Rattle.node_table.specs.declared.rows.ParamRow.{ParamRow}
+use Rattle.node_table.specs.declared.rows.Plays.{Plays}
+use Rattle.node_table.specs.declared.rows.Plays.TheVariants.{Value, Content}
 use Rattle.conn_graph.specs.Graph.{edges_to_param}
 use Rattle.conn_graph.specs.Ends.{writer_of, reader_of, ends, in_cycle, muted}
 use Rattle.conn_graph.proofs.EndLaws.{has_writer}
 use Rattle.meaning.specs.declared.world.World.{World}
 use Rattle.meaning.specs.World.{node_at, kind_of, param_id, intrinsic_value, is_k_rate, nominal}
 use Rattle.meaning.specs.Lists.{since}
-use Rattle.meaning.specs.Values.{Frame, seen, mixed_sum, input_value, taken_in, frames_heard, computed_value, delay_frames, delayed, value_by_kind, equation}
+use Rattle.meaning.specs.Values.{Frame, seen, mixed_sum, input_value, taken_in, frames_heard, computed_value, delay_frames, delayed, taken_from, made_of, causal_value, level_of, value_by_row, value_by_kind, equation}
 use Rattle.meaning.proofs.Seeing.{same_since}
 use Rattle.prune.specs.Parts.{Numbering, whole_end}
 use Rattle.prune.proofs.Connected.{same_kind, end_there, reader_there, same_params}
@@ -130,21 +132,23 @@ module _ (r : Numbering) (q f : ℕ) (past past' : ℕ → Frame) (here here' : 
   -- ---- equations
 
   by_kind : (e : End) → e.node.0 < length w.nodes → (o c : ℕ) (k : Kind) → kind_of w e.node.0 ≡ k → value_by_kind q f past here k e o c ≡ value_by_kind q f past' here' k (whole_end r e) o c
-  by_kind e l o c Destination is_kind = same_value r here here' is e.node.0 0 c l
-  by_kind e l o c (Constant offset) is_kind =
-      ap₂ (λ b x. if b then x else pos 0) (same_sounds r w w' is.worlds.is e.node.0 l f) (same_computed e.node.0 param.Offset l)
-  by_kind e l o c (Buffer rate) is_kind = same_samples r w w' is.worlds.is e.node.0 l c f
-  by_kind e l o c (Gain gain) is_kind = ap₂ scale (same_value r here here' is e.node.0 0 c l) (same_computed e.node.0 param.Gain l)
-  by_kind e l o c (Delay longest time capacity) is_kind = by_end e.writer
+  by_kind e l o c k is_kind = by_row (row k).keeps (row k).plays refl
     where
-      by_end : (b : Bool) → (if b then input_value here e.node.0 0 c else delayed q f past here e.node.0 c)
+      same_level : (param : Option ParamRow) → level_of q f past here e.node.0 param ≡ level_of q f past' here' (r e.node.0) param
+      same_level None = refl
+      same_level (Some row) = same_computed e.node.0 row.name l
+
+      by_end : is_delay_kind (kind_of w e.node.0) ≡ true → (b : Bool) → (if b then input_value here e.node.0 0 c else delayed q f past here e.node.0 c)
           ≡ (if b then input_value here' (r e.node.0) 0 c else delayed q f past' here' (r e.node.0) c)
-      by_end true = same_value r here here' is e.node.0 0 c l
-      by_end false = same_delayed e.node.0 c l (ap is_delay_kind is_kind)
-  by_kind e l o c (Splitter ports) is_kind = same_value r here here' is e.node.0 0 o l
-  by_kind e l o c (Merger ports) is_kind = same_value r here here' is e.node.0 c 0 l
-  by_kind e l o c (Shaper curve was_set) is_kind = ap (λ x. shaper_value curve (x ∷ [])) (same_value r here here' is e.node.0 0 c l)
-  by_kind e l o c (Causal equation) is_kind = ap (equation_value equation) (same_heard e.node.0 c l)
+      by_end delay true = same_value r here here' is e.node.0 0 c l
+      by_end delay false = same_delayed e.node.0 c l delay
+
+      by_row : (keeps : Keeps) (plays : Option Plays) → (row k).keeps ≡ keeps → value_by_row q f past here keeps plays k e o c ≡ value_by_row q f past' here' keeps plays k (whole_end r e) o c
+      by_row Nothing None are = ap₂ (made_of k) (same_value r here here' is e.node.0 (taken_from k o c).0 (taken_from k o c).1 l) (same_level (row k).param)
+      by_row Nothing (Some Value) are = ap₂ (λ b x. if b then x else pos 0) (same_sounds r w w' is.worlds.is e.node.0 l f) (same_level (row k).param)
+      by_row Nothing (Some (Content rate)) are = same_samples r w w' is.worlds.is e.node.0 l c f
+      by_row Heard plays are = ap (causal_value k) (same_heard e.node.0 c l)
+      by_row (Written frames) plays are = by_end (ap is_delay_kind is_kind ∙ ap is_written are) e.writer
 
   -- The equation of an end of the part gives what that of its counterpart gives.
   pub same_equation : (e : End) → IsIn e (ends w.graph.value) → equation q f past here e ≡ equation q f past' here' (whole_end r e)

@@ -1,4 +1,4 @@
-use Rattle.std.proofs.Common.{◌<◌, ◌+◌, ◌++◌, ◌∷◌, [], length, Some, ◌∙◌, ap, sym, subst, arith}
+use Rattle.std.proofs.Common.{◌<◌, ◌++◌, ◌∷◌, [], length, Some, ◌∙◌, ap, sym, subst, arith}
 use Rattle.std.proofs.lemmas.List.{append-nil, append_assoc}
 use Rattle.conn_graph.specs.Walks.{out_walk}
 use Rattle.cycle_order.proofs.WalkLaws.{rest_of, steps_edges, next_is, first_is, none_first, cell_in, rest_steps}

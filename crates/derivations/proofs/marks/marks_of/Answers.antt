@@ -1,4 +1,4 @@
-use Rattle.std.proofs.Common.{◌<◌, List, All, length, sym, ◌∙◌, ap, subst}
+use Rattle.std.proofs.Common.{◌<◌, List, All, sym, ◌∙◌, ap, subst}
 use Rattle.std.specs.Prelude.{filter}
 use Rattle.std.specs.List.{list_any}
 use Rattle.wa_base.specs.declared.graph_names.End.{End}

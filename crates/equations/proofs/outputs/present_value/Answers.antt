@@ -1,15 +1,14 @@
-use Rattle.std.proofs.Common.{rules, FitsSigned, ℕ, ◌≡◌, ◌/◌, ◌<◌, length, true, false, inl, inr, refl, sym, ◌∙◌, ap}
+use Rattle.std.proofs.Common.{rules, FitsSigned, ℕ, ◌≡◌, ◌/◌, ◌<◌, length, true, false, sym, ◌∙◌, ap}
 use Rattle.std.specs.Int.{w32, w64}
 use Rattle.std.proofs.lemmas.Int.{to_z-of_z}
 use Rattle.wa_base.specs.declared.graph_names.End.{End}
-use Rattle.wa_base.specs.declared.graph_names.ParamName.TheVariants as params
 use Rattle.node_table.specs.Kinds.{is_delay_kind}
-use Rattle.node_table.specs.declared.kinds.Kind.TheVariants.{Constant, Buffer, Gain, Delay, Splitter, Merger}
+use Rattle.node_table.specs.declared.kinds.Kind.TheVariants.{Constant, Buffer, Delay}
 use Rattle.meaning.specs.declared.world.World.{World}
 use Rattle.meaning.specs.World.{kind_of, sounds_at, played_at}
-use Rattle.explain.specs.declared.facts.Key.TheVariants.{Inlet, Par}
 use Rattle.explain.specs.Facts.{has_history}
 use Rattle.derivations.specs.Contexts.{world_of}
+use Rattle.derivations.proofs.Effects.{is_effect}
 use Rattle.equations.proofs.ByKind.{value_as, known_as, sounding_known, writer_known, reader_known, value_sounding, value_silent, value_writer, value_reader, hears_all, history_known}
 use Rattle.equations.proofs.Ending.{node_in}
 use Rattle.equations.proofs.InForce.{is, kind, valid, node_low}
@@ -47,30 +46,8 @@ played_at-requires-clause-valid c =
     let there : e.node.0 < length (world_of c.args.context f).nodes = node_in c.args.context c.requires.given j c.args.stretch.now c.requires.piece e c.requires.present.output.end in
     valid c.args.context c.requires.given j c.args.stretch.now c.requires.piece
 
-pub amplified-requires-clause-input : goal.amplified-requires-clause-input
-amplified-requires-clause-input c =
-    let f : ℕ = c.args.sample.frame in
-    let e : End = c.args.sample.end in
-    let o : ℕ = c.args.sample.output in
-    let d : ℕ = c.args.sample.channel in
-    let j : ℕ = f / c.args.context.quantum in
-    let there : e.node.0 < length (world_of c.args.context f).nodes = node_in c.args.context c.requires.given j c.args.stretch.now c.requires.piece e c.requires.present.output.end in
-    let same : kind_of (world_of c.args.context f) e.node.0 ≡ Gain c.in-Gain.gain = kind c.args.context c.requires.given j c.args.stretch.now c.requires.piece e.node.0 c.kind.result.now there c.kind.ensures.value ∙ c.in-Gain.is in
-    known_as c.args.context f e o d (Gain c.in-Gain.gain) same c.requires.known (Inlet f e 0 d) (inr (inl refl))
-
-pub amplified-requires-clause-gain : goal.amplified-requires-clause-gain
-amplified-requires-clause-gain c =
-    let f : ℕ = c.args.sample.frame in
-    let e : End = c.args.sample.end in
-    let o : ℕ = c.args.sample.output in
-    let d : ℕ = c.args.sample.channel in
-    let j : ℕ = f / c.args.context.quantum in
-    let there : e.node.0 < length (world_of c.args.context f).nodes = node_in c.args.context c.requires.given j c.args.stretch.now c.requires.piece e c.requires.present.output.end in
-    let same : kind_of (world_of c.args.context f) e.node.0 ≡ Gain c.in-Gain.gain = kind c.args.context c.requires.given j c.args.stretch.now c.requires.piece e.node.0 c.kind.result.now there c.kind.ensures.value ∙ c.in-Gain.is in
-    known_as c.args.context f e o d (Gain c.in-Gain.gain) same c.requires.known (Par f e.node params.Gain) (inl refl)
-
-pub inlet-requires-then-sample-clause-known : goal.inlet-requires-then-sample-clause-known
-inlet-requires-then-sample-clause-known c =
+pub inlet-requires-clause-known : goal.inlet-requires-clause-known
+inlet-requires-clause-known c =
     let f : ℕ = c.args.sample.frame in
     let e : End = c.args.sample.end in
     let o : ℕ = c.args.sample.output in
@@ -101,28 +78,6 @@ delayed-requires-clause-known c =
     let there : e.node.0 < length (world_of c.args.context f).nodes = node_in c.args.context c.requires.given j c.args.stretch.now c.requires.piece e c.requires.present.output.end in
     let same : kind_of (world_of c.args.context f) e.node.0 ≡ Delay c.in-Delay.longest c.in-Delay.time c.in-Delay.capacity = kind c.args.context c.requires.given j c.args.stretch.now c.requires.piece e.node.0 c.kind.result.now there c.kind.ensures.value ∙ c.in-Delay.is in
     reader_known c.args.context f e o d c.in-Delay.longest c.in-Delay.time c.in-Delay.capacity same c.if-sample.false c.requires.known
-
-pub inlet-requires-in-Splitter-clause-known : goal.inlet-requires-in-Splitter-clause-known
-inlet-requires-in-Splitter-clause-known c =
-    let f : ℕ = c.args.sample.frame in
-    let e : End = c.args.sample.end in
-    let o : ℕ = c.args.sample.output in
-    let d : ℕ = c.args.sample.channel in
-    let j : ℕ = f / c.args.context.quantum in
-    let there : e.node.0 < length (world_of c.args.context f).nodes = node_in c.args.context c.requires.given j c.args.stretch.now c.requires.piece e c.requires.present.output.end in
-    let same : kind_of (world_of c.args.context f) e.node.0 ≡ Splitter c.in-Splitter.outputs = kind c.args.context c.requires.given j c.args.stretch.now c.requires.piece e.node.0 c.kind.result.now there c.kind.ensures.value ∙ c.in-Splitter.is in
-    known_as c.args.context f e o d (Splitter c.in-Splitter.outputs) same c.requires.known (Inlet f e 0 o) (inl refl)
-
-pub inlet-requires-in-Merger-clause-known : goal.inlet-requires-in-Merger-clause-known
-inlet-requires-in-Merger-clause-known c =
-    let f : ℕ = c.args.sample.frame in
-    let e : End = c.args.sample.end in
-    let o : ℕ = c.args.sample.output in
-    let d : ℕ = c.args.sample.channel in
-    let j : ℕ = f / c.args.context.quantum in
-    let there : e.node.0 < length (world_of c.args.context f).nodes = node_in c.args.context c.requires.given j c.args.stretch.now c.requires.piece e c.requires.present.output.end in
-    let same : kind_of (world_of c.args.context f) e.node.0 ≡ Merger c.in-Merger.inputs = kind c.args.context c.requires.given j c.args.stretch.now c.requires.piece e.node.0 c.kind.result.now there c.kind.ensures.value ∙ c.in-Merger.is in
-    known_as c.args.context f e o d (Merger c.in-Merger.inputs) same c.requires.known (Inlet f e d 0) (inl refl)
 
 pub history-requires-clause-history : goal.history-requires-clause-history
 history-requires-clause-history c =
@@ -183,18 +138,6 @@ returns-in-Buffer c =
     value_as c.args.context f e o d (Buffer c.in-Buffer.rate) same _
     (to_z-of_z _ _ wide ∙ c.from.ensures ∙ to_z-of_z _ _ narrow ∙ c.played_at.ensures ∙ ap (λ (y : World). played_at y e.node.0 d f) (sym (is c.args.context c.requires.given j c.args.stretch.now c.requires.piece)))
 
-pub returns-in-Gain : goal.returns-in-Gain
-returns-in-Gain c =
-    let f : ℕ = c.args.sample.frame in
-    let e : End = c.args.sample.end in
-    let o : ℕ = c.args.sample.output in
-    let d : ℕ = c.args.sample.channel in
-    let j : ℕ = f / c.args.context.quantum in
-    let there : e.node.0 < length (world_of c.args.context f).nodes = node_in c.args.context c.requires.given j c.args.stretch.now c.requires.piece e c.requires.present.output.end in
-    let same : kind_of (world_of c.args.context f) e.node.0 ≡ Gain c.in-Gain.gain = kind c.args.context c.requires.given j c.args.stretch.now c.requires.piece e.node.0 c.kind.result.now there c.kind.ensures.value ∙ c.in-Gain.is in
-    let wide : FitsSigned w64 c.amplified.result = search rules in
-    value_as c.args.context f e o d (Gain c.in-Gain.gain) same _ (to_z-of_z _ _ wide ∙ c.amplified.ensures)
-
 pub returns-then-sample : goal.returns-then-sample
 returns-then-sample c =
     let f : ℕ = c.args.sample.frame in
@@ -204,8 +147,8 @@ returns-then-sample c =
     let j : ℕ = f / c.args.context.quantum in
     let there : e.node.0 < length (world_of c.args.context f).nodes = node_in c.args.context c.requires.given j c.args.stretch.now c.requires.piece e c.requires.present.output.end in
     let same : kind_of (world_of c.args.context f) e.node.0 ≡ Delay c.in-Delay.longest c.in-Delay.time c.in-Delay.capacity = kind c.args.context c.requires.given j c.args.stretch.now c.requires.piece e.node.0 c.kind.result.now there c.kind.ensures.value ∙ c.in-Delay.is in
-    let wide : FitsSigned w64 c.inlet-then-sample.result = search rules in
-    value_writer c.args.context f e o d c.in-Delay.longest c.in-Delay.time c.in-Delay.capacity same c.if-sample.true _ (to_z-of_z _ _ wide ∙ c.inlet-then-sample.ensures)
+    let wide : FitsSigned w64 c.inlet.result = search rules in
+    value_writer c.args.context f e o d c.in-Delay.longest c.in-Delay.time c.in-Delay.capacity same c.if-sample.true _ (to_z-of_z _ _ wide ∙ c.inlet.ensures)
 
 pub returns-else-sample : goal.returns-else-sample
 returns-else-sample c =
@@ -219,26 +162,26 @@ returns-else-sample c =
     let wide : FitsSigned w64 c.delayed.result = search rules in
     value_reader c.args.context f e o d c.in-Delay.longest c.in-Delay.time c.in-Delay.capacity same c.if-sample.false _ (to_z-of_z _ _ wide ∙ c.delayed.ensures)
 
-pub returns-in-Splitter : goal.returns-in-Splitter
-returns-in-Splitter c =
-    let f : ℕ = c.args.sample.frame in
-    let e : End = c.args.sample.end in
-    let o : ℕ = c.args.sample.output in
-    let d : ℕ = c.args.sample.channel in
-    let j : ℕ = f / c.args.context.quantum in
-    let there : e.node.0 < length (world_of c.args.context f).nodes = node_in c.args.context c.requires.given j c.args.stretch.now c.requires.piece e c.requires.present.output.end in
-    let same : kind_of (world_of c.args.context f) e.node.0 ≡ Splitter c.in-Splitter.outputs = kind c.args.context c.requires.given j c.args.stretch.now c.requires.piece e.node.0 c.kind.result.now there c.kind.ensures.value ∙ c.in-Splitter.is in
-    let wide : FitsSigned w64 c.inlet-in-Splitter.result = search rules in
-    value_as c.args.context f e o d (Splitter c.in-Splitter.outputs) same _ (to_z-of_z _ _ wide ∙ c.inlet-in-Splitter.ensures)
+pub effect-requires-clause-effect : goal.effect-requires-clause-effect
+effect-requires-clause-effect c = is_effect c.kind.result.now c.in_default.not-Constant c.in_default.not-Buffer c.in_default.not-Delay c.in_default.not-Shaper c.in_default.not-Causal
 
-pub returns-in-Merger : goal.returns-in-Merger
-returns-in-Merger c =
+pub effect-requires-clause-known : goal.effect-requires-clause-known
+effect-requires-clause-known c =
     let f : ℕ = c.args.sample.frame in
     let e : End = c.args.sample.end in
     let o : ℕ = c.args.sample.output in
     let d : ℕ = c.args.sample.channel in
     let j : ℕ = f / c.args.context.quantum in
     let there : e.node.0 < length (world_of c.args.context f).nodes = node_in c.args.context c.requires.given j c.args.stretch.now c.requires.piece e c.requires.present.output.end in
-    let same : kind_of (world_of c.args.context f) e.node.0 ≡ Merger c.in-Merger.inputs = kind c.args.context c.requires.given j c.args.stretch.now c.requires.piece e.node.0 c.kind.result.now there c.kind.ensures.value ∙ c.in-Merger.is in
-    let wide : FitsSigned w64 c.inlet-in-Merger.result = search rules in
-    value_as c.args.context f e o d (Merger c.in-Merger.inputs) same _ (to_z-of_z _ _ wide ∙ c.inlet-in-Merger.ensures)
+    known_as c.args.context f e o d c.kind.result.now (kind c.args.context c.requires.given j c.args.stretch.now c.requires.piece e.node.0 c.kind.result.now there c.kind.ensures.value) c.requires.known
+
+pub returns-in_default : goal.returns-in_default
+returns-in_default c =
+    let f : ℕ = c.args.sample.frame in
+    let e : End = c.args.sample.end in
+    let o : ℕ = c.args.sample.output in
+    let d : ℕ = c.args.sample.channel in
+    let j : ℕ = f / c.args.context.quantum in
+    let there : e.node.0 < length (world_of c.args.context f).nodes = node_in c.args.context c.requires.given j c.args.stretch.now c.requires.piece e c.requires.present.output.end in
+    let wide : FitsSigned w64 c.effect.result = search rules in
+    value_as c.args.context f e o d c.kind.result.now (kind c.args.context c.requires.given j c.args.stretch.now c.requires.piece e.node.0 c.kind.result.now there c.kind.ensures.value) _ (to_z-of_z _ _ wide ∙ c.effect.ensures)

@@ -1,7 +1,6 @@
 use Rattle.std.proofs.Common.{◌≡◌, List, sym, subst, arith}
 use Rattle.law_base.specs.Members.{IsIn}
 use Rattle.explain.specs.declared.facts.Fact.{Fact}
-use Rattle.derivations.specs.Names.{name_of}
 use Rattle.explain.specs.Checked.{Stands}
 use Rattle.derivations.proofs.Placing.{found_low, found_item, none_stands}
 use Rattle.derivations.proofs.known.Known.find.Goals as goal

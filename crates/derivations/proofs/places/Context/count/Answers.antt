@@ -1,5 +1,4 @@
 use Rattle.std.proofs.Common.{◌∙◌, sym, arith}
-use Rattle.std.specs.Prelude.{unsigned_abs}
 use Rattle.derivations.specs.Contexts.{tape_in}
 use Rattle.derivations.proofs.Knowing.{count_of, count_low, abs_is}
 use Rattle.derivations.proofs.places.Context.count.Goals as goal
