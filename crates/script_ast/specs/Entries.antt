@@ -1,9 +1,14 @@
 -- The entries: the members of a script and of its context, and the operations with their words and their fields, in the order in which they are read.
 -- Each row is the name of a field, its kind and its default: a field that is `Needed` has none, and one whose default is `Null` may hold null, as may one of the kinds `NameOrNull` and `FixesOrNull`.
-use Rattle.std.specs.Prelude.{ℕ, List, [], ◌∷◌, codes, bytes_eq, Bool, true, false, pos, find, Option}
+use Rattle.std.specs.Prelude.{ℕ, List, [], ◌∷◌, codes, bytes_eq, Bool, true, false, pos, find, Option, Some, None}
 use Rattle.std.specs.List.{list_any}
 use Rattle.wa_base.specs.declared.features.Feature.{Feature}
 use Rattle.wa_base.specs.declared.features.Feature.TheVariants as feature
+use Rattle.node_table.specs.declared.equation.Equation.TheVariants.{Filter}
+use Rattle.node_table.specs.declared.kinds.Kind.{Kind as NodeKind}
+use Rattle.node_table.specs.declared.kinds.Kind.TheVariants as node
+use Rattle.script_ast.specs.declared.entries.Creation.{Creation}
+use Rattle.script_ast.specs.declared.entries.Creation.TheVariants as creation
 use Rattle.script_ast.specs.declared.entries.Fallback.{Fallback}
 use Rattle.script_ast.specs.declared.entries.Fallback.TheVariants.{Needed, Null, Number, Count, Flag, Oversample, NoCalls}
 use Rattle.script_ast.specs.declared.entries.Kind.{Kind}
@@ -367,15 +372,28 @@ param_op_word param.ExponentialRampToValueAtTime = codes "exponentialRampToValue
 param_op_word param.SetTargetAtTime = codes "setTargetAtTime"
 param_op_word param.ReadValue = codes "readValue"
 
+-- the `op` of an operation that creates a node by its numbers alone
+abbrev pub creation_word : Creation → List ℕ
+creation_word creation.ConstantSource = codes "createConstantSource"
+creation_word creation.Gain = codes "createGain"
+creation_word creation.ChannelSplitter = codes "createChannelSplitter"
+creation_word creation.ChannelMerger = codes "createChannelMerger"
+creation_word creation.IIRFilter = codes "createIIRFilter"
+
+-- the operation that creates a node of a kind by its numbers alone; none for the other kinds
+abbrev pub creation_of : NodeKind → Option Creation
+creation_of (node.Constant offset) = Some creation.ConstantSource
+creation_of (node.Gain gain) = Some creation.Gain
+creation_of (node.Splitter outputs) = Some creation.ChannelSplitter
+creation_of (node.Merger inputs) = Some creation.ChannelMerger
+creation_of (node.Causal (Filter forward back)) = Some creation.IIRFilter
+creation_of other = None
+
 -- the `op` of an operation
 abbrev pub op_word : OpName → List ℕ
-op_word op.CreateConstantSource = codes "createConstantSource"
-op_word op.CreateGain = codes "createGain"
+op_word (op.Create name) = creation_word name
 op_word op.CreateDelay = codes "createDelay"
-op_word op.CreateChannelSplitter = codes "createChannelSplitter"
-op_word op.CreateChannelMerger = codes "createChannelMerger"
 op_word op.CreateWaveShaper = codes "createWaveShaper"
-op_word op.CreateIIRFilter = codes "createIIRFilter"
 op_word op.CreateConvolver = codes "createConvolver"
 op_word op.CreateProcessor = codes "createProcessor"
 op_word op.CreateBufferSource = codes "createBufferSource"
@@ -408,13 +426,13 @@ op_word (op.LeftOut name) = left_out_word name
 -- every operation
 abbrev pub operations : List OpName
 operations =
-    op.CreateConstantSource ∷
-    op.CreateGain ∷
+    op.Create creation.ConstantSource ∷
+    op.Create creation.Gain ∷
     op.CreateDelay ∷
-    op.CreateChannelSplitter ∷
-    op.CreateChannelMerger ∷
+    op.Create creation.ChannelSplitter ∷
+    op.Create creation.ChannelMerger ∷
     op.CreateWaveShaper ∷
-    op.CreateIIRFilter ∷
+    op.Create creation.IIRFilter ∷
     op.CreateConvolver ∷
     op.CreateProcessor ∷
     op.CreateBufferSource ∷
@@ -487,15 +505,19 @@ param_op_fields param.ExponentialRampToValueAtTime = exponential_ramp_to_value_a
 param_op_fields param.SetTargetAtTime = set_target_at_time
 param_op_fields param.ReadValue = read_value
 
+-- the fields of an operation that creates a node by its numbers alone, in the order in which they are read
+abbrev pub creation_fields : Creation → List Row
+creation_fields creation.ConstantSource = create_constant_source
+creation_fields creation.Gain = create_gain
+creation_fields creation.ChannelSplitter = create_channel_splitter
+creation_fields creation.ChannelMerger = create_channel_merger
+creation_fields creation.IIRFilter = create_iir_filter
+
 -- the fields of an operation, in the order in which they are read
 abbrev pub fields_of : OpName → List Row
-fields_of op.CreateConstantSource = create_constant_source
-fields_of op.CreateGain = create_gain
+fields_of (op.Create name) = creation_fields name
 fields_of op.CreateDelay = create_delay
-fields_of op.CreateChannelSplitter = create_channel_splitter
-fields_of op.CreateChannelMerger = create_channel_merger
 fields_of op.CreateWaveShaper = create_wave_shaper
-fields_of op.CreateIIRFilter = create_iir_filter
 fields_of op.CreateConvolver = create_convolver
 fields_of op.CreateProcessor = create_processor
 fields_of op.CreateBufferSource = create_buffer_source

@@ -1,30 +1,18 @@
 -- The operations: the ranges of their fields, what they are done to, and the names that they give.
-use Rattle.std.specs.Prelude.{ℕ, List, All, Bool, true, false, IsTrue, Option, Some, None}
+use Rattle.std.specs.Prelude.{ℕ, List, All, Bool, IsTrue, Option, Some, None, is_some}
 use Rattle.wa_base.specs.Numbers.{IsFix}
 use Rattle.node_table.specs.Kinds.{IsCreatable, IsOf32Bits}
-use Rattle.node_table.specs.declared.equation.Equation.{Equation}
-use Rattle.node_table.specs.declared.equation.Equation.TheVariants.{Filter}
 use Rattle.node_table.specs.declared.kinds.Kind.{Kind}
-use Rattle.node_table.specs.declared.kinds.Kind.TheVariants as node
+use Rattle.script_ast.specs.Entries.{creation_of}
 use Rattle.script_ast.specs.Ranges.{IsInstr, IsTime, IsTimeIfSome, IsCount, IsCountIfSome, IsText, IsTextIfSome, AreFixes, AreFixesIfSome, IsNewName, IsPath, IsDisconnectForm}
 use Rattle.script_ast.specs.declared.operations.Interface.{Interface}
 use Rattle.script_ast.specs.declared.operations.Interface.TheVariants as interface
 use Rattle.script_ast.specs.declared.operations.Op.{Op}
 use Rattle.script_ast.specs.declared.operations.Op.TheVariants as op
 
--- an IIR filter's equation
-abbrev pub is_filter : Equation → Bool
-is_filter (Filter forward back) = true
-is_filter other = false
-
 -- a node of the kind is created by an operation whose fields are what the kind has, and its name
 abbrev pub is_told_by_kind : Kind → Bool
-is_told_by_kind (node.Constant offset) = true
-is_told_by_kind (node.Gain gain) = true
-is_told_by_kind (node.Splitter ports) = true
-is_told_by_kind (node.Merger ports) = true
-is_told_by_kind (node.Causal equation) = is_filter equation
-is_told_by_kind other = false
+is_told_by_kind kind = is_some (creation_of kind)
 
 -- each field of an operation is in its range, each name that it has is a text (a new name is one since it is ASCII), and a disconnect has one of its forms
 abbrev pub IsInRange : Op → Type 0

@@ -1,6 +1,7 @@
 ghost use Rattle.std.specs.Prelude.{◌≡◌, Some, IsTrue, ◌↔◌, IsSome, bytes_eq, option_map};
 ghost use Rattle.script_ast.specs.Fallbacks.{row_in, fallback_in};
-ghost use Rattle.script_ast.specs.Entries.{op_word, op_named, first_named, fields_of, has_calls};
+ghost use Rattle.script_ast.specs.Entries.{creation_word, creation_fields, op_word, op_named, first_named, fields_of, has_calls};
+ghost use Rattle.script_ast.specs.declared.entries.OpName.TheVariants.{Create};
 
 use crate::fields::Field;
 use crate::left_out::LeftOutName;
@@ -103,16 +104,27 @@ pub const CONTEXT_FIELDS: [Row; 4] = [
 
 pub const SCRIPT_TAIL: [Row; 1] = [row!(Calls, Calls, Needed)];
 
+/// The name of an operation that creates a node by its numbers alone.
+#[derive(Clone, Copy, PartialEq, Eq)]
+pub enum Creation {
+    /// The ConstantSourceNode Interface.
+    ConstantSource,
+    /// The GainNode Interface.
+    Gain,
+    /// The ChannelSplitterNode Interface.
+    ChannelSplitter,
+    /// The ChannelMergerNode Interface.
+    ChannelMerger,
+    /// The IIRFilterNode Interface.
+    IIRFilter,
+}
+
 /// The name of an operation that a script may have.
 #[derive(Clone, Copy, PartialEq, Eq)]
 pub enum OpName {
-    CreateConstantSource,
-    CreateGain,
+    Create(Creation),
     CreateDelay,
-    CreateChannelSplitter,
-    CreateChannelMerger,
     CreateWaveShaper,
-    CreateIIRFilter,
     CreateConvolver,
     CreateProcessor,
     CreateBufferSource,
@@ -145,13 +157,13 @@ pub enum OpName {
 
 /// Every operation.
 pub const OP_NAMES: [OpName; 57] = [
-    OpName::CreateConstantSource,
-    OpName::CreateGain,
+    OpName::Create(Creation::ConstantSource),
+    OpName::Create(Creation::Gain),
     OpName::CreateDelay,
-    OpName::CreateChannelSplitter,
-    OpName::CreateChannelMerger,
+    OpName::Create(Creation::ChannelSplitter),
+    OpName::Create(Creation::ChannelMerger),
     OpName::CreateWaveShaper,
-    OpName::CreateIIRFilter,
+    OpName::Create(Creation::IIRFilter),
     OpName::CreateConvolver,
     OpName::CreateProcessor,
     OpName::CreateBufferSource,
@@ -394,6 +406,36 @@ pub const START_RENDERING: [Row; 1] = [row!(Then, Calls, NoCalls)];
 
 pub const DECODE_AUDIO_DATA: [Row; 2] = [row!(As, NewName, Needed), row!(Path, Path, Needed)];
 
+impl Creation {
+    /// The value of a call's `op` that names the operation, and no other one.
+    #[tactic(auto, unfolding(crate::specs::Entries::op_named))]
+    pub fn word(self) -> &'static str
+        ensures word { result.now ≡ creation_word self }
+        ensures named { op_named result.now ≡ Some (Create self) }
+    {
+        match self {
+            Creation::ConstantSource => "createConstantSource",
+            Creation::Gain => "createGain",
+            Creation::ChannelSplitter => "createChannelSplitter",
+            Creation::ChannelMerger => "createChannelMerger",
+            Creation::IIRFilter => "createIIRFilter",
+        }
+    }
+
+    /// The fields of the operation, in the order in which they are read.
+    pub fn fields(self) -> &'static [Row]
+        ensures { result.now ≡ creation_fields self }
+    {
+        match self {
+            Creation::ConstantSource => &CREATE_CONSTANT_SOURCE,
+            Creation::Gain => &CREATE_GAIN,
+            Creation::ChannelSplitter => &CREATE_CHANNEL_SPLITTER,
+            Creation::ChannelMerger => &CREATE_CHANNEL_MERGER,
+            Creation::IIRFilter => &CREATE_IIR_FILTER,
+        }
+    }
+}
+
 impl OpName {
     /// The value of a call's `op` that names the operation, and no other one.
     #[tactic(auto, unfolding(crate::specs::Entries::op_named))]
@@ -402,13 +444,9 @@ impl OpName {
         ensures named { op_named result.now ≡ Some self }
     {
         match self {
-            OpName::CreateConstantSource => "createConstantSource",
-            OpName::CreateGain => "createGain",
+            OpName::Create(name) => name.word(),
             OpName::CreateDelay => "createDelay",
-            OpName::CreateChannelSplitter => "createChannelSplitter",
-            OpName::CreateChannelMerger => "createChannelMerger",
             OpName::CreateWaveShaper => "createWaveShaper",
-            OpName::CreateIIRFilter => "createIIRFilter",
             OpName::CreateConvolver => "createConvolver",
             OpName::CreateProcessor => "createProcessor",
             OpName::CreateBufferSource => "createBufferSource",
@@ -459,13 +497,9 @@ impl OpName {
         ensures { result.now ≡ fields_of self }
     {
         match self {
-            OpName::CreateConstantSource => &CREATE_CONSTANT_SOURCE,
-            OpName::CreateGain => &CREATE_GAIN,
+            OpName::Create(name) => name.fields(),
             OpName::CreateDelay => &CREATE_DELAY,
-            OpName::CreateChannelSplitter => &CREATE_CHANNEL_SPLITTER,
-            OpName::CreateChannelMerger => &CREATE_CHANNEL_MERGER,
             OpName::CreateWaveShaper => &CREATE_WAVE_SHAPER,
-            OpName::CreateIIRFilter => &CREATE_IIR_FILTER,
             OpName::CreateConvolver => &CREATE_CONVOLVER,
             OpName::CreateProcessor => &CREATE_PROCESSOR,
             OpName::CreateBufferSource => &CREATE_BUFFER_SOURCE,

@@ -13,7 +13,7 @@ mod words;
 
 pub use call_list::{Call, Calls, Script};
 pub use clocks::Clock;
-pub use entries::{Fallback, Kind, OP_NAMES, OpName, Row, fallback_in, is_built};
+pub use entries::{Creation, Fallback, Kind, OP_NAMES, OpName, Row, fallback_in, is_built};
 pub use fields::Field;
 pub use left_out::LeftOutName;
 pub use operations::{Interface, Op, Oversample};

@@ -33,8 +33,7 @@ impl Oversample {
 /// operation is described in the named section of the Web Audio recommendation of 17 June 2021.
 #[derive(Drop)]
 pub enum Op {
-    /// The ConstantSourceNode, GainNode, ChannelSplitterNode, ChannelMergerNode and IIRFilterNode
-    /// Interfaces: a node that its kind alone tells.
+    /// A node that its kind alone tells: the interface that its `Creation` names.
     Create {
         name: Name,
         kind: Kind,

@@ -2,8 +2,6 @@
 use Rattle.std.specs.Prelude.{ℕ, ◌+◌, List, [], ◌∷◌, ◌++◌, length, bytes_eq, Bool, false, if◌then◌else◌, Option, Some, None, option_and_then, option_map, is_some}
 use Rattle.serde_json.specs.Data.{Data, null, boolean, number, string, array, object, Items, no_items, item, Members, no_members, member}
 use Rattle.serde_json.specs.Find.{get, as_object, as_str}
-use Rattle.node_table.specs.declared.equation.Equation.TheVariants.{Filter}
-use Rattle.node_table.specs.declared.kinds.Kind.TheVariants as node
 use Rattle.script_ast.specs.Entries as entry
 use Rattle.script_ast.specs.Fields.{field_word}
 use Rattle.script_ast.specs.Entries.{op_named, fields_of, has_calls}
@@ -11,7 +9,7 @@ use Rattle.script_ast.specs.declared.call_list.Call.{Call}
 use Rattle.script_ast.specs.declared.clocks.Clock.{Clock}
 use Rattle.script_ast.specs.declared.fields.Field.TheVariants as field
 use Rattle.script_ast.specs.declared.entries.OpName.{OpName}
-use Rattle.script_ast.specs.declared.entries.OpName.TheVariants.{CreateConstantSource, CreateGain, CreateDelay, CreateChannelSplitter, CreateChannelMerger, CreateWaveShaper, CreateIIRFilter, CreateConvolver, CreateProcessor, CreateBufferSource, CreateBuffer, Connect, ConnectParam, Disconnect, DisconnectParam, SetChannelCount, SetChannelCountMode, SetChannelInterpretation, SetCurve, SetOversample, SetBuffer, SetLoop, SetLoopStart, SetLoopEnd, CopyToChannel, Start, Stop, Param, Suspend, StartRendering, Resume, DecodeAudioData, ReadState, ReadTime, LeftOut}
+use Rattle.script_ast.specs.declared.entries.OpName.TheVariants.{Create, CreateDelay, CreateWaveShaper, CreateConvolver, CreateProcessor, CreateBufferSource, CreateBuffer, Connect, ConnectParam, Disconnect, DisconnectParam, SetChannelCount, SetChannelCountMode, SetChannelInterpretation, SetCurve, SetOversample, SetBuffer, SetLoop, SetLoopStart, SetLoopEnd, CopyToChannel, Start, Stop, Param, Suspend, StartRendering, Resume, DecodeAudioData, ReadState, ReadTime, LeftOut}
 use Rattle.script_ast.specs.declared.operations.Op.{Op}
 use Rattle.script_ast.specs.declared.operations.Op.TheVariants as op
 use Rattle.script_ast.specs.declared.param_ops.ParamOpName.{ParamOpName}
@@ -19,6 +17,7 @@ use Rattle.script_ast.specs.declared.param_ops.ParamOpName.TheVariants as param
 use Rattle.script_fields.specs.Fields.{is_there, fields_faults, lack_faults, text_in, text_or_null_in, fix_in, time_in, time_or_null_in, count_in, count_or_null_in, flag_in, fixes_in, fixes_or_null_in, code_in, mode_in, interp_in, rate_in, oversample_in}
 use Rattle.script_fields.specs.declared.faults.ScriptErr.{ScriptErr}
 use Rattle.script_fields.specs.declared.faults.ScriptErr.TheVariants.{WrongKind, UnknownOp}
+use Rattle.script_json.specs.Creations.{kind_in}
 
 -- a call of the document: its ordinal, the ordinal of the call whose `then` list it stands in (0 in the main list), and its JSON value
 pub record Placed : Type 0 where
@@ -103,13 +102,9 @@ param_op_in clock param.ReadValue d = op.ReadValue (text_in field.Node d) (text_
 
 -- a call of an operation with its fields
 abbrev pub op_in : Clock → OpName → Data → Op
-op_in clock CreateConstantSource d = op.Create (text_in field.As d) (node.Constant (fix_in entry.create_constant_source field.Offset d))
-op_in clock CreateGain d = op.Create (text_in field.As d) (node.Gain (fix_in entry.create_gain field.Gain d))
+op_in clock (Create name) d = op.Create (text_in field.As d) (kind_in name d)
 op_in clock CreateDelay d = op.CreateDelay (text_in field.As d) (fix_in entry.create_delay field.MaxDelayTime d) (fix_in entry.create_delay field.DelayTime d)
-op_in clock CreateChannelSplitter d = op.Create (text_in field.As d) (node.Splitter (count_in entry.create_channel_splitter field.NumberOfOutputs d))
-op_in clock CreateChannelMerger d = op.Create (text_in field.As d) (node.Merger (count_in entry.create_channel_merger field.NumberOfInputs d))
 op_in clock CreateWaveShaper d = op.CreateWaveShaper (text_in field.As d) (fixes_or_null_in field.Curve d) (oversample_in entry.create_wave_shaper field.Oversample d)
-op_in clock CreateIIRFilter d = op.Create (text_in field.As d) (node.Causal (Filter (fixes_in field.Feedforward d) (fixes_in field.Feedback d)))
 op_in clock CreateConvolver d = op.CreateConvolver (text_in field.As d) (text_or_null_in field.Buffer d) (flag_in entry.create_convolver field.DisableNormalization d)
 op_in clock CreateProcessor d = op.CreateProcessor (text_in field.As d) (code_in field.Code d)
 op_in clock CreateBufferSource d = op.CreateBufferSource (text_in field.As d) (text_or_null_in field.Buffer d) (flag_in entry.create_buffer_source field.Loop d) (time_in clock entry.create_buffer_source field.LoopStart d) (time_in clock entry.create_buffer_source field.LoopEnd d) (fix_in entry.create_buffer_source field.PlaybackRate d)

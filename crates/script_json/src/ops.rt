@@ -2,9 +2,9 @@ ghost use Rattle.std.specs.Prelude.{◌≡◌, IfOk};
 ghost use Rattle.serde_json.specs.View.{view};
 ghost use Rattle.script_json.specs.Calls.{op_in};
 
+use crate::creations::create;
 use crate::param_ops::build_param_op;
 use crate::shaper_ops::{create_wave_shaper, set_curve, set_oversample};
-use node_table::{Equation, Kind};
 use script_ast::{Clock, Field, Op, OpName, entries};
 use script_fields::{
     code, count, count_or_null, fix, fixes, flag, interp, mode, path, text, text_or_null, time,
@@ -19,13 +19,9 @@ pub fn build(alloc: Global, clock: Clock, name: OpName, call: &Value) -> Result<
     ensures { IfOk result (λ op. op ≡ op_in clock name (view call.now)) }
 {
     match name {
-        OpName::CreateConstantSource => create_constant_source(alloc, call),
-        OpName::CreateGain => create_gain(alloc, call),
+        OpName::Create(name) => create(alloc, name, call),
         OpName::CreateDelay => create_delay(alloc, call),
-        OpName::CreateChannelSplitter => create_channel_splitter(alloc, call),
-        OpName::CreateChannelMerger => create_channel_merger(alloc, call),
         OpName::CreateWaveShaper => create_wave_shaper(alloc, call),
-        OpName::CreateIIRFilter => create_iir_filter(alloc, call),
         OpName::CreateConvolver => create_convolver(alloc, call),
         OpName::CreateProcessor => create_processor(alloc, call),
         OpName::CreateBufferSource => create_buffer_source(alloc, clock, call),
@@ -59,28 +55,6 @@ pub fn build(alloc: Global, clock: Clock, name: OpName, call: &Value) -> Result<
 
 // Of those below the ones with a time are handed the clock. The others are the same on every clock.
 
-fn create_constant_source(alloc: Global, call: &Value) -> Result<Op, NoMemory>
-    ensures { IfOk result (λ op. op ≡ op_in Clock.Frames OpName.CreateConstantSource (view call.now)) }
-{
-    Ok(Op::Create {
-        name: text(alloc, call, Field::As)?,
-        kind: Kind::Constant {
-            offset: fix(call, &entries::CREATE_CONSTANT_SOURCE, Field::Offset),
-        },
-    })
-}
-
-fn create_gain(alloc: Global, call: &Value) -> Result<Op, NoMemory>
-    ensures { IfOk result (λ op. op ≡ op_in Clock.Frames OpName.CreateGain (view call.now)) }
-{
-    Ok(Op::Create {
-        name: text(alloc, call, Field::As)?,
-        kind: Kind::Gain {
-            gain: fix(call, &entries::CREATE_GAIN, Field::Gain),
-        },
-    })
-}
-
 fn create_delay(alloc: Global, call: &Value) -> Result<Op, NoMemory>
     ensures { IfOk result (λ op. op ≡ op_in Clock.Frames OpName.CreateDelay (view call.now)) }
 {
@@ -88,46 +62,6 @@ fn create_delay(alloc: Global, call: &Value) -> Result<Op, NoMemory>
         name: text(alloc, call, Field::As)?,
         max_delay_time: fix(call, &entries::CREATE_DELAY, Field::MaxDelayTime),
         delay_time: fix(call, &entries::CREATE_DELAY, Field::DelayTime),
-    })
-}
-
-fn create_channel_splitter(alloc: Global, call: &Value) -> Result<Op, NoMemory>
-    ensures { IfOk result (λ op. op ≡ op_in Clock.Frames OpName.CreateChannelSplitter (view call.now)) }
-{
-    Ok(Op::Create {
-        name: text(alloc, call, Field::As)?,
-        kind: Kind::Splitter {
-            outputs: count(
-                call,
-                &entries::CREATE_CHANNEL_SPLITTER,
-                Field::NumberOfOutputs,
-            ),
-        },
-    })
-}
-
-fn create_channel_merger(alloc: Global, call: &Value) -> Result<Op, NoMemory>
-    ensures { IfOk result (λ op. op ≡ op_in Clock.Frames OpName.CreateChannelMerger (view call.now)) }
-{
-    Ok(Op::Create {
-        name: text(alloc, call, Field::As)?,
-        kind: Kind::Merger {
-            inputs: count(call, &entries::CREATE_CHANNEL_MERGER, Field::NumberOfInputs),
-        },
-    })
-}
-
-fn create_iir_filter(alloc: Global, call: &Value) -> Result<Op, NoMemory>
-    ensures { IfOk result (λ op. op ≡ op_in Clock.Frames OpName.CreateIIRFilter (view call.now)) }
-{
-    let name = text(alloc, call, Field::As)?;
-    let equation = Equation::Filter {
-        forward: fixes(alloc, call, Field::Feedforward)?,
-        back: fixes(alloc, call, Field::Feedback)?,
-    };
-    Ok(Op::Create {
-        name,
-        kind: Kind::Causal { equation },
     })
 }
 

@@ -1,14 +1,11 @@
 -- The members of a call: the fields of its operation, with their JSON values.
-use Rattle.std.specs.Prelude.{ℕ, List, [], ◌∷◌, map, ℤ, Option, Some, None}
+use Rattle.std.specs.Prelude.{ℕ, List, [], ◌∷◌, map, ℤ, Option, Some, None, option_map}
 use Rattle.serde_json.specs.Data.{Data, null, boolean, number, string, array, Items, no_items, item, unsigned}
 use Rattle.serde_json.specs.Find.{of_integer}
 use Rattle.serde_json.specs.View.{items_of}
 use Rattle.wa_base.specs.GraphNames.{mode_word, interp_word, rate_word}
 use Rattle.node_table.specs.declared.code.Instr.{Instr}
-use Rattle.node_table.specs.declared.equation.Equation.{Equation}
-use Rattle.node_table.specs.declared.equation.Equation.TheVariants.{Filter, Convolution, Processor}
-use Rattle.node_table.specs.declared.kinds.Kind.{Kind}
-use Rattle.node_table.specs.declared.kinds.Kind.TheVariants as node
+use Rattle.script_ast.specs.Entries.{creation_of}
 use Rattle.script_ast.specs.Words.{oversample_word, instr_text}
 use Rattle.script_ast.specs.declared.entries.OpName.{OpName}
 use Rattle.script_ast.specs.declared.entries.OpName.TheVariants as named
@@ -17,6 +14,9 @@ use Rattle.script_ast.specs.declared.fields.Field.TheVariants as field
 use Rattle.script_ast.specs.declared.operations.Op.{Op}
 use Rattle.script_ast.specs.declared.operations.Op.TheVariants as op
 use Rattle.script_ast.specs.declared.param_ops.ParamOpName.TheVariants as param
+use Rattle.script_json.specs.Creations.{numbers_of}
+use Rattle.script_json.specs.Numbers.{Number}
+use Rattle.script_json.specs.Numbers as told
 use Rattle.script_text.specs.Seconds.{time_text}
 
 -- ---- values
@@ -52,45 +52,19 @@ code instrs = array (items_of (map instr_data instrs))
 
 -- ---- what each operation gives
 
--- the fields of the equation by which a script creates a node
-abbrev pub equation_fields : Equation → List (Field × Data)
-equation_fields (Filter forward back) = (field.Feedforward, fixes forward) ∷ (field.Feedback, fixes back) ∷ []
-equation_fields (Convolution response) = []
-equation_fields (Processor program) = []
+-- a number of a creation as a JSON value
+abbrev pub number_data : Number → Data
+number_data (told.fix z) = fix z
+number_data (told.count n) = count n
+number_data (told.fixes zs) = fixes zs
 
--- the fields of a kind of node that a script creates by its numbers alone
-abbrev pub kind_fields : Kind → List (Field × Data)
-kind_fields node.Destination = []
-kind_fields (node.Constant offset) = (field.Offset, fix offset) ∷ []
-kind_fields (node.Buffer rate) = []
-kind_fields (node.Gain gain) = (field.Gain, fix gain) ∷ []
-kind_fields (node.Delay longest delay capacity) = []
-kind_fields (node.Splitter outputs) = (field.NumberOfOutputs, count outputs) ∷ []
-kind_fields (node.Merger inputs) = (field.NumberOfInputs, count inputs) ∷ []
-kind_fields (node.Shaper curve was_set) = []
-kind_fields (node.Causal equation) = equation_fields equation
-
--- the operation by which a script creates a node of an equation; none where the equation comes from elsewhere
-abbrev pub equation_name : Equation → Option OpName
-equation_name (Filter forward back) = Some named.CreateIIRFilter
-equation_name (Convolution response) = None
-equation_name (Processor program) = None
-
--- the operation by which a script creates a node of a kind by its numbers alone; none for the other kinds
-abbrev pub kind_name : Kind → Option OpName
-kind_name node.Destination = None
-kind_name (node.Constant offset) = Some named.CreateConstantSource
-kind_name (node.Buffer rate) = None
-kind_name (node.Gain gain) = Some named.CreateGain
-kind_name (node.Delay longest delay capacity) = None
-kind_name (node.Splitter outputs) = Some named.CreateChannelSplitter
-kind_name (node.Merger inputs) = Some named.CreateChannelMerger
-kind_name (node.Shaper curve was_set) = None
-kind_name (node.Causal equation) = equation_name equation
+-- a field that holds such a number
+abbrev pub number_field : Field × Number → Field × Data
+number_field given = (given.0, number_data given.1)
 
 -- the name of an operation; none for the creation of a kind that no script creates so
 abbrev pub name_of : Op → Option OpName
-name_of (op.Create name kind) = kind_name kind
+name_of (op.Create name kind) = option_map named.Create (creation_of kind)
 name_of (op.CreateDelay name max_delay_time delay_time) = Some named.CreateDelay
 name_of (op.CreateWaveShaper name curve oversample) = Some named.CreateWaveShaper
 name_of (op.CreateConvolver name buffer disable_normalization) = Some named.CreateConvolver
@@ -138,7 +112,7 @@ then_field (item d ds) = (field.Then, array (item d ds)) ∷ []
 
 -- the fields of an operation in the order of its entry, defaults and nulls included, with times at so many frames a second and with these calls in its `then` list, if it has one
 abbrev pub fields_given : ℕ → Items → Op → List (Field × Data)
-fields_given rate held (op.Create name kind) = (field.As, string name) ∷ kind_fields kind
+fields_given rate held (op.Create name kind) = (field.As, string name) ∷ map number_field (numbers_of kind)
 fields_given rate held (op.CreateDelay name max_delay_time delay_time) = (field.As, string name) ∷ (field.MaxDelayTime, fix max_delay_time) ∷ (field.DelayTime, fix delay_time) ∷ []
 fields_given rate held (op.CreateWaveShaper name curve oversample) = (field.As, string name) ∷ (field.Curve, or_null fixes curve) ∷ (field.Oversample, string (oversample_word oversample)) ∷ []
 fields_given rate held (op.CreateConvolver name buffer disable_normalization) = (field.As, string name) ∷ (field.Buffer, or_null string buffer) ∷ (field.DisableNormalization, boolean disable_normalization) ∷ []

@@ -1,12 +1,18 @@
 -- What the private clauses of the writer cite: the members that it is handed.
-use Rattle.std.specs.Prelude.{ℕ, List, [], ◌∷◌}
+use Rattle.std.specs.Prelude.{ℕ, ◌≡◌, List, [], ◌∷◌, ◌++◌, Option, option_map}
+use Rattle.std.specs.Ordering.{nat_cmp, match_ordering}
+use Rattle.std.specs.Cmp.Lexicographic.{slice_cmp}
 use Rattle.serde_json.specs.Data.{Data, boolean, string, Members, no_members, member}
 use Rattle.wa_base.specs.GraphNames.{mode_word, interp_word, rate_word}
 use Rattle.script_ast.specs.Entries.{op_word}
 use Rattle.script_ast.specs.Fields.{field_word}
 use Rattle.script_ast.specs.Words.{oversample_word}
+use Rattle.script_ast.specs.declared.entries.Creation.{Creation}
+use Rattle.script_ast.specs.declared.entries.OpName.TheVariants as named
 use Rattle.script_ast.specs.declared.fields.Field.{Field}
+use Rattle.script_ast.specs.declared.fields.Field.TheVariants as field
 use Rattle.script_text.specs.Members.{or_null, fix, fixes, count, time, code}
+use Rattle.script_text.specs.Text.{with_fields, op_field}
 use Rattle.script_text.specs.declared.members.Given.{Given}
 use Rattle.script_text.specs.declared.members.Given.TheVariants as given
 
@@ -35,3 +41,13 @@ given_data rate (given.Oversample oversample) = string (oversample_word oversamp
 abbrev pub members_given : ℕ → List (Field × Given) → Members
 members_given rate [] = no_members
 members_given rate (m ∷ ms) = member (field_word m.0) (given_data rate m.1) (members_given rate ms)
+
+-- these members, which stand in the order of their names' bytes, with one more at its place
+abbrev pub with_member : Field → Given → List (Field × Given) → List (Field × Given)
+with_member field given [] = (field, given) ∷ []
+with_member field given (m ∷ ms) = match_ordering (slice_cmp nat_cmp (field_word field) (field_word m.0)) ((field, given) ∷ m ∷ ms) ((m.0, given) ∷ ms) (m ∷ with_member field given ms)
+
+-- the first members of a creation, to which its numbers are added one after another: the new node's name, and the creation's, where there is one
+abbrev pub IsNamed : Option Creation → List ℕ → List (Field × Given) → Type 0
+IsNamed creation name members =
+    (rate : ℕ) (numbers : List (Field × Data)) → with_fields (op_field (option_map named.Create creation) ++ (field.As, string name) ∷ numbers) no_members ≡ with_fields numbers (members_given rate members)

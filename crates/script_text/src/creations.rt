@@ -1,14 +1,20 @@
-ghost use Rattle.std.specs.Prelude.{◌≡◌, ◌≤◌, ◌++◌, OnOk};
+ghost use Rattle.std.specs.Prelude.{◌≡◌, ◌≤◌, ◌++◌, IfOk, OnOk, ℕ};
 ghost use Rattle.serde_json.specs.Data.{no_items};
 ghost use Rattle.serde_json.specs.Written.{compact_text};
 ghost use Rattle.script_ast.specs.Operations.{interface_of};
 ghost use Rattle.script_ast.specs.declared.operations.Op.TheVariants as op;
+ghost use Rattle.script_ast.specs.Entries.{creation_of};
+ghost use Rattle.script_json.specs.Given.{number_is};
+ghost use Rattle.script_text.specs.Members.{number_data};
 ghost use Rattle.script_text.specs.Text.{call_data};
+ghost use Rattle.script_text.specs.Writing.{given_data, IsNamed};
 
 use crate::members::{Given, push_object};
-use node_table::{Equation, Kind};
+use crate::placed::{Member, add_placed};
+use node_table::Kind;
 use script_ast::{Field, Interface, Op, OpName};
-use std::alloc::AllocError;
+use script_json::{Number, creation_of, numbers_of};
+use std::alloc::{AllocError, Global};
 use wa_base::Name;
 
 /// Appends the creation of a node by its numbers.
@@ -38,6 +44,7 @@ pub fn push_creation(out: &mut Vec<u8>, rate: u32, op: &Op) -> Result<(), AllocE
 }
 
 // Appends the creation of a node that its kind alone tells.
+#[tactic(auto, using(crate::proofs::MemberSteps::with_member_put))]
 fn push_create<'a>(
     out: &mut Vec<u8>,
     rate: u32,
@@ -48,75 +55,39 @@ fn push_create<'a>(
     ensures { OnOk result (out.new.items
         ≡ out.old.items ++ compact_text (call_data rate no_items (op.Create name.now kind.now))) }
 {
-    let name = (Field::As, Given::Name(name));
-    match kind {
-        Kind::Constant { offset } => {
-            let offset = (Field::Offset, Given::Fix(*offset));
-            push_object(
-                out,
-                rate,
-                &[
-                    name,
-                    offset,
-                    (Field::Op, Given::Op(OpName::CreateConstantSource)),
-                ],
-            )
+    let alloc = *out.allocator();
+    let numbers = numbers_of(alloc, kind)?;
+    let mut members = named(alloc, name, kind)?;
+    for number in numbers.as_slice() {
+        let mut placed = Vec::new(alloc);
+        add_placed(&mut placed, &members, number.0, given_number(number.1))?;
+        members = placed;
+    }
+    push_object(out, rate, &members)
+}
+
+// The members of the creation of a node of the kind before its numbers are placed.
+fn named<'a>(alloc: Global, name: &'a Name, kind: &Kind) -> Result<Vec<Member<'a>>, AllocError>
+    ensures { IfOk result (λ members. IsNamed (creation_of kind.now) name.now members.items) }
+{
+    let new_name = (Field::As, Given::Name(name));
+    Ok(match creation_of(kind) {
+        Some(creation) => {
+            let op = (Field::Op, Given::Op(OpName::Create(creation)));
+            vec![in alloc; new_name, op]?
         }
-        Kind::Gain { gain } => {
-            let gain = (Field::Gain, Given::Fix(*gain));
-            push_object(
-                out,
-                rate,
-                &[name, gain, (Field::Op, Given::Op(OpName::CreateGain))],
-            )
-        }
-        Kind::Splitter { outputs } => {
-            let outputs = (Field::NumberOfOutputs, Given::Count(*outputs));
-            push_object(
-                out,
-                rate,
-                &[
-                    name,
-                    outputs,
-                    (Field::Op, Given::Op(OpName::CreateChannelSplitter)),
-                ],
-            )
-        }
-        Kind::Merger { inputs } => {
-            let inputs = (Field::NumberOfInputs, Given::Count(*inputs));
-            push_object(
-                out,
-                rate,
-                &[
-                    name,
-                    inputs,
-                    (Field::Op, Given::Op(OpName::CreateChannelMerger)),
-                ],
-            )
-        }
-        Kind::Causal {
-            equation: Equation::Filter { forward, back },
-        } => {
-            let back = (Field::Feedback, Given::Fixes(back));
-            let forward = (Field::Feedforward, Given::Fixes(forward));
-            push_object(
-                out,
-                rate,
-                &[
-                    name,
-                    back,
-                    forward,
-                    (Field::Op, Given::Op(OpName::CreateIIRFilter)),
-                ],
-            )
-        }
-        Kind::Causal {
-            equation: Equation::Convolution { .. } | Equation::Processor { .. },
-        }
-        | Kind::Destination
-        | Kind::Buffer { .. }
-        | Kind::Delay { .. }
-        | Kind::Shaper { .. } => push_object(out, rate, &[name]),
+        None => vec![in alloc; new_name]?,
+    })
+}
+
+// A number of a kind as what a field holds.
+fn given_number<'a>(number: Number<'a>) -> Given<'a>
+    ensures { (rate : ℕ) → given_data rate result ≡ number_data (number_is number.entry) }
+{
+    match number {
+        Number::Fix(value) => Given::Fix(value),
+        Number::Count(count) => Given::Count(count),
+        Number::Fixes(values) => Given::Fixes(values),
     }
 }
 

@@ -9,6 +9,7 @@ mod members;
 mod nodes;
 mod ops;
 mod params;
+mod placed;
 mod seconds;
 mod texts;
 mod values;

@@ -27,7 +27,8 @@ use Rattle.script_text.specs.Laws.{ScriptTextLaw}
 use Rattle.script_text.specs.Members.{count}
 use Rattle.script_text.specs.Text.{call_data, held_calls, context_data, data_of, script_text}
 use Rattle.script_text.specs.Textable.{IsTextable}
-use Rattle.script_text.proofs.Law.Calls.{read_op, both_empty, fields_fine}
+use Rattle.script_text.proofs.Law.Back.{both_empty, fields_fine, op_fine}
+use Rattle.script_text.proofs.Law.Calls.{read_op}
 use Rattle.script_text.proofs.Law.Json.{IsKept, AreKeptItems, read_compact, utf8}
 use Rattle.script_text.proofs.Law.Kept.{kept_object, count_kept, kept_op}
 use Rattle.script_text.proofs.Law.Stacked.{stacked}
@@ -44,7 +45,7 @@ module _ (rate : ℕ) (low : 8000 ≤ rate) (high : rate ≤ 96000) where
   unfolding call_faults
   one_fine n holder held o range =
       let is = read_op rate low high n held o range in
-      ap (λ (x : Option OpName). name_faults (Seconds rate) n (call_data rate held o) x) is.is_named ∙ is.faults
+      ap (λ (x : Option OpName). name_faults (Seconds rate) n (call_data rate held o) x) is.is_named ∙ op_fine (Seconds rate) n (call_data rate held o) is.name is.joint is.fine
 
   one_read : (n holder : ℕ) (held : Items) (o : Op) → IsInRange o → call_of (Seconds rate) (placed_at n holder (call_data rate held o)) ≡ Some (call_at n holder o)
   unfolding call_of
@@ -75,14 +76,14 @@ kept_held rate n h (call ∷ calls) are = elim (cases_Bool (call.holder == h)) [
 
 context_kept : (context : ContextSpec) → context.channels ≤ 4294967295 → context.length ≤ 4294967295 → context.rate ≤ 4294967295 → context.quantum ≤ 4294967295 → IsKept (context_data context)
 context_kept context a b c d =
-    kept_object ((field.Channels, count context.channels) ∷ (field.Length, count context.length) ∷ (field.Rate, count context.rate) ∷ (field.RenderQuantum, count context.quantum) ∷ []) refl
+    kept_object ((field.Channels, count context.channels) ∷ (field.Length, count context.length) ∷ (field.Rate, count context.rate) ∷ (field.RenderQuantum, count context.quantum) ∷ [])
     (count_kept context.channels a, (count_kept context.length b, (count_kept context.rate c, (count_kept context.quantum d, tt))))
 
 script_kept : (script : Script) → IsWellFormed script → IsKept (data_of script)
 unfolding data_of
 script_kept script is =
     let two : 2 < 18446744073709551616 = omega arith in
-    kept_object ((field.Version, count 2) ∷ (field.Context, context_data script.context) ∷ (field.Calls, array (held_calls script.context.rate 0 script.calls)) ∷ []) refl
+    kept_object ((field.Version, count 2) ∷ (field.Context, context_data script.context) ∷ (field.Calls, array (held_calls script.context.rate 0 script.calls)) ∷ [])
     (two, (context_kept script.context is.channels is.frames is.rate is.quantum, (kept_held script.context.rate 0 0 script.calls is.calls, tt)))
 
 context_fine : (context : ContextSpec) → context.channels ≤ 4294967295 → context.length ≤ 4294967295 → context.rate ≤ 4294967295 → context.quantum ≤ 4294967295

@@ -1,34 +1,38 @@
 -- The text of a script that was read nests no deeper than what was read.
-use Rattle.std.proofs.Common.{◌≡◌, ◌≤◌, ℕ, suc, max, ℤ, List, [], ◌∷◌, ◌++◌, map, Bool, true, false, Option, Some, None, Ordering, Less, Equal, Greater, refl, arith}
-use Rattle.std.specs.Prelude.{⊤, is_some, option_map, option_and_then, if◌then◌else◌}
+use Rattle.std.proofs.Common.{◌≡◌, ◌≤◌, ℕ, suc, max, ℤ, List, [], ◌∷◌, ◌++◌, map, Bool, true, false, Option, Some, None, Ordering, Less, Equal, Greater, refl, sym, ap, ◌∙◌, arith}
+use Rattle.std.specs.Prelude.{⊤, ◌||◌, is_some, option_map, option_and_then, if◌then◌else◌}
 use Rattle.std.specs.Ordering.{nat_cmp, match_ordering}
 use Rattle.std.specs.Cmp.Lexicographic.{slice_cmp}
 use Rattle.serde_json.specs.Data.{Data, null, boolean, number, string, array, object, Items, no_items, item, Members, no_members, member, put, depth, items_depth, members_depth}
 use Rattle.serde_json.specs.Find.{get, get_member, as_array}
 use Rattle.serde_json.specs.View.{items_of}
 use Rattle.node_table.specs.declared.code.Instr.{Instr}
-use Rattle.node_table.specs.declared.equation.Equation.TheVariants.{Filter, Convolution, Processor}
-use Rattle.node_table.specs.declared.kinds.Kind.TheVariants as node
-use Rattle.script_ast.specs.Entries.{row, fields_of}
+use Rattle.script_ast.specs.Entries.{row, creation_of, creation_fields, fields_of}
 use Rattle.script_ast.specs.Fields.{field_word}
 use Rattle.script_ast.specs.Words.{instr_text}
 use Rattle.script_ast.specs.declared.clocks.Clock.{Clock}
 use Rattle.script_ast.specs.declared.entries.Fallback.TheVariants.{Needed}
 use Rattle.script_ast.specs.declared.entries.Kind.TheVariants as kind
+use Rattle.script_ast.specs.declared.entries.Creation.{Creation}
 use Rattle.script_ast.specs.declared.entries.OpName.{OpName}
+use Rattle.script_ast.specs.declared.entries.Row.{Row}
 use Rattle.script_ast.specs.declared.fields.Field.{Field}
 use Rattle.script_ast.specs.declared.fields.Field.TheVariants as field
-use Rattle.script_ast.specs.declared.left_out.LeftOutName.TheVariants as left_out
 use Rattle.script_ast.specs.declared.operations.Op.{Op}
 use Rattle.script_ast.specs.declared.operations.Op.TheVariants as op
 use Rattle.script_ast.specs.Holders.{holds_calls}
 use Rattle.script_ast.specs.declared.entries.OpName.TheVariants as named
 use Rattle.script_ast.specs.declared.param_ops.ParamOpName.{ParamOpName}
 use Rattle.script_ast.specs.declared.param_ops.ParamOpName.TheVariants as param
-use Rattle.script_fields.specs.Fields.{member_at, member_faults, fields_faults, fixes_of, fixes_or_null_in}
+use Rattle.script_fields.specs.Fields.{member_at, member_faults, field_faults, fields_faults, fixes_of, fixes_or_null_in}
 use Rattle.script_fields.specs.declared.faults.ScriptErr.{ScriptErr}
+use Rattle.script_json.proofs.CreationLaws.{is_read, is_written}
+use Rattle.script_json.proofs.NumberRows.{number_rows, IsRowOf, AreRowsOf}
 use Rattle.script_json.specs.Calls.{op_in, param_op_in}
-use Rattle.script_text.specs.Members.{or_null, fix, count, time, name_of, fields_given}
+use Rattle.script_json.specs.Creations.{kind_in, numbers_of}
+use Rattle.script_json.specs.Numbers.{Number}
+use Rattle.script_json.specs.Numbers as told
+use Rattle.script_text.specs.Members.{or_null, fix, count, time, number_data, number_field, name_of, fields_given}
 use Rattle.script_text.specs.Text.{with_fields, object_of, op_field, call_data}
 
 -- ---- objects
@@ -85,9 +89,19 @@ flat_code (i ∷ program) = omega (arith, flat_code program)
 
 -- ---- operations
 
+-- one of the numbers of a creation is a list
+abbrev is_listed : Number → Bool
+is_listed (told.fix z) = false
+is_listed (told.count n) = false
+is_listed (told.fixes zs) = true
+
+abbrev are_listed : List (Field × Number) → Bool
+are_listed [] = false
+are_listed (given ∷ rest) = is_listed given.1 || are_listed rest
+
 -- a call of the operation has a list that is no list of calls
 abbrev pub has_list : Op → Bool
-has_list (op.Create name (node.Causal equation)) = true
+has_list (op.Create name kind) = are_listed (numbers_of kind)
 has_list (op.CreateWaveShaper name curve oversample) = is_some curve
 has_list (op.CreateProcessor name program) = true
 has_list (op.SetCurve node curve) = is_some curve
@@ -114,18 +128,35 @@ list_one zs = omega (arith, flat_fixes zs)
 code_one : (program : List Instr) → suc (items_depth (items_of (map (λ (i : Instr). string (instr_text i)) program))) ≤ 1
 code_one program = omega (arith, flat_code program)
 
+number_shallow : (n : ℕ) (x : Number) → (is_listed x ≡ true → 1 ≤ n) → depth (number_data x) ≤ n
+number_shallow n (told.fix z) h = none
+number_shallow n (told.count k) h = none
+number_shallow n (told.fixes zs) h = let one = h refl in omega (arith, one, list_one zs)
+
+first_listed : (a b : Bool) → a ≡ true → (a || b) ≡ true
+first_listed true b h = refl
+first_listed false b h = cc
+
+later_listed : (a b : Bool) → b ≡ true → (a || b) ≡ true
+later_listed true b h = refl
+later_listed false b h = h
+
+one_listed : (b : Bool) → b ≡ true → 1 ≤ (if b then 1 else 0)
+one_listed true h = at_most
+one_listed false h = cc
+
+numbers_shallow : (n : ℕ) (numbers : List (Field × Number)) → (are_listed numbers ≡ true → 1 ≤ n) → AreShallow n (map number_field numbers)
+numbers_shallow n [] h = tt
+numbers_shallow n (given ∷ rest) h =
+    (number_shallow n given.1 (λ is. h (first_listed (is_listed given.1) (are_listed rest) is)), numbers_shallow n rest (λ is. h (later_listed (is_listed given.1) (are_listed rest) is)))
+
+name_shallow : (n : ℕ) (o : Option OpName) (given : List (Field × Data)) → AreShallow n given → AreShallow n (op_field o ++ given)
+name_shallow n None given h = h
+name_shallow n (Some name) given h = (none, h)
+
 op_shallow : (rate : ℕ) (held : Items) (o : Op) → AreShallow (base held o) (given_of rate held o)
-op_shallow rate held (op.Create name node.Destination) = (none, tt)
-op_shallow rate held (op.Create name (node.Buffer rate_of)) = (none, tt)
-op_shallow rate held (op.Create name (node.Delay longest delayed capacity)) = (none, tt)
-op_shallow rate held (op.Create name (node.Shaper curve was_set)) = (none, tt)
-op_shallow rate held (op.Create name (node.Causal (Convolution response))) = (none, tt)
-op_shallow rate held (op.Create name (node.Causal (Processor program))) = (none, tt)
-op_shallow rate held (op.Create name (node.Constant offset)) = (none, (none, (none, tt)))
-op_shallow rate held (op.Create name (node.Gain gain)) = (none, (none, (none, tt)))
-op_shallow rate held (op.Create name (node.Splitter ports)) = (none, (none, (none, tt)))
-op_shallow rate held (op.Create name (node.Merger ports)) = (none, (none, (none, tt)))
-op_shallow rate held (op.Create name (node.Causal (Filter forward back))) = (none, (none, (list_one forward, (list_one back, tt))))
+op_shallow rate held (op.Create name kind) =
+    name_shallow _ (option_map named.Create (creation_of kind)) _ (none, numbers_shallow _ (numbers_of kind) (one_listed (are_listed (numbers_of kind))))
 op_shallow rate held (op.CreateDelay name longest delayed) = (none, (none, (none, (none, tt))))
 op_shallow rate held (op.CreateWaveShaper name None oversample) = (none, (none, (none, (none, tt))))
 op_shallow rate held (op.CreateWaveShaper name (Some curve) oversample) = (none, (none, (list_one curve, (none, tt))))
@@ -168,20 +199,7 @@ op_shallow rate held op.Resume = (none, tt)
 op_shallow rate held (op.DecodeAudioData name path) = (none, (none, (none, tt)))
 op_shallow rate held op.ReadState = (none, tt)
 op_shallow rate held op.ReadTime = (none, tt)
-op_shallow rate held (op.LeftOut left_out.CreateOscillator) = (none, tt)
-op_shallow rate held (op.LeftOut left_out.CreatePeriodicWave) = (none, tt)
-op_shallow rate held (op.LeftOut left_out.CreateBiquadFilter) = (none, tt)
-op_shallow rate held (op.LeftOut left_out.CreateStereoPanner) = (none, tt)
-op_shallow rate held (op.LeftOut left_out.CreatePanner) = (none, tt)
-op_shallow rate held (op.LeftOut left_out.CreateDynamicsCompressor) = (none, tt)
-op_shallow rate held (op.LeftOut left_out.CreateAnalyser) = (none, tt)
-op_shallow rate held (op.LeftOut left_out.SetListener) = (none, tt)
-op_shallow rate held (op.LeftOut left_out.CreateMediaElementSource) = (none, tt)
-op_shallow rate held (op.LeftOut left_out.CreateMediaStreamSource) = (none, tt)
-op_shallow rate held (op.LeftOut left_out.CreateMediaStreamTrackSource) = (none, tt)
-op_shallow rate held (op.LeftOut left_out.CreateMediaStreamDestination) = (none, tt)
-op_shallow rate held (op.LeftOut left_out.CreateScriptProcessor) = (none, tt)
-op_shallow rate held (op.LeftOut left_out.CreateAudioWorkletNode) = (none, tt)
+op_shallow rate held (op.LeftOut name) = (none, tt)
 
 -- the text of a call
 pub call_depth : (rate : ℕ) (held : Items) (o : Op) → depth (call_data rate held o) ≤ suc (base held o)
@@ -260,17 +278,37 @@ listed_param clock n d param.ReadValue h is = cc
 listed_param clock n d param.SetValueCurveAtTime h is =
     two_deep (field_word field.Values) d (fixes_there clock n field.Values (member_at field.Values d) (both_none _ _ (both_none _ _ (both_none _ _ h).1).1).0)
 
+row_listed : (clock : Clock) (n : ℕ) (d : Data) (of : Row) (f : Field) (x : Number) (b : Bool) → IsRowOf of f x → field_faults clock n d of ≡ [] → (b ≡ true → 2 ≤ depth d)
+    → (is_listed x || b) ≡ true → 2 ≤ depth d
+row_listed clock n d of f (told.fix z) b is none_here later h = later h
+row_listed clock n d of f (told.count k) b is none_here later h = later h
+row_listed clock n d of f (told.fixes zs) b is none_here later h = two_deep (field_word f) d (fixes_there clock n f (member_at f d) (ap (field_faults clock n d) (sym is) ∙ none_here))
+
+rows_listed : (clock : Clock) (n : ℕ) (d : Data) (rows : List Row) (numbers : List (Field × Number)) → AreRowsOf rows numbers → fields_faults clock n d rows ≡ [] → are_listed numbers ≡ true
+    → 2 ≤ depth d
+rows_listed clock n d [] [] are h is = cc
+rows_listed clock n d [] (given ∷ rest) are h is = absurd are
+rows_listed clock n d (of ∷ rows) [] are h is = cc
+rows_listed clock n d (of ∷ rows) (given ∷ rest) are h is =
+    let both = both_none _ _ h in
+    row_listed clock n d of given.0 given.1 (are_listed rest) are.0 both.0 (rows_listed clock n d rows rest are.1 both.1) is
+
+listed_creation : (clock : Clock) (n : ℕ) (d : Data) (name : Creation) → fields_faults clock n d (creation_fields name) ≡ [] → are_listed (numbers_of (kind_in name d)) ≡ true → 2 ≤ depth d
+listed_creation clock n d name h is =
+    let read = is_read name d in
+    let written = is_written (kind_in name d) (ap is_some read.makes) read.range in
+    let named : Some written.name ≡ Some name = sym written.makes ∙ read.makes in
+    let same : written.name ≡ name = cc in
+    let none_here : fields_faults clock n d (row field.As kind.NewName Needed ∷ number_rows name) ≡ [] = ap (fields_faults clock n d) (sym read.entry) ∙ h in
+    rows_listed clock n d (number_rows name) (numbers_of (kind_in name d)) (rw same at written.rows) (both_none _ _ none_here).1 is
+
 pub listed : (clock : Clock) (n : ℕ) (d : Data) (name : OpName) → fields_faults clock n d (fields_of name) ≡ [] → has_list (op_in clock name d) ≡ true → 2 ≤ depth d
-listed clock n d named.CreateIIRFilter h is = two_deep (field_word field.Feedforward) d (fixes_there clock n field.Feedforward (member_at field.Feedforward d) (both_none _ _ (both_none _ _ h).1).0)
+listed clock n d (named.Create name) h is = listed_creation clock n d name h is
 listed clock n d named.CreateWaveShaper h is = two_deep (field_word field.Curve) d (curve_there field.Curve d is)
 listed clock n d named.SetCurve h is = two_deep (field_word field.Curve) d (curve_there field.Curve d is)
 listed clock n d named.CreateProcessor h is = two_deep (field_word field.Code) d (code_there clock n field.Code (member_at field.Code d) (both_none _ _ (both_none _ _ h).1).0)
 listed clock n d named.CopyToChannel h is = two_deep (field_word field.Samples) d (fixes_there clock n field.Samples (member_at field.Samples d) (both_none _ _ (both_none _ _ (both_none _ _ h).1).1).0)
 listed clock n d (named.Param name) h is = listed_param clock n d name h is
-listed clock n d named.CreateConstantSource h is = cc
-listed clock n d named.CreateGain h is = cc
-listed clock n d named.CreateChannelSplitter h is = cc
-listed clock n d named.CreateChannelMerger h is = cc
 listed clock n d named.CreateDelay h is = cc
 listed clock n d named.CreateConvolver h is = cc
 listed clock n d named.CreateBufferSource h is = cc

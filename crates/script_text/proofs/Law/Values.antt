@@ -39,10 +39,10 @@ use Rattle.script_text.proofs.Law.Seconds.{time_back}
 
 -- ---- numbers
 
-abbrev least_fix : ℤ
+abbrev pub least_fix : ℤ
 least_fix = neg_ℤ (pos 2147483648)
 
-abbrev most_fix : ℤ
+abbrev pub most_fix : ℤ
 most_fix = pos 2147483647
 
 abbrev least_time : ℤ
@@ -51,7 +51,7 @@ least_time = neg_ℤ (pos 1099511627776)
 abbrev most_time : ℤ
 most_time = pos 1099511627776
 
-abbrev most_count : ℤ
+abbrev pub most_count : ℤ
 most_count = pos 4294967295
 
 no_cause : (low high z : ℤ) (o : Option ℤ) → o ≡ Some z → is_within low high z ≡ true → number_cause low high o ≡ None
