@@ -4,3 +4,4 @@ pub mod OutputForms
 pub mod Shifts
 pub mod Sums
 pub mod Weighing
+pub mod Made

@@ -24,6 +24,7 @@ const CENTRE: usize = 2;
 /// A call moves a sum by at most 2^34, so sums have room for 8,191 connections from zero.
 ///
 /// From the section on channel up-mixing and down-mixing.
+#[inline]
 pub fn mix_add(acc: &mut [i64], to: usize, src: &[i32], from: usize, interp: Interp)
     requires to { 1 ≤ to }
     requires lengths { (frames : ℕ) × (length acc.old ≡ to * frames) × (length src.now ≡ from * frames) }
@@ -42,6 +43,7 @@ pub fn mix_add(acc: &mut [i64], to: usize, src: &[i32], from: usize, interp: Int
 
 // The same one output channel after another. It stands apart from `mix_add`, which is then so small that
 // it is compiled in the place of each call.
+#[inline(never)]
 fn mix_each(acc: &mut [i64], to: usize, src: &[i32], from: usize, interp: Interp)
     requires to { 1 ≤ to }
     requires lengths { (frames : ℕ) × (length acc.old ≡ to * frames) × (length src.now ≡ from * frames) }

@@ -1,6 +1,6 @@
 -- What a delay keeps, once more is written, and what is read of it.
 use Rattle.std.proofs.Common.{ℕ, suc, ℤ, pos, ◌≡◌, ◌+◌, ◌-◌, ◌*◌, ◌/◌, ◌<◌, ◌≤◌, max, length, List, [], ◌∷◌, Bool, true, false, All, refl, sym, ◌∙◌, ap, arith, subst, inl, inr}
-use Rattle.std.specs.Prelude.{nat_lt, nat_le, if◌then◌else◌}
+use Rattle.std.specs.Prelude.{nat_lt, nat_le, ◌&&◌, if◌then◌else◌}
 use Rattle.std.specs.List.{list_all}
 use Rattle.std.proofs.lemmas.Bool.{and_parts, and_from}
 use Rattle.std.proofs.lemmas.List.Sums.{AllPass-from_list_all}
@@ -101,3 +101,16 @@ by_context q some born first lived whole writer interp channels k d c = by_test 
         let g = first - born + k - d in
         let quantum = same_quantum q some born first k d lived whole late in
         rw e (ap (λ n. mix interp (writer.counts n) channels (writer.frames (born + g)) c) quantum ∙ ap (λ f. mix interp (writer.counts ((first + k - d) / q)) channels (writer.frames f) c) back)
+
+-- numbers that are all the same pass a test where one does
+all_pass : (p : ℕ → Bool) (xs : List ℕ) → ((k : ℕ) → k < length xs → p (delay_at xs k) ≡ true) → list_all p xs ≡ true
+all_pass p [] each = refl
+all_pass p (x ∷ xs) each = and_from _ _ (each 0 (omega arith)) (all_pass p xs (λ k l. each (suc k) (omega arith)))
+
+pub all_alike : (p : ℕ → Bool) (xs : List ℕ) (x : ℕ) → 0 < length xs → ((k : ℕ) → k < length xs → delay_at xs k ≡ x) → list_all p xs ≡ p x
+all_alike p [] x some same = absurd (omega arith)
+all_alike p (y ∷ ys) x some same = by_test (p x) refl
+  where
+    by_test : (b : Bool) → p x ≡ b → list_all p (y ∷ ys) ≡ b
+    by_test true t = all_pass p (y ∷ ys) (λ k l. ap p (same k l) ∙ t)
+    by_test false t = ap (λ b. b && list_all p ys) (ap p (same 0 (omega arith)) ∙ t)

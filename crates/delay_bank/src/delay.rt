@@ -1,22 +1,23 @@
 ghost use Rattle.std.specs.Prelude.{◌≡◌, ◌↔◌, ◌<◌, ◌≤◌, ◌+◌, ◌-◌, ◌*◌, ◌/◌, ◌^◌, ℕ, pos, true, [], length, slice_index_or, MatchOption, IfOk, OnOk};
-ghost use Rattle.std.specs.List.{list_all};
 ghost use Rattle.wa_base.specs.Contexts.{IsQuantumSize};
 ghost use Rattle.mix_rules.specs.Blocks.{sample};
-ghost use Rattle.delay_line.specs.Delays.{Writer};
-ghost use Rattle.delay_line.specs.Spans.{IsReached, delay_at};
-ghost use Rattle.delay_bank.specs.Kept.{room_of, HasKept, Brings, IsAsked, IsNearest, AreFew, between, read_back};
+ghost use Rattle.delay_line.specs.Delays.{Writer, delayed};
+ghost use Rattle.delay_line.specs.Lines.{Keeps};
+ghost use Rattle.delay_line.specs.Spans.{IsReached, heard_count, delay_at};
+ghost use Rattle.delay_bank.specs.Kept.{room_of, HasKept, Brings, IsAsked, IsNearest, AreFew, read_back};
 
+use crate::spans::{Lasting, Spans};
 use delay_line::DelayLine;
 use std::alloc::Global;
 use std::marker::Model;
 use wa_base::{Fix, Interp, NoMemory};
 
-/// A quantum that is asked of a delay's reader: its first frame, the delay of each of its frames, in
-/// frames, and to how many channels what was written is mixed, and how.
+/// A quantum that is asked of a delay's reader: its first frame, how many frames the delay lasts at each of
+/// its frames, and to how many channels what was written is mixed, and how.
 #[derive(Clone, Copy)]
 pub struct Reading<'a> {
     pub first: u64,
-    pub delays: &'a [u64],
+    pub delays: &'a Spans,
     pub channels: u32,
     pub interp: Interp,
 }
@@ -116,12 +117,11 @@ impl NodeDelay {
             return;
         }
         let since = asked.first - self.birth;
-        self.line
-            .read(out, asked.channels, since, asked.delays, asked.interp);
+        read_line(&self.line, out, since, asked);
     }
 
     // Whether all that the quantum asks for is kept.
-    fn has(&self, first: u64, delays: &[u64]) -> bool
+    fn has(&self, first: u64, delays: &Spans) -> bool
         requires delays { length delays.now ≡ self.now.line.block }
         requires time { first ≤ 2 ^ 62 }
         ensures born { result ≡ true → self.now.birth ≤ first }
@@ -134,7 +134,7 @@ impl NodeDelay {
         if self.birth > first {
             return false;
         }
-        are_within(delays, least, self.capacity)
+        delays.are_within(least, self.capacity)
     }
 
     // The least number of frames back at which all of the quantum was written, where all before it was.
@@ -152,22 +152,21 @@ impl NodeDelay {
     }
 }
 
-// Whether each of the delays is of so many frames. All are looked at, with no branch, so that the
-// compiler can look at several at once.
-fn are_within(delays: &[u64], least: u64, most: u64) -> bool
-    ensures { result ≡ list_all (between least most) delays.now }
+// Reads of a line what a quantum asks for, which begins so many frames after its birth.
+fn read_line(line: &DelayLine, out: &mut [Fix], since: u64, asked: Reading<'_>)
+    requires out { length out.old ≡ asked.channels * line.now.block }
+    requires delays { length asked.delays.now ≡ line.now.block }
+    requires since { since ≤ 2 ^ 62 }
+    requires frames { (k : ℕ) → k < line.now.block → IsReached line.now (since + k) (delay_at asked.delays.now k) }
+    ensures { (writer : Writer) (c k : ℕ) → Keeps line.now writer → c < asked.entry.channels → k < line.now.block → heard_count line.now (since + k) (delay_at asked.entry.delays.now k) ≤ asked.entry.channels →
+        sample line.now.block out.new c k ≡ delayed line.now.block writer asked.entry.interp asked.entry.channels (since + k) (delay_at asked.entry.delays.now k) c }
 {
-    let mut within = true;
-    for delay in delays {
-        within &= is_within(*delay, least, most);
+    match asked.delays.lasting() {
+        Lasting::Steady(delay) => {
+            line.read_steady(out, asked.channels, since, delay, asked.interp);
+        }
+        Lasting::Each(delays) => line.read(out, asked.channels, since, delays, asked.interp),
     }
-    within
-}
-
-fn is_within(delay: u64, least: u64, most: u64) -> bool
-    ensures { result ≡ between least most delay }
-{
-    (least <= delay) & (delay <= most)
 }
 
 // Silences a block.

@@ -3,6 +3,8 @@
 
 mod delay;
 mod delays;
+mod spans;
 
 pub use delay::Reading;
 pub use delays::Delays;
+pub use spans::Spans;

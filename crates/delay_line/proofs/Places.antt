@@ -34,3 +34,12 @@ below_times a b n less = elim (order b a) [
   | inl past ↦ let over : b * n ≤ a * n = mul-le _ _ _ _ past (omega arith) in absurd (omega arith)
   | inr there ↦ there
 ]
+
+-- a number whose quotient is among some is between their multiples
+pub within_blocks : (back block from end : ℕ) → 0 < block → from ≤ back / block → back / block < end → (from * block ≤ back) × (back < end * block)
+within_blocks back block from end some low high =
+    let least = div-mul-le_self back block in
+    let most = lt-div-mul-add {a = back} some in
+    let first : from * block ≤ back / block * block = mul-le _ _ _ _ low (omega arith) in
+    let last : (back / block + 1) * block ≤ end * block = mul-le _ _ _ _ (omega (arith, high)) (omega arith) in
+    (omega (arith, least, first), omega (arith, most, last))

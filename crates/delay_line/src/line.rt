@@ -4,13 +4,14 @@ ghost use Rattle.mix_rules.specs.Blocks.{sample};
 ghost use Rattle.delay_line.specs.Delays.{Writer, delayed};
 ghost use Rattle.delay_line.specs.Lines as lines;
 ghost use Rattle.delay_line.specs.Lines.{Keeps, IsNext, IsKept, frame_at};
+ghost use Rattle.delay_line.specs.Runs.{IsSteadySpan};
 ghost use Rattle.delay_line.specs.Spans.{IsSpan, IsReached, heard_count, delay_at};
 ghost use Rattle.delay_line.specs.Sources.{picked};
 
 use crate::counts::Counts;
-use crate::rings::{Ring, distance, grow_rings, read_ring, write_rings};
+use crate::rings::{Ring, copy_run, distance, gather, grow_rings, write_rings};
 use crate::sources::source_of;
-use crate::spans::{Span, born_end, unborn_end};
+use crate::spans::{Span, moving_end, steady_delay, unborn_end};
 use std::alloc::Global;
 use std::marker::Model;
 use wa_base::{Fix, Interp, NoMemory};
@@ -117,6 +118,10 @@ impl DelayLine {
         ensures { (writer : Writer) (c k : ℕ) → Keeps self.now writer → c < channels → k < self.now.block → heard_count self.now (first + k) (delay_at delays.now k) ≤ channels →
             sample self.now.block out.new c k ≡ delayed self.now.block writer interp channels (first + k) (delay_at delays.now k) c }
     {
+        if let Some(delay) = steady_delay(delays) {
+            self.read_steady(out, channels, first, delay, interp);
+            return;
+        }
         let request = Request {
             first,
             channels: channels as usize,
@@ -126,6 +131,34 @@ impl DelayLine {
         while start < delays.len() {
             let span = self.span(first, delays, start);
             self.read_span(out, request, delays, span);
+            start = span.end;
+        }
+    }
+
+    /// The same with one delay for all frames, which is looked at once.
+    pub fn read_steady(
+        &self,
+        out: &mut [Fix],
+        channels: u32,
+        first: u64,
+        delay: u64,
+        interp: Interp,
+    )
+        requires out { length out.old ≡ channels * self.now.block }
+        requires first { first ≤ 2 ^ 62 }
+        requires frames { (k : ℕ) → k < self.now.block → IsReached self.now (first + k) delay }
+        ensures { (writer : Writer) (c k : ℕ) → Keeps self.now writer → c < channels → k < self.now.block → heard_count self.now (first + k) delay ≤ channels →
+            sample self.now.block out.new c k ≡ delayed self.now.block writer interp channels (first + k) delay c }
+    {
+        let request = Request {
+            first,
+            channels: channels as usize,
+            interp,
+        };
+        let mut start = 0;
+        while start < self.block {
+            let span = self.steady_span(first, delay, start);
+            self.read_steady_span(out, request, delay, span);
             start = span.end;
         }
     }
@@ -162,7 +195,35 @@ impl DelayLine {
         let far = stretch.end * block;
         Span {
             start,
-            end: born_end(written, first, delays, start, near, far),
+            end: moving_end(written, first, delays, start, near, far),
+            count: stretch.count,
+        }
+    }
+
+    // The same with one delay. What a frame reads is followed by one frame less than what the frame before
+    // it reads.
+    fn steady_span(&self, first: u64, delay: u64, start: usize) -> Span
+        requires start { start < self.now.block }
+        requires first { first ≤ 2 ^ 62 }
+        requires frames { (k : ℕ) → k < self.now.block → IsReached self.now (first + k) delay }
+        ensures { IsSteadySpan self.now first delay start result }
+    {
+        let rest = self.block - start;
+        let f = first + start as u64;
+        if f < delay {
+            let unborn = (delay - f).min(rest as u64) as usize;
+            return Span {
+                start,
+                end: start + unborn,
+                count: 0,
+            };
+        }
+        let back = distance(self.written(), f, delay);
+        let stretch = self.counts.stretch(back / self.block);
+        let near = stretch.first * self.block;
+        Span {
+            start,
+            end: start + (back + 1 - near).min(rest),
             count: stretch.count,
         }
     }
@@ -188,6 +249,27 @@ impl DelayLine {
         }
     }
 
+    // The same with one delay.
+    fn read_steady_span(&self, out: &mut [Fix], request: Request, delay: u64, span: Span)
+        requires out { length out.old ≡ request.channels * self.now.block }
+        requires first { request.first ≤ 2 ^ 62 }
+        requires frames { (k : ℕ) → k < self.now.block → IsReached self.now (request.first + k) delay }
+        requires span { IsSteadySpan self.now request.first delay span.start span }
+        ensures read { (writer : Writer) (c k : ℕ) → Keeps self.now writer → c < request.channels → span.start ≤ k → k < span.end → heard_count self.now (request.first + k) delay ≤ request.channels →
+            sample self.now.block out.new c k ≡ delayed self.now.block writer request.interp request.channels (request.first + k) delay c }
+        ensures kept { (c k : ℕ) → c < request.channels → k < span.start → sample self.now.block out.new c k ≡ sample self.now.block out.old c k }
+    {
+        let (block, interp) = (self.block, request.interp);
+        let first = request.first + span.start as u64;
+        let count = (span.count as usize).min(request.channels);
+        for c in 0..request.channels {
+            let at = c * block;
+            let source = source_of(interp, count, request.channels, c);
+            let part = &mut out[at + span.start..at + span.end];
+            self.copy_channel(part, source, first, delay);
+        }
+    }
+
     // Reads frames of one channel, and silence where there is none.
     fn read_channel(&self, out: &mut [Fix], source: Option<usize>, first: u64, delays: &[u64])
         requires same { length delays.now ≡ length out.old }
@@ -199,7 +281,23 @@ impl DelayLine {
     {
         match source {
             Some(c) if c < self.rings.len() => {
-                read_ring(&self.rings[c], out, self.written(), first, delays);
+                gather(&self.rings[c], out, self.written(), first, delays);
+            }
+            _ => out.fill(0),
+        }
+    }
+
+    // The same with one delay.
+    fn copy_channel(&self, out: &mut [Fix], source: Option<usize>, first: u64, delay: u64)
+        requires some { 1 ≤ length out.old }
+        requires short { (first ≤ 2 ^ 63) × (length out.old ≤ 1024) }
+        requires born { (i : ℕ) → source ≡ Some i → delay ≤ first }
+        requires kept { (i k : ℕ) → source ≡ Some i → k < length out.old → IsKept self.now (first + k - delay) }
+        ensures { (k : ℕ) → k < length out.old → at out.new k ≡ picked (frame_at self.now (first + k - delay)) source }
+    {
+        match source {
+            Some(c) if c < self.rings.len() => {
+                copy_run(&self.rings[c], out, distance(self.written(), first, delay));
             }
             _ => out.fill(0),
         }

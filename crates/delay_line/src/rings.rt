@@ -27,25 +27,9 @@ pub(crate) fn distance(written: u64, f: u64, delay: u64) -> usize
     (written - (f - delay) - 1) as usize
 }
 
-// What a reader reads of a channel from one of its frames on, by the delay of each frame. Frames with
-// one delay are one run.
-pub(crate) fn read_ring(ring: &Ring, out: &mut [Fix], written: u64, first: u64, delays: &[u64])
-    requires same { length delays.now ≡ length out.old }
-    requires some { 1 ≤ length out.old }
-    requires small { (written ≤ 2 ^ 63) × (first ≤ 2 ^ 63) × (length out.old ≤ 1024) }
-    requires born { (k : ℕ) → k < length delays.now → delay_at delays.now k ≤ first + k }
-    requires written { (k : ℕ) → k < length delays.now → first + k - delay_at delays.now k < written }
-    ensures { (k : ℕ) → k < length out.old → at out.new k ≡ from_end ring.now.items (written - (first + k - delay_at delays.now k) - 1) (pos 0) }
-{
-    if is_steady(delays) {
-        copy_run(ring, out, distance(written, first, delays[0]));
-    } else {
-        gather(ring, out, written, first, delays);
-    }
-}
-
-// The same frame by frame, over the at most two slices that the ring lies in.
-fn gather(ring: &Ring, out: &mut [Fix], written: u64, first: u64, delays: &[u64])
+// What a reader reads of a channel from one of its frames on, by the delay of each frame. The ring lies in
+// two slices at most.
+pub(crate) fn gather(ring: &Ring, out: &mut [Fix], written: u64, first: u64, delays: &[u64])
     requires same { length delays.now ≡ length out.old }
     requires small { (written ≤ 2 ^ 63) × (first ≤ 2 ^ 63) × (length out.old ≤ 1024) }
     requires born { (k : ℕ) → k < length delays.now → delay_at delays.now k ≤ first + k }
@@ -56,17 +40,6 @@ fn gather(ring: &Ring, out: &mut [Fix], written: u64, first: u64, delays: &[u64]
     for (k, value) in out.iter_mut().enumerate() {
         *value = frame_back(front, rear, distance(written, first + k as u64, delays[k]));
     }
-}
-
-// Whether all delays are equal.
-pub(crate) fn is_steady(delays: &[u64]) -> bool
-    ensures { result ≡ true → (k : ℕ) → k < length delays.now → delay_at delays.now k ≡ delay_at delays.now 0 }
-{
-    let mut is_steady = true;
-    for delay in delays {
-        is_steady &= *delay == delays[0];
-    }
-    is_steady
 }
 
 // The item of two slices that follow one another that so many others follow, and silence where there
@@ -86,7 +59,7 @@ fn frame_back(front: &[Fix], rear: &[Fix], back: usize) -> Fix
 }
 
 // Frames of a ring one after another, from the one that so many others follow on.
-fn copy_run(ring: &Ring, out: &mut [Fix], back: usize)
+pub(crate) fn copy_run(ring: &Ring, out: &mut [Fix], back: usize)
     requires length { length out.old ≤ back + 1 }
     requires back { back ≤ 2 ^ 63 }
     ensures { (k : ℕ) → k < length out.old → at out.new k ≡ from_end ring.now.items (back - k) (pos 0) }

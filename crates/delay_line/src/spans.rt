@@ -1,7 +1,7 @@
-ghost use Rattle.std.specs.Prelude.{◌≡◌, ◌<◌, ◌≤◌, ◌+◌, ◌-◌, ◌^◌, ℕ, true, length};
+ghost use Rattle.std.specs.Prelude.{◌≡◌, ◌<◌, ◌≤◌, ◌+◌, ◌-◌, ◌^◌, ℕ, true, length, IfSome};
 ghost use Rattle.delay_line.specs.Spans.{IsBetween, delay_at};
 
-use crate::rings::{distance, is_steady};
+use crate::rings::distance;
 
 // Frames of a block that all lie before birth, or that were all written with as many channels.
 #[derive(Clone, Copy)]
@@ -9,6 +9,25 @@ pub(crate) struct Span {
     pub(crate) start: usize,
     pub(crate) end: usize,
     pub(crate) count: u32,
+}
+
+// The delay of all frames, where they have one.
+pub(crate) fn steady_delay(delays: &[u64]) -> Option<u64>
+    ensures { IfSome result (λ delay. (k : ℕ) → k < length delays.now → delay_at delays.now k ≡ delay) }
+{
+    let first = *delays.first()?;
+    if is_steady(delays) { Some(first) } else { None }
+}
+
+// Whether all delays are equal.
+fn is_steady(delays: &[u64]) -> bool
+    ensures { result ≡ true → (k : ℕ) → k < length delays.now → delay_at delays.now k ≡ delay_at delays.now 0 }
+{
+    let mut is_steady = true;
+    for delay in delays {
+        is_steady &= *delay == delays[0];
+    }
+    is_steady
 }
 
 // Where what frames read stops to lie before birth, from a frame on that reads what lies there.
@@ -27,32 +46,8 @@ pub(crate) fn unborn_end(first: u64, delays: &[u64], start: usize) -> usize
 }
 
 // Where fewer frames than `near`, or `far` and more, follow what frames read, from a frame on where it
-// is not so. With one delay each frame is followed by one less than the one before it.
-pub(crate) fn born_end(
-    written: u64,
-    first: u64,
-    delays: &[u64],
-    start: usize,
-    near: usize,
-    far: usize,
-) -> usize
-    requires start { start < length delays.now }
-    requires short { (first ≤ 2 ^ 62) × (length delays.now ≤ 1024) }
-    requires written { (k : ℕ) → k < length delays.now → delay_at delays.now k ≤ first + k → first + k - delay_at delays.now k < written }
-    requires between { IsBetween written (first + start) (delay_at delays.now start) near far }
-    ensures order { (start < result) × (result ≤ length delays.now) }
-    ensures between { (k : ℕ) → start ≤ k → k < result → IsBetween written (first + k) (delay_at delays.now k) near far }
-{
-    let rest = &delays[start..delays.len()];
-    if is_steady(rest) {
-        let back = distance(written, first + start as u64, delays[start]);
-        return start + (back + 1 - near).min(rest.len());
-    }
-    moving_end(written, first, delays, start, near, far)
-}
-
-// The same where each frame has a delay of its own.
-fn moving_end(
+// is not so.
+pub(crate) fn moving_end(
     written: u64,
     first: u64,
     delays: &[u64],

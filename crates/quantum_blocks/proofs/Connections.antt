@@ -1,8 +1,10 @@
 -- What a connection adds to sums, and what the connections to a target add up to.
-use Rattle.std.proofs.Common.{ℕ, ℤ, pos, zero, suc, ◌≡◌, ◌+◌, ◌<◌, ◌≤◌, ◌+ℤ◌, length, List, [], ◌∷◌, map, drop, filter, slice_index_or, Bool, true, false, cond, slice_set, refl, sym, ◌∙◌, ap, arith, subst}
+use Rattle.std.proofs.Common.{ℕ, ℤ, pos, zero, suc, ◌≡◌, ◌+◌, ◌<◌, ◌≤◌, ◌*◌, ◌+ℤ◌, length, List, [], ◌∷◌, map, drop, filter, slice_index_or, Bool, true, false, cond, slice_set, refl, sym, ◌∙◌, ap, arith, subst, inl, inr}
 use Rattle.std.specs.Prelude.{if◌then◌else◌}
-use Rattle.std.proofs.lemmas.List.{get_or-set_same, get_or-set_other}
+use Rattle.std.proofs.lemmas.Bool.{cases_lt}
+use Rattle.std.proofs.lemmas.List.{get_or-set_same, get_or-set_other, length-set}
 use Rattle.std.proofs.lemmas.Int.{ints}
+use Rattle.std.proofs.Math.IntN.{+ℤ_idr}
 use Rattle.std.proofs.Math.Seq.{drop-cons}
 use Rattle.wa_base.specs.declared.graph_names.End.{End}
 use Rattle.mix_rules.specs.Mixing.{total}
@@ -51,6 +53,43 @@ pub one_item : {X : Type 0} (xs : List X) (d : X) → 1 ≤ length xs → length
 one_item [] d low high = absurd (omega arith)
 one_item (x ∷ []) d low high = refl
 one_item (x ∷ y ∷ ys) d low high = absurd (omega arith)
+
+-- a list of two items
+pub two_items : {X : Type 0} (xs : List X) (d : X) → 2 ≤ length xs → length xs < 3 → xs ≡ slice_index_or xs 0 d ∷ (slice_index_or xs 1 d ∷ [])
+two_items [] d low high = absurd (omega arith)
+two_items (x ∷ []) d low high = absurd (omega arith)
+two_items (x ∷ y ∷ []) d low high = refl
+two_items (x ∷ y ∷ z ∷ zs) d low high = absurd (omega arith)
+
+-- two connections that both lead to a target
+pub total_of_two : (target : Target) (f : Edge → ℤ) (one other : Edge) → leads_to target one ≡ true → leads_to target other ≡ true
+    → f one +ℤ f other ≡ total (map f (filter (leads_to target) (one ∷ (other ∷ []))))
+total_of_two target f one other leads leads' =
+    ap (λ x. f one +ℤ x) (sym (+ℤ_idr (f other)))
+    ∙ sym (ap (λ b. total (map f (cond b (one ∷ cond (leads_to target other) (other ∷ []) []) (cond (leads_to target other) (other ∷ []) [])))) leads
+    ∙ ap (λ b. f one +ℤ total (map f (cond b (other ∷ []) []))) leads')
+
+-- two blocks are written, those of a node's two places
+pub two_set : (P : ℕ → BlockView → Type 0) (bs : List BlockView) (n : ℕ) (a b : BlockView) → 2 * n + 1 < length bs → ((k : ℕ) → k < 2 * n → P k (slice_index_or bs k no_block)) → P (2 * n) a → P (2 * n + 1) b
+    → (k : ℕ) → k < 2 * (n + 1) → P k (slice_index_or (slice_set (slice_set bs (2 * n) a) (2 * n + 1) b) k no_block)
+two_set P bs n a b there each own own' k low =
+    let once = slice_set bs (2 * n) a in
+    let twice = slice_set once (2 * n + 1) b in
+    let long : length once ≡ length bs = length-set bs (2 * n) a in
+    elim (cases_lt k (2 * n)) [
+      | inl below ↦
+          subst (P k) (sym (get_or-set_other once (2 * n + 1) k b no_block (λ e. absurd (omega arith)) ∙ get_or-set_other bs (2 * n) k a no_block (λ e. absurd (omega arith)))) (each k below)
+      | inr high ↦ elim (cases_lt k (2 * n + 1)) [
+        | inl first ↦
+            let e : k ≡ 2 * n = omega arith in
+            subst (λ j. P j (slice_index_or twice j no_block)) (sym e)
+            (subst (P (2 * n)) (sym (get_or-set_other once (2 * n + 1) (2 * n) b no_block (λ e. absurd (omega arith)) ∙ get_or-set_same bs (2 * n) a no_block (omega arith))) own)
+        | inr second ↦
+            let e : k ≡ 2 * n + 1 = omega arith in
+            subst (λ j. P j (slice_index_or twice j no_block)) (sym e)
+            (subst (P (2 * n + 1)) (sym (get_or-set_same once (2 * n + 1) b no_block (omega arith))) own')
+      ]
+    ]
 
 -- ---- writing one end's block
 

@@ -11,7 +11,7 @@ use Rattle.lane_kern.specs.Blocks.{IsWithin}
 use Rattle.mix_rules.specs.Blocks.{sample, frame_at}
 use Rattle.quantum_blocks.specs.Blocks.{BlockView, lane_of, lanes_from, lane_at, at, shown, carried}
 use Rattle.quantum_blocks.specs.Sums.{moving_sums}
-use Rattle.quantum_blocks.proofs.Made.{front_of}
+use Rattle.channel_mix.proofs.Made.{front_of}
 
 -- ---- the lanes of a list that holds one value for each, or one for each frame of each
 

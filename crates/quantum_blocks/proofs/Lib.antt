@@ -1,6 +1,5 @@
 pub mod Slots
 pub mod Connections
-pub mod Made
 pub mod Attenuating
 pub mod Sources
 pub mod Lanes

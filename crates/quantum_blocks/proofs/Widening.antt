@@ -17,7 +17,7 @@ use Rattle.conn_graph.specs.Ends.{reader_of}
 use Rattle.meaning.specs.Values.{Frame, part}
 use Rattle.quantum_blocks.specs.Connections.{leads_to}
 use Rattle.quantum_blocks.specs.Sums.{moving_sums}
-use Rattle.quantum_blocks.proofs.Made.{front_is}
+use Rattle.channel_mix.proofs.Made.{front_is}
 
 -- the channels from this one on are done, and those before it are as they were
 pub record IsSpread (interp : Interp) (q n channel : ℕ) (old new : List ℤ) : Type 0 where

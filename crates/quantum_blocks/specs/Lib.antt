@@ -4,3 +4,4 @@ pub mod Held
 pub mod Heard
 pub mod Fits
 pub mod Sums
+pub mod Pairs

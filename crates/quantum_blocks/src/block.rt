@@ -1,4 +1,4 @@
-ghost use Rattle.std.specs.Prelude.{◌≡◌, ◌≤◌, ◌<◌, ◌*◌, ◌+◌, ◌/◌, ◌^◌, ◌+ℤ◌, ◌∷◌, [], ℕ, ℤ, pos, Some, length, slice_index_or, OnOk, IfOk, IfSome, FitsSigned, if◌then◌else◌};
+ghost use Rattle.std.specs.Prelude.{◌≡◌, ◌≤◌, ◌<◌, ◌*◌, ◌+◌, ◌/◌, ◌^◌, ◌+ℤ◌, ◌∷◌, [], ℕ, ℤ, pos, Some, length, slice_index_or, map, filter, OnOk, IfOk, IfSome, FitsSigned, if◌then◌else◌};
 ghost use Rattle.std.specs.Int.{w32};
 ghost use Rattle.wa_base.specs.Numbers.{sat as saturated, scale as scaled};
 ghost use Rattle.wa_base.specs.Contexts.{IsQuantumSize};
@@ -6,17 +6,24 @@ ghost use Rattle.node_table.specs.Curves.{IsCurve, shaper_value};
 ghost use Rattle.sched_source.specs.Schedule.{is_between, played};
 ghost use Rattle.meaning.specs.World.{channels_in, samples_in, up_to as clamped};
 ghost use Rattle.mix_rules.specs.Blocks.{sample};
-ghost use Rattle.quantum_blocks.specs.Blocks.{at, shown, carried, room_of};
+ghost use Rattle.mix_rules.specs.Mixing.{total};
+ghost use Rattle.meaning.specs.declared.world.World.{World as world};
+ghost use Rattle.meaning.specs.Values.{part};
+ghost use Rattle.quantum_blocks.specs.Blocks.{at, shown, carried, room_of, frame_of};
+ghost use Rattle.quantum_blocks.specs.Connections.{leads_to};
+ghost use Rattle.quantum_blocks.specs.Fits.{AreSources};
 ghost use Rattle.quantum_blocks.specs.Sums.{sum_at};
 ghost use Rattle.quantum_blocks.specs.Held.{IsHeld, IsCarried, IsWidened};
 
 use crate::held::Held;
 use crate::kernels::{
-    copy_values, fill, is_silent, is_throughout, level_of, move_on, scale_all, scale_channels,
-    scale_steady, silence, sound, spread, unfold_if, up_to, up_to_each,
+    copy_values, fill, is_silent, is_throughout, move_on, scale_all, scale_channels, scale_steady,
+    silence, sound, spread, unfold_if, up_to, up_to_each,
 };
 use crate::playing::Source;
-use crate::sums::Sums;
+use crate::sums::{Inlet, Sums, moving_pair};
+use channel_mix::{level_of, sum_into};
+use conn_graph::Edge;
 use lane_kern::sat_into;
 use shaper_iir::shape_all;
 use std::alloc::Global;
@@ -182,6 +189,7 @@ impl Block {
     }
 
     /// Of one lane, adds at each frame the sum there, saturated before and after.
+    #[inline(never)]
     pub fn add(&mut self, sums: &Sums)
         requires mono { self.old.lanes ≡ 1 }
         requires sum { sums.now.count ≡ 1 }
@@ -344,6 +352,54 @@ impl Block {
                 sums.settle(&mut self.values[0..self.lanes * self.frames]);
             }
         }
+    }
+
+    /// Becomes what those of the connections carry that lead to an inlet, added up and saturated, with the
+    /// channels of each end by its slot.
+    #[inline(never)]
+    pub fn hear(
+        &mut self,
+        sums: &mut Sums,
+        blocks: &[Block],
+        into: &[Edge],
+        counts: &[u32],
+        inlet: Inlet,
+    )
+        requires low { 1 ≤ inlet.count }
+        requires high { inlet.count ≤ 32 }
+        requires few { length into.now ≤ 8192 }
+        requires room { inlet.count * self.old.frames ≤ room_of self.old }
+        requires frames { sums.old.frames ≡ self.old.frames }
+        requires sources { AreSources self.old.frames counts.now blocks.now into.now }
+        ensures frames { self.new.frames ≡ self.old.frames }
+        ensures sum_frames { sums.new.frames ≡ sums.old.frames }
+        ensures lanes { self.new.lanes ≡ inlet.count }
+        ensures room { room_of self.new ≡ room_of self.old }
+        ensures values { (w : world) (c m : ℕ) → c < inlet.count → m < self.old.frames → at self.new c m ≡ saturated (total (map (part (frame_of w blocks.now counts.now m) inlet.interp inlet.count c) (filter (leads_to inlet.target) into.now))) }
+    {
+        match moving_pair(blocks, into, counts, inlet) {
+            Some((first, second)) => self.copy_sum(first, second, inlet.count),
+            None => {
+                sums.gather(blocks, into, counts, inlet);
+                self.saturate(sums);
+            }
+        }
+    }
+
+    // Becomes so many lanes, each with the sums of two values, saturated.
+    fn copy_sum(&mut self, first: &[Fix], second: &[Fix], lanes: usize)
+        requires first { length first.now ≡ lanes * self.old.frames }
+        requires second { length second.now ≡ lanes * self.old.frames }
+        requires few { lanes ≤ 32 }
+        requires room { lanes * self.old.frames ≤ room_of self.old }
+        ensures frames { self.new.frames ≡ self.old.frames }
+        ensures lanes { self.new.lanes ≡ lanes }
+        ensures room { room_of self.new ≡ room_of self.old }
+        ensures values { (lane m : ℕ) → lane < lanes → m < self.old.frames → at self.new lane m ≡ saturated (sample self.old.frames first.now lane m +ℤ sample self.old.frames second.now lane m) }
+    {
+        self.lanes = lanes;
+        self.steady = false;
+        sum_into(&mut self.values[0..lanes * self.frames], first, second);
     }
 
     /// Becomes what another block is.

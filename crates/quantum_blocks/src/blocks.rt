@@ -37,9 +37,11 @@ fn fit_each(blocks: &mut [Block], world: &World, counts: &[u32]) -> Result<(), N
     ensures { OnOk result (AreFit world.now counts.now blocks.new) }
 {
     let frames = world.spec.quantum as usize;
-    for (i, block) in blocks.iter_mut().enumerate() {
-        let outputs = world.nodes.kind(NodeId(i as u32 / 2)).row().outputs;
-        block.fit(outputs as usize * counts[i] as usize, frames)?;
+    for node in 0..counts.len() / 2 {
+        let outputs = world.nodes.kind(NodeId(node as u32)).row().outputs as usize;
+        let (writer, reader) = (2 * node, 2 * node + 1);
+        blocks[writer].fit(outputs * counts[writer] as usize, frames)?;
+        blocks[reader].fit(outputs * counts[reader] as usize, frames)?;
     }
     Ok(())
 }

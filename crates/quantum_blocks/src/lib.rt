@@ -8,7 +8,6 @@ mod held;
 mod kernels;
 mod places;
 mod playing;
-mod spans;
 mod sums;
 
 pub use block::Block;
@@ -17,5 +16,4 @@ pub use ends::{reader, slot, writer};
 pub use held::Held;
 pub use places::{near_of, places_of, play_place};
 pub use playing::{Source, sounding};
-pub use spans::{span_all, span_each};
 pub use sums::{CHANNELS, Inlet, Sums};

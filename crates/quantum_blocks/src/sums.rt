@@ -10,13 +10,14 @@ ghost use Rattle.meaning.specs.Values.{part};
 ghost use Rattle.quantum_blocks.specs.Blocks.{frame_of, slot as slot_of, counts_in};
 ghost use Rattle.quantum_blocks.specs.Connections.{leads_to};
 ghost use Rattle.quantum_blocks.specs.Fits.{IsSource, AreSources};
+ghost use Rattle.quantum_blocks.specs.Pairs.{IsPair, IsBrought};
 ghost use Rattle.quantum_blocks.specs.Sums.{sum_at};
 
 use crate::block::Block;
 use crate::ends::{reader, slot};
 use crate::held::Held;
-use crate::kernels::{clear_unless, each_level, each_level_on, fill, settle, widen, widen_if};
-use channel_mix::mix_add;
+use crate::kernels::{fill, widen, widen_if};
+use channel_mix::{clear_unless, each_level, each_level_on, mix_add, settle};
 use conn_graph::{Edge, Target};
 use std::alloc::Global;
 use std::marker::Model;
@@ -257,6 +258,39 @@ impl Sums {
             return;
         }
         self.gather_each(blocks, into, counts, inlet);
+    }
+}
+
+// What the two connections to a node carry, where there are two, and both lead to the inlet, have its
+// number of channels and move.
+pub(crate) fn moving_pair<'a>(
+    blocks: &'a [Block],
+    into: &[Edge],
+    counts: &[u32],
+    inlet: Inlet,
+) -> Option<(&'a [Fix], &'a [Fix])>
+    requires { (q : ℕ) × AreSources q counts.now blocks.now into.now }
+    ensures { (q : ℕ) → AreSources q counts.now blocks.now into.now → IfSome result (λ pair. IsPair q counts.now blocks.now into.now inlet pair.0.now pair.1.now) }
+{
+    let [first, second] = into else {
+        return None;
+    };
+    let heard = moving(blocks, counts, first, inlet)?;
+    Some((heard, moving(blocks, counts, second, inlet)?))
+}
+
+// What a connection carries, where it leads to the inlet, has its number of channels and moves.
+fn moving<'a>(blocks: &'a [Block], counts: &[u32], edge: &Edge, inlet: Inlet) -> Option<&'a [Fix]>
+    requires { (q : ℕ) × IsSource q counts.now blocks.now edge.now }
+    ensures { (q : ℕ) → IsSource q counts.now blocks.now edge.now → IfSome result (λ values. IsBrought q counts.now blocks.now edge.now inlet values.now) }
+{
+    let place = slot(reader(edge.from));
+    if !inlet.target.is_same(edge.to) || counts[place] as usize != inlet.count {
+        return None;
+    }
+    match blocks[place].output(edge.output as usize, inlet.count) {
+        Held::Moving(values) => Some(values),
+        Held::Steady(_) => None,
     }
 }
 

@@ -25,10 +25,10 @@ ghost use Rattle.quantum_render.specs.Renders.{past_of, here_of};
 use crate::site::Site;
 use automation::{Level, Values};
 use conn_graph::{Edge, Target};
-use delay_bank::{Delays, Reading};
+use delay_bank::{Delays, Reading, Spans};
 use filter_bank::CausalNodes;
 use node_table::Range;
-use quantum_blocks::{Block, CHANNELS, Held, Inlet, Sums, reader, slot, span_all, span_each};
+use quantum_blocks::{Block, CHANNELS, Held, Inlet, Sums, reader, slot};
 use std::alloc::Global;
 use std::marker::Model;
 use wa_base::{Fix, Interp, NoMemory, NodeId, ParamId, ParamName, Rate};
@@ -44,7 +44,7 @@ pub(crate) struct Bench {
     pub merged: Block,
     pub wide: Vec<Fix>,
     pub given: Vec<Fix>,
-    pub spans: Vec<u64>,
+    pub spans: Spans,
     sums: Sums,
 }
 
@@ -54,9 +54,9 @@ impl Model for Bench {
 
     ghost Value = { BenchView };
 
-    ghost view = { λ b. record { frames = length b.spans.items; heard = b.heard; levels = b.levels; merged = b.merged; wide = length b.wide.items; given = length b.given.items; spans = b.spans.items; summed = b.sums.frames } };
+    ghost view = { λ b. record { frames = length b.spans; heard = b.heard; levels = b.levels; merged = b.merged; wide = length b.wide.items; given = length b.given.items; spans = b.spans; summed = b.sums.frames } };
 
-    ghost invariant = { λ b. IsBench (record { frames = length b.spans.items; heard = b.heard; levels = b.levels; merged = b.merged; wide = length b.wide.items; given = length b.given.items; spans = b.spans.items; summed = b.sums.frames }) };
+    ghost invariant = { λ b. IsBench (record { frames = length b.spans; heard = b.heard; levels = b.levels; merged = b.merged; wide = length b.wide.items; given = length b.given.items; spans = b.spans; summed = b.sums.frames }) };
 }
 
 impl Bench {
@@ -71,7 +71,7 @@ impl Bench {
             merged: Block::new(alloc, CHANNELS, quantum)?,
             wide: vec![in alloc; 0; CHANNELS * quantum]?,
             given: vec![in alloc; 0; CHANNELS * quantum]?,
-            spans: vec![in alloc; 0; quantum]?,
+            spans: Spans::new(alloc, quantum)?,
             sums: Sums::new(alloc, quantum)?,
         })
     }
@@ -101,8 +101,8 @@ impl Bench {
                 .copy_output(source, edge.output as usize, channels);
             return;
         }
-        self.sums.gather(blocks, site.into, site.counts, inlet);
-        self.heard.saturate(&self.sums);
+        self.heard
+            .hear(&mut self.sums, blocks, site.into, site.counts, inlet);
     }
 
     // Hears what each of so many inputs carries, mixed to one channel.
@@ -182,8 +182,8 @@ impl Bench {
         ensures spans { (m : ℕ) → m < self.old.frames → slice_index_or self.new.spans m 0 ≡ max least (whole_frames (at self.old.levels 0 m) rate) }
     {
         match self.levels.held() {
-            Held::Steady(held) => span_all(self.spans.as_mut_slice(), held[0], rate, least),
-            Held::Moving(levels) => span_each(self.spans.as_mut_slice(), levels, rate, least),
+            Held::Steady(held) => self.spans.hold(held[0], rate, least),
+            Held::Moving(levels) => self.spans.follow(levels, rate, least),
         }
     }
 
@@ -211,7 +211,7 @@ impl Bench {
             Some(heard) => causal_block(block, heard, causal, node, self.given.as_mut_slice()),
             None => {
                 self.heard.copy_out(self.wide.as_mut_slice(), lanes);
-                let wide = &self.wide[..lanes * self.spans.len()];
+                let wide = &self.wide[..lanes * self.spans.frames()];
                 causal_block(block, wide, causal, node, self.given.as_mut_slice());
             }
         }
@@ -235,7 +235,7 @@ impl Bench {
         let lanes = block.lanes();
         let asked = Reading {
             first: site.first,
-            delays: self.spans.as_slice(),
+            delays: &self.spans,
             channels: lanes as u32,
             interp: site.world.nodes.attrs(node).interp,
         };
@@ -257,7 +257,7 @@ impl Bench {
             Some(heard) => delays.write(node, heard, lanes as u32, first),
             None => {
                 self.heard.copy_out(self.wide.as_mut_slice(), lanes);
-                let wide = &self.wide[..lanes * self.spans.len()];
+                let wide = &self.wide[..lanes * self.spans.frames()];
                 delays.write(node, wide, lanes as u32, first);
             }
         }
@@ -326,7 +326,7 @@ fn read_block(
         (c m : ℕ) → c < block.old.lanes → m < delays.now.quantum → at block.new c m ≡ read_back delays.now.quantum born writer asked.entry.interp block.old.lanes (asked.entry.first + m) (frames_back asked.entry.delays.now m) c }
 {
     let lanes = block.lanes();
-    let given = &mut given[..lanes * asked.delays.len()];
+    let given = &mut given[..lanes * asked.delays.frames()];
     delays.read(node, given, asked);
     block.copy_moving(given, lanes);
 }

@@ -1,6 +1,6 @@
 use Rattle.std.proofs.Common.{ℕ, pos, ◌≡◌, ◌≤◌, ◌<◌, length, slice_index_or}
 use Rattle.wa_base.specs.Numbers.{scale}
-use Rattle.quantum_blocks.proofs.Made.{IsMade}
+use Rattle.channel_mix.proofs.Made.{IsMade}
 use Rattle.quantum_blocks.proofs.kernels.attenuate.Given as goal
 
 -- those behind still have the gain

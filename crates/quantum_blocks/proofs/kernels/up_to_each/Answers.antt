@@ -3,7 +3,7 @@ use Rattle.std.specs.Int.{w32}
 use Rattle.std.proofs.lemmas.Int.{to_z-of_z}
 use Rattle.std.proofs.lemmas.List.{get_or-set_other}
 use Rattle.meaning.specs.World.{up_to}
-use Rattle.quantum_blocks.proofs.Made.{made_more}
+use Rattle.channel_mix.proofs.Made.{made_more}
 use Rattle.quantum_blocks.proofs.kernels.up_to_each.Goals as goal
 
 pub loop-value-preserved : goal.loop-value-preserved

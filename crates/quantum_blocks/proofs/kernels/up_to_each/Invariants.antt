@@ -1,6 +1,6 @@
 use Rattle.std.proofs.Common.{ℕ, pos, ◌≡◌, ◌≤◌, slice_index_or}
 use Rattle.meaning.specs.World.{up_to}
-use Rattle.quantum_blocks.proofs.Made.{IsMade}
+use Rattle.channel_mix.proofs.Made.{IsMade}
 use Rattle.quantum_blocks.proofs.kernels.up_to_each.Given as goal
 
 abbrev pub invariant-loop-value : goal.invariant-loop-value

@@ -60,8 +60,8 @@ returns c = record {
       let since : c.args.asked.first - c.self.inside.birth ≡ c.args.asked.first - born = ap (λ b. c.args.asked.first - b) has.birth in
       let reached : IsReached line (c.args.asked.first - born + k) d = subst (λ b. IsReached line (c.args.asked.first - b + k) d) has.birth (subst (λ (v : DelayView). IsReached v.line (c.args.asked.first - v.birth + k) d) (sym c.self.view_is) (c.has.ensures.reached c.if-not-has.false k (subst (λ b. k < b) (sym kept.block) here))) in
       let heard = heard_few q some line frames born c.args.asked.first lived whole writer has.keeps k d c.args.asked.channels reached (few k here) in
-      subst (λ b. sample b c.read.new.out channel k ≡ delayed b (since_birth q born writer) c.args.asked.interp c.args.asked.channels (c.args.asked.first - c.self.inside.birth + k) d channel) frames
-      (c.read.ensures (since_birth q born writer) channel k has.keeps low (subst (λ b. k < b) (sym frames) here) (subst (λ n. heard_count line (n + k) d ≤ c.args.asked.channels) (sym since) heard))
+      subst (λ b. sample b c.read_line.new.out channel k ≡ delayed b (since_birth q born writer) c.args.asked.interp c.args.asked.channels (c.args.asked.first - c.self.inside.birth + k) d channel) frames
+      (c.read_line.ensures (since_birth q born writer) channel k has.keeps low (subst (λ b. k < b) (sym frames) here) (subst (λ n. heard_count line (n + k) d ≤ c.args.asked.channels) (sym since) heard))
       ∙ ap (λ n. delayed q (since_birth q born writer) c.args.asked.interp c.args.asked.channels (n + k) d channel) since
       ∙ by_context q some born c.args.asked.first lived whole writer c.args.asked.interp c.args.asked.channels k d channel;
 }

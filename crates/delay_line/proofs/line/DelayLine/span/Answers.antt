@@ -16,13 +16,13 @@ returns c =
     subst (λ (line : Line). (k : ℕ) → k < line.block → IsReached line (c.args.first + k) (delay_at delays k)) same c.requires.frames in
     let long : length delays ≡ inside.block = c.requires.delays ∙ ap (λ (line : Line). line.block) same in
     let all : c.written-written.result ≡ written (line_of inside) = c.written-written.ensures.value ∙ ap written same in
-    subst (λ (line : Line). IsSpan line c.args.first delays c.args.start (record { start = c.args.start; end = c.born_end.result; count = s.count })) c.self.view_is (record {
+    subst (λ (line : Line). IsSpan line c.args.first delays c.args.start (record { start = c.args.start; end = c.moving_end.result; count = s.count })) c.self.view_is (record {
       begins = refl;
-      some = c.born_end.ensures.order.0;
-      within = c.born_end.ensures.order.1;
+      some = c.moving_end.ensures.order.0;
+      within = c.moving_end.ensures.order.1;
       alike = λ k low high.
-          let within : k < inside.block = omega (arith, high, c.born_end.ensures.order, long) in
+          let within : k < inside.block = omega (arith, high, c.moving_end.ensures.order, long) in
           heard_in (line_of inside) inside.counts.capacity (c.args.first + k) (delay_at delays k) (c.distance-back.result / inside.block) s
           inv.block.0 inv.counted inv.counts_reach c.stretch-stretch.ensures.stretch (reached k within)
-          (subst (λ w. IsBetween w (c.args.first + k) (delay_at delays k) (s.first * inside.block) (s.end * inside.block)) all (c.born_end.ensures.between k low high));
+          (subst (λ w. IsBetween w (c.args.first + k) (delay_at delays k) (s.first * inside.block) (s.end * inside.block)) all (c.moving_end.ensures.between k low high));
     })

@@ -4,7 +4,7 @@ use Rattle.std.proofs.lemmas.List.{length-take-le}
 use Rattle.law_base.proofs.Rows.{place_in}
 use Rattle.mix_rules.specs.Blocks.{sample}
 use Rattle.quantum_blocks.specs.Blocks.{BlockView, at}
-use Rattle.quantum_blocks.proofs.Made.{front_of}
+use Rattle.channel_mix.proofs.Made.{front_of}
 use Rattle.quantum_blocks.proofs.Lanes.{moving_own, moving_others, next_lane_length, unfolded_or_not}
 use Rattle.quantum_blocks.proofs.block.Block.set_moving.Goals as goal
 

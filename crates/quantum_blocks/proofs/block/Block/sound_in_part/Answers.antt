@@ -3,7 +3,7 @@ use Rattle.std.specs.Prelude.{if◌then◌else◌}
 use Rattle.std.proofs.lemmas.List.{length-take-le}
 use Rattle.sched_source.specs.Schedule.{is_between}
 use Rattle.quantum_blocks.specs.Blocks.{BlockView, at}
-use Rattle.quantum_blocks.proofs.Made.{front_at}
+use Rattle.channel_mix.proofs.Made.{front_at}
 use Rattle.quantum_blocks.proofs.Holding.{moved, first_is}
 use Rattle.quantum_blocks.proofs.block.Block.sound_in_part.Goals as goal
 

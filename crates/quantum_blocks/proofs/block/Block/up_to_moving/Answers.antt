@@ -4,7 +4,7 @@ use Rattle.std.proofs.lemmas.Int.{to_z-of_z}
 use Rattle.std.proofs.lemmas.List.{length-take-le}
 use Rattle.meaning.specs.World.{up_to}
 use Rattle.quantum_blocks.specs.Blocks.{BlockView, at}
-use Rattle.quantum_blocks.proofs.Made.{front_at}
+use Rattle.channel_mix.proofs.Made.{front_at}
 use Rattle.quantum_blocks.proofs.Holding.{moved, first_is}
 use Rattle.quantum_blocks.proofs.block.Block.up_to_moving.Goals as goal
 

@@ -7,7 +7,7 @@ use Rattle.mix_rules.specs.Blocks.{sample}
 use Rattle.mix_rules.specs.Mixing.{mix}
 use Rattle.channel_mix.proofs.Mono.{mono_sum}
 use Rattle.quantum_blocks.specs.Sums.{SumsView, sum_at, moving_sums}
-use Rattle.quantum_blocks.proofs.Made.{front_is, front_at}
+use Rattle.channel_mix.proofs.Made.{front_is, front_at}
 use Rattle.quantum_blocks.proofs.Widening.{spread_within, first_same, first_small, widened_small, widened_at}
 use Rattle.quantum_blocks.proofs.sums.Sums.widen.Goals as goal
 

@@ -1,6 +1,7 @@
-use Rattle.std.proofs.Common.{◌≡◌, ◌+◌, ◌*◌, ◌<◌, ◌≤◌, ◌∷◌, [], List, length, map, filter, slice_index_or, true, Some, sym, ◌∙◌, ap, arith, subst}
+use Rattle.std.proofs.Common.{◌≡◌, ◌+◌, ◌*◌, ◌<◌, ◌≤◌, ◌∷◌, [], List, length, map, filter, slice_index_or, true, Some, refl, sym, ◌∙◌, ap, arith, subst}
 use Rattle.std.proofs.lemmas.List.{get_or_default}
 use Rattle.wa_base.specs.Contexts.{quantum_of}
+use Rattle.wa_base.specs.Numbers.{sat}
 use Rattle.mix_rules.specs.Mixing.{total}
 use Rattle.node_table.specs.declared.nodes.Attrs.{Attrs}
 use Rattle.node_table.specs.Nodes.{attrs_at}
@@ -12,7 +13,6 @@ use Rattle.meaning.specs.World.{sounding}
 use Rattle.quantum_blocks.specs.Blocks.{BlockView, no_block, slot, block_of, carried, frame_of}
 use Rattle.quantum_blocks.specs.Connections.{into, leads_to, no_edge}
 use Rattle.quantum_blocks.specs.Fits.{AreFit, IsSource, AreSources}
-use Rattle.quantum_blocks.specs.Sums.{sum_at}
 use Rattle.quantum_render.specs.Benches.{BenchView}
 use Rattle.quantum_render.specs.Sites.{SiteView, IsSite, IsLone}
 use Rattle.law_base.proofs.Rows.{rows_up}
@@ -62,18 +62,20 @@ copy_output-requires-clause-room c =
     let up = rows_up c.self.inside.heard.frames c.args.channels 32 c.requires.high in
     omega (arith, up, c.self.invariant.heard, c.self.invariant.heard_frames)
 
-pub saturate-requires-clause-room : goal.saturate-requires-clause-room
-saturate-requires-clause-room c =
-    let few : c.gather.new.self.count ≤ 32 = subst (λ n. n ≤ 32) (sym c.gather.ensures.count) c.requires.high in
-    let up = rows_up c.self.inside.heard.frames c.gather.new.self.count 32 few in
+pub hear-requires-clause-room : goal.hear-requires-clause-room
+hear-requires-clause-room c =
+    let up = rows_up c.self.inside.heard.frames c.args.channels 32 c.requires.high in
     omega (arith, up, c.self.invariant.heard, c.self.invariant.heard_frames)
 
-pub gather-requires-clause-few : goal.gather-requires-clause-few
-gather-requires-clause-few c = site_few _ _ _ _ _ _ c.site.invariant.0
+pub hear-requires-clause-frames : goal.hear-requires-clause-frames
+hear-requires-clause-frames c = c.self.invariant.summed ∙ sym c.self.invariant.heard_frames
 
-pub gather-requires-clause-sources : goal.gather-requires-clause-sources
-gather-requires-clause-sources c =
-    subst (λ n. AreSources n c.site.inside.counts.now c.args.blocks.now c.site.inside.into.now) (ap (λ (x : SiteView). quantum_of x.world.spec) c.site.view_is ∙ sym (c.self.invariant.summed ∙ ap (λ (b : BenchView). b.frames) c.self.view_is ∙ c.requires.frames))
+pub hear-requires-clause-few : goal.hear-requires-clause-few
+hear-requires-clause-few c = site_few _ _ _ _ _ _ c.site.invariant.0
+
+pub hear-requires-clause-sources : goal.hear-requires-clause-sources
+hear-requires-clause-sources c =
+    subst (λ n. AreSources n c.site.inside.counts.now c.args.blocks.now c.site.inside.into.now) (ap (λ (x : SiteView). quantum_of x.world.spec) c.site.view_is ∙ sym (c.self.invariant.heard_frames ∙ ap (λ (b : BenchView). b.frames) c.self.view_is ∙ c.requires.frames))
     (source_is _ _ _ _ _ _ c.args.blocks.now c.site.invariant.0 (subst (λ (x : SiteView). AreFit x.world x.counts c.args.blocks.now) (sym c.site.view_is) c.requires.fit))
 
 pub returns-in-Some-clause-input : goal.returns-in-Some-clause-input
@@ -96,10 +98,10 @@ returns-clause-input c channels channel m low now =
     let s : SiteView = c.args.site.now in
     let site = site_is s _ _ _ _ _ _ c.site.invariant.0 c.site.view_is in
     let blocks : List BlockView = c.args.blocks.now in
-    let low' : channel < c.gather.new.self.count = subst (λ n. channel < n) (sym c.gather.ensures.count) low in
     let frames = ap (λ (b : BenchView). b.frames) c.self.view_is ∙ c.requires.frames in
-    c.saturate.ensures.values channel m low' (subst (λ n. m < n) (sym (c.self.invariant.heard_frames ∙ frames)) now)
-    ∙ input_is s.world blocks s.counts s.end.node.0 c.args.input channel m c.args.channels low s.into site.into channels c.attrs.result.interp (sum_at c.gather.new.self channel m)
+    let sum = λ (x : SiteView). total (map (part (frame_of (sounding s.world) blocks x.counts m) c.attrs.result.interp c.args.channels channel) (filter (leads_to (Input (record { 0 = x.end.node.0 }) c.args.input)) x.into)) in
+    c.hear.ensures.values (sounding s.world) channel m low (subst (λ n. m < n) (sym (c.self.invariant.heard_frames ∙ frames)) now)
+    ∙ ap (λ (x : SiteView). sat (sum x)) c.site.view_is
+    ∙ input_is s.world blocks s.counts s.end.node.0 c.args.input channel m c.args.channels low s.into site.into channels c.attrs.result.interp (sum s)
     (ap (λ (a : Attrs). a.interp) (attrs_are s.world s.end.node.0 c.attrs.result (end_low s.world site.quantum.valid s.end site.there) (subst (λ (x : SiteView). attrs_at x.world.nodes x.end.node.0 ≡ Some c.attrs.result) c.site.view_is c.attrs.ensures.value)))
-    (subst (λ (x : SiteView). sum_at c.gather.new.self channel m ≡ total (map (part (frame_of (sounding s.world) blocks x.counts m) c.attrs.result.interp c.args.channels channel) (filter (leads_to (Input (record { 0 = x.end.node.0 }) c.args.input)) x.into))) c.site.view_is
-    (c.gather.ensures.sums (sounding s.world) channel m low (subst (λ n. m < n) (sym (c.self.invariant.summed ∙ frames)) now)))
+    refl

@@ -32,7 +32,7 @@ pub loop-input-preserved : goal.loop-input-preserved
 loop-input-preserved c =
     let lanes : c.self-in-loop-input.inside.merged.lanes ≡ c.args.inputs =
     ap (λ (b : BenchView). b.merged.lanes) c.self-in-loop-input.view_is ∙ ap (λ (b : BlockView). b.lanes) c.take_input.ensures.merged ∙ c.loop-input.invariant.lanes in
-    let frames : length c.self-in-loop-input.inside.spans.items ≡ quantum_of c.args.site.now.world.spec =
+    let frames : length c.self-in-loop-input.inside.spans ≡ quantum_of c.args.site.now.world.spec =
     ap (λ (b : BenchView). b.frames) c.self-in-loop-input.view_is ∙ c.take_input.ensures.frames ∙ c.loop-input.invariant.frames in
     let there = c.loop-input-test.true in
     record {

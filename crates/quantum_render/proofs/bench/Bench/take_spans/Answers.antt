@@ -1,16 +1,11 @@
-use Rattle.std.proofs.Common.{rules, ℕ, List, pos, ◌≡◌, ◌+◌, ◌*◌, ◌<◌, ◌≤◌, ◌++◌, length, take, slice_index_or, sym, ◌∙◌, ap, arith, FitsSigned}
+use Rattle.std.proofs.Common.{rules, pos, ◌≡◌, ◌+◌, ◌*◌, slice_index_or, sym, ◌∙◌, ap, arith, FitsSigned}
 use Rattle.std.specs.Prelude.{max}
 use Rattle.std.specs.Int.{w32}
 use Rattle.std.proofs.lemmas.Int.{to_z-of_z}
-use Rattle.std.proofs.lemmas.List.{get_or-take, get_or_append_left}
 use Rattle.node_table.specs.Delays.{frames_of}
 use Rattle.quantum_blocks.specs.Blocks.{at}
 use Rattle.quantum_render.specs.Benches.{BenchView}
 use Rattle.quantum_render.proofs.bench.Bench.take_spans.Goals as goal
-
--- a list that was written over
-written_over : (len : ℕ) (xs rest : List ℕ) (m : ℕ) → m < length xs → length xs ≤ len → slice_index_or (take len (xs ++ rest)) m 0 ≡ slice_index_or xs m 0
-written_over len xs rest m low within = get_or-take len (xs ++ rest) m 0 (omega arith) ∙ get_or_append_left xs rest 0 m low
 
 pub returns-in-Steady-clause-spans : goal.returns-in-Steady-clause-spans
 returns-in-Steady-clause-spans c m now =
@@ -18,13 +13,8 @@ returns-in-Steady-clause-spans c m now =
     let mono = c.self.invariant.mono in
     let seen = ap (λ (b : BenchView). b.frames) c.self.view_is in
     let own = c.self.invariant.levels_frames in
-    let many = c.self.invariant.spans in
-    let whole = c.as_mut_slice.ensures.len in
-    let same = ap length c.as_mut_slice.ensures.value in
-    let long = c.span_all.ensures.length in
     let level : FitsSigned w32 (slice_index_or c.in-Steady.held.now 0 (pos 0)) = search rules in
-    written_over c.self.inside.spans.len c.span_all.new.spans _ m (omega (arith, seen, many, whole, same, long, now)) (omega (arith, seen, many, whole, same, long))
-    ∙ c.span_all.ensures.spans m (omega (arith, seen, many, whole, same, long, now))
+    c.hold.ensures.spans m (omega (arith, seen, now))
     ∙ ap (λ x. max c.args.least (frames_of x c.args.rate)) (to_z-of_z _ _ level ∙ sym (held.1 0 m (omega (arith, mono)) (omega (arith, own, seen, now))) ∙ ap (λ (b : BenchView). at b.levels 0 m) c.self.view_is)
 
 pub returns-in-Moving-clause-spans : goal.returns-in-Moving-clause-spans
@@ -33,11 +23,6 @@ returns-in-Moving-clause-spans c m now =
     let mono = c.self.invariant.mono in
     let seen = ap (λ (b : BenchView). b.frames) c.self.view_is in
     let own = c.self.invariant.levels_frames in
-    let many = c.self.invariant.spans in
-    let whole = c.as_mut_slice-in-Moving.ensures.len in
-    let same = ap length c.as_mut_slice-in-Moving.ensures.value in
-    let long = c.span_each.ensures.length in
-    written_over c.self.inside.spans.len c.span_each.new.spans _ m (omega (arith, seen, many, whole, same, long, now)) (omega (arith, seen, many, whole, same, long))
-    ∙ c.span_each.ensures.spans m (omega (arith, seen, many, whole, same, long, now))
+    c.follow.ensures.spans m (omega (arith, seen, now))
     ∙ ap (λ x. max c.args.least (frames_of x c.args.rate))
     (ap (λ k. slice_index_or c.in-Moving.levels.now k (pos 0)) (let e : m ≡ 0 * c.self.inside.levels.frames + m = omega arith in e) ∙ sym (held.1 0 m (omega (arith, mono)) (omega (arith, own, seen, now))) ∙ ap (λ (b : BenchView). at b.levels 0 m) c.self.view_is)

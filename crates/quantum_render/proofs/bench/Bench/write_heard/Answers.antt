@@ -21,9 +21,9 @@ returns-in-None-clause-writes c =
     let room : c.lanes-lanes.result * c.self.inside.heard.frames ≤ length wide =
     omega (arith, ap length written, c.copy_out.ensures.length, c.as_mut_slice.ensures.len, ap length c.as_mut_slice.ensures.value, c.self.invariant.wide, frames, up) in
     let front = widened_front wide c.self.inside.heard c.lanes-lanes.result room (λ k m low now. ap (λ xs. sample c.self.inside.heard.frames xs k m) written ∙ c.copy_out.ensures.values k m low now) in
-    let written_part : List ℤ = take (c.lanes-lanes.result * c.len.result) wide in
+    let written_part : List ℤ = take (c.lanes-lanes.result * c.frames.result) wide in
     let whole : IsWidened c.self.inside.heard c.lanes-lanes.result written_part =
-    subst (λ q. IsWidened c.self.inside.heard c.lanes-lanes.result (take (c.lanes-lanes.result * q) wide)) (omega (arith, frames, c.len.ensures)) front in (
+    subst (λ q. IsWidened c.self.inside.heard c.lanes-lanes.result (take (c.lanes-lanes.result * q) wide)) (omega (arith, frames, c.frames.ensures)) front in (
       written_part,
       subst (λ (b : BlockView). IsWidened b b.lanes written_part) heard (subst (λ n. IsWidened c.self.inside.heard n written_part) own whole),
       subst (λ n. Writes c.args.delays.now c.write-in-None.new.self c.args.node.0 c.args.first n written_part) lanes c.write-in-None.ensures,

@@ -3,8 +3,8 @@ use Rattle.std.specs.Int.{w32, w64}
 use Rattle.std.proofs.lemmas.Int.{to_z-of_z}
 use Rattle.std.proofs.lemmas.List.{get_or-set_other}
 use Rattle.wa_base.specs.Numbers.{sat}
-use Rattle.quantum_blocks.proofs.Made.{made_more}
-use Rattle.quantum_blocks.proofs.kernels.each_level.Goals as goal
+use Rattle.channel_mix.proofs.Made.{made_more}
+use Rattle.channel_mix.proofs.settling.each_level.Goals as goal
 
 pub loop-m-preserved : goal.loop-m-preserved
 loop-m-preserved c =

@@ -1,7 +1,7 @@
 use Rattle.std.proofs.Common.{ℕ, pos, ◌+ℤ◌, ◌≡◌, ◌≤◌, slice_index_or}
 use Rattle.wa_base.specs.Numbers.{sat}
-use Rattle.quantum_blocks.proofs.Made.{IsMade}
-use Rattle.quantum_blocks.proofs.kernels.each_level_on.Given as goal
+use Rattle.channel_mix.proofs.Made.{IsMade}
+use Rattle.channel_mix.proofs.settling.each_level_on.Given as goal
 
 abbrev pub invariant-loop-level : goal.invariant-loop-level
 invariant-loop-level l = record {
