@@ -17,8 +17,8 @@ ghost use Rattle.quantum_blocks.specs.Held.{IsHeld, IsCarried, IsWidened};
 
 use crate::held::Held;
 use crate::kernels::{
-    copy_values, fill, is_silent, is_throughout, move_on, scale_all, scale_channels, scale_steady,
-    silence, sound, spread, unfold_if, up_to, up_to_each,
+    copy_values, fill, is_throughout, move_on, scale_all, scale_channels, scale_steady, silence,
+    sound, spread, unfold_if, up_to, up_to_each,
 };
 use crate::playing::Source;
 use crate::sums::{Inlet, Sums, moving_pair};
@@ -89,9 +89,11 @@ impl Block {
         ensures lanes { OnOk result (self.new.lanes ≡ lanes) }
         ensures frames { OnOk result (self.new.frames ≡ frames) }
     {
-        if self.values.len() < lanes * frames {
-            self.values.resize(lanes * frames, 0)?;
+        if self.lanes == lanes && self.frames == frames {
+            return Ok(());
         }
+        let room = self.values.len().max(lanes * frames);
+        self.values.resize(room, 0)?;
         self.lanes = lanes;
         self.frames = frames;
         Ok(())
@@ -292,14 +294,9 @@ impl Block {
         ensures room { room_of self.new ≡ room_of self.old }
         ensures values { (m : ℕ) → m < self.old.frames → at self.new 0 m ≡ (if is_between (Some start) (Some end) (first + m) then at self.old 0 m else pos 0) }
     {
-        if is_throughout(start, end, first, self.frames) {
-            return;
+        if !is_throughout(start, end, first, self.frames) {
+            self.sound_in_part(start, end, first);
         }
-        if is_silent(start, end, first, self.frames) {
-            self.hold(0);
-            return;
-        }
-        self.sound_in_part(start, end, first);
     }
 
     fn sound_in_part(&mut self, start: u64, end: u64, first: u64)
@@ -445,13 +442,16 @@ impl Block {
         ensures values { (lane m : ℕ) → lane < length held.now → m < self.old.frames → at self.new lane m ≡ slice_index_or held.now lane (pos 0) }
         ensures fit { (lane : ℕ) → lane < length held.now → FitsSigned w32 (slice_index_or held.now lane (pos 0)) }
     {
+        if let [value] = held {
+            self.hold(*value);
+            return;
+        }
         self.lanes = held.len();
         self.steady = true;
         copy_values(&mut self.values[0..self.lanes], held);
     }
 
-    /// Becomes so many lanes with these values: one for each frame of the first lane, then those of the
-    /// second and so on.
+    /// Becomes so many lanes with these values, the frames of one lane behind those of another.
     pub fn copy_moving(&mut self, values: &[Fix], lanes: usize)
         requires length { length values.now ≡ lanes * self.old.frames }
         requires few { lanes ≤ 32 }

@@ -9,7 +9,7 @@ pub mod Passing
 pub mod OutLaws
 pub mod SiteLaws
 pub mod Rendering
-pub mod Staging
+pub mod Drawing
 pub mod RowCounts
 pub mod Listening
 pub mod Fed

@@ -1,5 +1,5 @@
 -- Rendering a quantum along a legal order.
-use Rattle.std.proofs.Common.{ℕ, suc, pos, ◌≡◌, ◌+◌, ◌*◌, ◌<◌, ◌≤◌, length, List, [], ◌∷◌, ◌++◌, drop, slice_index_or, Bool, true, false, Option, None, ◌⊎◌, inl, inr, refl, sym, ◌∙◌, ap, arith, subst}
+use Rattle.std.proofs.Common.{ℕ, suc, pos, ◌≡◌, ◌+◌, ◌*◌, ◌<◌, ◌≤◌, length, List, [], ◌∷◌, ◌++◌, drop, slice_index_or, Bool, true, false, Option, None, inl, inr, refl, sym, ◌∙◌, ap, arith, subst}
 use mathlib.Core.Path.{fun_ext}
 use Rattle.std.specs.Prelude.{if◌then◌else◌, nat_lt}
 use Rattle.std.proofs.Math.ListN.{drop_of_length-le}
@@ -25,7 +25,7 @@ use Rattle.meaning.proofs.Joined.{joined}
 use Rattle.meaning.proofs.Seeing.{plain_end}
 use Rattle.meaning.proofs.OrderLaws.{all_known}
 use Rattle.meaning.proofs.QuantumLaws.{AreRight, count_right, muted_right}
-use Rattle.quantum_blocks.specs.Blocks.{BlockView, at, carried, slot, block_of, lanes_of, frames_of, counts_in, drafts_of, frame_of, IsSilent, Writes}
+use Rattle.quantum_blocks.specs.Blocks.{BlockView, at, slot, block_of, lanes_of, frames_of, counts_in, drafts_of, frame_of, IsSilent, Writes}
 use Rattle.quantum_blocks.specs.Fits.{AreFit}
 use Rattle.quantum_render.specs.Plans.{IsPlan, AreCounted}
 use Rattle.automation.specs.Levels.{LevelView}
@@ -131,25 +131,6 @@ module _ (w : World) (valid : IsValid w) (order : List End) (i : ℕ) (counts : 
   there : x.node.0 < length w.nodes
   there = end_low w valid x next.0
 
-  -- while its block is out, nothing else changes
-  pub passing_out : (met : List BlockView) → Writes blocks met x → Passing w order i counts first old memory met
-  passing_out met out = record {
-    done = c.done;
-    legal = c.legal;
-    fit = still_fit w counts blocks met out.lanes out.frames c.fit;
-    rooms = c.rooms;
-    causal = c.causal;
-    delays = c.delays;
-    right = λ tape begins counted timely ready m l d in_d known.
-        ap (λ b. λ o. carried b (counts_in counts d) o m) (out.others d (apart d known)) ∙ c.right tape begins counted timely ready m l d in_d known;
-    heard = c.heard;
-    kept = c.kept;
-  }
-    where
-      apart : (d : End) → (muted w.graph.value d ≡ true) ⊎ IsIn d c.done → d ≡ x → ⊥
-      apart d (inl quiet) same = let no = sym next.1 ∙ subst (λ e. muted w.graph.value e ≡ true) same quiet in absurd cc
-      apart d (inr done) same = next.2 (subst (λ e. IsIn e c.done) same done)
-
   module _ (edges : List Edge) (levels : List LevelView) (blocks' : List BlockView) (memory' : Memory) (writes : Writes blocks blocks' x)
       (renders : RendersWith (site_of edges levels) memory blocks (block_of blocks' x) (kind_of w x.node.0)) (listens : Listens (site_of edges levels) blocks memory memory') (stores : Stores (site_of edges levels) (block_of blocks' x) memory.delays memory'.delays) (rooms : HasRooms memory' w counts) where
     module _ (tape : List World) (begins : first ≡ q * length tape) (counted : AreCounted q w counts tape) (timely : IsTimely w) (ready : IsMemory old w tape first) where
@@ -216,17 +197,12 @@ module _ (w : World) (valid : IsValid w) (order : List End) (i : ℕ) (counts : 
           kept_more w valid tape first begins counts counted timely blocks' c.done memory.delays memory'.delays (c.kept tape begins counted timely ready) x next.0 next.2 (right_now tape begins counted timely ready) (fit'.lanes x next.0) edges levels stores;
     }
 
--- an end was rendered while its block was out
+-- an end was rendered
 pub passing_rendered : (w : World) (valid : IsValid w) (order : List End) (i : ℕ) (counts : List ℕ) (first : ℕ) (old memory memory' : Memory) (blocks blocks' : List BlockView) → Passing w order i counts first old memory blocks → i < length order
     → (edges : List Edge) (levels : List LevelView) → IsRendered (record { world = w; end = slice_index_or order i no_end; into = edges; counts = counts; levels = levels; first = first }) blocks blocks' memory memory'
     → Passing w order (i + 1) counts first old memory' blocks'
 passing_rendered w valid order i counts first old memory memory' blocks blocks' c l edges levels is =
-    passing_goes_on w valid order i counts first old memory is.met (passing_out w valid order i counts first old memory blocks c l is.met is.out) l edges levels blocks' memory'
-    (record {
-      lanes = is.writes.lanes ∙ sym is.out.lanes;
-      frames = is.writes.frames ∙ sym is.out.frames;
-      others = λ d apart. is.writes.others d apart ∙ sym (is.out.others d apart);
-    }) is.renders is.listens is.stores is.rooms
+    passing_goes_on w valid order i counts first old memory blocks c l edges levels blocks' memory' is.draws.writes is.draws.renders is.listens is.stores is.rooms
 
 module _ (w : World) (valid : IsValid w) (order : List End) (i : ℕ) (counts : List ℕ) (first : ℕ) (old memory : Memory) (blocks : List BlockView) (c : Passing w order i counts first old memory blocks) (past : length order ≤ i)
     (tape : List World) (begins : first ≡ quantum_of w.spec * length tape) (counted : AreCounted (quantum_of w.spec) w counts tape) (timely : IsTimely w) (ready : IsMemory old w tape first) where

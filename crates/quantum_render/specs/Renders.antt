@@ -1,5 +1,5 @@
 -- What an end carries in a quantum: the meaning of a frame, over the blocks of the ends before it in an order.
-use Rattle.std.specs.Prelude.{ℕ, ℤ, ◌+◌, ◌-◌, ◌*◌, ◌/◌, ◌≡◌, ◌<◌, ◌≤◌, ◌⊎◌, length, List, true, false}
+use Rattle.std.specs.Prelude.{ℕ, ℤ, ◌+◌, ◌-◌, ◌*◌, ◌/◌, ◌≡◌, ◌<◌, ◌≤◌, ◌⊎◌, length, List, slice_index_or, slice_set, true, false}
 use Rattle.wa_base.specs.Contexts.{quantum_of}
 use Rattle.node_table.specs.declared.equation.Equation.{Equation}
 use Rattle.node_table.specs.Kinds.{outputs}
@@ -92,12 +92,28 @@ pub record Stores (s : SiteView) (block : BlockView) (bank bank' : DelayBank) : 
   pub read : s.end.writer ≡ false → delay_at bank' s.end.node.0 ≡ delay_at bank s.end.node.0
   pub own : s.end.writer ≡ true → (longest born : ℕ) (writer : Writer) → IsKept (quantum_of s.world.spec) (delay_at bank s.end.node.0) longest born s.first writer → IsWritten s block writer → IsKept (quantum_of s.world.spec) (delay_at bank' s.end.node.0) longest born (s.first + quantum_of s.world.spec) writer
 
--- An end was rendered. While its block was out, another one with as many lanes stood in its place.
-pub record IsRendered (s : SiteView) (old new : List BlockView) (memory memory' : Memory) : Type 0 where
-  pub met : List BlockView
-  pub out : Writes old met s.end
+-- The block of a site's end was written, and no other's. It has the values of the end's kind.
+pub record Draws (s : SiteView) (old new : List BlockView) : Type 0 where
   pub writes : Writes old new s.end
-  pub renders : RendersWith s memory met (block_of new s.end) (kind_of s.world s.end.node.0)
-  pub listens : Listens s met memory memory'
+  pub renders : Renders s old (block_of new s.end) (kind_of s.world s.end.node.0)
+
+-- The same, where the memory is that of the frames before the quantum.
+pub record DrawsWith (s : SiteView) (memory : Memory) (old new : List BlockView) : Type 0 where
+  pub writes : Writes old new s.end
+  pub renders : RendersWith s memory old (block_of new s.end) (kind_of s.world s.end.node.0)
+
+-- The place of a site's end among the blocks: its block has the end's lanes and frames, and what has the values of its kind may be written there.
+pub record IsPlace (s : SiteView) (blocks : List BlockView) (k : ℕ) : Type 0 where
+  pub within : k < length blocks
+  pub lanes : (d : BlockView) → HasLanes s (slice_index_or blocks k d)
+  pub frames : (d : BlockView) → (slice_index_or blocks k d).frames ≡ quantum_of s.world.spec
+  pub written : (block : BlockView) → block_of (slice_set blocks k block) s.end ≡ block
+  pub draws : (block : BlockView) → Renders s blocks block (kind_of s.world s.end.node.0) → Draws s blocks (slice_set blocks k block)
+  pub draws_with : (memory : Memory) (block : BlockView) → RendersWith s memory blocks block (kind_of s.world s.end.node.0) → DrawsWith s memory blocks (slice_set blocks k block)
+
+-- An end was rendered: its block was written, and its node remembers the quantum.
+pub record IsRendered (s : SiteView) (old new : List BlockView) (memory memory' : Memory) : Type 0 where
+  pub draws : DrawsWith s memory old new
+  pub listens : Listens s old memory memory'
   pub stores : Stores s (block_of new s.end) memory.delays memory'.delays
   pub rooms : HasRooms memory' s.world s.counts

@@ -9,6 +9,5 @@ mod pass;
 mod plan;
 mod renderer;
 mod site;
-mod stage;
 
 pub use renderer::Renderer;

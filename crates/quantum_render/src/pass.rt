@@ -10,27 +10,27 @@ ghost use Rattle.quantum_blocks.specs.Fits.{AreFit};
 ghost use Rattle.quantum_render.specs.Plans.{IsPlan, AreCycles, AreCounted};
 ghost use Rattle.quantum_render.specs.Listening.{IsTimely, IsMemory, HasRooms};
 
+use crate::bench::Bench;
 use crate::memory::Memory;
 use crate::plan::Plan;
 use crate::site::Quantum;
-use crate::stage::Stage;
 use quantum_blocks::{Block, hush};
 
 // Renders all ends: the muted ones are silent, and the others are rendered along the order, each
 // from the blocks of those before it. A causal node that no end of the order has hears silence.
 pub(crate) fn render_quantum<'a>(
     blocks: &mut [Block],
-    stage: &mut Stage,
+    bench: &mut Bench,
     memory: &mut Memory,
     plan: &'a Plan,
     quantum: &Quantum<'a>,
 )
     requires plan { IsPlan quantum.now.world plan.now.order plan.now.muted plan.now.into }
     requires cycles { AreCycles quantum.now.world.graph.value plan.now.cycles }
-    requires frames { stage.old ≡ quantum_of quantum.now.world.spec }
+    requires frames { bench.old.frames ≡ quantum_of quantum.now.world.spec }
     requires fit { AreFit quantum.now.world quantum.now.counts blocks.old }
     requires rooms { HasRooms memory.old quantum.now.world quantum.now.counts }
-    ensures frames { stage.new ≡ stage.old }
+    ensures frames { bench.new.frames ≡ bench.old.frames }
     ensures quanta { (memory.new.causal.quantum ≡ memory.old.causal.quantum) × (memory.new.delays.quantum ≡ memory.old.delays.quantum) }
     ensures fit { AreFit quantum.now.world quantum.now.counts blocks.new }
     ensures values { (tape : List a_world) → quantum.now.first ≡ quantum_of quantum.now.world.spec * length tape → AreCounted (quantum_of quantum.now.world.spec) quantum.now.world quantum.now.counts tape → IsTimely quantum.now.world → IsMemory memory.old quantum.now.world tape quantum.now.first → (m : ℕ) (d : an_end) → m < quantum_of quantum.now.world.spec → IsIn d (ends quantum.now.world.graph.value) →
@@ -43,7 +43,7 @@ pub(crate) fn render_quantum<'a>(
     hush(blocks, plan.muted());
     for end in plan.order() {
         let site = plan.site(quantum, *end);
-        stage.render(blocks, memory, &site);
+        bench.render(blocks, memory, &site);
     }
     memory.causal.rest(first);
     memory.delays.end_quantum();

@@ -11,12 +11,12 @@ ghost use Rattle.automation.specs.Ready.{looks_at};
 ghost use Rattle.quantum_render.specs.Plans.{IsPlanned, IsUnedited};
 ghost use Rattle.quantum_render.specs.Stands.{StandsFor, Shows, IsPrepared, IsCounted, IsGrown, plan_of};
 
+use crate::bench::Bench;
 use crate::counting::{Census, count_channels};
 use crate::memory::Memory;
 use crate::pass::render_quantum;
 use crate::plan::Plan;
 use crate::site::Quantum;
-use crate::stage::Stage;
 use automation::Automation;
 use delay_bank::Delays;
 use filter_bank::CausalNodes;
@@ -42,7 +42,7 @@ pub struct Renderer {
     memory: Memory,
     counts: Vec<u32>,
     blocks: Vec<Block>,
-    stage: Stage,
+    bench: Bench,
     out: Vec<Fix>,
 }
 
@@ -67,7 +67,7 @@ impl Model for Renderer {
       out = r.out.items;
     } };
 
-    ghost invariant = { λ r. IsWhole r.spec r.quanta r.automation r.memory r.stage r.out.items };
+    ghost invariant = { λ r. IsWhole r.spec r.quanta r.automation r.memory r.bench.frames r.out.items };
 }
 
 impl Renderer {
@@ -82,7 +82,7 @@ impl Renderer {
         let quantum = spec.quantum as usize;
         let out = vec![in alloc; 0; CHANNELS * quantum]?;
         let causal = CausalNodes::new(alloc, quantum)?;
-        let stage = Stage::new(alloc, quantum)?;
+        let bench = Bench::new(alloc, quantum)?;
         let plan = Plan::new(alloc, tie)?;
         Ok(Renderer {
             alloc,
@@ -96,7 +96,7 @@ impl Renderer {
             },
             counts: Vec::new(alloc),
             blocks: Vec::new(alloc),
-            stage,
+            bench,
             out,
         })
     }
@@ -214,7 +214,7 @@ impl Renderer {
         let blocks = self.blocks.as_mut_slice();
         render_quantum(
             blocks,
-            &mut self.stage,
+            &mut self.bench,
             &mut self.memory,
             &self.plan,
             &quantum,

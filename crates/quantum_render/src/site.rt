@@ -1,10 +1,12 @@
-ghost use Rattle.std.specs.Prelude.{◌≡◌, ◌≤◌, true, if◌then◌else◌};
+ghost use Rattle.std.specs.Prelude.{◌≡◌, ◌≤◌, List, true, if◌then◌else◌};
 ghost use Rattle.wa_base.specs.Contexts.{quantum_of};
 ghost use Rattle.node_table.specs.Kinds.{outputs as outputs_of, IsInLimits};
 ghost use Rattle.conn_graph.specs.Ends.{is_delay, in_cycle as cycle_of};
 ghost use Rattle.meaning.specs.World.{kind_of};
-ghost use Rattle.quantum_blocks.specs.Blocks.{counts_in};
+ghost use Rattle.quantum_blocks.specs.Blocks.{BlockView as a_block, counts_in};
+ghost use Rattle.quantum_blocks.specs.Fits.{AreFit};
 ghost use Rattle.quantum_render.specs.Sites.{IsSite};
+ghost use Rattle.quantum_render.specs.Renders.{IsPlace};
 
 use automation::Level;
 use conn_graph::Edge;
@@ -70,6 +72,13 @@ impl Site<'_> {
         ensures site { IsSite self.now.world self.now.end self.now.into self.now.counts self.now.levels self.now.first }
     {
         self.counts[slot(self.end)] as usize
+    }
+
+    // The place of the end's block.
+    pub(crate) fn place(&self) -> usize
+        ensures own { (blocks : List a_block) → AreFit self.now.world self.now.counts blocks → IsPlace self.now blocks result }
+    {
+        slot(self.end)
     }
 
     // What the end's node is.

@@ -46,7 +46,7 @@ pub render-requires : goal.render-requires
 render-requires c =
     let passing = c.loop-end.invariant.passing in
     subst (λ (x : SiteView). record {
-      frames : c.loop-end.stage ≡ quantum_of x.world.spec;
+      frames : c.loop-end.bench.frames ≡ quantum_of x.world.spec;
       fit : AreFit x.world x.counts c.loop-end.blocks;
       rooms : HasRooms c.loop-end.memory x.world x.counts;
     })
@@ -63,7 +63,8 @@ loop-end-preserved c =
       frames = c.render.ensures.frames ∙ c.loop-end.invariant.frames;
       passing = passing_rendered q.world valid c.args.plan.now.order c.loop-end.end-index q.counts q.first c.args.memory.now c.loop-end.memory c.render.new.memory c.loop-end.blocks c.render.new.blocks c.loop-end.invariant.passing
           (subst (λ (order : List End). c.loop-end.end-index < length order) place c.loop-end-test.true) _ q.levels
-          (subst (λ (x : SiteView). IsRendered x c.loop-end.blocks c.render.new.blocks c.loop-end.memory c.render.new.memory) here c.render.ensures.rendered);
+          (subst (λ (x : SiteView). IsRendered x c.loop-end.blocks c.render.new.blocks c.loop-end.memory c.render.new.memory) here
+          (record { draws = c.render.ensures.draws; listens = c.render.ensures.listens; stores = c.render.ensures.stores; rooms = c.render.ensures.rooms }));
     }
 
 pub returns : goal.returns

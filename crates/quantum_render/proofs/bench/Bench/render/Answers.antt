@@ -3,11 +3,11 @@ use Rattle.node_table.specs.declared.kinds.Kind.{Kind}
 use Rattle.node_table.specs.declared.kinds.Kind.TheVariants.{Delay}
 use Rattle.node_table.specs.Kinds.{is_delay_kind}
 use Rattle.node_table.proofs.Lasting.{the_delay}
-use Rattle.meaning.specs.World.{kind_of}
 use Rattle.filter_bank.specs.Banks.{BankView, heard_at, HaveRoom}
 use Rattle.delay_bank.specs.Banks.{BankView as DelayBank, HaveRoom as HaveDelayRoom}
+use Rattle.quantum_blocks.specs.Blocks.{block_of}
 use Rattle.quantum_render.specs.Renders.{Stores}
-use Rattle.quantum_render.proofs.Listening.{with_memory}
+use Rattle.quantum_render.proofs.Drawing.{draws_anyway}
 use Rattle.quantum_render.proofs.Rendering.{unstored}
 use Rattle.quantum_render.proofs.bench.Bench.render.Goals as goal
 
@@ -19,9 +19,8 @@ render_delay-requires-clause-kind c = (c.in-Delay.longest, c.in-Delay.time, c.in
 
 -- ---- what a node that remembers nothing renders, and leaves
 
-pub returns-in_default-clause-renders : goal.returns-in_default-clause-renders
-returns-in_default-clause-renders c =
-    with_memory c.args.site.now c.args.memory.now c.args.blocks.now c.render_plain.new.block (kind_of c.args.site.now.world c.args.site.now.end.node.0) c.render_plain.ensures.renders
+pub returns-in_default-clause-draws : goal.returns-in_default-clause-draws
+returns-in_default-clause-draws c = draws_anyway c.args.site.now c.args.memory.now c.args.blocks.now c.render_plain.new.blocks c.render_plain.ensures.draws
 
 no_delay : (kind : Kind) → ((longest time : ℤ) (capacity : ℕ) → kind ≡ Delay longest time capacity → ⊥) → is_delay_kind kind ≡ false
 no_delay kind not = by_test (is_delay_kind kind) refl
@@ -32,7 +31,7 @@ no_delay kind not = by_test (is_delay_kind kind) refl
 
 pub returns-in_default-clause-stores : goal.returns-in_default-clause-stores
 returns-in_default-clause-stores c =
-    unstored c.args.site.now c.kind.ensures.site (subst (λ k. is_delay_kind k ≡ false) c.kind.ensures.value (no_delay c.kind.result.now c.in_default.not-Delay)) c.render_plain.new.block c.args.memory.now.delays
+    unstored c.args.site.now c.kind.ensures.site (subst (λ k. is_delay_kind k ≡ false) c.kind.ensures.value (no_delay c.kind.result.now c.in_default.not-Delay)) (block_of c.render_plain.new.blocks c.args.site.now.end) c.args.memory.now.delays
 
 pub returns-in_default-clause-listens : goal.returns-in_default-clause-listens
 returns-in_default-clause-listens c = record {
@@ -46,8 +45,8 @@ returns-in_default-clause-listens c = record {
 
 pub returns-in-Causal-clause-stores : goal.returns-in-Causal-clause-stores
 returns-in-Causal-clause-stores c =
-    subst (Stores c.args.site.now c.render_causal.new.block c.args.memory.now.delays) (sym c.render_causal.ensures.delays)
-    (unstored c.args.site.now c.kind.ensures.site (ap is_delay_kind (sym c.kind.ensures.value ∙ c.in-Causal.is)) c.render_causal.new.block c.args.memory.now.delays)
+    subst (Stores c.args.site.now (block_of c.render_causal.new.blocks c.args.site.now.end) c.args.memory.now.delays) (sym c.render_causal.ensures.delays)
+    (unstored c.args.site.now c.kind.ensures.site (ap is_delay_kind (sym c.kind.ensures.value ∙ c.in-Causal.is)) (block_of c.render_causal.new.blocks c.args.site.now.end) c.args.memory.now.delays)
 
 pub returns-in-Causal-clause-rooms : goal.returns-in-Causal-clause-rooms
 returns-in-Causal-clause-rooms c =

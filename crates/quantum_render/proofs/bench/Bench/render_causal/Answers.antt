@@ -25,7 +25,8 @@ causal_heard-requires-clause-wide c f is =
 
 pub causal_heard-requires-clause-own : goal.causal_heard-requires-clause-own
 causal_heard-requires-clause-own c =
-    let own = lanes_own c.args.site.now _ c.requires.kind.1 refl c.args.block.now c.requires.lanes in
+    let own = c.place-place.ensures.own c.args.blocks.now c.requires.fit in
+    let own = lanes_own c.args.site.now _ c.requires.kind.1 refl (slice_index_or c.args.blocks.now c.place-place.result c.index-blocks-place.result) (own.lanes c.index-blocks-place.result) in
     let channels = c.channels-channels.ensures.count in
     let most = c.max-room.ensures in
     grind arith
@@ -39,7 +40,7 @@ abbrev output_of : goal.After-causal_heard → List ℤ
 output_of c = c.causal_heard.ensures.hears.1
 
 heard_frames : (c : goal.After-causal_heard) → c.take_input.new.self.heard.frames ≡ quantum_of c.args.site.now.world.spec
-heard_frames c = c.take_input.ensures.heard_frames ∙ c.requires.frames.0
+heard_frames c = c.take_input.ensures.heard_frames ∙ c.requires.frames
 
 -- what is heard is what the input carries
 heard_brings : (c : goal.After-causal_heard) (equation : Equation) → (is : kind_of c.args.site.now.world c.args.site.now.end.node.0 ≡ Causal equation) → (before : ℕ → Frame) → (ready : IsReadyFor c.args.site.now c.args.memory.now c.args.blocks.now before)
@@ -59,24 +60,25 @@ heard_brings c equation is before ready counted =
 hears_own : (c : goal.After-causal_heard) → Hears c.args.memory.now.causal c.causal_heard.new.causal c.args.site.now.end.node.0 (input_of c) (output_of c)
 hears_own c = subst (λ k. Hears c.args.memory.now.causal c.causal_heard.new.causal k (input_of c) (output_of c)) (ap (λ (x : SiteView). x.end.node.0) c.site.view_is) c.causal_heard.ensures.hears.4
 
-pub returns-clause-renders : goal.returns-clause-renders
-returns-clause-renders c =
+pub returns-clause-draws : goal.returns-clause-draws
+returns-clause-draws c =
+    let own = c.place-place.ensures.own c.args.blocks.now c.requires.fit in
     let equation = c.requires.kind.0 in
     let is = c.requires.kind.1 in
     let s : SiteView = c.args.site.now in
     let site = site_is s _ _ _ _ _ _ c.site.invariant.0 c.site.view_is in
     let causal : BankView = c.args.memory.now.causal in
     let channels : c.channels-channels.result ≡ counts_in s.counts s.end = c.channels-channels.ensures.count in
-    renders_with_own s _ is refl c.args.blocks.now c.causal_heard.new.block (c.causal_heard.ensures.lanes ∙ lanes_own s _ is refl c.args.block.now c.requires.lanes) (c.causal_heard.ensures.block_frames ∙ c.requires.frames.1) c.args.memory.now (λ j earlier begins counted before ready channel m low now.
-    let own = has_heard s site c.args.memory.now c.args.blocks.now equation is before ready in
-    let there : heard_at causal c.site.inside.end.node.0 ≡ Some own.causal = subst (λ k. heard_at causal k ≡ Some own.causal) (sym (ap (λ (x : SiteView). x.end.node.0) c.site.view_is)) own.there in
-    let lanes : c.max-room.result ≡ causal_room own.causal = lanes_are s site equation is causal c.requires.rooms.causal_rooms own.causal own.there c.room.result c.channels-channels.result c.max-room.result (c.room.ensures.room own.causal there) channels c.max-room.ensures in
+    own.draws_with c.args.memory.now c.causal_heard.new.block (renders_with_own s _ is refl c.args.blocks.now c.causal_heard.new.block (c.causal_heard.ensures.lanes ∙ lanes_own s _ is refl (slice_index_or c.args.blocks.now c.place-place.result c.index-blocks-place.result) (own.lanes c.index-blocks-place.result)) (c.causal_heard.ensures.block_frames ∙ own.frames c.index-blocks-place.result) c.args.memory.now (λ j earlier begins counted before ready channel m low now.
+    let before_now = has_heard s site c.args.memory.now c.args.blocks.now equation is before ready in
+    let there : heard_at causal c.site.inside.end.node.0 ≡ Some before_now.causal = subst (λ k. heard_at causal k ≡ Some before_now.causal) (sym (ap (λ (x : SiteView). x.end.node.0) c.site.view_is)) before_now.there in
+    let lanes : c.max-room.result ≡ causal_room before_now.causal = lanes_are s site equation is causal c.requires.rooms.causal_rooms before_now.causal before_now.there c.room.result c.channels-channels.result c.max-room.result (c.room.ensures.room before_now.causal there) channels c.max-room.ensures in
     let low' : channel < c.channels-channels.result = subst (λ k. channel < k) (sym channels) low in
-    let frames = c.causal_heard.ensures.block_frames ∙ c.requires.frames.1 in
-    c.causal_heard.ensures.hears.3 channel m (subst (λ k. channel < k) (sym (c.causal_heard.ensures.lanes ∙ lanes_own s _ is refl c.args.block.now c.requires.lanes)) low) (subst (λ k. m < k) (sym frames) now)
+    let frames = c.causal_heard.ensures.block_frames ∙ own.frames c.index-blocks-place.result in
+    c.causal_heard.ensures.hears.3 channel m (subst (λ k. channel < k) (sym (c.causal_heard.ensures.lanes ∙ lanes_own s _ is refl (slice_index_or c.args.blocks.now c.place-place.result c.index-blocks-place.result) (own.lanes c.index-blocks-place.result))) low) (subst (λ k. m < k) (sym frames) now)
     ∙ ap (λ k. item (output_of c) (channel * k + m)) frames
     ∙ puts_out s site c.args.memory.now c.args.blocks.now equation is before ready (input_of c) (output_of c) c.causal_heard.new.causal (hears_own c) c.requires.rooms.causal_quantum (heard_brings c equation is before ready counted) site.quantum.begun.time channel m
-    (subst (λ k. channel < k) lanes (lower c channel low')) now)
+    (subst (λ k. channel < k) lanes (lower c channel low')) now))
   where
     lower : (c : goal.After-causal_heard) → (k : ℕ) → k < c.channels-channels.result → k < c.max-room.result
     lower c k low = let most = c.max-room.ensures in grind arith

@@ -6,6 +6,3 @@ use Rattle.quantum_render.proofs.bench.Bench.render_plain.Goals as goal
 -- the curve of a node that is there has its points
 pub render_shaper-requires-clause-curve : goal.render_shaper-requires-clause-curve
 render_shaper-requires-clause-curve c = curve_allowed _ false (subst IsInLimits c.in-Shaper.is c.requires.limits)
-
-pub returns-in-Buffer-clause-renders : goal.returns-in-Buffer-clause-renders
-returns-in-Buffer-clause-renders c = c.render_buffer.ensures c.args.blocks.now

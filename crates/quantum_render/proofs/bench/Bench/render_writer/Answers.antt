@@ -20,12 +20,14 @@ use Rattle.quantum_render.proofs.bench.Bench.render_writer.Goals as goal
 
 pub copy-requires-clause-frames : goal.copy-requires-clause-frames
 copy-requires-clause-frames c =
-    c.self.invariant.heard_frames ∙ ap (λ (b : BenchView). b.frames) c.self.view_is ∙ c.write_heard.ensures.frames ∙ c.take_input.ensures.frames ∙ c.requires.frames.0 ∙ sym c.requires.frames.1
+    let own = c.place-place.ensures.own c.args.blocks.now c.requires.fit in
+    c.self.invariant.heard_frames ∙ ap (λ (b : BenchView). b.frames) c.self.view_is ∙ c.write_heard.ensures.frames ∙ c.take_input.ensures.frames ∙ c.requires.frames ∙ sym (own.frames c.index-blocks-place.result)
 
 pub copy-requires-clause-room : goal.copy-requires-clause-room
 copy-requires-clause-room c =
+    let own = c.place-place.ensures.own c.args.blocks.now c.requires.fit in
     let heard : c.self.inside.heard ≡ c.take_input.new.self.heard = ap (λ (b : BenchView). b.heard) c.self.view_is ∙ c.write_heard.ensures.heard in
-    own_room c.args.site.now _ c.requires.kind.3 refl c.args.block.now c.requires.lanes _ (ap (λ (b : BlockView). b.lanes) heard ∙ c.take_input.ensures.lanes ∙ c.channels.ensures.count)
+    own_room c.args.site.now _ c.requires.kind.3 refl (slice_index_or c.args.blocks.now c.place-place.result c.index-blocks-place.result) (own.lanes c.index-blocks-place.result) _ (ap (λ (b : BlockView). b.lanes) heard ∙ c.take_input.ensures.lanes ∙ c.channels.ensures.count)
 
 -- the writer's place is the first of its node's two
 own_slot : (s : SiteView) → s.end.writer ≡ true → slot s.end ≡ 2 * s.end.node.0
@@ -46,19 +48,20 @@ write_heard-requires-clause-there c =
     let count = subst (λ (x : SiteView). length x.world.nodes ≤ length c.args.delays.now.delays) (sym c.site.view_is) c.requires.count in
     omega arith
 
-pub returns-clause-renders : goal.returns-clause-renders
-returns-clause-renders c =
+pub returns-clause-draws : goal.returns-clause-draws
+returns-clause-draws c =
+    let own = c.place-place.ensures.own c.args.blocks.now c.requires.fit in
     let s : SiteView = c.args.site.now in
     let heard : c.self.inside.heard ≡ c.take_input.new.self.heard = ap (λ (b : BenchView). b.heard) c.self.view_is ∙ c.write_heard.ensures.heard in
     let channels : c.channels.result ≡ counts_in s.counts s.end = c.channels.ensures.count in
     let lanes : c.self.inside.heard.lanes ≡ c.channels.result = ap (λ (b : BlockView). b.lanes) heard ∙ c.take_input.ensures.lanes in
-    renders_own s _ c.requires.kind.3 refl c.args.blocks.now c.copy.new.self (c.copy.ensures.lanes ∙ lanes ∙ channels) (c.copy.ensures.frames ∙ c.requires.frames.1) (λ j earlier begins counted before channel m low now.
-    let own = counted ∙ ap (λ b. if not b then reader_channels (quantum_of s.world.spec) (sounding s.world) j earlier (counts_in s.counts) s.end.node.0 else input_channels (sounding s.world) (counts_in s.counts) s.end.node.0 0) c.requires.writer in
+    own.draws c.copy.new.self (renders_own s _ c.requires.kind.3 refl c.args.blocks.now c.copy.new.self (c.copy.ensures.lanes ∙ lanes ∙ channels) (c.copy.ensures.frames ∙ own.frames c.index-blocks-place.result) (λ j earlier begins counted before channel m low now.
+    let heard_by = counted ∙ ap (λ b. if not b then reader_channels (quantum_of s.world.spec) (sounding s.world) j earlier (counts_in s.counts) s.end.node.0 else input_channels (sounding s.world) (counts_in s.counts) s.end.node.0 0) c.requires.writer in
     let low' : channel < c.channels.result = subst (λ n. channel < n) (sym channels) low in
-    c.copy.ensures.values channel m (subst (λ n. channel < n) (sym lanes) low') (subst (λ n. m < n) (sym c.requires.frames.1) now)
+    c.copy.ensures.values channel m (subst (λ n. channel < n) (sym lanes) low') (subst (λ n. m < n) (sym (own.frames c.index-blocks-place.result)) now)
     ∙ ap (λ (b : BlockView). at b channel m) heard
-    ∙ c.take_input.ensures.input (channels ∙ own) channel m low' now
-    ∙ ap (λ b. if b then input_value (here_of s c.args.blocks.now m) s.end.node.0 0 channel else delayed (quantum_of s.world.spec) (s.first + m) (past_of s c.args.blocks.now before) (here_of s c.args.blocks.now m) s.end.node.0 channel) (sym c.requires.writer))
+    ∙ c.take_input.ensures.input (channels ∙ heard_by) channel m low' now
+    ∙ ap (λ b. if b then input_value (here_of s c.args.blocks.now m) s.end.node.0 0 channel else delayed (quantum_of s.world.spec) (s.first + m) (past_of s c.args.blocks.now before) (here_of s c.args.blocks.now m) s.end.node.0 channel) (sym c.requires.writer)))
 
 -- the lanes of the input, which are written
 abbrev input_of : goal.After-copy → List ℤ
@@ -71,6 +74,7 @@ writes_it c =
 
 pub returns-clause-stores : goal.returns-clause-stores
 returns-clause-stores c =
+    let own = c.place-place.ensures.own c.args.blocks.now c.requires.fit in
     let s : SiteView = c.args.site.now in
     let site = site_is s _ _ _ _ _ _ c.site.invariant.0 c.site.view_is in
     let heard : c.self.inside.heard ≡ c.take_input.new.self.heard = ap (λ (b : BenchView). b.heard) c.self.view_is ∙ c.write_heard.ensures.heard in
@@ -78,7 +82,7 @@ returns-clause-stores c =
     let lanes : c.self.inside.heard.lanes ≡ c.channels.result = ap (λ (b : BlockView). b.lanes) heard ∙ c.take_input.ensures.lanes in
     let wrote = writes_it c in
     let q : ℕ = quantum_of s.world.spec in
-    let frames : c.take_input.new.self.heard.frames ≡ q = c.take_input.ensures.heard_frames ∙ c.requires.frames.0 in
+    let frames : c.take_input.new.self.heard.frames ≡ q = c.take_input.ensures.heard_frames ∙ c.requires.frames in
     let same : c.args.delays.now.quantum ≡ q = c.requires.delay_frames in
     record {
       known = wrote.known;
@@ -90,7 +94,8 @@ returns-clause-stores c =
             count = is.count ∙ sym channels;
             frames = λ k m low now.
                 is.frames k m (subst (λ n. k < n) channels low) now
-                ∙ c.copy.ensures.values k m (subst (λ n. k < n) (sym lanes) low) (subst (λ n. m < n) (sym c.requires.frames.1) now)
+                ∙ ap (λ (b : BlockView). at b k m) (own.written c.copy.new.self)
+                ∙ c.copy.ensures.values k m (subst (λ n. k < n) (sym lanes) low) (subst (λ n. m < n) (sym (own.frames c.index-blocks-place.result)) now)
                 ∙ ap (λ b. if b then at c.self.inside.heard k m else pos 0) (let within : k < c.self.inside.heard.lanes = subst (λ n. k < n) (sym lanes) low in let is_within : true ≡ nat_lt k c.self.inside.heard.lanes = grind (arith, nat_tests) in is_within)
                 ∙ ap (λ (b : BlockView). shown b m k) heard
                 ∙ sym (c.write_heard.ensures.writes.1.values k m (let e = c.take_input.ensures.lanes in let own = subst (λ n. k < n) channels low in omega arith) (subst (λ n. m < n) (sym frames) now))
