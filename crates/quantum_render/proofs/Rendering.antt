@@ -16,7 +16,7 @@ use Rattle.automation.specs.Levels.{LevelView}
 use Rattle.delay_bank.specs.Banks.{BankView as DelayBank}
 use Rattle.quantum_blocks.specs.Blocks.{BlockView, at, room_of, slot, counts_in}
 use Rattle.quantum_blocks.specs.Fits.{AreFit}
-use Rattle.quantum_render.specs.Sites.{QuantumView, SiteView, IsQuantum, IsSite}
+use Rattle.quantum_render.specs.Sites.{SiteView, IsSite}
 use Rattle.quantum_blocks.proofs.Slots.{slot_low, slot-half, lane-only}
 use Rattle.quantum_blocks.proofs.Sources.{end_low}
 use Rattle.quantum_render.proofs.SiteLaws.{site_slot}
@@ -27,11 +27,6 @@ use Rattle.quantum_render.specs.Renders.{HasLanes, HasCount, Renders, RendersWit
 pub site_is : (s : SiteView) (w : World) (e : End) (edges : List Edge) (counts : List ℕ) (levels : List LevelView) (first : ℕ) → IsSite w e edges counts levels first
     → (let x : SiteView = record { world = w; end = e; into = edges; counts = counts; levels = levels; first = first } in x) ≡ s → IsSite s.world s.end s.into s.counts s.levels s.first
 site_is s w e edges counts levels first site same = subst (λ (x : SiteView). IsSite x.world x.end x.into x.counts x.levels x.first) same site
-
--- the fields of a quantum likewise
-pub quantum_is : (q : QuantumView) (w : World) (counts : List ℕ) (levels : List LevelView) (first : ℕ) → IsQuantum w counts levels first
-    → (let x : QuantumView = record { world = w; counts = counts; levels = levels; first = first } in x) ≡ q → IsQuantum q.world q.counts q.levels q.first
-quantum_is q w counts levels first is same = subst (λ (x : QuantumView). IsQuantum x.world x.counts x.levels x.first) same is
 
 -- the end has its place among the blocks
 pub own_within : (s : SiteView) → IsSite s.world s.end s.into s.counts s.levels s.first → (blocks : List BlockView) → AreFit s.world s.counts blocks → (k : ℕ) → k ≡ slot s.end → k < length blocks

@@ -1,10 +1,10 @@
 -- An end in its world, at a quantum.
-use Rattle.std.specs.Prelude.{ℕ, ◌≡◌, ◌≤◌, ◌^◌, ◌*◌, ◌/◌, List, [], ◌∷◌, Bool, true, ◌&&◌}
+use Rattle.std.specs.Prelude.{ℕ, ◌≡◌, ◌≤◌, ◌^◌, ◌*◌, ◌/◌, List, [], ◌∷◌, true}
 use Rattle.wa_base.specs.Contexts.{quantum_of}
 use Rattle.wa_base.specs.declared.graph_names.End.{End}
 use Rattle.law_base.specs.Members.{IsIn}
 use Rattle.conn_graph.specs.declared.edges.Edge.{Edge}
-use Rattle.conn_graph.specs.Ends.{reader_of, ends, is_delay, in_cycle}
+use Rattle.conn_graph.specs.Ends.{reader_of, ends}
 use Rattle.automation.specs.Levels.{LevelView, AreLevels}
 use Rattle.meaning.specs.declared.world.World.{World}
 use Rattle.meaning.specs.Validity.{IsValid}
@@ -12,13 +12,7 @@ use Rattle.quantum_blocks.specs.declared.sums.Inlet.{Inlet}
 use Rattle.quantum_blocks.specs.Blocks.{counts_in}
 use Rattle.quantum_blocks.specs.Connections.{into as leads_into, leads_to}
 use Rattle.quantum_blocks.specs.Fits.{AreInRange}
-
--- what contracts see of a quantum: a world, the channels of each end, the level of each node's parameter, and the first frame
-pub record QuantumView : Type 0 where
-  pub world : World
-  pub counts : List ℕ
-  pub levels : List LevelView
-  pub first : ℕ
+use Rattle.quantum_render.specs.declared.site.Quantum.{Quantum}
 
 -- what contracts see of a site
 pub record SiteView : Type 0 where
@@ -34,8 +28,8 @@ pub record SiteView : Type 0 where
   pub first : ℕ
 
 -- the site of an end in a quantum, with the connections that lead to the end's node
-abbrev pub site_in : QuantumView → End → SiteView
-site_in q e = record { world = q.world; end = e; into = leads_into q.world.graph.value e.node.0; counts = q.counts; levels = q.levels; first = q.first }
+abbrev pub site_in : Quantum → End → SiteView
+site_in q e = record { world = q.world.now; end = e; into = leads_into q.world.now.graph.value e.node.0; counts = q.counts.now; levels = q.levels.now; first = q.first }
 
 -- a quantum of q frames begins at a multiple of them
 pub record IsBegun (q begin : ℕ) : Type 0 where
@@ -54,10 +48,6 @@ pub record IsSite (w : World) (e : End) (edges : List Edge) (counts : List ℕ) 
   pub quantum : IsQuantum w counts automated begin
   pub there : IsIn e (ends w.graph.value)
   pub into : edges ≡ leads_into w.graph.value e.node.0
-
--- a site is marked where its node is a delay in a cycle
-abbrev pub IsMarked : World → End → Bool → Type 0
-IsMarked w e mark = mark ≡ (is_delay w.graph.value e.node.0 && in_cycle w.graph.value e.node.0)
 
 -- A connection is the only one to a node, leads to the inlet and has its number of channels.
 pub record IsLone (s : SiteView) (inlet : Inlet) (edge : Edge) : Type 0 where

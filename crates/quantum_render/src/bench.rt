@@ -93,7 +93,7 @@ impl Bench {
         let inlet = Inlet {
             target: Target::Input { node, input },
             count: channels,
-            interp: site.world.nodes.attrs(node).interp,
+            interp: site.quantum.world.nodes.attrs(node).interp,
         };
         if let Some(edge) = lone_connection(site, inlet) {
             let source = &blocks[slot(reader(edge.from))];
@@ -101,8 +101,13 @@ impl Bench {
                 .copy_output(source, edge.output as usize, channels);
             return;
         }
-        self.heard
-            .hear(&mut self.sums, blocks, site.into, site.counts, inlet);
+        self.heard.hear(
+            &mut self.sums,
+            blocks,
+            site.into,
+            site.quantum.counts,
+            inlet,
+        );
     }
 
     // Hears what each of so many inputs carries, mixed to one channel.
@@ -155,7 +160,7 @@ impl Bench {
             node: site.end.node,
             name,
         };
-        let level = &site.levels[site.end.node.0 as usize];
+        let level = &site.quantum.levels[site.end.node.0 as usize];
         take_level(&mut self.levels, level);
         let target = Target::Param(id);
         if !is_reached(site.into, target) {
@@ -166,7 +171,8 @@ impl Bench {
             count: 1,
             interp: Interp::Speakers,
         };
-        self.sums.gather(blocks, site.into, site.counts, inlet);
+        self.sums
+            .gather(blocks, site.into, site.quantum.counts, inlet);
         self.levels.add(&self.sums);
         match level.rate() {
             Rate::A => {}
@@ -234,10 +240,10 @@ impl Bench {
         let node = site.end.node;
         let lanes = block.lanes();
         let asked = Reading {
-            first: site.first,
+            first: site.quantum.first,
             delays: &self.spans,
             channels: lanes as u32,
-            interp: site.world.nodes.attrs(node).interp,
+            interp: site.quantum.world.nodes.attrs(node).interp,
         };
         read_block(block, delays, node, asked, self.given.as_mut_slice());
     }
@@ -339,7 +345,7 @@ fn lone_connection(site: &Site, inlet: Inlet) -> Option<Edge>
     let [edge] = site.into else {
         return None;
     };
-    let channels = site.counts[slot(reader(edge.from))] as usize;
+    let channels = site.quantum.counts[slot(reader(edge.from))] as usize;
     if inlet.target.is_same(edge.to) && channels == inlet.count {
         Some(*edge)
     } else {

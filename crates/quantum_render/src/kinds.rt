@@ -92,7 +92,7 @@ impl Bench {
             return;
         };
         self.take_levels(blocks, site, ParamName::Offset);
-        self.levels.sound(start, end, site.first);
+        self.levels.sound(start, end, site.quantum.first);
         blocks[place].copy(&self.levels);
     }
 
@@ -211,7 +211,7 @@ impl Bench {
     {
         let place = site.place();
         self.take_input(blocks, site, 0, site.channels());
-        self.write_heard(delays, site.end.node, site.first);
+        self.write_heard(delays, site.end.node, site.quantum.first);
         blocks[place].copy(&self.heard);
     }
 
@@ -227,7 +227,7 @@ impl Bench {
     {
         let place = site.place();
         self.take_levels(blocks, site, ParamName::DelayTime);
-        self.take_spans(site.world.spec.rate, site.least_delay());
+        self.take_spans(site.quantum.world.spec.rate, site.least_delay());
         self.read_delay(&mut blocks[place], delays, site);
     }
 }
@@ -238,10 +238,11 @@ fn render_buffer(blocks: &mut [Block], site: &Site)
     requires kind { (rate : ℕ) × (kind_of site.now.world site.now.end.node.0 ≡ Buffer rate) }
     ensures { Draws site.now blocks.old blocks.new }
 {
+    let quantum = site.quantum;
     let place = site.place();
     let block = &mut blocks[place];
-    match sounding(site.world, site.end.node, site.near, site.first) {
-        Some(source) => block.play(&source, site.first),
+    match sounding(quantum.world, site.end.node, site.near(), quantum.first) {
+        Some(source) => block.play(&source, quantum.first),
         None => block.silence(),
     }
 }
@@ -261,12 +262,13 @@ fn span(site: &Site) -> Option<(u64, u64)>
     ensures sounds { IfSome result (λ span. (frame : ℕ) → frame < 2 ^ 64 - 1 → is_between (Some span.0) (Some span.1) frame ≡ sounds_at site.now.world site.now.end.node.0 frame) }
     ensures silent { result ≡ None → (m : ℕ) → m < quantum_of site.now.world.spec → sounds_at site.now.world site.now.end.node.0 (site.now.first + m) ≡ false }
 {
-    let place = play_place(site.world, site.end.node, site.near)?;
-    let sched = site.world.scheds.at(place).sched;
+    let quantum = site.quantum;
+    let place = play_place(quantum.world, site.end.node, site.near())?;
+    let sched = quantum.world.scheds.at(place).sched;
     let start = sched.start_frame()?;
     let end = sched.end_frame().unwrap_or(u64::MAX);
-    let next = site.first + u64::from(site.world.spec.quantum);
-    if end <= site.first || next <= start {
+    let next = quantum.first + u64::from(quantum.world.spec.quantum);
+    if end <= quantum.first || next <= start {
         return None;
     }
     Some((start, end))

@@ -7,6 +7,7 @@ ghost use Rattle.meaning.specs.declared.world.World.{World as a_world};
 ghost use Rattle.meaning.specs.Values.{value};
 ghost use Rattle.quantum_blocks.specs.Blocks.{drafts_of};
 ghost use Rattle.quantum_blocks.specs.Fits.{AreFit};
+ghost use Rattle.quantum_render.specs.Sites.{IsQuantum};
 ghost use Rattle.quantum_render.specs.Plans.{IsPlan, AreCycles, AreCounted};
 ghost use Rattle.quantum_render.specs.Listening.{IsTimely, IsMemory, HasRooms};
 
@@ -23,20 +24,21 @@ pub(crate) fn render_quantum<'a>(
     bench: &mut Bench,
     memory: &mut Memory,
     plan: &'a Plan,
-    quantum: &Quantum<'a>,
+    quantum: &'a Quantum<'a>,
 )
-    requires plan { IsPlan quantum.now.world plan.now.order plan.now.muted plan.now.into }
-    requires cycles { AreCycles quantum.now.world.graph.value plan.now.cycles }
-    requires frames { bench.old.frames ≡ quantum_of quantum.now.world.spec }
-    requires fit { AreFit quantum.now.world quantum.now.counts blocks.old }
-    requires rooms { HasRooms memory.old quantum.now.world quantum.now.counts }
+    requires quantum { IsQuantum quantum.now.world.now quantum.now.counts.now quantum.now.levels.now quantum.now.first }
+    requires plan { IsPlan quantum.now.world.now plan.now.order plan.now.muted plan.now.into }
+    requires cycles { AreCycles quantum.now.world.now.graph.value quantum.now.cycles.now }
+    requires frames { bench.old.frames ≡ quantum_of quantum.now.world.now.spec }
+    requires fit { AreFit quantum.now.world.now quantum.now.counts.now blocks.old }
+    requires rooms { HasRooms memory.old quantum.now.world.now quantum.now.counts.now }
     ensures frames { bench.new.frames ≡ bench.old.frames }
     ensures quanta { (memory.new.causal.quantum ≡ memory.old.causal.quantum) × (memory.new.delays.quantum ≡ memory.old.delays.quantum) }
-    ensures fit { AreFit quantum.now.world quantum.now.counts blocks.new }
-    ensures values { (tape : List a_world) → quantum.now.first ≡ quantum_of quantum.now.world.spec * length tape → AreCounted (quantum_of quantum.now.world.spec) quantum.now.world quantum.now.counts tape → IsTimely quantum.now.world → IsMemory memory.old quantum.now.world tape quantum.now.first → (m : ℕ) (d : an_end) → m < quantum_of quantum.now.world.spec → IsIn d (ends quantum.now.world.graph.value) →
-        drafts_of blocks.new quantum.now.counts m d ≡ value (quantum_of quantum.now.world.spec) (tape ++ quantum.now.world ∷ []) (quantum_of quantum.now.world.spec * length tape + m) d }
-    ensures memory { (tape : List a_world) → quantum.now.first ≡ quantum_of quantum.now.world.spec * length tape → AreCounted (quantum_of quantum.now.world.spec) quantum.now.world quantum.now.counts tape → IsTimely quantum.now.world → IsMemory memory.old quantum.now.world tape quantum.now.first →
-        IsMemory memory.new quantum.now.world tape (quantum.now.first + quantum_of quantum.now.world.spec) }
+    ensures fit { AreFit quantum.now.world.now quantum.now.counts.now blocks.new }
+    ensures values { (tape : List a_world) → quantum.now.first ≡ quantum_of quantum.now.world.now.spec * length tape → AreCounted (quantum_of quantum.now.world.now.spec) quantum.now.world.now quantum.now.counts.now tape → IsTimely quantum.now.world.now → IsMemory memory.old quantum.now.world.now tape quantum.now.first → (m : ℕ) (d : an_end) → m < quantum_of quantum.now.world.now.spec → IsIn d (ends quantum.now.world.now.graph.value) →
+        drafts_of blocks.new quantum.now.counts.now m d ≡ value (quantum_of quantum.now.world.now.spec) (tape ++ quantum.now.world.now ∷ []) (quantum_of quantum.now.world.now.spec * length tape + m) d }
+    ensures memory { (tape : List a_world) → quantum.now.first ≡ quantum_of quantum.now.world.now.spec * length tape → AreCounted (quantum_of quantum.now.world.now.spec) quantum.now.world.now quantum.now.counts.now tape → IsTimely quantum.now.world.now → IsMemory memory.old quantum.now.world.now tape quantum.now.first →
+        IsMemory memory.new quantum.now.world.now tape (quantum.now.first + quantum_of quantum.now.world.now.spec) }
     ensures known { (memory.new.causal.known ≡ length memory.old.causal.nodes) × (memory.new.delays.known ≡ length memory.old.delays.delays) }
 {
     let first = quantum.first;

@@ -1,14 +1,14 @@
 ghost use Rattle.std.specs.Prelude.{◌≡◌, ◌≤◌, ◌+◌, ◌↔◌, length, Some, None, IsTrue, IfOk, OnOk, OnErr};
 ghost use Rattle.law_base.specs.Members.{IsIn};
 ghost use Rattle.conn_graph.specs.Ends.{ends};
-ghost use Rattle.quantum_render.specs.Sites.{site_in};
+ghost use Rattle.quantum_render.specs.Sites.{IsQuantum, site_in};
 ghost use Rattle.quantum_render.specs.Plans.{IsPlan, IsPlanned, IsUnedited, AreCycles};
 
 use crate::site::{Quantum, Site};
 use conn_graph::{Edge, Graph};
 use cycle_order::{Ends, Layout, Parts, lay_out, marked};
 use meaning::World;
-use quantum_blocks::{near_of, places_of};
+use quantum_blocks::places_of;
 use std::alloc::Global;
 use std::marker::Model;
 use std::sync::ledger::Ledger;
@@ -136,23 +136,18 @@ impl Plan {
         self.muted.as_slice()
     }
 
-    // An end with the connections that lead to its node.
-    pub(crate) fn site<'a>(&'a self, quantum: &Quantum<'a>, end: End) -> Site<'a>
-        requires plan { IsPlan quantum.now.world self.now.order self.now.muted self.now.into }
-        requires cycles { AreCycles quantum.now.world.graph.value self.now.cycles }
-        requires there { IsIn end (ends quantum.now.world.graph.value) }
+    // An end in a quantum, with the connections that lead to its node.
+    pub(crate) fn site<'a>(&'a self, quantum: &'a Quantum<'a>, end: End) -> Site<'a>
+        requires quantum { IsQuantum quantum.now.world.now quantum.now.counts.now quantum.now.levels.now quantum.now.first }
+        requires plan { IsPlan quantum.now.world.now self.now.order self.now.muted self.now.into }
+        requires cycles { AreCycles quantum.now.world.now.graph.value quantum.now.cycles.now }
+        requires there { IsIn end (ends quantum.now.world.now.graph.value) }
         ensures { result ≡ site_in quantum.now end }
     {
-        let node = end.node.0 as usize;
         Site {
-            world: quantum.world,
+            quantum,
             end,
-            into: self.into.part(node),
-            counts: quantum.counts,
-            levels: quantum.levels,
-            first: quantum.first,
-            near: near_of(self.near.as_slice(), end.node),
-            in_cycle: self.cycles[node],
+            into: self.into.part(end.node.0 as usize),
         }
     }
 

@@ -210,6 +210,8 @@ impl Renderer {
             counts: self.counts.as_slice(),
             levels: self.automation.levels(),
             first,
+            near: self.plan.near(),
+            cycles: self.plan.cycles(),
         };
         let blocks = self.blocks.as_mut_slice();
         render_quantum(

@@ -12,55 +12,42 @@ use automation::Level;
 use conn_graph::Edge;
 use meaning::World;
 use node_table::Kind;
-use quantum_blocks::slot;
+use quantum_blocks::{near_of, slot};
 use std::marker::Model;
 use wa_base::End;
 
-// What the ends of a valid world are rendered by in the quantum that begins at a frame: the channels of
-// each end, by its slot, and the level of each node's parameter.
-#[derive(Drop)]
+// What the ends of a valid world are rendered by in the quantum that begins at a frame.
+#[derive(Clone, Copy)]
 pub(crate) struct Quantum<'a> {
     pub world: &'a World,
-    pub counts: &'a [u32],
-    pub levels: &'a [Level],
-    pub first: u64,
-}
-
-impl<'a> Model for Quantum<'a> {
-    ghost use Rattle.quantum_render.specs.Sites.{QuantumView, IsQuantum};
-
-    ghost Value = { QuantumView };
-
-    ghost view = { λ q. record { world = q.world.now; counts = q.counts.now; levels = q.levels.now; first = q.first } };
-
-    ghost invariant = { λ q. IsQuantum q.world.now q.counts.now q.levels.now q.first };
-}
-
-// An end of a node of a valid world with the connections that lead to the node, in the quantum that
-// begins at a frame.
-#[derive(Drop)]
-pub(crate) struct Site<'a> {
-    pub world: &'a World,
-    pub end: End,
-    pub into: &'a [Edge],
     // The channels of each end, by its slot.
     pub counts: &'a [u32],
     // The level of each node's parameter.
     pub levels: &'a [Level],
     pub first: u64,
-    pub near: usize,
-    // Whether the node is a delay in a cycle.
-    pub in_cycle: bool,
+    // Where the schedule of each node is likely to stand.
+    pub near: &'a [usize],
+    // For each node, whether it is a delay in a cycle.
+    pub cycles: &'a [bool],
+}
+
+// An end of a node in a quantum, with the connections that lead to the node.
+#[derive(Drop)]
+pub(crate) struct Site<'a> {
+    pub quantum: &'a Quantum<'a>,
+    pub end: End,
+    pub into: &'a [Edge],
 }
 
 impl<'a> Model for Site<'a> {
-    ghost use Rattle.quantum_render.specs.Sites.{SiteView, IsSite, IsMarked};
+    ghost use Rattle.quantum_render.specs.Sites.{SiteView, IsSite};
+    ghost use Rattle.quantum_render.specs.Plans.{AreCycles};
 
     ghost Value = { SiteView };
 
-    ghost view = { λ s. record { world = s.world.now; end = s.end; into = s.into.now; counts = s.counts.now; levels = s.levels.now; first = s.first } };
+    ghost view = { λ s. record { world = s.quantum.now.world.now; end = s.end; into = s.into.now; counts = s.quantum.now.counts.now; levels = s.quantum.now.levels.now; first = s.quantum.now.first } };
 
-    ghost invariant = { λ s. IsSite s.world.now s.end s.into.now s.counts.now s.levels.now s.first × IsMarked s.world.now s.end s.in_cycle };
+    ghost invariant = { λ s. IsSite s.quantum.now.world.now s.end s.into.now s.quantum.now.counts.now s.quantum.now.levels.now s.quantum.now.first × AreCycles s.quantum.now.world.now.graph.value s.quantum.now.cycles.now };
 }
 
 impl Site<'_> {
@@ -71,7 +58,7 @@ impl Site<'_> {
         ensures high { result ≤ 32 }
         ensures site { IsSite self.now.world self.now.end self.now.into self.now.counts self.now.levels self.now.first }
     {
-        self.counts[slot(self.end)] as usize
+        self.quantum.counts[slot(self.end)] as usize
     }
 
     // The place of the end's block.
@@ -87,7 +74,12 @@ impl Site<'_> {
         ensures limits { IsInLimits result.now }
         ensures site { IsSite self.now.world self.now.end self.now.into self.now.counts self.now.levels self.now.first }
     {
-        self.world.nodes.kind(self.end.node)
+        self.quantum.world.nodes.kind(self.end.node)
+    }
+
+    // Where the schedule of the end's node is likely to stand.
+    pub(crate) fn near(&self) -> usize {
+        near_of(self.quantum.near, self.end.node)
     }
 
     // The number of outputs of the end's node.
@@ -103,8 +95,8 @@ impl Site<'_> {
     pub(crate) fn least_delay(&self) -> u64
         ensures { is_delay self.now.world.graph.value self.now.end.node.0 ≡ true → result ≡ (if cycle_of self.now.world.graph.value self.now.end.node.0 then quantum_of self.now.world.spec else 0) }
     {
-        if self.in_cycle {
-            u64::from(self.world.spec.quantum)
+        if self.quantum.cycles[self.end.node.0 as usize] {
+            u64::from(self.quantum.world.spec.quantum)
         } else {
             0
         }

@@ -7,39 +7,39 @@ use Rattle.meaning.proofs.Joined.{joined}
 use Rattle.filter_bank.specs.Banks.{heard_at, IsRestedIfThere}
 use Rattle.quantum_blocks.specs.Blocks.{slot, IsSilent}
 use Rattle.quantum_blocks.specs.Fits.{AreFit}
-use Rattle.quantum_render.specs.Sites.{QuantumView, SiteView, site_in}
+use Rattle.quantum_render.specs.declared.site.Quantum.{Quantum}
+use Rattle.quantum_render.specs.Sites.{SiteView, site_in}
 use Rattle.quantum_render.specs.Listening.{HasRooms}
 use Rattle.quantum_render.specs.Renders.{IsRendered}
 use Rattle.quantum_blocks.proofs.Orders.{no_end}
 use Rattle.quantum_render.proofs.Passing.{still_fit, passing_begins, next, passing_rendered, passing_ends, all_remembered, mute_there}
 use Rattle.quantum_render.proofs.Ports.{some_frames}
-use Rattle.quantum_render.proofs.Rendering.{quantum_is}
 use Rattle.quantum_render.proofs.pass.render_quantum.Goals as goal
 
 pub hush-requires : goal.hush-requires
 hush-requires c =
-    let q : QuantumView = c.args.quantum.now in
-    let valid = (quantum_is q _ _ _ _ c.quantum.invariant c.quantum.view_is).valid in
+    let q : Quantum = c.args.quantum.now in
+    let valid = c.requires.quantum.valid in
     subst (λ (ms : List End). (i : ℕ) (d : End) → i < length ms → slot (slice_index_or ms i d) < length c.args.blocks.now) (sym c.muted.ensures)
-    (mute_there q.world valid c.args.plan.now.order c.args.plan.now.muted c.args.plan.now.into c.requires.plan q.counts c.args.blocks.now c.requires.fit)
+    (mute_there q.world.now valid c.args.plan.now.order c.args.plan.now.muted c.args.plan.now.into c.requires.plan q.counts.now c.args.blocks.now c.requires.fit)
 
 pub loop-end-init : goal.loop-end-init
 loop-end-init c = record {
   frames = refl;
   passing =
-      let q : QuantumView = c.args.quantum.now in
-      let valid = (quantum_is q _ _ _ _ c.quantum.invariant c.quantum.view_is).valid in
-      passing_begins q.world (some_frames q.world valid) (joined q.world valid) c.args.plan.now.order c.args.plan.now.muted c.args.plan.now.into c.requires.plan
-      q.counts q.first c.args.memory.now c.requires.rooms c.hush.new.blocks (still_fit q.world q.counts c.args.blocks.now c.hush.new.blocks c.hush.ensures.lanes c.hush.ensures.frames c.requires.fit)
+      let q : Quantum = c.args.quantum.now in
+      let valid = c.requires.quantum.valid in
+      passing_begins q.world.now (some_frames q.world.now valid) (joined q.world.now valid) c.args.plan.now.order c.args.plan.now.muted c.args.plan.now.into c.requires.plan
+      q.counts.now q.first c.args.memory.now c.requires.rooms c.hush.new.blocks (still_fit q.world.now q.counts.now c.args.blocks.now c.hush.new.blocks c.hush.ensures.lanes c.hush.ensures.frames c.requires.fit)
       (subst (λ (ms : List End). (i : ℕ) (d : End) → i < length ms → IsSilent c.hush.new.blocks (slice_index_or ms i d)) c.muted.ensures c.hush.ensures.silent);
 }
 
 pub site-site-requires-clause-there : goal.site-site-requires-clause-there
 site-site-requires-clause-there c =
-    let q : QuantumView = c.args.quantum.now in
-    let valid = (quantum_is q _ _ _ _ c.quantum.invariant c.quantum.view_is).valid in
-    subst (λ (order : List End). IsIn (slice_index_or order c.loop-end.end-index no_end) (ends q.world.graph.value)) (sym c.order-end-items.ensures)
-    (next q.world valid c.args.plan.now.order c.loop-end.end-index q.counts q.first c.args.memory.now c.loop-end.memory c.loop-end.blocks c.loop-end.invariant.passing
+    let q : Quantum = c.args.quantum.now in
+    let valid = c.requires.quantum.valid in
+    subst (λ (order : List End). IsIn (slice_index_or order c.loop-end.end-index no_end) (ends q.world.now.graph.value)) (sym c.order-end-items.ensures)
+    (next q.world.now valid c.args.plan.now.order c.loop-end.end-index q.counts.now q.first c.args.memory.now c.loop-end.memory c.loop-end.blocks c.loop-end.invariant.passing
     (subst (λ (order : List End). c.loop-end.end-index < length order) c.order-end-items.ensures c.loop-end-test.true)).0
 
 pub render-requires : goal.render-requires
@@ -55,33 +55,33 @@ render-requires c =
 
 pub loop-end-preserved : goal.loop-end-preserved
 loop-end-preserved c =
-    let q : QuantumView = c.args.quantum.now in
-    let valid = (quantum_is q _ _ _ _ c.quantum.invariant c.quantum.view_is).valid in
+    let q : Quantum = c.args.quantum.now in
+    let valid = c.requires.quantum.valid in
     let place = c.order-end-items.ensures in
     let here = c.site-site.ensures ∙ ap (λ (order : List End). site_in q (slice_index_or order c.loop-end.end-index no_end)) place in
     record {
       frames = c.render.ensures.frames ∙ c.loop-end.invariant.frames;
-      passing = passing_rendered q.world valid c.args.plan.now.order c.loop-end.end-index q.counts q.first c.args.memory.now c.loop-end.memory c.render.new.memory c.loop-end.blocks c.render.new.blocks c.loop-end.invariant.passing
-          (subst (λ (order : List End). c.loop-end.end-index < length order) place c.loop-end-test.true) _ q.levels
+      passing = passing_rendered q.world.now valid c.args.plan.now.order c.loop-end.end-index q.counts.now q.first c.args.memory.now c.loop-end.memory c.render.new.memory c.loop-end.blocks c.render.new.blocks c.loop-end.invariant.passing
+          (subst (λ (order : List End). c.loop-end.end-index < length order) place c.loop-end-test.true) _ q.levels.now
           (subst (λ (x : SiteView). IsRendered x c.loop-end.blocks c.render.new.blocks c.loop-end.memory c.render.new.memory) here
           (record { draws = c.render.ensures.draws; listens = c.render.ensures.listens; stores = c.render.ensures.stores; rooms = c.render.ensures.rooms }));
     }
 
 pub returns : goal.returns
 returns c =
-    let q : QuantumView = c.args.quantum.now in
-    let valid = (quantum_is q _ _ _ _ c.quantum.invariant c.quantum.view_is).valid in
+    let q : Quantum = c.args.quantum.now in
+    let valid = c.requires.quantum.valid in
     let past = subst (λ (order : List End). length order ≤ c.loop-end.end-index) c.order-end-items.ensures c.loop-end-test.false in
     let rooms = c.loop-end.invariant.passing.rooms in
     record {
       frames = c.loop-end.invariant.frames;
       quanta = (c.rest.ensures.quantum ∙ rooms.causal_quantum ∙ sym c.requires.rooms.causal_quantum, c.end_quantum.ensures.quantum ∙ rooms.delay_quantum ∙ sym c.requires.rooms.delay_quantum);
       fit = c.loop-end.invariant.passing.fit;
-      values = passing_ends q.world valid c.args.plan.now.order c.loop-end.end-index q.counts q.first c.args.memory.now c.loop-end.memory c.loop-end.blocks c.loop-end.invariant.passing past;
-      memory = λ tape begins counted timely ready. all_remembered q.world valid c.args.plan.now.order c.loop-end.end-index q.counts q.first c.args.memory.now c.loop-end.memory c.loop-end.blocks c.loop-end.invariant.passing past
+      values = passing_ends q.world.now valid c.args.plan.now.order c.loop-end.end-index q.counts.now q.first c.args.memory.now c.loop-end.memory c.loop-end.blocks c.loop-end.invariant.passing past;
+      memory = λ tape begins counted timely ready. all_remembered q.world.now valid c.args.plan.now.order c.loop-end.end-index q.counts.now q.first c.args.memory.now c.loop-end.memory c.loop-end.blocks c.loop-end.invariant.passing past
           tape begins counted timely ready (record { causal = c.rest.new.self; delays = c.end_quantum.new.self })
           (subst (λ k. (n : ℕ) → IsRestedIfThere k q.first (heard_at c.loop-end.memory.causal n) (heard_at c.rest.new.self n)) rooms.causal_quantum
-          (subst (λ (x : QuantumView). (n : ℕ) → IsRestedIfThere c.loop-end.memory.causal.quantum x.first (heard_at c.loop-end.memory.causal n) (heard_at c.rest.new.self n)) c.quantum.view_is c.rest.ensures.each))
+          c.rest.ensures.each)
           c.end_quantum.ensures.delays c.end_quantum.ensures.quantum;
       known = (c.rest.ensures.known ∙ c.loop-end.invariant.passing.causal, c.end_quantum.ensures.known ∙ c.loop-end.invariant.passing.delays);
     }

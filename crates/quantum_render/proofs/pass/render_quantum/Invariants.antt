@@ -5,5 +5,5 @@ use Rattle.quantum_render.proofs.pass.render_quantum.Given as goal
 abbrev pub invariant-loop-end : goal.invariant-loop-end
 invariant-loop-end l = record {
   frames : l.bench.frames ≡ l.initial.bench.frames;
-  passing : Passing l.quantum.world l.plan.order l.end-index l.quantum.counts l.quantum.first l.initial.memory l.memory l.blocks;
+  passing : Passing l.quantum.world.now l.plan.order l.end-index l.quantum.counts.now l.quantum.first l.initial.memory l.memory l.blocks;
 }

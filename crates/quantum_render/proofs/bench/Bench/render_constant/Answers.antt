@@ -44,7 +44,7 @@ returns-clause-draws c =
     ∙ ap (λ lane. at c.sound.new.self lane m) (let zeroth : channel ≡ 0 = omega arith in zeroth)
     ∙ c.sound.ensures.values m (subst (λ n. m < n) (sym framed) now)
     ∙ ap (λ b. if b then at c.self.inside.levels 0 m else pos 0)
-    (spanned (c.site.inside.first + m) (omega (arith, time, now, site.quantum.valid.spec.quantum.high)) ∙ ap (λ (x : SiteView). sounds_at s.world s.end.node.0 (x.first + m)) c.site.view_is)
+    (spanned (c.site.inside.quantum.now.first + m) (omega (arith, time, now, site.quantum.valid.spec.quantum.high)) ∙ ap (λ (x : SiteView). sounds_at s.world s.end.node.0 (x.first + m)) c.site.view_is)
     ∙ ap (λ x. if sounds_at s.world s.end.node.0 (s.first + m) then x else pos 0)
     (ap (λ (b : BlockView). at b 0 m) levels ∙ c.take_levels.ensures.levels before m now)))
 

@@ -41,7 +41,7 @@ spans_are c before k now =
     let frames : ℕ = frames_of (computed_value q (s.first + k) (past_of s c.args.blocks.now before) (here_of s c.args.blocks.now k) (param_id s.end.node.0 DelayTime)) s.world.spec.rate in
     let least : c.least_delay.result ≡ (if in_cycle s.world.graph.value s.end.node.0 then q else 0) = c.least_delay.ensures ((joined s.world site.quantum.valid).delays s.end.node.0 ∙ ap is_delay_kind c.requires.kind.3) in
     c.take_spans.ensures.spans k (subst (λ n. k < n) (sym (c.take_levels.ensures.frames ∙ c.requires.frames)) now)
-    ∙ ap (λ x. max c.least_delay.result (frames_of x c.site.inside.world.now.spec.rate)) (c.take_levels.ensures.levels before k now)
+    ∙ ap (λ x. max c.least_delay.result (frames_of x c.site.inside.quantum.now.world.now.spec.rate)) (c.take_levels.ensures.levels before k now)
     ∙ ap (λ (x : SiteView). max c.least_delay.result (frames_of (computed_value q (s.first + k) (past_of s c.args.blocks.now before) (here_of s c.args.blocks.now k) (param_id s.end.node.0 DelayTime)) x.world.spec.rate)) c.site.view_is
     ∙ ap (λ n. max n frames) least
     ∙ by_cycle q frames (in_cycle s.world.graph.value s.end.node.0)

@@ -44,7 +44,7 @@ write_heard-requires-clause-room c d is =
 
 pub write_heard-requires-clause-there : goal.write_heard-requires-clause-there
 write_heard-requires-clause-there c =
-    let low = end_low c.site.inside.world.now c.site.invariant.0.quantum.valid c.site.inside.end c.site.invariant.0.there in
+    let low = end_low c.site.inside.quantum.now.world.now c.site.invariant.0.quantum.valid c.site.inside.end c.site.invariant.0.there in
     let count = subst (λ (x : SiteView). length x.world.nodes ≤ length c.args.delays.now.delays) (sym c.site.view_is) c.requires.count in
     omega arith
 

@@ -24,7 +24,7 @@ use Rattle.quantum_render.proofs.Rendering.{site_is}
 use Rattle.quantum_render.proofs.bench.Bench.take_input.Goals as goal
 
 pub attrs-requires : goal.attrs-requires
-attrs-requires c = end_low c.site.inside.world.now c.site.invariant.0.quantum.valid c.site.inside.end c.site.invariant.0.there
+attrs-requires c = end_low c.site.inside.quantum.now.world.now c.site.invariant.0.quantum.valid c.site.inside.end c.site.invariant.0.there
 
 -- the lone connection is the first of the site
 source_of : (s : SiteView) → IsSite s.world s.end s.into s.counts s.levels s.first → (blocks : List BlockView) → AreFit s.world s.counts blocks → (e : Edge) → into s.world.graph.value s.end.node.0 ≡ e ∷ [] → IsSource (quantum_of s.world.spec) s.counts blocks e
@@ -75,7 +75,7 @@ hear-requires-clause-few c = site_few _ _ _ _ _ _ c.site.invariant.0
 
 pub hear-requires-clause-sources : goal.hear-requires-clause-sources
 hear-requires-clause-sources c =
-    subst (λ n. AreSources n c.site.inside.counts.now c.args.blocks.now c.site.inside.into.now) (ap (λ (x : SiteView). quantum_of x.world.spec) c.site.view_is ∙ sym (c.self.invariant.heard_frames ∙ ap (λ (b : BenchView). b.frames) c.self.view_is ∙ c.requires.frames))
+    subst (λ n. AreSources n c.site.inside.quantum.now.counts.now c.args.blocks.now c.site.inside.into.now) (ap (λ (x : SiteView). quantum_of x.world.spec) c.site.view_is ∙ sym (c.self.invariant.heard_frames ∙ ap (λ (b : BenchView). b.frames) c.self.view_is ∙ c.requires.frames))
     (source_is _ _ _ _ _ _ c.args.blocks.now c.site.invariant.0 (subst (λ (x : SiteView). AreFit x.world x.counts c.args.blocks.now) (sym c.site.view_is) c.requires.fit))
 
 pub returns-in-Some-clause-input : goal.returns-in-Some-clause-input

@@ -37,7 +37,7 @@ is_there s site name some = has_param s.world site.quantum.valid s.end.node.0 na
 
 pub bounds-site-inside-site-inside : goal.bounds-site-inside-site-inside
 bounds-site-inside-site-inside c =
-    level_within c.site.inside.world.now c.site.invariant.0.quantum.valid c.site.inside.first c.site.inside.levels.now c.site.invariant.0.quantum.levels (param_id c.site.inside.end.node.0 c.args.name)
+    level_within c.site.inside.quantum.now.world.now c.site.invariant.0.quantum.valid c.site.inside.quantum.now.first c.site.inside.quantum.now.levels.now c.site.invariant.0.quantum.levels (param_id c.site.inside.end.node.0 c.args.name)
     (subst (λ (x : SiteView). IsIn (param_id x.end.node.0 c.args.name) (param_ids x.world)) (sym c.site.view_is)
     (is_there c.args.site.now (site_is c.args.site.now _ _ _ _ _ _ c.site.invariant.0 c.site.view_is) c.args.name c.requires.there))
 
@@ -45,18 +45,18 @@ pub take_level-requires-clause-level : goal.take_level-requires-clause-level
 take_level-requires-clause-level c =
     let there = subst (λ (x : SiteView). IsIn (param_id x.end.node.0 c.args.name) (param_ids x.world)) (sym c.site.view_is)
     (is_there c.args.site.now (site_is c.args.site.now _ _ _ _ _ _ c.site.invariant.0 c.site.view_is) c.args.name c.requires.there) in
-    let w = c.site.inside.world.now in
+    let w = c.site.inside.quantum.now.world.now in
     let id = param_id c.site.inside.end.node.0 c.args.name in
-    subst (λ n. HasRoom n (slice_index_or c.site.inside.levels.now c.site.inside.end.node.0 c.index-site-site.result)) (ap (λ (x : SiteView). quantum_of x.world.spec) c.site.view_is ∙ sym (c.self.invariant.levels_frames ∙ ap (λ (b : BenchView). b.frames) c.self.view_is ∙ c.requires.frames))
-    (subst (HasRoom (quantum_of w.spec)) (get_or_default c.site.inside.levels.now c.site.inside.end.node.0 no_level c.index-site-site.result (level_within w c.site.invariant.0.quantum.valid c.site.inside.first c.site.inside.levels.now c.site.invariant.0.quantum.levels id there))
-    (has_room w c.site.invariant.0.quantum.valid c.site.inside.first c.site.inside.levels.now c.site.invariant.0.quantum.levels id there))
+    subst (λ n. HasRoom n (slice_index_or c.site.inside.quantum.now.levels.now c.site.inside.end.node.0 c.index-site-site.result)) (ap (λ (x : SiteView). quantum_of x.world.spec) c.site.view_is ∙ sym (c.self.invariant.levels_frames ∙ ap (λ (b : BenchView). b.frames) c.self.view_is ∙ c.requires.frames))
+    (subst (HasRoom (quantum_of w.spec)) (get_or_default c.site.inside.quantum.now.levels.now c.site.inside.end.node.0 no_level c.index-site-site.result (level_within w c.site.invariant.0.quantum.valid c.site.inside.quantum.now.first c.site.inside.quantum.now.levels.now c.site.invariant.0.quantum.levels id there))
+    (has_room w c.site.invariant.0.quantum.valid c.site.inside.quantum.now.first c.site.inside.quantum.now.levels.now c.site.invariant.0.quantum.levels id there))
 
 pub gather-requires-clause-few : goal.gather-requires-clause-few
 gather-requires-clause-few c = site_few _ _ _ _ _ _ c.site.invariant.0
 
 pub gather-requires-clause-sources : goal.gather-requires-clause-sources
 gather-requires-clause-sources c =
-    subst (λ n. AreSources n c.site.inside.counts.now c.args.blocks.now c.site.inside.into.now) (ap (λ (x : SiteView). quantum_of x.world.spec) c.site.view_is ∙ sym (c.self.invariant.summed ∙ ap (λ (b : BenchView). b.frames) c.self.view_is ∙ c.requires.frames))
+    subst (λ n. AreSources n c.site.inside.quantum.now.counts.now c.args.blocks.now c.site.inside.into.now) (ap (λ (x : SiteView). quantum_of x.world.spec) c.site.view_is ∙ sym (c.self.invariant.summed ∙ ap (λ (b : BenchView). b.frames) c.self.view_is ∙ c.requires.frames))
     (source_is _ _ _ _ _ _ c.args.blocks.now c.site.invariant.0 (subst (λ (x : SiteView). AreFit x.world x.counts c.args.blocks.now) (sym c.site.view_is) c.requires.fit))
 
 -- the level that is at hand is that of the site's node
@@ -84,7 +84,7 @@ returns-then-not-is_reached-clause-levels c before m now =
     let site = site_is s _ _ _ _ _ _ c.site.invariant.0 c.site.view_is in
     let own = c.self.invariant.levels_frames ∙ ap (λ (b : BenchView). b.frames) c.self.view_is ∙ c.requires.frames in
     let d : LevelView = c.index-site-site.result in
-    let level : LevelView = slice_index_or c.site.inside.levels.now c.site.inside.end.node.0 d in
+    let level : LevelView = slice_index_or c.site.inside.quantum.now.levels.now c.site.inside.end.node.0 d in
     let is = subst (λ (x : SiteView). level ≡ slice_index_or x.levels x.end.node.0 d) c.site.view_is refl in
     let value : ℤ = level_at level m in
     let now' : m < c.self.inside.levels.frames = subst (λ n. m < n) (sym own) now in
@@ -104,7 +104,7 @@ returns-in-A-clause-levels c before m now =
     let site = site_is s _ _ _ _ _ _ c.site.invariant.0 c.site.view_is in
     let own = c.self.invariant.levels_frames ∙ ap (λ (b : BenchView). b.frames) c.self.view_is ∙ c.requires.frames in
     let d : LevelView = c.index-site-site.result in
-    let level : LevelView = slice_index_or c.site.inside.levels.now c.site.inside.end.node.0 d in
+    let level : LevelView = slice_index_or c.site.inside.quantum.now.levels.now c.site.inside.end.node.0 d in
     let is = subst (λ (x : SiteView). level ≡ slice_index_or x.levels x.end.node.0 d) c.site.view_is refl in
     let summed = c.self.invariant.summed ∙ ap (λ (b : BenchView). b.frames) c.self.view_is ∙ c.requires.frames in
     let now' : m < c.self.inside.levels.frames = subst (λ n. m < n) (sym own) now in
@@ -125,7 +125,7 @@ returns-in-K-clause-levels c before m now =
     let site = site_is s _ _ _ _ _ _ c.site.invariant.0 c.site.view_is in
     let own = c.self.invariant.levels_frames ∙ ap (λ (b : BenchView). b.frames) c.self.view_is ∙ c.requires.frames in
     let d : LevelView = c.index-site-site.result in
-    let level : LevelView = slice_index_or c.site.inside.levels.now c.site.inside.end.node.0 d in
+    let level : LevelView = slice_index_or c.site.inside.quantum.now.levels.now c.site.inside.end.node.0 d in
     let is = subst (λ (x : SiteView). level ≡ slice_index_or x.levels x.end.node.0 d) c.site.view_is refl in
     let k_rate = rate s site c.args.name (is_there s site c.args.name c.requires.there) level d is ∙ ap is_k (sym c.rate.ensures ∙ c.in-K.is) in
     let summed = c.self.invariant.summed ∙ ap (λ (b : BenchView). b.frames) c.self.view_is ∙ c.requires.frames in

@@ -34,8 +34,8 @@ at_destination w valid blocks counts fit k place b is =
 pub take-requires-clause-nodes : goal.take-requires-clause-nodes
 take-requires-clause-nodes g c = (length c.args.world.now.nodes, subst (λ (ps : List Param). AreOfNodes (length c.args.world.now.nodes) ps) (sym c.as_slice.ensures) (of_nodes c.args.world.now c.requires.valid))
 
-pub invariant_of-quantum : goal.invariant_of-quantum
-invariant_of-quantum g c =
+pub render_quantum-requires-clause-quantum : goal.render_quantum-requires-clause-quantum
+render_quantum-requires-clause-quantum g c =
     let w : World = c.args.world.now in
     let size : quantum_of c.self.inside.spec ≡ quantum_of w.spec = ap (λ (r : RendererView). quantum_of r.spec) c.self.view_is ∙ ap (λ (s : ContextSpec). quantum_of s) (sym c.requires.spec) in
     let kept : c.as_slice-2.result.now ≡ c.args.self.now.counts = c.as_slice-2.ensures.value ∙ ap (λ (r : RendererView). r.counts) c.self.view_is in
