@@ -9,6 +9,8 @@ mod buffer_refusals;
 #[cfg(test)]
 mod buffer_samples;
 #[cfg(test)]
+mod kernel_lengths;
+#[cfg(test)]
 mod kernels;
 #[cfg(test)]
 mod mixing;
