@@ -6,6 +6,11 @@ say() {
     echo "$program: $1" >&2
 }
 
+# Prints what a tool says of itself at its top.
+usage() {
+    sed -n '2,/^[^#]/s/^#\( \|$\)//p' "$0"
+}
+
 # Takes one of the programs: the functions below are about the one that was taken last. It is the crate of its name.
 take() {
     program=$1

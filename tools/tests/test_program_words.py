@@ -52,6 +52,14 @@ class ProgramWords(unittest.TestCase):
             self.assertEqual((done.returncode, done.stdout), (2, ""), tool)
             self.assertEqual(done.stderr, f"tools/{tool}: there is no program /nowhere\n")
 
+    def test_words_that_build_nothing(self) -> None:
+        for tool, says in (("prove", "Proves every crate"), ("ship", "Puts the programs")):
+            done = fixtures.run(tool, "--help", text=True)
+            self.assertEqual((done.returncode, done.stderr), (0, ""), tool)
+            self.assertTrue(done.stdout.startswith(says), tool)
+            done = fixtures.run(tool, "nothing", text=True)
+            self.assertEqual((done.returncode, done.stdout), (2, ""), tool)
+
 
 if __name__ == "__main__":
     unittest.main()
