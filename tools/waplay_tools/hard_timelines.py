@@ -26,7 +26,7 @@ from typing import Any
 
 from waplay_tools.expecting.automation import EDITS, LEFT_OUT_EDITS
 from waplay_tools.expecting.sessions import replayed, wav_bytes
-from waplay_tools.places import BUILT
+from waplay_tools.places import SHIPPED
 from waplay_tools.random_scripts.kinds import FIX, ONE, TIME, Call, Calls, Script
 from waplay_tools.random_scripts.loads import (
     edited,
@@ -402,9 +402,9 @@ def main() -> int:
     )
     parser.add_argument(
         "--program",
-        default=BUILT,
+        default=SHIPPED,
         metavar="FILE",
-        help="the program, that which tools/prove has built by default",
+        help="the program; the shipped one by default",
     )
     parser.add_argument(
         "--write",
@@ -415,7 +415,7 @@ def main() -> int:
     names, program = words.names or list(SCRIPTS), os.path.abspath(words.program)
     unknown = [name for name in names if name not in SCRIPTS]
     if unknown:
-        print(f"hard_timelines: no script has the name {ascii(unknown[0])}", file=sys.stderr)
+        print(f"tools/hard-timelines: no script has the name {ascii(unknown[0])}", file=sys.stderr)
         return 2
     if words.write:
         os.makedirs(words.write, exist_ok=True)
@@ -424,7 +424,7 @@ def main() -> int:
                 file.write(data)
         return 0
     if not os.access(program, os.X_OK):
-        print(f"{program} is no program: run tools/prove once, which builds it")
+        print(f"tools/hard-timelines: there is no program {program}", file=sys.stderr)
         return 2
     return compare(program, names)
 

@@ -11,7 +11,6 @@ PROGRAMS = {
     name: TOP / "bin" / f"{name}-x86_64-linux" for name in ("waplay", "waexplain", "waprune")
 }
 SHIPPED = PROGRAMS["waplay"]
-BUILT = TOP / "crates" / "waplay" / "out" / "waplay"
 # In an installed package there is no repository: the program and the recorder lie here.
 PACKAGED = Path(__file__).resolve().parent / "packaged"
 

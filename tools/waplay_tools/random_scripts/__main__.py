@@ -22,7 +22,7 @@ import tempfile
 from pathlib import Path
 
 from waplay_tools.expecting.numbers import QUANTA
-from waplay_tools.places import BUILT
+from waplay_tools.places import SHIPPED
 from waplay_tools.random_scripts.assets import Assets, put_assets, write_assets
 from waplay_tools.random_scripts.comparing import Of, compare, enter, read_by, tell_missing
 from waplay_tools.random_scripts.loads import write_loads
@@ -54,9 +54,9 @@ def _add_scripts(words: argparse.ArgumentParser) -> None:
     words.add_argument(
         "--program",
         type=Path,
-        default=BUILT,
+        default=SHIPPED,
         metavar="FILE",
-        help="the program, that which tools/prove has built by default",
+        help="the program; the shipped one by default",
     )
     words.add_argument(
         "--programs", action="store_true", help="the scripts are those with programs of processors"
@@ -161,7 +161,7 @@ def main() -> int:
     elif asked.loads:
         write_loads(str(asked.loads))
     elif not is_there:
-        print(f"{program} is no program: run tools/prove once, which builds it", file=sys.stderr)
+        print(f"tools/random-scripts: there is no program {program}", file=sys.stderr)
         return 2
     elif asked.measure:
         measure(program, asked.measure)
