@@ -2,8 +2,8 @@
 use Rattle.std.proofs.Common.{◌≡◌, ◌<◌, ◌+◌, ℕ, List, [], ◌∷◌, ◌++◌, length, take, get_or, refl, Bool, Option, ℤ}
 use Rattle.std.specs.List.{list_all}
 use Rattle.std.proofs.lemmas.List.{take_more}
-use Rattle.serde_json.specs.View.{view, items_view}
-use Rattle.serde_json.specs.declared.value.Value.{Value}
+use Rattle.json_tree.specs.View.{view, items_view}
+use Rattle.json_tree.specs.declared.values.Value.{Value}
 use Rattle.script_fields.specs.Fields.{fix_of, fixes_of}
 use Rattle.script_fields.specs.Values.{whole, wholes}
 

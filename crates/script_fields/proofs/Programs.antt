@@ -13,8 +13,8 @@ use Rattle.std.proofs.lemmas.Bool.{cases_Bool, and_parts, and_from, le-leb, leb-
 use Rattle.std.proofs.lemmas.List.{take_more}
 use Rattle.std.proofs.lemmas.Str.Parse.{parse_digits, not_in_digits, without_leading_plus_none}
 use Rattle.serde_json.specs.Find.{as_str}
-use Rattle.serde_json.specs.View.{view, items_view}
-use Rattle.serde_json.specs.declared.value.Value.{Value}
+use Rattle.json_tree.specs.View.{view, items_view}
+use Rattle.json_tree.specs.declared.values.Value.{Value}
 use Rattle.node_table.specs.declared.code.Instr.{Instr}
 use Rattle.script_fields.specs.Instructions.{is_number, number_of, without_minus, signed_number_of, first_instr, plain_instrs, plain_instr_of, is_space, instr_of, is_in_range, instrs, instr_or_in, code_of, number_read, fix_read, instr_read}
 use Rattle.script_fields.specs.declared.values.Cause.{Cause}

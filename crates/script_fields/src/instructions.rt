@@ -2,13 +2,13 @@ ghost use Rattle.std.specs.Prelude.{◌≡◌, is_some, option_and_then, option_
 ghost use Rattle.std.specs.Char.{is_ascii_digit};
 ghost use Rattle.std.specs.List.{list_all};
 ghost use Rattle.serde_json.specs.Find.{as_array, as_str};
-ghost use Rattle.serde_json.specs.View.{view, items_view};
+ghost use Rattle.json_tree.specs.View.{view, items_view};
 ghost use Rattle.script_fields.specs.Instructions as spec;
 
 use crate::values::Cause;
+use json_tree::Value;
 use node_table::Instr;
 use script_ast::instr_word;
-use serde_json::Value;
 use wa_base::Fix;
 
 // The instructions that have no number.
@@ -29,40 +29,40 @@ const MAX_NUMBER: u32 = 2_147_483_647;
 
 /// Why a value is no program; `None` where it is one. An item that is no instruction comes before a
 /// number that is out of range.
-pub(crate) fn code_cause(value: &Value) -> Option<Cause>
+pub(crate) fn code_cause(value: &Value<'_>) -> Option<Cause>
     ensures { result ≡ spec.code_cause (option_map spec.instrs (as_array (view value.now))) }
 {
     let Some(list) = value.as_array() else {
         return Some(Cause::WrongKind);
     };
-    if !are_instrs(list.as_slice()) {
+    if !are_instrs(list) {
         return Some(Cause::WrongKind);
     }
-    if !are_in_range(list.as_slice()) {
+    if !are_in_range(list) {
         return Some(Cause::OutOfRange);
     }
     None
 }
 
-fn are_instrs(list: &[Value]) -> bool
+fn are_instrs(list: &[Value<'_>]) -> bool
     ensures { result ≡ list_all is_some (spec.instrs (items_view list.now)) }
 {
     list.iter().all(|item| names_instr(item))
 }
 
-fn are_in_range(list: &[Value]) -> bool
+fn are_in_range(list: &[Value<'_>]) -> bool
     ensures { result ≡ list_all spec.is_instr (spec.instrs (items_view list.now)) }
 {
     list.iter().all(|item| is_instr(item))
 }
 
-fn is_instr(value: &Value) -> bool
+fn is_instr(value: &Value<'_>) -> bool
     ensures { result ≡ spec.is_instr (option_and_then spec.instr_of (as_str (view value.now))) }
 {
     instr_in(value).is_ok()
 }
 
-fn names_instr(value: &Value) -> bool
+fn names_instr(value: &Value<'_>) -> bool
     ensures { result ≡ is_some (option_and_then spec.instr_of (as_str (view value.now))) }
 {
     match instr_in(value) {
@@ -72,7 +72,7 @@ fn names_instr(value: &Value) -> bool
 }
 
 /// The instruction that an item of a program is; where it is none, an `in`.
-pub(crate) fn instr_or_in(value: &Value) -> Instr
+pub(crate) fn instr_or_in(value: &Value<'_>) -> Instr
     ensures { result ≡ spec.instr_or_in (option_and_then spec.instr_of (as_str (view value.now))) }
 {
     match instr_in(value) {
@@ -81,7 +81,7 @@ pub(crate) fn instr_or_in(value: &Value) -> Instr
     }
 }
 
-fn instr_in(value: &Value) -> Result<Instr, Cause>
+fn instr_in(value: &Value<'_>) -> Result<Instr, Cause>
     ensures { result ≡ spec.instr_read (option_and_then spec.instr_of (as_str (view value.now))) }
 {
     match value.as_str() {

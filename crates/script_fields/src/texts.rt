@@ -1,19 +1,19 @@
 ghost use Rattle.std.specs.Prelude.{◌≡◌, IfOk};
-ghost use Rattle.serde_json.specs.View.{view};
+ghost use Rattle.json_tree.specs.View.{view};
 ghost use Rattle.script_fields.specs.Fields.{text_in, text_or_null_in, mode_in, interp_in, rate_in, oversample_in};
 
 use crate::members::{default_oversample, member};
+use json_tree::Value;
 use script_ast::{
     Field, Oversample, Path, Row, fallback_in, interp_named, mode_named, oversample_named,
     rate_named,
 };
-use serde_json::Value;
 use std::alloc::Global;
 use wa_base::{Interp, Mode, Name, NoMemory, Rate};
 
 /// The text of a field.
 #[tactic(auto, unfolding(crate::specs::Fields::text_in))]
-pub fn text(alloc: Global, object: &Value, field: Field) -> Result<Name, NoMemory>
+pub fn text(alloc: Global, object: &Value<'_>, field: Field) -> Result<Name, NoMemory>
     ensures { IfOk result (λ name. name ≡ text_in field (view object.now)) }
 {
     let text = member(object, field).and_then(Value::as_str).unwrap_or("");
@@ -23,7 +23,11 @@ pub fn text(alloc: Global, object: &Value, field: Field) -> Result<Name, NoMemor
 
 /// The text of a field that may be null or absent.
 #[tactic(auto, unfolding(crate::specs::Fields::text_or_null_in))]
-pub fn text_or_null(alloc: Global, object: &Value, field: Field) -> Result<Option<Name>, NoMemory>
+pub fn text_or_null(
+    alloc: Global,
+    object: &Value<'_>,
+    field: Field,
+) -> Result<Option<Name>, NoMemory>
     ensures { IfOk result (λ name. name ≡ text_or_null_in field (view object.now)) }
 {
     match member(object, field).and_then(Value::as_str) {
@@ -37,7 +41,7 @@ pub fn text_or_null(alloc: Global, object: &Value, field: Field) -> Result<Optio
 
 /// The path of a field.
 #[tactic(auto, unfolding(crate::specs::Fields::text_in))]
-pub fn path(alloc: Global, object: &Value, field: Field) -> Result<Path, NoMemory>
+pub fn path(alloc: Global, object: &Value<'_>, field: Field) -> Result<Path, NoMemory>
     ensures { IfOk result (λ path. path ≡ text_in field (view object.now)) }
 {
     let text = member(object, field).and_then(Value::as_str).unwrap_or("");
@@ -46,7 +50,7 @@ pub fn path(alloc: Global, object: &Value, field: Field) -> Result<Path, NoMemor
 
 /// The ChannelCountMode of a field.
 #[tactic(auto, unfolding(crate::specs::Fields::mode_in))]
-pub fn mode(object: &Value, field: Field) -> Mode
+pub fn mode(object: &Value<'_>, field: Field) -> Mode
     ensures { result ≡ mode_in field (view object.now) }
 {
     member(object, field)
@@ -57,7 +61,7 @@ pub fn mode(object: &Value, field: Field) -> Mode
 
 /// The ChannelInterpretation of a field.
 #[tactic(auto, unfolding(crate::specs::Fields::interp_in))]
-pub fn interp(object: &Value, field: Field) -> Interp
+pub fn interp(object: &Value<'_>, field: Field) -> Interp
     ensures { result ≡ interp_in field (view object.now) }
 {
     member(object, field)
@@ -68,7 +72,7 @@ pub fn interp(object: &Value, field: Field) -> Interp
 
 /// The AutomationRate of a field.
 #[tactic(auto, unfolding(crate::specs::Fields::rate_in))]
-pub fn rate(object: &Value, field: Field) -> Rate
+pub fn rate(object: &Value<'_>, field: Field) -> Rate
     ensures { result ≡ rate_in field (view object.now) }
 {
     member(object, field)
@@ -79,7 +83,7 @@ pub fn rate(object: &Value, field: Field) -> Rate
 
 /// The OverSampleType of a field of an entry.
 #[tactic(auto, unfolding(crate::specs::Fields::oversample_in))]
-pub fn oversample(object: &Value, entry: &[Row], field: Field) -> Oversample
+pub fn oversample(object: &Value<'_>, entry: &[Row], field: Field) -> Oversample
     ensures { result ≡ oversample_in entry.now field (view object.now) }
 {
     member(object, field)

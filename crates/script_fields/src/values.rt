@@ -1,14 +1,14 @@
 ghost use Rattle.std.specs.Prelude.{◌≡◌, option_and_then, option_map, is_some};
 ghost use Rattle.std.specs.List.{list_all};
 ghost use Rattle.serde_json.specs.Find.{as_array};
-ghost use Rattle.serde_json.specs.View.{view, items_view};
+ghost use Rattle.json_tree.specs.View.{view, items_view};
 ghost use Rattle.script_ast.specs.Ranges.{is_name_byte, has_name_length, has_name_bytes, is_new_name, is_path};
 ghost use Rattle.script_fields.specs.Values.{whole, wholes, is_fix, frames, cause_of, number_cause, fixes_cause, text_cause, word_cause, kind_cause, fixes_or_null_cause};
 
 use crate::instructions::code_cause;
 use crate::seconds::frames_of_seconds;
+use json_tree::{Number, Value};
 use script_ast::{Clock, Kind, interp_named, mode_named, oversample_named, rate_named};
-use serde_json::{Number, Value};
 
 /// Why a value is not taken for a field.
 #[derive(Clone, Copy, PartialEq, Eq)]
@@ -33,14 +33,14 @@ const MAX_NAME: usize = 64;
 const MAX_PATH: usize = 255;
 
 /// The whole number that a value is: none with a fraction or an exponent, past 64 bits, or `-0`.
-pub fn whole(value: &Value) -> Option<i128>
+pub fn whole(value: &Value<'_>) -> Option<i128>
     ensures { result ≡ whole (view value.now) }
 {
     value.as_number().and_then(Number::as_i128)
 }
 
 /// The number of frames that a value stands for on a clock: a whole number, or a text of seconds.
-pub fn frames(clock: Clock, value: &Value) -> Option<i128>
+pub fn frames(clock: Clock, value: &Value<'_>) -> Option<i128>
     ensures { result ≡ frames clock (view value.now) }
 {
     match clock {
@@ -50,7 +50,7 @@ pub fn frames(clock: Clock, value: &Value) -> Option<i128>
 }
 
 /// Why a value may not stand in a field of this kind, with times on this clock; `None` where it may.
-pub fn cause_of(clock: Clock, kind: Kind, value: &Value) -> Option<Cause>
+pub fn cause_of(clock: Clock, kind: Kind, value: &Value<'_>) -> Option<Cause>
     ensures { result ≡ cause_of clock kind (view value.now) }
 {
     match kind {
@@ -97,22 +97,22 @@ fn number_cause(number: Option<i128>, low: i64, high: i64) -> Option<Cause>
 }
 
 // An item that is no whole number comes before one that is out of range.
-fn fixes_cause(value: &Value) -> Option<Cause>
+fn fixes_cause(value: &Value<'_>) -> Option<Cause>
     ensures { result ≡ fixes_cause (option_map wholes (as_array (view value.now))) }
 {
     let Some(list) = value.as_array() else {
         return Some(Cause::WrongKind);
     };
-    if !are_whole(list.as_slice()) {
+    if !are_whole(list) {
         return Some(Cause::WrongKind);
     }
-    if !are_fixes(list.as_slice()) {
+    if !are_fixes(list) {
         return Some(Cause::OutOfRange);
     }
     None
 }
 
-fn fixes_or_null_cause(value: &Value) -> Option<Cause>
+fn fixes_or_null_cause(value: &Value<'_>) -> Option<Cause>
     ensures { result ≡ fixes_or_null_cause (view value.now) }
 {
     if value.is_null() {
@@ -121,13 +121,13 @@ fn fixes_or_null_cause(value: &Value) -> Option<Cause>
     fixes_cause(value)
 }
 
-fn are_whole(list: &[Value]) -> bool
+fn are_whole(list: &[Value<'_>]) -> bool
     ensures { result ≡ list_all is_some (wholes (items_view list.now)) }
 {
     list.iter().all(|item| whole(item).is_some())
 }
 
-fn are_fixes(list: &[Value]) -> bool
+fn are_fixes(list: &[Value<'_>]) -> bool
     ensures { result ≡ list_all is_fix (wholes (items_view list.now)) }
 {
     list.iter().all(|item| is_fix(whole(item)))

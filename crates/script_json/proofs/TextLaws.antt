@@ -1,15 +1,16 @@
 -- Every string of a JSON value that is read is a text.
-use Rattle.std.proofs.Common.{◌≡◌, ℕ, List, [], ◌∷◌, map, String, Global, Option, Some, None, Ordering, Less, Equal, Greater, string_bytes, subst, sym}
+use Rattle.std.proofs.Common.{◌≡◌, ℕ, List, [], ◌∷◌, map, Bor, Option, Some, None, Ordering, Less, Equal, Greater, subst, sym}
 use Rattle.std.specs.Prelude.{option_and_then, unwrap_or}
 use Rattle.std.specs.Ordering.{nat_cmp, match_ordering}
 use Rattle.std.specs.Cmp.Lexicographic.{slice_cmp}
-use Rattle.std.proofs.lemmas.Str.{IsUtf8-nil, IsUtf8-string_bytes, is_utf8-from_IsUtf8}
-use Rattle.serde_json.specs.Data.{Data, null, boolean, number, string, array, object, Items, no_items, item, Members, no_members, member}
+use Rattle.std.proofs.lemmas.Str.{IsUtf8-nil, is_utf8-from_IsUtf8}
+use Rattle.serde_json.specs.Data.{Data, null, boolean, number, string, array, object, Items, no_items, item, Members, no_members, member, put}
 use Rattle.serde_json.specs.Find.{get, get_member, as_array, as_str}
-use Rattle.serde_json.specs.View.{view, view_step, items_of, members_of}
-use Rattle.serde_json.specs.declared.value.Value.{Value, map-Value}
-use Rattle.serde_json.specs.declared.value.Value.TheOpen.{Value-F}
-use Rattle.serde_json.specs.declared.value.Value.TheFolds.{ind-Value, fold-roll-Value}
+use Rattle.serde_json.specs.View.{items_of}
+use Rattle.json_tree.specs.View.{view, view_step, puts}
+use Rattle.json_tree.specs.declared.values.Value.{Value, map-Value}
+use Rattle.json_tree.specs.declared.values.Value.TheOpen.{Value-F}
+use Rattle.json_tree.specs.declared.values.Value.TheFolds.{ind-Value, fold-roll-Value}
 use Rattle.script_ast.specs.Fields.{field_word}
 use Rattle.script_ast.specs.Ranges.{IsText, IsTextIfSome}
 use Rattle.script_ast.specs.declared.fields.Field.{Field}
@@ -110,8 +111,15 @@ main_texts_of d ds is texts = subst HaveTexts (sym is) (main_texts d texts)
 abbrev ViewTexts : Value → Type 0
 ViewTexts v = HasTexts (view v)
 
-string_text : (s : String Global) → IsText (string_bytes s)
-string_text s = is_utf8-from_IsUtf8 (string_bytes s) (IsUtf8-string_bytes s)
+put_texts_at : (o : Ordering) (key k : List ℕ) (d e : Data) (ms more : Members) → HasTexts d → HasTexts e × HaveMemberTexts ms → HaveMemberTexts more
+    → HaveMemberTexts (match_ordering o (member key d (member k e ms)) (member k d ms) (member k e more))
+put_texts_at Less key k d e ms more this others rest = (this, others)
+put_texts_at Equal key k d e ms more this others rest = (this, others.1)
+put_texts_at Greater key k d e ms more this others rest = (others.0, rest)
+
+put_texts : (key : List ℕ) (d : Data) (ms : Members) → HasTexts d → HaveMemberTexts ms → HaveMemberTexts (put key d ms)
+put_texts key d no_members this others = (this, tt)
+put_texts key d (member k e ms) this others = put_texts_at (slice_cmp nat_cmp key k) key k d e ms (put key d ms) this others (put_texts key d ms this others.1)
 
 -- a value with its texts
 abbrev Told : Type 0
@@ -121,17 +129,18 @@ items_texts : (es : List Told) → HaveTexts (items_of (map view (map (λ (e : T
 items_texts [] = tt
 items_texts (e ∷ es) = (e.1, items_texts es)
 
-members_texts : (es : List (String Global × Told)) → HaveMemberTexts (members_of (map (λ (m : String Global × Value). (m.0, view m.1)) (map (λ (m : String Global × Told). (m.0, m.1.0)) es)))
-members_texts [] = tt
-members_texts (e ∷ es) = (e.1.1, members_texts es)
+puts_texts : (es : List (Bor (List ℕ) × Told)) (found : Members) → HaveMemberTexts found
+    → HaveMemberTexts (puts (map (λ (m : Bor (List ℕ) × Value). (m.0, view m.1)) (map (λ (m : Bor (List ℕ) × Told). (m.0, m.1.0)) es)) found)
+puts_texts [] found texts = texts
+puts_texts (e ∷ es) found texts = puts_texts es (put e.0.now (view e.1.0) found) (put_texts e.0.now (view e.1.0) found e.1.1 texts)
 
 layer_texts : (y : Value-F Told) → HasTexts (view_step (map-Value Value Data view (map-Value Told Value (λ (e : Told). e.0) y)))
 layer_texts Value-F.Null = tt
 layer_texts (Value-F.Bool b) = tt
 layer_texts (Value-F.Number x) = tt
-layer_texts (Value-F.String s) = string_text s
+layer_texts (Value-F.String s) = s.utf8
 layer_texts (Value-F.Array v) = items_texts v.items
-layer_texts (Value-F.Object m) = members_texts m.entries
+layer_texts (Value-F.Object v) = puts_texts v.items no_members tt
 
 pub view_texts : (v : Value) → HasTexts (view v)
 view_texts = ind-Value ViewTexts (λ x y is.

@@ -1,14 +1,14 @@
 ghost use Rattle.std.specs.Prelude.{◌≡◌, ◌≢◌, ◌+◌, ◌<◌, Ok, Err, Some, IfOk, IfErr, OnOk, length, option_map};
-ghost use Rattle.serde_json.specs.View.{view, items_view};
+ghost use Rattle.json_tree.specs.View.{view, items_view};
 ghost use Rattle.serde_json.specs.Data.{items_depth};
 ghost use Rattle.script_json.specs.Calls.{name_in, placed, form_faults, op_faults};
 ghost use Rattle.script_fields.specs.Outcome.{outcome};
 ghost use Rattle.script_json.specs.Reading.{held_list, placed_at, call_read, calls_read};
 
 use crate::ops::build;
+use json_tree::Value;
 use script_ast::{Call, Calls, Clock, Field, OpName};
 use script_fields::{ScriptErr, check_fields, check_there, is_there, list};
-use serde_json::Value;
 use std::alloc::Global;
 use wa_base::NoMemory;
 
@@ -17,7 +17,7 @@ use wa_base::NoMemory;
 pub fn add_calls(
     alloc: Global,
     clock: Clock,
-    list: &[Value],
+    list: &[Value<'_>],
     depth: u32,
     holder: u32,
     calls: &mut Calls,
@@ -53,7 +53,7 @@ fn read_call(
     clock: Clock,
     ordinal: u32,
     holder: u32,
-    value: &Value,
+    value: &Value<'_>,
 ) -> Result<Call, ScriptErr>
     ensures ok { IfOk result (λ call. call_read clock (placed_at ordinal holder (view value.now)) ≡ Ok (Some call)) }
     ensures fault { IfErr result (λ e. e ≢ ScriptErr.NoMemory
@@ -75,7 +75,7 @@ fn read_call(
 }
 
 // The first fault of a call's fields: those of each field come before those of several together.
-fn check_call(clock: Clock, ordinal: u32, name: OpName, call: &Value) -> Result<(), ScriptErr>
+fn check_call(clock: Clock, ordinal: u32, name: OpName, call: &Value<'_>) -> Result<(), ScriptErr>
     ensures { result ≡ outcome (op_faults clock ordinal (view call.now) name) tt }
 {
     check_fields(clock, ordinal, call, name.fields())?;
@@ -86,7 +86,7 @@ fn check_call(clock: Clock, ordinal: u32, name: OpName, call: &Value) -> Result<
 }
 
 // The fault of a disconnect whose fields are not those of one of its forms.
-fn check_form(ordinal: u32, call: &Value) -> Result<(), ScriptErr>
+fn check_form(ordinal: u32, call: &Value<'_>) -> Result<(), ScriptErr>
     ensures { result ≡ outcome (form_faults ordinal (view call.now)) tt }
 {
     if is_there(call, Field::Input) {
@@ -97,7 +97,7 @@ fn check_form(ordinal: u32, call: &Value) -> Result<(), ScriptErr>
 }
 
 // The operation that a call names.
-fn name_in(call: &Value) -> Option<OpName>
+fn name_in(call: &Value<'_>) -> Option<OpName>
     ensures { result ≡ name_in (view call.now) }
 {
     let word = call.get(Field::Op.word()).and_then(Value::as_str)?;
@@ -106,11 +106,12 @@ fn name_in(call: &Value) -> Option<OpName>
 
 // The calls that a call holds.
 #[tactic(auto, unfolding(crate::specs::Reading::held_list))]
-fn held_list(call: &Value) -> &[Value]
+fn held_list<'v, 'a>(call: &'v Value<'a>) -> &'v [Value<'a>]
     ensures { items_view result.now ≡ held_list (view call.now) }
 {
+    let list = list(call, Field::Then);
     match name_in(call) {
-        Some(name) if name.has_calls() => list(call, Field::Then),
-        _ => &[],
+        Some(name) if name.has_calls() => list,
+        _ => &list[..0],
     }
 }

@@ -1,19 +1,19 @@
 ghost use Rattle.std.specs.Prelude.{◌≡◌, IfOk, map};
-ghost use Rattle.serde_json.specs.View.{view};
+ghost use Rattle.json_tree.specs.View.{view};
 ghost use Rattle.script_json.specs.Calls.{op_in};
 ghost use Rattle.script_ast.specs.Entries.{creation_of};
 ghost use Rattle.script_json.specs.Creations.{kind_in, numbers_of};
 ghost use Rattle.script_json.specs.Given.{number_given};
 
+use json_tree::Value;
 use node_table::{Equation, Kind};
 use script_ast::{Clock, Creation, Field, Op, OpName};
 use script_fields::{count, fix, fixes, text};
-use serde_json::Value;
 use std::alloc::{AllocError, Global};
 use wa_base::{Fix, NoMemory, Samples};
 
 /// The creation of a node by its numbers alone, from a call whose fields have no fault.
-pub fn create(alloc: Global, name: Creation, call: &Value) -> Result<Op, NoMemory>
+pub fn create(alloc: Global, name: Creation, call: &Value<'_>) -> Result<Op, NoMemory>
     ensures { IfOk result (λ op. op ≡ op_in Clock.Frames (OpName.Create name) (view call.now)) }
 {
     Ok(Op::Create {
@@ -23,7 +23,7 @@ pub fn create(alloc: Global, name: Creation, call: &Value) -> Result<Op, NoMemor
 }
 
 // The kind of the node that a call makes.
-fn kind_in(alloc: Global, name: Creation, call: &Value) -> Result<Kind, NoMemory>
+fn kind_in(alloc: Global, name: Creation, call: &Value<'_>) -> Result<Kind, NoMemory>
     ensures { IfOk result (λ kind. kind ≡ kind_in name (view call.now)) }
 {
     let entry = name.fields();

@@ -1,21 +1,21 @@
 ghost use Rattle.std.specs.Prelude.{◌≡◌, IfOk};
-ghost use Rattle.serde_json.specs.View.{view};
+ghost use Rattle.json_tree.specs.View.{view};
 ghost use Rattle.script_json.specs.Calls.{op_in};
 
 use crate::creations::create;
 use crate::param_ops::build_param_op;
 use crate::shaper_ops::{create_wave_shaper, set_curve, set_oversample};
+use json_tree::Value;
 use script_ast::{Clock, Field, Op, OpName, entries};
 use script_fields::{
     code, count, count_or_null, fix, fixes, flag, interp, mode, path, text, text_or_null, time,
     time_or_null,
 };
-use serde_json::Value;
 use std::alloc::Global;
 use wa_base::NoMemory;
 
 /// The operation of a call with its fields, which have no fault.
-pub fn build(alloc: Global, clock: Clock, name: OpName, call: &Value) -> Result<Op, NoMemory>
+pub fn build(alloc: Global, clock: Clock, name: OpName, call: &Value<'_>) -> Result<Op, NoMemory>
     ensures { IfOk result (λ op. op ≡ op_in clock name (view call.now)) }
 {
     match name {
@@ -55,7 +55,7 @@ pub fn build(alloc: Global, clock: Clock, name: OpName, call: &Value) -> Result<
 
 // Of those below the ones with a time are handed the clock. The others are the same on every clock.
 
-fn create_delay(alloc: Global, call: &Value) -> Result<Op, NoMemory>
+fn create_delay(alloc: Global, call: &Value<'_>) -> Result<Op, NoMemory>
     ensures { IfOk result (λ op. op ≡ op_in Clock.Frames OpName.CreateDelay (view call.now)) }
 {
     Ok(Op::CreateDelay {
@@ -65,7 +65,7 @@ fn create_delay(alloc: Global, call: &Value) -> Result<Op, NoMemory>
     })
 }
 
-fn create_convolver(alloc: Global, call: &Value) -> Result<Op, NoMemory>
+fn create_convolver(alloc: Global, call: &Value<'_>) -> Result<Op, NoMemory>
     ensures { IfOk result (λ op. op ≡ op_in Clock.Frames OpName.CreateConvolver (view call.now)) }
 {
     Ok(Op::CreateConvolver {
@@ -79,7 +79,7 @@ fn create_convolver(alloc: Global, call: &Value) -> Result<Op, NoMemory>
     })
 }
 
-fn create_processor(alloc: Global, call: &Value) -> Result<Op, NoMemory>
+fn create_processor(alloc: Global, call: &Value<'_>) -> Result<Op, NoMemory>
     ensures { IfOk result (λ op. op ≡ op_in Clock.Frames OpName.CreateProcessor (view call.now)) }
 {
     Ok(Op::CreateProcessor {
@@ -88,7 +88,7 @@ fn create_processor(alloc: Global, call: &Value) -> Result<Op, NoMemory>
     })
 }
 
-fn create_buffer_source(alloc: Global, clock: Clock, call: &Value) -> Result<Op, NoMemory>
+fn create_buffer_source(alloc: Global, clock: Clock, call: &Value<'_>) -> Result<Op, NoMemory>
     ensures { IfOk result (λ op. op ≡ op_in clock OpName.CreateBufferSource (view call.now)) }
 {
     Ok(Op::CreateBufferSource {
@@ -106,7 +106,7 @@ fn create_buffer_source(alloc: Global, clock: Clock, call: &Value) -> Result<Op,
     })
 }
 
-fn create_buffer(alloc: Global, call: &Value) -> Result<Op, NoMemory>
+fn create_buffer(alloc: Global, call: &Value<'_>) -> Result<Op, NoMemory>
     ensures { IfOk result (λ op. op ≡ op_in Clock.Frames OpName.CreateBuffer (view call.now)) }
 {
     Ok(Op::CreateBuffer {
@@ -117,7 +117,7 @@ fn create_buffer(alloc: Global, call: &Value) -> Result<Op, NoMemory>
     })
 }
 
-fn connect(alloc: Global, call: &Value) -> Result<Op, NoMemory>
+fn connect(alloc: Global, call: &Value<'_>) -> Result<Op, NoMemory>
     ensures { IfOk result (λ op. op ≡ op_in Clock.Frames OpName.Connect (view call.now)) }
 {
     Ok(Op::Connect {
@@ -128,7 +128,7 @@ fn connect(alloc: Global, call: &Value) -> Result<Op, NoMemory>
     })
 }
 
-fn connect_param(alloc: Global, call: &Value) -> Result<Op, NoMemory>
+fn connect_param(alloc: Global, call: &Value<'_>) -> Result<Op, NoMemory>
     ensures { IfOk result (λ op. op ≡ op_in Clock.Frames OpName.ConnectParam (view call.now)) }
 {
     Ok(Op::ConnectParam {
@@ -139,7 +139,7 @@ fn connect_param(alloc: Global, call: &Value) -> Result<Op, NoMemory>
     })
 }
 
-fn disconnect(alloc: Global, call: &Value) -> Result<Op, NoMemory>
+fn disconnect(alloc: Global, call: &Value<'_>) -> Result<Op, NoMemory>
     ensures { IfOk result (λ op. op ≡ op_in Clock.Frames OpName.Disconnect (view call.now)) }
 {
     Ok(Op::Disconnect {
@@ -150,7 +150,7 @@ fn disconnect(alloc: Global, call: &Value) -> Result<Op, NoMemory>
     })
 }
 
-fn disconnect_param(alloc: Global, call: &Value) -> Result<Op, NoMemory>
+fn disconnect_param(alloc: Global, call: &Value<'_>) -> Result<Op, NoMemory>
     ensures { IfOk result (λ op. op ≡ op_in Clock.Frames OpName.DisconnectParam (view call.now)) }
 {
     Ok(Op::DisconnectParam {
@@ -161,7 +161,7 @@ fn disconnect_param(alloc: Global, call: &Value) -> Result<Op, NoMemory>
     })
 }
 
-fn set_channel_count(alloc: Global, call: &Value) -> Result<Op, NoMemory>
+fn set_channel_count(alloc: Global, call: &Value<'_>) -> Result<Op, NoMemory>
     ensures { IfOk result (λ op. op ≡ op_in Clock.Frames OpName.SetChannelCount (view call.now)) }
 {
     Ok(Op::SetChannelCount {
@@ -170,7 +170,7 @@ fn set_channel_count(alloc: Global, call: &Value) -> Result<Op, NoMemory>
     })
 }
 
-fn set_channel_count_mode(alloc: Global, call: &Value) -> Result<Op, NoMemory>
+fn set_channel_count_mode(alloc: Global, call: &Value<'_>) -> Result<Op, NoMemory>
     ensures { IfOk result (λ op. op ≡ op_in Clock.Frames OpName.SetChannelCountMode (view call.now)) }
 {
     Ok(Op::SetChannelCountMode {
@@ -179,7 +179,7 @@ fn set_channel_count_mode(alloc: Global, call: &Value) -> Result<Op, NoMemory>
     })
 }
 
-fn set_channel_interpretation(alloc: Global, call: &Value) -> Result<Op, NoMemory>
+fn set_channel_interpretation(alloc: Global, call: &Value<'_>) -> Result<Op, NoMemory>
     ensures { IfOk result (λ op. op ≡ op_in Clock.Frames OpName.SetChannelInterpretation (view call.now)) }
 {
     Ok(Op::SetChannelInterpretation {
@@ -188,7 +188,7 @@ fn set_channel_interpretation(alloc: Global, call: &Value) -> Result<Op, NoMemor
     })
 }
 
-fn set_buffer(alloc: Global, call: &Value) -> Result<Op, NoMemory>
+fn set_buffer(alloc: Global, call: &Value<'_>) -> Result<Op, NoMemory>
     ensures { IfOk result (λ op. op ≡ op_in Clock.Frames OpName.SetBuffer (view call.now)) }
 {
     Ok(Op::SetBuffer {
@@ -197,7 +197,7 @@ fn set_buffer(alloc: Global, call: &Value) -> Result<Op, NoMemory>
     })
 }
 
-fn set_loop(alloc: Global, call: &Value) -> Result<Op, NoMemory>
+fn set_loop(alloc: Global, call: &Value<'_>) -> Result<Op, NoMemory>
     ensures { IfOk result (λ op. op ≡ op_in Clock.Frames OpName.SetLoop (view call.now)) }
 {
     Ok(Op::SetLoop {
@@ -206,7 +206,7 @@ fn set_loop(alloc: Global, call: &Value) -> Result<Op, NoMemory>
     })
 }
 
-fn set_loop_start(alloc: Global, clock: Clock, call: &Value) -> Result<Op, NoMemory>
+fn set_loop_start(alloc: Global, clock: Clock, call: &Value<'_>) -> Result<Op, NoMemory>
     ensures { IfOk result (λ op. op ≡ op_in clock OpName.SetLoopStart (view call.now)) }
 {
     Ok(Op::SetLoopStart {
@@ -215,7 +215,7 @@ fn set_loop_start(alloc: Global, clock: Clock, call: &Value) -> Result<Op, NoMem
     })
 }
 
-fn set_loop_end(alloc: Global, clock: Clock, call: &Value) -> Result<Op, NoMemory>
+fn set_loop_end(alloc: Global, clock: Clock, call: &Value<'_>) -> Result<Op, NoMemory>
     ensures { IfOk result (λ op. op ≡ op_in clock OpName.SetLoopEnd (view call.now)) }
 {
     Ok(Op::SetLoopEnd {
@@ -224,7 +224,7 @@ fn set_loop_end(alloc: Global, clock: Clock, call: &Value) -> Result<Op, NoMemor
     })
 }
 
-fn copy_to_channel(alloc: Global, call: &Value) -> Result<Op, NoMemory>
+fn copy_to_channel(alloc: Global, call: &Value<'_>) -> Result<Op, NoMemory>
     ensures { IfOk result (λ op. op ≡ op_in Clock.Frames OpName.CopyToChannel (view call.now)) }
 {
     Ok(Op::CopyToChannel {
@@ -235,7 +235,7 @@ fn copy_to_channel(alloc: Global, call: &Value) -> Result<Op, NoMemory>
     })
 }
 
-fn start(alloc: Global, clock: Clock, call: &Value) -> Result<Op, NoMemory>
+fn start(alloc: Global, clock: Clock, call: &Value<'_>) -> Result<Op, NoMemory>
     ensures { IfOk result (λ op. op ≡ op_in clock OpName.Start (view call.now)) }
 {
     Ok(Op::Start {
@@ -246,7 +246,7 @@ fn start(alloc: Global, clock: Clock, call: &Value) -> Result<Op, NoMemory>
     })
 }
 
-fn stop(alloc: Global, clock: Clock, call: &Value) -> Result<Op, NoMemory>
+fn stop(alloc: Global, clock: Clock, call: &Value<'_>) -> Result<Op, NoMemory>
     ensures { IfOk result (λ op. op ≡ op_in clock OpName.Stop (view call.now)) }
 {
     Ok(Op::Stop {
@@ -255,7 +255,7 @@ fn stop(alloc: Global, clock: Clock, call: &Value) -> Result<Op, NoMemory>
     })
 }
 
-fn suspend(clock: Clock, call: &Value) -> Op
+fn suspend(clock: Clock, call: &Value<'_>) -> Op
     ensures { result ≡ op_in clock OpName.Suspend (view call.now) }
 {
     Op::Suspend {
@@ -263,7 +263,7 @@ fn suspend(clock: Clock, call: &Value) -> Op
     }
 }
 
-fn decode_audio_data(alloc: Global, call: &Value) -> Result<Op, NoMemory>
+fn decode_audio_data(alloc: Global, call: &Value<'_>) -> Result<Op, NoMemory>
     ensures { IfOk result (λ op. op ≡ op_in Clock.Frames OpName.DecodeAudioData (view call.now)) }
 {
     Ok(Op::DecodeAudioData {

@@ -1,10 +1,10 @@
 ghost use Rattle.std.specs.Prelude.{◌≡◌, IfOk};
-ghost use Rattle.serde_json.specs.View.{view};
+ghost use Rattle.json_tree.specs.View.{view};
 ghost use Rattle.script_json.specs.Calls.{param_op_in};
 
+use json_tree::Value;
 use script_ast::{Clock, Field, Op, ParamOpName, entries};
 use script_fields::{fix, fixes, rate, text, time};
-use serde_json::Value;
 use std::alloc::Global;
 use wa_base::NoMemory;
 
@@ -13,7 +13,7 @@ pub fn build_param_op(
     alloc: Global,
     clock: Clock,
     name: ParamOpName,
-    call: &Value,
+    call: &Value<'_>,
 ) -> Result<Op, NoMemory>
     ensures { IfOk result (λ op. op ≡ param_op_in clock name (view call.now)) }
 {
@@ -33,7 +33,7 @@ pub fn build_param_op(
 
 // Of those below the ones with a time are handed the clock. The others are the same on every clock.
 
-fn set_value(alloc: Global, call: &Value) -> Result<Op, NoMemory>
+fn set_value(alloc: Global, call: &Value<'_>) -> Result<Op, NoMemory>
     ensures { IfOk result (λ op. op ≡ param_op_in Clock.Frames ParamOpName.SetValue (view call.now)) }
 {
     Ok(Op::SetValue {
@@ -43,7 +43,7 @@ fn set_value(alloc: Global, call: &Value) -> Result<Op, NoMemory>
     })
 }
 
-fn set_value_at_time(alloc: Global, clock: Clock, call: &Value) -> Result<Op, NoMemory>
+fn set_value_at_time(alloc: Global, clock: Clock, call: &Value<'_>) -> Result<Op, NoMemory>
     ensures { IfOk result (λ op. op ≡ param_op_in clock ParamOpName.SetValueAtTime (view call.now)) }
 {
     Ok(Op::SetValueAtTime {
@@ -54,7 +54,11 @@ fn set_value_at_time(alloc: Global, clock: Clock, call: &Value) -> Result<Op, No
     })
 }
 
-fn linear_ramp_to_value_at_time(alloc: Global, clock: Clock, call: &Value) -> Result<Op, NoMemory>
+fn linear_ramp_to_value_at_time(
+    alloc: Global,
+    clock: Clock,
+    call: &Value<'_>,
+) -> Result<Op, NoMemory>
     ensures { IfOk result (λ op. op ≡ param_op_in clock ParamOpName.LinearRampToValueAtTime (view call.now)) }
 {
     Ok(Op::LinearRampToValueAtTime {
@@ -70,7 +74,7 @@ fn linear_ramp_to_value_at_time(alloc: Global, clock: Clock, call: &Value) -> Re
     })
 }
 
-fn set_value_curve_at_time(alloc: Global, clock: Clock, call: &Value) -> Result<Op, NoMemory>
+fn set_value_curve_at_time(alloc: Global, clock: Clock, call: &Value<'_>) -> Result<Op, NoMemory>
     ensures { IfOk result (λ op. op ≡ param_op_in clock ParamOpName.SetValueCurveAtTime (view call.now)) }
 {
     Ok(Op::SetValueCurveAtTime {
@@ -87,7 +91,7 @@ fn set_value_curve_at_time(alloc: Global, clock: Clock, call: &Value) -> Result<
     })
 }
 
-fn cancel_scheduled_values(alloc: Global, clock: Clock, call: &Value) -> Result<Op, NoMemory>
+fn cancel_scheduled_values(alloc: Global, clock: Clock, call: &Value<'_>) -> Result<Op, NoMemory>
     ensures { IfOk result (λ op. op ≡ param_op_in clock ParamOpName.CancelScheduledValues (view call.now)) }
 {
     Ok(Op::CancelScheduledValues {
@@ -97,7 +101,7 @@ fn cancel_scheduled_values(alloc: Global, clock: Clock, call: &Value) -> Result<
     })
 }
 
-fn cancel_and_hold_at_time(alloc: Global, clock: Clock, call: &Value) -> Result<Op, NoMemory>
+fn cancel_and_hold_at_time(alloc: Global, clock: Clock, call: &Value<'_>) -> Result<Op, NoMemory>
     ensures { IfOk result (λ op. op ≡ param_op_in clock ParamOpName.CancelAndHoldAtTime (view call.now)) }
 {
     Ok(Op::CancelAndHoldAtTime {
@@ -107,7 +111,7 @@ fn cancel_and_hold_at_time(alloc: Global, clock: Clock, call: &Value) -> Result<
     })
 }
 
-fn set_automation_rate(alloc: Global, call: &Value) -> Result<Op, NoMemory>
+fn set_automation_rate(alloc: Global, call: &Value<'_>) -> Result<Op, NoMemory>
     ensures { IfOk result (λ op. op ≡ param_op_in Clock.Frames ParamOpName.SetAutomationRate (view call.now)) }
 {
     Ok(Op::SetAutomationRate {
@@ -117,7 +121,7 @@ fn set_automation_rate(alloc: Global, call: &Value) -> Result<Op, NoMemory>
     })
 }
 
-fn exponential_ramp_to_value_at_time(alloc: Global, call: &Value) -> Result<Op, NoMemory>
+fn exponential_ramp_to_value_at_time(alloc: Global, call: &Value<'_>) -> Result<Op, NoMemory>
     ensures { IfOk result (λ op. op ≡ param_op_in Clock.Frames ParamOpName.ExponentialRampToValueAtTime (view call.now)) }
 {
     Ok(Op::ExponentialRampToValueAtTime {
@@ -126,7 +130,7 @@ fn exponential_ramp_to_value_at_time(alloc: Global, call: &Value) -> Result<Op, 
     })
 }
 
-fn set_target_at_time(alloc: Global, call: &Value) -> Result<Op, NoMemory>
+fn set_target_at_time(alloc: Global, call: &Value<'_>) -> Result<Op, NoMemory>
     ensures { IfOk result (λ op. op ≡ param_op_in Clock.Frames ParamOpName.SetTargetAtTime (view call.now)) }
 {
     Ok(Op::SetTargetAtTime {
@@ -135,7 +139,7 @@ fn set_target_at_time(alloc: Global, call: &Value) -> Result<Op, NoMemory>
     })
 }
 
-fn read_value(alloc: Global, call: &Value) -> Result<Op, NoMemory>
+fn read_value(alloc: Global, call: &Value<'_>) -> Result<Op, NoMemory>
     ensures { IfOk result (λ op. op ≡ param_op_in Clock.Frames ParamOpName.ReadValue (view call.now)) }
 {
     Ok(Op::ReadValue {

@@ -1,6 +1,6 @@
 ghost use Rattle.std.specs.Prelude.{◌≡◌, ◌≢◌, ◌≤◌, Ok, Err, IfOk, IfErr};
 ghost use Rattle.serde_json.specs.Data.{depth};
-ghost use Rattle.serde_json.specs.View.{view, items_view};
+ghost use Rattle.json_tree.specs.View.{view, items_view};
 ghost use Rattle.script_ast.specs.Holders.{AreNested};
 ghost use Rattle.script_ast.specs.WellFormed.{IsWellFormed};
 ghost use Rattle.script_fields.specs.Outcome.{outcome};
@@ -8,10 +8,10 @@ ghost use Rattle.script_json.specs.Script.{context_in, context_of, clock_at, mai
 
 use crate::calls::add_calls;
 use crate::tree::parse;
+use json_tree::{Scratch, Value};
 use script_ast::entries::{CONTEXT_FIELDS, SCRIPT_HEAD, SCRIPT_TAIL};
 use script_ast::{Calls, Clock, Field, Script};
 use script_fields::{ScriptErr, check_fields, count, list, member};
-use serde_json::Value;
 use std::alloc::Global;
 use wa_base::ContextSpec;
 
@@ -27,12 +27,13 @@ pub fn read(alloc: Global, bytes: &[u8]) -> Result<Script, ScriptErr>
     ensures well_formed { IfOk result (λ script. IsWellFormed script) }
     ensures nested { IfOk result (λ script. AreNested script.calls) }
 {
-    let value = parse(alloc, bytes)?;
+    let mut scratch = Scratch::new(alloc);
+    let value = parse(alloc, bytes, &mut scratch)?;
     read_script(alloc, &value)
 }
 
 // The script that a value is, or its first fault.
-fn read_script(alloc: Global, value: &Value) -> Result<Script, ScriptErr>
+fn read_script(alloc: Global, value: &Value<'_>) -> Result<Script, ScriptErr>
     requires { depth (view value.now) ≤ 127 }
     ensures ok { IfOk result (λ script. outcome (script_faults (view value.now)) (script_in (view value.now)) ≡ Ok script) }
     ensures fault { IfErr result (λ e. e ≢ ScriptErr.NoMemory
@@ -59,7 +60,7 @@ fn clock_at(version: u32, rate: u32) -> Clock
 }
 
 // The context that a script asks for, or the first fault of what stands around the calls.
-fn read_context(value: &Value) -> Result<ContextSpec, ScriptErr>
+fn read_context(value: &Value<'_>) -> Result<ContextSpec, ScriptErr>
     ensures { result ≡ outcome (head_faults (view value.now)) (context_of (context_in (view value.now))) }
 {
     if !value.is_object() {
@@ -74,7 +75,7 @@ fn read_context(value: &Value) -> Result<ContextSpec, ScriptErr>
     Ok(context_of(context))
 }
 
-fn context_of(context: &Value) -> ContextSpec
+fn context_of(context: &Value<'_>) -> ContextSpec
     ensures { result ≡ context_of (view context.now) }
 {
     ContextSpec {
@@ -87,7 +88,7 @@ fn context_of(context: &Value) -> ContextSpec
 
 // The main list of calls.
 #[tactic(auto, unfolding(crate::specs::Script::main_list))]
-fn main_list(value: &Value) -> &[Value]
+fn main_list<'v, 'a>(value: &'v Value<'a>) -> &'v [Value<'a>]
     ensures { items_view result.now ≡ main_list (view value.now) }
 {
     list(value, Field::Calls)

@@ -1,10 +1,10 @@
 ghost use Rattle.std.specs.Prelude.{◌≡◌, IfOk};
-ghost use Rattle.serde_json.specs.View.{view};
+ghost use Rattle.json_tree.specs.View.{view};
 ghost use Rattle.script_json.specs.Calls.{op_in};
 
+use json_tree::Value;
 use script_ast::{Clock, Field, Op, OpName, entries};
 use script_fields::{fixes_or_null, oversample, text};
-use serde_json::Value;
 use std::alloc::Global;
 use wa_base::NoMemory;
 
@@ -12,7 +12,7 @@ use wa_base::NoMemory;
 // call have no fault.
 
 /// The operation of a `createWaveShaper`.
-pub fn create_wave_shaper(alloc: Global, call: &Value) -> Result<Op, NoMemory>
+pub fn create_wave_shaper(alloc: Global, call: &Value<'_>) -> Result<Op, NoMemory>
     ensures { IfOk result (λ op. op ≡ op_in Clock.Frames OpName.CreateWaveShaper (view call.now)) }
 {
     Ok(Op::CreateWaveShaper {
@@ -23,7 +23,7 @@ pub fn create_wave_shaper(alloc: Global, call: &Value) -> Result<Op, NoMemory>
 }
 
 /// The operation of a `setCurve`, which takes the curve away where it is null.
-pub fn set_curve(alloc: Global, call: &Value) -> Result<Op, NoMemory>
+pub fn set_curve(alloc: Global, call: &Value<'_>) -> Result<Op, NoMemory>
     ensures { IfOk result (λ op. op ≡ op_in Clock.Frames OpName.SetCurve (view call.now)) }
 {
     Ok(Op::SetCurve {
@@ -33,7 +33,7 @@ pub fn set_curve(alloc: Global, call: &Value) -> Result<Op, NoMemory>
 }
 
 /// The operation of a `setOversample`.
-pub fn set_oversample(alloc: Global, call: &Value) -> Result<Op, NoMemory>
+pub fn set_oversample(alloc: Global, call: &Value<'_>) -> Result<Op, NoMemory>
     ensures { IfOk result (λ op. op ≡ op_in Clock.Frames OpName.SetOversample (view call.now)) }
 {
     Ok(Op::SetOversample {

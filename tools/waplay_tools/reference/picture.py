@@ -65,6 +65,7 @@ Samples
 The ground
     0 wa_base         numbers, words
     1 law_base        laws, no audio
+    2 json_tree       JSON values
 """
 # The way: of each step, from which crate to which one, and what goes there. `-` is outside.
 WAY = """

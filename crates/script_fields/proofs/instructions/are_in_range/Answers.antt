@@ -3,7 +3,7 @@ use Rattle.std.proofs.lemmas.Iterator.{YieldsList-from_slice}
 use Rattle.std.proofs.lemmas.Iterator.Search.{all_from_yields_List}
 use Rattle.std.specs.Prelude.{option_and_then}
 use Rattle.serde_json.specs.Find.{as_str}
-use Rattle.serde_json.specs.View.{view}
+use Rattle.json_tree.specs.View.{view}
 use Rattle.script_fields.proofs.Programs.{list_all_instrs}
 use Rattle.script_fields.specs.Instructions.{instr_of, is_instr}
 use Rattle.script_fields.proofs.instructions.are_in_range.Goals as goal

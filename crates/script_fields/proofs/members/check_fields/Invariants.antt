@@ -1,6 +1,6 @@
 use Rattle.std.proofs.Common.{◌≡◌, drop}
 use Rattle.std.specs.Prelude.{⊤}
-use Rattle.serde_json.specs.View.{view}
+use Rattle.json_tree.specs.View.{view}
 use Rattle.script_fields.specs.Fields.{fields_faults}
 use Rattle.script_fields.specs.Outcome.{outcome}
 use Rattle.script_fields.proofs.members.check_fields.Given as goal

@@ -1,5 +1,5 @@
 use Rattle.std.proofs.Common.{◌≡◌, ◌≤◌, take, length, vec_len, vec_capacity}
-use Rattle.serde_json.specs.View.{items_view}
+use Rattle.json_tree.specs.View.{items_view}
 use Rattle.script_fields.specs.Fields.{fixes_of}
 use Rattle.script_fields.proofs.members.fixes_of.Given as goal
 

@@ -1,7 +1,7 @@
 use Rattle.std.proofs.Common.{rules, tests, sym, ◌∙◌}
 use Rattle.std.proofs.lemmas.Iterator.{YieldsList-from_slice}
 use Rattle.std.proofs.lemmas.Iterator.Search.{all_from_yields_List}
-use Rattle.serde_json.specs.View.{view}
+use Rattle.json_tree.specs.View.{view}
 use Rattle.script_fields.proofs.ListLaws.{list_all_wholes}
 use Rattle.script_fields.specs.Values.{whole, is_fix}
 use Rattle.script_fields.proofs.values.are_fixes.Goals as goal

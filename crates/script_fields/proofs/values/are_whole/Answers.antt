@@ -2,7 +2,7 @@ use Rattle.std.proofs.Common.{rules, tests, sym, ◌∙◌}
 use Rattle.std.proofs.lemmas.Iterator.{YieldsList-from_slice}
 use Rattle.std.proofs.lemmas.Iterator.Search.{all_from_yields_List}
 use Rattle.std.specs.Prelude.{is_some}
-use Rattle.serde_json.specs.View.{view}
+use Rattle.json_tree.specs.View.{view}
 use Rattle.script_fields.proofs.ListLaws.{list_all_wholes}
 use Rattle.script_fields.specs.Values.{whole}
 use Rattle.script_fields.proofs.values.are_whole.Goals as goal

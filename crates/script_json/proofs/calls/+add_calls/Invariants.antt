@@ -1,5 +1,5 @@
 use Rattle.std.proofs.Common.{◌≡◌, drop, length}
-use Rattle.serde_json.specs.View.{items_view}
+use Rattle.json_tree.specs.View.{items_view}
 use Rattle.script_json.specs.Calls.{placed}
 use Rattle.script_json.specs.Reading.{calls_read}
 use Rattle.script_json.proofs.calls.+add_calls.Given as goal

@@ -1,5 +1,5 @@
 use Rattle.std.proofs.Common.{sym, ◌∙◌, rules}
-use Rattle.serde_json.specs.View.{view}
+use Rattle.json_tree.specs.View.{view}
 use Rattle.script_json.proofs.CallSteps.{op_fault, op_joint}
 use Rattle.script_json.proofs.calls.check_call.Goals as goal
 

@@ -1,5 +1,5 @@
 use Rattle.std.proofs.Common.{sym, ◌∙◌, rules}
-use Rattle.serde_json.specs.View.{view}
+use Rattle.json_tree.specs.View.{view}
 use Rattle.script_json.proofs.CallSteps.{call_read-no_object, call_read-unknown, call_read-named, outcome_err, outcome_of_none}
 use Rattle.script_json.proofs.calls.read_call.Goals as goal
 

@@ -1,5 +1,5 @@
 use Rattle.std.proofs.Common.{sym, ◌∙◌, rules}
-use Rattle.serde_json.specs.View.{view}
+use Rattle.json_tree.specs.View.{view}
 use Rattle.script_json.specs.Script.{context_in, context_of}
 use Rattle.script_json.proofs.HeadSteps.{head_no_object, head_first, head_second, head_third, head_none, context_in-there}
 use Rattle.script_json.proofs.scripts.read_context.Goals as goal

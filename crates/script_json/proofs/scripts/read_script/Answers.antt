@@ -1,5 +1,5 @@
 use Rattle.std.proofs.Common.{◌≢◌, sym, ap, ◌∙◌, rules}
-use Rattle.serde_json.specs.View.{view}
+use Rattle.json_tree.specs.View.{view}
 use Rattle.script_fields.specs.declared.faults.ScriptErr.TheVariants.{NoMemory}
 use Rattle.script_json.specs.Script.{clock_at}
 use Rattle.script_json.proofs.DepthLaws.{main_less}
