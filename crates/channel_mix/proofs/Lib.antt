@@ -2,6 +2,9 @@ pub mod Mixed
 pub mod Mono
 pub mod OutputForms
 pub mod Shifts
-pub mod Sums
+pub mod Growing
 pub mod Weighing
 pub mod Made
+pub mod Rows
+pub mod Holding
+pub mod Spreading

@@ -2,11 +2,16 @@
 //! are as samples.
 #![tactic(auto)]
 
+mod four;
 mod kernels;
 mod mixing;
 mod outputs;
 mod settling;
+mod sums;
+mod widening;
 
+pub use four::Four;
 pub use mix_rules::count;
-pub use mixing::{mix_add, takes_mono};
-pub use settling::{clear_unless, each_level, each_level_on, level_of, settle, sum_into};
+pub use mixing::mix_add;
+pub use settling::{level_of, sum_into};
+pub use sums::{CHANNELS, Sums};

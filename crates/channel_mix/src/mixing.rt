@@ -60,10 +60,10 @@ fn mix_each(acc: &mut [i64], to: usize, src: &[i32], from: usize, interp: Interp
     }
 }
 
-/// Whether an output channel, of so many, is what a mono input is. If not, it is silent.
-///
-/// So a sum of mono connections may be mixed once, in place of each of them.
-pub fn takes_mono(interp: Interp, to: usize, channel: usize) -> bool
+// Whether an output channel, of so many, is what a mono input is. If not, it is silent.
+//
+// So a sum of mono connections may be mixed once, in place of each of them.
+pub(crate) fn takes_mono(interp: Interp, to: usize, channel: usize) -> bool
     requires { channel < to }
     ensures { (frame : ℕ → ℤ) → mix interp 1 to frame channel ≡ (if result then frame 0 else pos 0) }
 {

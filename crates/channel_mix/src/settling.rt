@@ -23,8 +23,8 @@ fn pair_of(x: Fix, y: Fix) -> Fix
     sat(i64::from(x) + i64::from(y))
 }
 
-/// Makes room for moving sums: they stay, or are zeros where none moves yet.
-pub fn clear_unless(sums: &mut [i64], moves: bool)
+// Makes room for moving sums: they stay, or are zeros where none moves yet.
+pub(crate) fn clear_unless(sums: &mut [i64], moves: bool)
     ensures length { length sums.new ≡ length sums.old }
     ensures stay { moves ≡ true → sums.new ≡ sums.old }
     ensures clear { moves ≡ false → (k : ℕ) → k < length sums.old → slice_index_or sums.new k (pos 0) ≡ pos 0 }
@@ -34,8 +34,8 @@ pub fn clear_unless(sums: &mut [i64], moves: bool)
     }
 }
 
-/// Adds to each level its sum on one that is the same at all frames, saturated before and after.
-pub fn each_level(levels: &mut [Fix], held: i64, sums: &[i64])
+// Adds to each level its sum on one that is the same at all frames, saturated before and after.
+pub(crate) fn each_level(levels: &mut [Fix], held: i64, sums: &[i64])
     requires length { length sums.now ≡ length levels.old }
     requires held { IsWithin (2 ^ 47) held }
     requires small { All (IsWithin (2 ^ 47)) sums.now }
@@ -47,8 +47,8 @@ pub fn each_level(levels: &mut [Fix], held: i64, sums: &[i64])
     }
 }
 
-/// Adds one sum to each level, saturated before and after.
-pub fn each_level_on(levels: &mut [Fix], sum: i64)
+// Adds one sum to each level, saturated before and after.
+pub(crate) fn each_level_on(levels: &mut [Fix], sum: i64)
     ensures length { length levels.new ≡ length levels.old }
     ensures levels { (m : ℕ) → m < length levels.old → slice_index_or levels.new m (pos 0) ≡ saturated (slice_index_or levels.old m (pos 0) +ℤ saturated sum) }
 {
@@ -57,8 +57,8 @@ pub fn each_level_on(levels: &mut [Fix], sum: i64)
     }
 }
 
-/// Sums on one that is the same at all frames, saturated.
-pub fn settle(values: &mut [Fix], held: i64, sums: &[i64])
+// Sums on one that is the same at all frames, saturated.
+pub(crate) fn settle(values: &mut [Fix], held: i64, sums: &[i64])
     requires length { length sums.now ≡ length values.old }
     requires held { IsWithin (2 ^ 47) held }
     requires small { All (IsWithin (2 ^ 47)) sums.now }

@@ -1,16 +1,13 @@
 -- How blocks and sums hold their values.
-use Rattle.std.proofs.Common.{ℕ, ℤ, zero, suc, pos, ◌≡◌, ◌+◌, ◌-◌, ◌*◌, ◌<◌, ◌≤◌, ◌+ℤ◌, ◌++◌, length, List, [], map, take, drop, slice_index_or, Bool, true, false, refl, sym, ◌∙◌, ap, arith, subst}
+use Rattle.std.proofs.Common.{ℕ, ℤ, zero, suc, pos, ◌≡◌, ◌+◌, ◌-◌, ◌*◌, ◌<◌, ◌≤◌, ◌++◌, length, List, [], map, take, drop, slice_index_or, Bool, true, false, refl, sym, ◌∙◌, ap, arith}
 use mathlib.Core.Path.{fun_ext}
-use Rattle.std.specs.Prelude.{All, if◌then◌else◌, nat_lt}
+use Rattle.std.specs.Prelude.{if◌then◌else◌, nat_lt}
 use Rattle.std.specs.List.{range_with_len}
-use Rattle.std.proofs.lemmas.List.{get_or-take, get_or-drop, length-drop, length-take-le, get_or_past, get_or_default}
-use Rattle.std.proofs.lemmas.Int.{ints}
+use Rattle.std.proofs.lemmas.List.{get_or-take, get_or-drop, length-drop, length-take-le, get_or_past}
 use Rattle.std.proofs.lemmas.Bool.Decides.{nat_tests}
 use Rattle.law_base.proofs.Rows.{rows_up, place_in}
-use Rattle.lane_kern.specs.Blocks.{IsWithin}
 use Rattle.mix_rules.specs.Blocks.{sample, frame_at}
 use Rattle.quantum_blocks.specs.Blocks.{BlockView, lane_of, lanes_from, lane_at, at, shown, carried}
-use Rattle.quantum_blocks.specs.Sums.{moving_sums}
 use Rattle.channel_mix.proofs.Made.{front_of}
 
 -- ---- the lanes of a list that holds one value for each, or one for each frame of each
@@ -59,9 +56,6 @@ first_value q false n held begun some = moving_at q n held 0 0 some begun ∙ ap
 pub part_length : (first n : ℕ) (items : List ℤ) → first + n ≤ length items → length (take (first + n - first) (drop first items)) ≡ n
 part_length first n items l = length-take-le (first + n - first) (drop first items) (omega (arith, length-drop {A = ℤ})) ∙ omega arith
 
-pub part_steady : (first n : ℕ) (items : List ℤ) (c : ℕ) → c < n → slice_index_or (take (first + n - first) (drop first items)) c (pos 0) ≡ slice_index_or items (first + c) (pos 0)
-part_steady first n items c l = get_or-take (first + n - first) (drop first items) c (pos 0) (omega arith) ∙ get_or-drop first items c (pos 0)
-
 -- and of one with q values for each
 pub wide_length : (q first n : ℕ) (items : List ℤ) → (first + n) * q ≤ length items → length (take ((first + n) * q - first * q) (drop (first * q) items)) ≡ n * q
 wide_length q first n items l =
@@ -73,10 +67,6 @@ part_moving q first n items c m low now =
     get_or-take ((first + n) * q - first * q) (drop (first * q) items) (c * q + m) (pos 0) (omega (arith, place))
     ∙ get_or-drop (first * q) items (c * q + m) (pos 0)
     ∙ ap (λ k. slice_index_or items k (pos 0)) (let e : first * q + (c * q + m) ≡ (first + c) * q + m = omega arith in e)
-
--- a row of the front of a list
-pub row_at : (q n c m : ℕ) (items : List ℤ) → c < n → m < q → slice_index_or (take (c * q + q - c * q) (drop (c * q) items)) m (pos 0) ≡ sample q (take (n * q) items) c m
-row_at q n c m items low now = part_steady (c * q) q items m now ∙ sym (get_or-take (n * q) items (c * q + m) (pos 0) (place_in q c n m low now))
 
 -- what an output carries has nothing past its channels
 pub steady_carried : (b : BlockView) (o n m : ℕ) (held : List ℤ) → o * n + n ≤ b.lanes → length held ≡ n → ((c : ℕ) → c < n → at b (o * n + c) m ≡ slice_index_or held c (pos 0))
@@ -115,25 +105,3 @@ moved q false count items old new one is long stay spread m now =
     ∙ get_or-take q items m (pos 0) now
     ∙ ap (λ k. slice_index_or items k (pos 0)) (let e : m ≡ 0 * q + m = omega arith in e)
     ∙ sym (moving_at q count items 0 m (omega arith) now)
-
--- ---- sums
-
--- sums that begin to move are zeros
-pub cleared : (q : ℕ) (moves : Bool) (n : ℕ) (items old new : List ℤ) → old ≡ take (n * q) items → length old ≡ n * q → (moves ≡ true → new ≡ old)
-    → (moves ≡ false → (k : ℕ) → k < length old → slice_index_or new k (pos 0) ≡ pos 0) → (k : ℕ) → k < n * q → slice_index_or new k (pos 0) ≡ slice_index_or (moving_sums q moves n items) k (pos 0)
-cleared q true n items old new is long stay clear k l = ap (λ xs. slice_index_or xs k (pos 0)) (stay refl ∙ is)
-cleared q false n items old new is long stay clear k l = clear refl k (omega arith)
-
-pub cleared_small : (q : ℕ) (moves : Bool) (bound n : ℕ) (items old new : List ℤ) → old ≡ take (n * q) items → length new ≡ length old → (moves ≡ true → new ≡ old)
-    → (moves ≡ false → (k : ℕ) → k < length old → slice_index_or new k (pos 0) ≡ pos 0) → All (IsWithin bound) (moving_sums q moves n items) → All (IsWithin bound) new
-cleared_small q true bound n items old new is long stay clear small = subst (All (IsWithin bound)) (sym (stay refl ∙ is)) small
-cleared_small q false bound n items old new is long stay clear small = λ i d l. subst (IsWithin bound) (sym (get_or_default new i d (pos 0) l ∙ clear refl i (omega arith))) (let low : 0 ≤ bound = omega arith in low)
-
-pub all_more : (a b : ℕ) (xs : List ℤ) → a ≤ b → All (IsWithin a) xs → All (IsWithin b) xs
-all_more a b xs l small i d k = let within = small i d k in omega arith
-
-pub held_grows : (x a b y : ℤ) → x ≡ a +ℤ y → x +ℤ b ≡ (a +ℤ b) +ℤ y
-held_grows x a b y e = omega (arith, ints)
-
-pub moving_grows : (x a b y : ℤ) → x ≡ b +ℤ y → a +ℤ x ≡ (a +ℤ b) +ℤ y
-moving_grows x a b y e = omega (arith, ints)

@@ -1,13 +1,14 @@
 -- One lane of a block is written, and the others stay.
-use Rattle.std.proofs.Common.{ℕ, ℤ, pos, ◌≡◌, ◌+◌, ◌-◌, ◌*◌, ◌<◌, ◌≤◌, length, List, ◌++◌, rules, take, drop, slice_index_or, slice_set, Bool, true, false, refl, inl, inr, suc, sym, ◌∙◌, ap, arith, subst}
+use Rattle.std.proofs.Common.{ℕ, ℤ, pos, ◌≡◌, ◌+◌, ◌-◌, ◌*◌, ◌<◌, ◌≤◌, length, List, ◌++◌, take, drop, slice_index_or, slice_set, Bool, true, false, refl, inl, inr, suc, sym, ◌∙◌, ap, arith, subst}
 use borrow.Rule.Slice.PartMut.{put_mid}
 use Rattle.std.proofs.lemmas.Bool.{cases_lt}
 use Rattle.std.proofs.lemmas.Nat.{mul-le}
-use Rattle.std.proofs.lemmas.List.{places, length-drop, length-take-le, get_or-take, get_or-set_same, get_or-set_other, get_or_append_left}
+use Rattle.std.proofs.lemmas.List.{length-drop, length-take-le, get_or-take, get_or-set_same, get_or-set_other, get_or_append_left}
 use Rattle.mix_rules.specs.Blocks.{sample}
 use Rattle.law_base.proofs.Rows.{row_in, place_in}
 use Rattle.lane_kern.proofs.Written.{written_before, written_here, written_after}
 use Rattle.quantum_blocks.specs.Blocks.{lanes_from, lane_at}
+use Rattle.channel_mix.proofs.Rows.{written_length}
 use Rattle.quantum_blocks.proofs.Holding.{steady_at, moving_at}
 
 -- so many rows of at least one place have so many places at least
@@ -28,9 +29,6 @@ module _ (q n : ℕ) (items : List ℤ) (lane : ℕ) (some : 0 < q) (low : lane 
       ∙ get_or-set_other items lane l v (pos 0) other
       ∙ sym (steady_at q n items l m there now)
 
-pub written_length : (i m : ℕ) (xs ys : List ℤ) → length ys ≡ m → i + m ≤ length xs → length (put_mid i m xs ys) ≡ length xs
-written_length i m xs ys same there = search (rules, places)
-
 -- how many values there are from one lane to the next
 lane_wide : (q lane : ℕ) → (lane + 1) * q - lane * q ≡ q
 lane_wide q lane = omega arith
@@ -42,14 +40,7 @@ lane_before q lane l m after = let row = row_in q lane l after in let wide = lan
 pub front_written : (m : ℕ) (xs ys : List ℤ) (k : ℕ) → k < length ys → slice_index_or (put_mid 0 m xs ys) k (pos 0) ≡ slice_index_or ys k (pos 0)
 front_written m xs ys k there = ap (λ j. slice_index_or (put_mid 0 m xs ys) j (pos 0)) (let e : k ≡ 0 + k = omega arith in e) ∙ written_here 0 m xs ys k there (omega arith)
 
--- a lane of a list that has them all is q values long
-pub lane_length : (q lanes lane : ℕ) (xs : List ℤ) → length xs ≡ lanes * q → lane < lanes → length (take (lane * q + q - lane * q) (drop (lane * q) xs)) ≡ q
-lane_length q lanes lane xs room low =
-    let wide : lane * q + q - lane * q ≡ q = omega arith in
-    let row = row_in q lane lanes low in
-    ap (λ n. length (take n (drop (lane * q) xs))) wide ∙ length-take-le q (drop (lane * q) xs) (let rest = length-drop (lane * q) xs in omega (arith, rest, row, room))
-
--- and so is one that ends where the next begins, also of a longer list
+-- a lane that ends where the next begins is q values long, also in a longer list
 pub next_lane_length : (q lanes lane : ℕ) (xs : List ℤ) → lanes * q ≤ length xs → lane < lanes → length (take ((lane + 1) * q - lane * q) (drop (lane * q) xs)) ≡ q
 next_lane_length q lanes lane xs room low =
     let row = row_in q lane lanes low in
@@ -92,30 +83,6 @@ module _ (q n len : ℕ) (items : List ℤ) (lane : ℕ) (low : lane < n) (room 
           | inr same ↦ absurd (other (omega arith))
         ]
       ]
-
--- ---- rows that are written one after another
-
--- where the rows before one are those of f and this one is written, those up to it are
-pub rows_more : (q n c : ℕ) (f : ℕ → ℕ → ℤ) (old ys : List ℤ) → length old ≡ n * q → c < n → length ys ≡ q → ((k m : ℕ) → k < c → m < q → sample q old k m ≡ f k m) → ((m : ℕ) → m < q → slice_index_or ys m (pos 0) ≡ f c m)
-    → (k m : ℕ) → k < c + 1 → m < q → sample q (put_mid (c * q) (c * q + q - c * q) old ys) k m ≡ f k m
-rows_more q n c f old ys room low long so_far own k m here now =
-    let row = row_in q c n low in
-    let begins : c * q ≤ length old = omega (arith, row, room) in
-    elim (cases_lt k c) [
-      | inl before ↦ written_before (c * q) (c * q + q - c * q) old ys (k * q + m) (place_in q k c m before now) begins ∙ so_far k m before now
-      | inr not_before ↦
-          let same : k ≡ c = omega (arith, here, not_before) in
-          ap (λ j. sample q (put_mid (c * q) (c * q + q - c * q) old ys) j m) same
-          ∙ written_here (c * q) (c * q + q - c * q) old ys m (omega (arith, long, now)) begins
-          ∙ own m now
-          ∙ ap (λ j. f j m) (sym same)
-    ]
-
--- and all have their length
-pub rows_length : (q n c : ℕ) (old ys : List ℤ) → length old ≡ n * q → c < n → length ys ≡ q → length (put_mid (c * q) (c * q + q - c * q) old ys) ≡ length old
-rows_length q n c old ys room low long =
-    let row = row_in q c n low in
-    written_length (c * q) (c * q + q - c * q) old ys (omega (arith, long)) (omega (arith, row, room))
 
 -- ---- lanes of one value get one for each frame, the last lane first
 

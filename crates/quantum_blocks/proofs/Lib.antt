@@ -8,3 +8,4 @@ pub mod PassLaws
 pub mod Holding
 pub mod Heard
 pub mod Widening
+pub mod Added

@@ -3,5 +3,5 @@ pub mod Blocks
 pub mod Held
 pub mod Heard
 pub mod Fits
-pub mod Sums
+pub mod Waiting
 pub mod Pairs

@@ -5,7 +5,7 @@ use Rattle.mix_rules.specs.Mixing.{total}
 use Rattle.conn_graph.specs.declared.edges.Edge.{Edge}
 use Rattle.meaning.specs.declared.world.World.{World}
 use Rattle.meaning.specs.Values.{part}
-use Rattle.quantum_blocks.specs.declared.sums.Inlet.{Inlet}
+use Rattle.quantum_blocks.specs.declared.gathering.Inlet.{Inlet}
 use Rattle.quantum_blocks.specs.Blocks.{BlockView, frame_of}
 use Rattle.quantum_blocks.specs.Connections.{leads_to}
 

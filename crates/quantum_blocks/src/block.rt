@@ -12,17 +12,17 @@ ghost use Rattle.meaning.specs.Values.{part};
 ghost use Rattle.quantum_blocks.specs.Blocks.{at, shown, carried, room_of, frame_of};
 ghost use Rattle.quantum_blocks.specs.Connections.{leads_to};
 ghost use Rattle.quantum_blocks.specs.Fits.{AreSources};
-ghost use Rattle.quantum_blocks.specs.Sums.{sum_at};
+ghost use Rattle.channel_mix.specs.Sums.{sum_at};
 ghost use Rattle.quantum_blocks.specs.Held.{IsHeld, IsCarried, IsWidened};
 
+use crate::gathering::{Inlet, gather, moving_pair};
 use crate::held::Held;
 use crate::kernels::{
     copy_values, fill, is_throughout, move_on, scale_all, scale_channels, scale_steady, silence,
     sound, spread, unfold_if, up_to, up_to_each,
 };
 use crate::playing::Source;
-use crate::sums::{Inlet, Sums, moving_pair};
-use channel_mix::{level_of, sum_into};
+use channel_mix::{Sums, level_of, sum_into};
 use conn_graph::Edge;
 use lane_kern::sat_into;
 use shaper_iir::shape_all;
@@ -92,6 +92,18 @@ impl Block {
         if self.lanes == lanes && self.frames == frames {
             return Ok(());
         }
+        self.resize(lanes, frames)
+    }
+
+    // The same for a block that may be of another size. It stands apart, so that going along blocks that
+    // all fit is a short loop.
+    #[inline(never)]
+    fn resize(&mut self, lanes: usize, frames: usize) -> Result<(), NoMemory>
+        requires lanes { lanes ≤ 32 }
+        requires frames { IsQuantumSize frames }
+        ensures lanes { OnOk result (self.new.lanes ≡ lanes) }
+        ensures frames { OnOk result (self.new.frames ≡ frames) }
+    {
         let room = self.values.len().max(lanes * frames);
         self.values.resize(room, 0)?;
         self.lanes = lanes;
@@ -377,7 +389,7 @@ impl Block {
         match moving_pair(blocks, into, counts, inlet) {
             Some((first, second)) => self.copy_sum(first, second, inlet.count),
             None => {
-                sums.gather(blocks, into, counts, inlet);
+                gather(sums, blocks, into, counts, inlet);
                 self.saturate(sums);
             }
         }
@@ -553,7 +565,8 @@ impl Block {
         }
     }
 
-    fn scale_by(&mut self, other: &Block, gain: Fix)
+    /// Becomes what another block is, multiplied by one gain.
+    pub fn scale_by(&mut self, other: &Block, gain: Fix)
         requires room { other.now.lanes * self.old.frames ≤ room_of self.old }
         requires frames { other.now.frames ≡ self.old.frames }
         ensures frames { self.new.frames ≡ self.old.frames }
@@ -574,7 +587,8 @@ impl Block {
         }
     }
 
-    fn scale_by_frame(&mut self, other: &Block, gains: &[Fix])
+    /// Becomes what another block is, multiplied at each frame by the gain there.
+    pub fn scale_by_frame(&mut self, other: &Block, gains: &[Fix])
         requires room { other.now.lanes * self.old.frames ≤ room_of self.old }
         requires gains { length gains.now ≡ self.old.frames }
         requires frames { other.now.frames ≡ self.old.frames }

@@ -4,16 +4,16 @@
 mod block;
 mod blocks;
 mod ends;
+mod gathering;
 mod held;
 mod kernels;
 mod places;
 mod playing;
-mod sums;
 
 pub use block::Block;
 pub use blocks::{fit_blocks, hush};
 pub use ends::{reader, slot, writer};
+pub use gathering::{Inlet, gather};
 pub use held::Held;
 pub use places::{near_of, places_of, play_place};
 pub use playing::{Source, sounding};
-pub use sums::{CHANNELS, Inlet, Sums};

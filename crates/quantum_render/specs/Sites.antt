@@ -8,7 +8,7 @@ use Rattle.conn_graph.specs.Ends.{reader_of, ends}
 use Rattle.automation.specs.Levels.{LevelView, AreLevels}
 use Rattle.meaning.specs.declared.world.World.{World}
 use Rattle.meaning.specs.Validity.{IsValid}
-use Rattle.quantum_blocks.specs.declared.sums.Inlet.{Inlet}
+use Rattle.quantum_blocks.specs.declared.gathering.Inlet.{Inlet}
 use Rattle.quantum_blocks.specs.Blocks.{counts_in}
 use Rattle.quantum_blocks.specs.Connections.{into as leads_into, leads_to}
 use Rattle.quantum_blocks.specs.Fits.{AreInRange}

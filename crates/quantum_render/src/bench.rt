@@ -24,11 +24,12 @@ ghost use Rattle.quantum_render.specs.Renders.{past_of, here_of};
 
 use crate::site::Site;
 use automation::{Level, Values};
+use channel_mix::{CHANNELS, Sums};
 use conn_graph::{Edge, Target};
 use delay_bank::{Delays, Reading, Spans};
 use filter_bank::CausalNodes;
 use node_table::Range;
-use quantum_blocks::{Block, CHANNELS, Held, Inlet, Sums, reader, slot};
+use quantum_blocks::{Block, Held, Inlet, gather, reader, slot};
 use std::alloc::Global;
 use std::marker::Model;
 use wa_base::{Fix, Interp, NoMemory, NodeId, ParamId, ParamName, Rate};
@@ -171,8 +172,13 @@ impl Bench {
             count: 1,
             interp: Interp::Speakers,
         };
-        self.sums
-            .gather(blocks, site.into, site.quantum.counts, inlet);
+        gather(
+            &mut self.sums,
+            blocks,
+            site.into,
+            site.quantum.counts,
+            inlet,
+        );
         self.levels.add(&self.sums);
         match level.rate() {
             Rate::A => {}

@@ -5,7 +5,7 @@ use Rattle.std.proofs.lemmas.List.Elements.{All-get_or}
 use Rattle.wa_base.specs.Numbers.{rnd}
 use Rattle.lane_kern.specs.Blocks.{at, IsWithin}
 use Rattle.mix_rules.specs.Mixing.{one}
-use Rattle.channel_mix.proofs.Sums.{adds_more}
+use Rattle.channel_mix.proofs.Growing.{adds_more}
 use Rattle.channel_mix.proofs.Weighing.{same_five}
 use Rattle.channel_mix.proofs.kernels.add_all_speakers.Goals as goal
 

@@ -5,7 +5,7 @@ use Rattle.wa_base.specs.Numbers.{rnd}
 use Rattle.lane_kern.specs.Blocks.{at}
 use Rattle.mix_rules.specs.Mixing.{one}
 use Rattle.channel_mix.specs.Outputs.{front_speakers}
-use Rattle.channel_mix.proofs.Sums.{adds_more}
+use Rattle.channel_mix.proofs.Growing.{adds_more}
 use Rattle.channel_mix.proofs.kernels.add_front_speakers.Goals as goal
 
 pub loop-k-preserved : goal.loop-k-preserved

@@ -3,7 +3,7 @@ use Rattle.std.specs.Int.{w32}
 use Rattle.std.proofs.lemmas.Int.{to_z-of_z}
 use Rattle.wa_base.specs.Numbers.{rnd}
 use Rattle.lane_kern.specs.Blocks.{at}
-use Rattle.channel_mix.proofs.Sums.{adds_more}
+use Rattle.channel_mix.proofs.Growing.{adds_more}
 use Rattle.channel_mix.proofs.kernels.add_quarters.Goals as goal
 
 pub loop-k-preserved : goal.loop-k-preserved

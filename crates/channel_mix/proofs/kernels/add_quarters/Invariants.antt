@@ -1,7 +1,7 @@
 use Rattle.std.proofs.Common.{pos, ◌+ℤ◌}
 use Rattle.wa_base.specs.Numbers.{rnd}
 use Rattle.lane_kern.specs.Blocks.{at}
-use Rattle.channel_mix.proofs.Sums.{AddsBelow}
+use Rattle.channel_mix.proofs.Growing.{AddsBelow}
 use Rattle.channel_mix.proofs.kernels.add_quarters.Given as goal
 
 abbrev pub invariant-loop-k : goal.invariant-loop-k

@@ -4,7 +4,7 @@ use Rattle.std.proofs.lemmas.Int.{to_z-of_z}
 use Rattle.wa_base.specs.Numbers.{rnd}
 use Rattle.lane_kern.specs.Blocks.{at}
 use Rattle.mix_rules.specs.Mixing.{one}
-use Rattle.channel_mix.proofs.Sums.{adds_more}
+use Rattle.channel_mix.proofs.Growing.{adds_more}
 use Rattle.channel_mix.proofs.Weighing.{same_side}
 use Rattle.channel_mix.proofs.kernels.add_side_speakers.Goals as goal
 

@@ -4,7 +4,7 @@ use Rattle.lane_kern.specs.Blocks.{at}
 use Rattle.mix_rules.specs.Blocks.{frame_at, sample}
 use Rattle.mix_rules.specs.Mixing.{mix}
 use Rattle.mix_rules.proofs.Laws.{mix_same}
-use Rattle.channel_mix.proofs.Sums.{adds_whole, adds_room}
+use Rattle.channel_mix.proofs.Growing.{adds_whole, adds_room}
 use Rattle.channel_mix.proofs.mixing.mix_add.Goals as goal
 
 pub add_channel-requires-clause-samples : goal.add_channel-requires-clause-samples

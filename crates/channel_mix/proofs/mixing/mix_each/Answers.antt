@@ -6,7 +6,7 @@ use Rattle.mix_rules.specs.Blocks.{frame_at, sample}
 use Rattle.channel_mix.specs.Outputs.{value_of}
 use Rattle.channel_mix.proofs.OutputForms.{value_of-mix}
 use Rattle.channel_mix.proofs.Mixed.{mixed_at, mixed_at_sample}
-use Rattle.channel_mix.proofs.Sums.{adds_part, adds_room}
+use Rattle.channel_mix.proofs.Growing.{adds_part, adds_room}
 use Rattle.channel_mix.proofs.mixing.mix_each.Goals as goal
 
 pub loop-channel-preserved : goal.loop-channel-preserved

@@ -1,6 +1,6 @@
 use Rattle.std.proofs.Common.{◌*◌}
 use Rattle.channel_mix.proofs.Mixed.{mixed_at}
-use Rattle.channel_mix.proofs.Sums.{AddsBelow}
+use Rattle.channel_mix.proofs.Growing.{AddsBelow}
 use Rattle.channel_mix.proofs.mixing.mix_each.Given as goal
 
 abbrev pub invariant-loop-channel : goal.invariant-loop-channel

@@ -1,8 +1,8 @@
 use Rattle.std.proofs.Common.{ℕ, ℤ, List, pos, ◌≡◌, ◌*◌, length, slice_index_or, ◌∙◌, ap, arith}
 use Rattle.wa_base.specs.Numbers.{scale}
 use Rattle.mix_rules.specs.Blocks.{sample}
-use Rattle.quantum_blocks.proofs.Holding.{part_steady}
-use Rattle.quantum_blocks.proofs.Lanes.{lane_length, rows_more, rows_length}
+use Rattle.channel_mix.proofs.Rows.{part_steady}
+use Rattle.channel_mix.proofs.Rows.{lane_length, rows_more, rows_length}
 use Rattle.quantum_blocks.proofs.kernels.scale_channels.Goals as goal
 
 pub loop-channel-preserved : goal.loop-channel-preserved

@@ -1,7 +1,7 @@
 use Rattle.std.proofs.Common.{rules, ℕ, ℤ, List, pos, ◌≡◌, length, slice_index_or, ◌∙◌, arith, FitsSigned}
 use Rattle.std.specs.Int.{w32}
 use Rattle.std.proofs.lemmas.Int.{to_z-of_z}
-use Rattle.quantum_blocks.proofs.Lanes.{lane_length, rows_more, rows_length}
+use Rattle.channel_mix.proofs.Rows.{lane_length, rows_more, rows_length}
 use Rattle.quantum_blocks.proofs.kernels.spread.Goals as goal
 
 pub loop-channel-preserved : goal.loop-channel-preserved

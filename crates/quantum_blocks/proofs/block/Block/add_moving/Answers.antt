@@ -2,7 +2,7 @@ use Rattle.std.proofs.Common.{ℤ, List, pos, ◌≡◌, ◌+ℤ◌, length, tak
 use Rattle.std.proofs.lemmas.List.{length-take-le}
 use Rattle.wa_base.specs.Numbers.{sat}
 use Rattle.quantum_blocks.specs.Blocks.{BlockView, at}
-use Rattle.quantum_blocks.specs.Sums.{sum_at}
+use Rattle.channel_mix.specs.Sums.{sum_at}
 use Rattle.channel_mix.proofs.Made.{front_at}
 use Rattle.quantum_blocks.proofs.Holding.{moved, first_is}
 use Rattle.quantum_blocks.proofs.block.Block.add_moving.Goals as goal

@@ -2,7 +2,8 @@ use Rattle.std.proofs.Common.{ℕ, ℤ, List, rules, pos, ◌+◌, ◌*◌, ◌�
 use Rattle.law_base.proofs.Rows.{rows_up}
 use Rattle.mix_rules.specs.Blocks.{sample, frame_at}
 use Rattle.quantum_blocks.specs.Blocks.{BlockView, at, lanes_from, lane_at}
-use Rattle.quantum_blocks.proofs.Holding.{steady_at, moving_at, steady_carried, moving_carried, part_length, part_steady, wide_length, part_moving}
+use Rattle.quantum_blocks.proofs.Holding.{steady_at, moving_at, steady_carried, moving_carried, part_length, wide_length, part_moving}
+use Rattle.channel_mix.proofs.Rows.{part_steady}
 use Rattle.quantum_blocks.proofs.Lanes.{at_least_rows}
 use Rattle.quantum_blocks.proofs.block.Block.output.Goals as goal
 

@@ -6,7 +6,7 @@ use Rattle.law_base.proofs.Rows.{row_in, place_in}
 use Rattle.lane_kern.proofs.Written.{written_before, written_here}
 use Rattle.sched_source.specs.Schedule.{played}
 use Rattle.meaning.specs.World.{channels_in, samples_in}
-use Rattle.quantum_blocks.proofs.Lanes.{lane_length, rows_length}
+use Rattle.channel_mix.proofs.Rows.{lane_length, rows_length}
 use Rattle.quantum_blocks.proofs.playing.Source.play.Goals as goal
 
 pub loop-lane-preserved : goal.loop-lane-preserved

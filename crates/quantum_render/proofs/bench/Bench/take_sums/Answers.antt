@@ -19,7 +19,7 @@ use Rattle.automation.specs.Levels.{LevelView, HasRoom, level_at, level_of, no_l
 use Rattle.quantum_blocks.specs.Blocks.{frame_of}
 use Rattle.quantum_blocks.specs.Connections.{leads_to}
 use Rattle.quantum_blocks.specs.Fits.{AreFit, AreSources}
-use Rattle.quantum_blocks.specs.Sums.{sum_at}
+use Rattle.channel_mix.specs.Sums.{sum_at}
 use Rattle.quantum_render.specs.Benches.{BenchView}
 use Rattle.quantum_render.specs.Sites.{SiteView, IsSite}
 use Rattle.node_table.specs.Kinds.{param_name}
@@ -109,13 +109,13 @@ returns-in-A-clause-levels c before m now =
     let summed = c.self.invariant.summed ∙ ap (λ (b : BenchView). b.frames) c.self.view_is ∙ c.requires.frames in
     let now' : m < c.self.inside.levels.frames = subst (λ n. m < n) (sym own) now in
     c.add.ensures.values m (subst (λ n. m < n) (sym c.take_level.ensures.frames) now')
-    ∙ ap (λ v. sat (v +ℤ sat (sum_at c.gather.new.self 0 m))) (c.take_level.ensures.values m now')
-    ∙ level_is (sounding s.world) c.args.blocks.now s.counts (param_id s.end.node.0 c.args.name) s.first m s.into (λ k. sum_at c.gather.new.self 0 k) (level_at level m) false now
+    ∙ ap (λ v. sat (v +ℤ sat (sum_at c.gather.new.sums 0 m))) (c.take_level.ensures.values m now')
+    ∙ level_is (sounding s.world) c.args.blocks.now s.counts (param_id s.end.node.0 c.args.name) s.first m s.into (λ k. sum_at c.gather.new.sums 0 k) (level_at level m) false now
     site.into
     (intrinsic s site c.args.name (is_there s site c.args.name c.requires.there) level d is m now)
     (rate s site c.args.name (is_there s site c.args.name c.requires.there) level d is ∙ ap is_k (sym c.rate.ensures ∙ c.in-A.is))
     (λ k low.
-    subst (λ (x : SiteView). sum_at c.gather.new.self 0 k ≡ total (map (part (frame_of (sounding s.world) c.args.blocks.now x.counts k) Speakers 1 0) (filter (leads_to (Param (param_id x.end.node.0 c.args.name))) x.into))) c.site.view_is
+    subst (λ (x : SiteView). sum_at c.gather.new.sums 0 k ≡ total (map (part (frame_of (sounding s.world) c.args.blocks.now x.counts k) Speakers 1 0) (filter (leads_to (Param (param_id x.end.node.0 c.args.name))) x.into))) c.site.view_is
     (c.gather.ensures.sums (sounding s.world) 0 k (omega arith) (subst (λ n. k < n) (sym summed) low)))
     ∙ unclamped_is (sounding s.world) c.args.blocks.now s.counts before s.first m site.quantum.begun now (param_id s.end.node.0 c.args.name)
 
@@ -133,13 +133,13 @@ returns-in-K-clause-levels c before m now =
     let first : 0 < c.self.inside.levels.frames = subst (λ n. 0 < n) (sym own) some in
     c.hold_first.ensures.values m (subst (λ n. m < n) (sym (c.add.ensures.frames ∙ c.take_level.ensures.frames ∙ own)) now)
     ∙ c.add.ensures.values 0 (subst (λ n. 0 < n) (sym c.take_level.ensures.frames) first)
-    ∙ ap (λ v. sat (v +ℤ sat (sum_at c.gather.new.self 0 0))) (c.take_level.ensures.values 0 first)
-    ∙ level_is (sounding s.world) c.args.blocks.now s.counts (param_id s.end.node.0 c.args.name) s.first m s.into (λ k. sum_at c.gather.new.self 0 k) (level_at level 0) true now
+    ∙ ap (λ v. sat (v +ℤ sat (sum_at c.gather.new.sums 0 0))) (c.take_level.ensures.values 0 first)
+    ∙ level_is (sounding s.world) c.args.blocks.now s.counts (param_id s.end.node.0 c.args.name) s.first m s.into (λ k. sum_at c.gather.new.sums 0 k) (level_at level 0) true now
     site.into
     (subst (λ j. intrinsic_value (sounding s.world) (param_id s.end.node.0 c.args.name) (s.first + j) ≡ level_at level 0)
     (at_first (sounding s.world) (param_id s.end.node.0 c.args.name) m k_rate) (intrinsic s site c.args.name (is_there s site c.args.name c.requires.there) level d is 0 some))
     k_rate
     (λ k low.
-    subst (λ (x : SiteView). sum_at c.gather.new.self 0 k ≡ total (map (part (frame_of (sounding s.world) c.args.blocks.now x.counts k) Speakers 1 0) (filter (leads_to (Param (param_id x.end.node.0 c.args.name))) x.into))) c.site.view_is
+    subst (λ (x : SiteView). sum_at c.gather.new.sums 0 k ≡ total (map (part (frame_of (sounding s.world) c.args.blocks.now x.counts k) Speakers 1 0) (filter (leads_to (Param (param_id x.end.node.0 c.args.name))) x.into))) c.site.view_is
     (c.gather.ensures.sums (sounding s.world) 0 k (omega arith) (subst (λ n. k < n) (sym summed) low)))
     ∙ unclamped_is (sounding s.world) c.args.blocks.now s.counts before s.first m site.quantum.begun now (param_id s.end.node.0 c.args.name)

@@ -1,8 +1,0 @@
-use Rattle.quantum_blocks.proofs.Widening.{IsSpread}
-use Rattle.quantum_blocks.proofs.kernels.widen.Given as goal
-
-abbrev pub invariant-loop-channel : goal.invariant-loop-channel
-invariant-loop-channel l = IsSpread l.interp l.frames l.count l.channel l.initial.sums l.sums
-
-abbrev pub decreases-loop-channel : goal.decreases-loop-channel
-decreases-loop-channel l = l.channel
