@@ -71,8 +71,14 @@ impl Automation {
     {
         self.cursors.resize(params.len(), Cursor::new())?;
         extend(self.alloc, &mut self.levels, nodes)?;
-        make_room(self.levels.as_mut_slice(), params, self.quantum)?;
-        seek(self.cursors.as_mut_slice(), params, first, steps);
+        make_ready(
+            self.levels.as_mut_slice(),
+            self.cursors.as_mut_slice(),
+            params,
+            self.quantum,
+            first,
+            steps,
+        )?;
         Ok(())
     }
 
@@ -114,27 +120,28 @@ fn extend(alloc: Global, levels: &mut Vec<Level>, nodes: usize) -> Result<(), No
     Ok(())
 }
 
-// Takes the memory for the values of each parameter.
-fn make_room(levels: &mut [Level], params: &[Param], frames: usize) -> Result<(), NoMemory>
-    requires { AreOfNodes (length levels.old) params.now }
+// Takes the memory for the values of each parameter, and moves each cursor to a frame in its timeline.
+fn make_ready<L: Ledger>(
+    levels: &mut [Level],
+    cursors: &mut [Cursor],
+    params: &[Param],
+    frames: usize,
+    first: u64,
+    steps: &mut Steps<L>,
+) -> Result<(), NoMemory>
+    requires nodes { AreOfNodes (length levels.old) params.now }
+    requires cursors { length cursors.old ≡ length params.now }
     ensures length { length levels.new ≡ length levels.old }
     ensures room { OnOk result ((p : a_param) → IsIn p params.now → HasRoom frames (level_of levels.new p.id.node.0)) }
-{
-    for param in params {
-        levels[param.id.node.0 as usize].reserve(frames)?;
-    }
-    Ok(())
-}
-
-// Moves each cursor to a frame in the timeline of its parameter.
-fn seek<L: Ledger>(cursors: &mut [Cursor], params: &[Param], first: u64, steps: &mut Steps<L>)
-    requires { length cursors.old ≡ length params.now }
-    ensures stands { cursors.new ≡ map (place_in first) params.now }
+    ensures stands { OnOk result (cursors.new ≡ map (place_in first) params.now) }
     ensures cost { (digits : a_param → ℕ) → ((p : a_param) → IsIn p params.now → length p.line.events < 2 ^ digits p) → steps.new ≤ steps.old + sum_by digits params.now }
 {
-    for (i, cursor) in cursors.iter_mut().enumerate() {
-        cursor.reseek(first, &params[i].line, steps);
+    for (i, param) in params.iter().enumerate() {
+        let node = param.id.node.0 as usize;
+        levels[node].reserve(frames)?;
+        cursors[i].reseek(first, &param.line, steps);
     }
+    Ok(())
 }
 
 // Takes the values of each parameter, one after another.

@@ -50,7 +50,9 @@ impl Level {
     pub(crate) fn reserve(&mut self, frames: usize) -> Result<(), NoMemory>
         ensures { OnOk result (HasRoom frames self.new) }
     {
-        self.values.resize(frames, 0)?;
+        if self.values.len() != frames {
+            self.values.resize(frames, 0)?;
+        }
         Ok(())
     }
 

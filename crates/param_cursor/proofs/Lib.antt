@@ -1,6 +1,6 @@
 pub mod Counting
 mod Draws
+mod Laning
 mod Neighbours
 mod Parts
 mod Stays
-mod Striding

@@ -42,6 +42,10 @@ pub parts_abs : (z : ℤ) (d : ℕ) → 0 < d → int_div_euclid z (pos d) *ℤ 
 parts_abs (pos a) d some = parts (pos a) d some
 parts_abs (negsuc a) d some = parts (negsuc a) d some
 
+pub euclid_parts : (z d : ℤ) → pos 1 ≤ℤ d → int_div_euclid z d *ℤ d +ℤ pos (unsigned_abs (int_rem_euclid z d)) ≡ z
+euclid_parts z (pos k) some = parts_abs z k (omega (arith, ints))
+euclid_parts z (negsuc k) some = absurd (omega (arith, ints))
+
 rest_small : (z : ℤ) (d : ℕ) → 0 < d → unsigned_abs (int_rem_euclid z (pos d)) < d
 rest_small (pos a) d some = rest_below a d some
 rest_small (negsuc a) d some = let r = rest_below a d some in omega (arith, ints)

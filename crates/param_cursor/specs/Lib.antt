@@ -1,4 +1,4 @@
 pub mod Cursors
+pub mod Lanes
 pub mod Rising
 pub mod Slopes
-pub mod Strides

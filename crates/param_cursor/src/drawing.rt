@@ -1,11 +1,12 @@
-ghost use Rattle.std.specs.Prelude.{◌≡◌, ℕ, length, ◌+◌, ◌-◌, ◌*◌, ◌<◌, ◌≤◌, ◌^◌, unsigned_abs, FitsSigned};
+ghost use Rattle.std.specs.Prelude.{◌≡◌, ℕ, length, ◌+◌, ◌-◌, ◌*◌, ◌<◌, ◌≤◌, ◌^◌, unsigned_abs, FitsSigned, pos, slice_index_or};
 ghost use Rattle.std.specs.Int.{w32};
 ghost use Rattle.param_events.specs.Values as values;
 ghost use Rattle.param_cursor.specs.Cursors.{IsDrawn};
 ghost use Rattle.param_cursor.specs.Rising.{share_rising, numerator_on, value_on};
-ghost use Rattle.param_cursor.specs.Strides.{IsStrided};
+ghost use Rattle.param_cursor.specs.Lanes.{IsNarrow};
 
-use crate::slope::{LANES, Slope, Strides};
+use crate::lanes::LANES;
+use crate::slope::Slope;
 use param_events::{along, rise, times};
 use wa_base::Fix;
 
@@ -40,54 +41,56 @@ fn share_from(rise: i64, n: u64, gain: u64, parts: u64) -> Slope
     Slope::new(start + (parts / 2) as i128, step, parts)
 }
 
-// As many frames of a slope that begins at a value as are drawn LANES at a time. It gives the index at
-// which it stops.
-fn draw_strides(out: &mut [Fix], at: usize, end: usize, from: Fix, slope: &mut Slope) -> usize
+// The values of a narrow slope that begins at a value, LANES frames at a time.
+fn draw_lanes(out: &mut [Fix], at: usize, end: usize, from: Fix, slope: &Slope)
+    requires ends { end ≤ length out.old }
+    requires many { at + 8 ≤ end }
+    requires narrow { IsNarrow slope.now }
+    requires small { (k : ℕ) → at + k < end → unsigned_abs (numerator_on slope.now k) ≤ 2 ^ 34 * slope.now.divisor }
+    requires fits { (k : ℕ) → at + k < end → FitsSigned w32 (value_on from slope.now k) }
+    ensures { IsDrawn out.old out.new at end (λ m. value_on from slope.now (m - at)) }
+{
+    let mut lanes = slope.lanes(from);
+    let mut m = at;
+    while end - m >= LANES {
+        lanes.write(&mut out[m..m + LANES]);
+        lanes.advance();
+        m += LANES;
+    }
+    let left = lanes.values;
+    draw_left(out, m, end, left);
+}
+
+// The first of so many values.
+fn draw_left(out: &mut [Fix], at: usize, end: usize, values: [Fix; LANES])
     requires ends { end ≤ length out.old }
     requires order { at ≤ end }
-    requires small { (k : ℕ) → at + k < end → unsigned_abs (numerator_on slope.old k) ≤ 2 ^ 34 * slope.old.divisor }
-    requires fits { (k : ℕ) → at + k < end → FitsSigned w32 (value_on from slope.old k) }
-    ensures within { (at ≤ result) × (result ≤ end) }
-    ensures length { length out.new ≡ length out.old }
-    ensures drawn { IsDrawn out.old out.new at result (λ m. value_on from slope.old (m - at)) }
-    ensures slope { slope.new ≡ record slope.old { numerator = numerator_on slope.old (result - at) } }
+    requires few { end ≤ at + 8 }
+    ensures { IsDrawn out.old out.new at end (λ m. slice_index_or values (m - at) (pos 0)) }
 {
-    match slope.strides() {
-        Some(strides) => draw_by(out, at, end, from, slope, &strides),
-        None => at,
+    for m in at..end {
+        out[m] = values[m - at];
     }
 }
 
-// The same by strides that are known.
-fn draw_by(
-    out: &mut [Fix],
-    at: usize,
-    end: usize,
-    from: Fix,
-    slope: &mut Slope,
-    strides: &Strides,
-) -> usize
+// The values of a slope, each by a step from the one before.
+fn draw_singly(out: &mut [Fix], at: usize, end: usize, from: Fix, slope: Slope)
     requires ends { end ≤ length out.old }
     requires order { at ≤ end }
-    requires strided { IsStrided strides.now slope.old.step slope.old.divisor }
-    requires small { (k : ℕ) → at + k < end → unsigned_abs (numerator_on slope.old k) ≤ 2 ^ 34 * slope.old.divisor }
-    requires fits { (k : ℕ) → at + k < end → FitsSigned w32 (value_on from slope.old k) }
-    ensures within { (at ≤ result) × (result ≤ end) }
-    ensures length { length out.new ≡ length out.old }
-    ensures drawn { IsDrawn out.old out.new at result (λ m. value_on from slope.old (m - at)) }
-    ensures slope { slope.new ≡ record slope.old { numerator = numerator_on slope.old (result - at) } }
+    requires step { unsigned_abs slope.step ≤ 2 ^ 34 * slope.divisor }
+    requires small { (k : ℕ) → at + k < end → unsigned_abs (numerator_on slope k) ≤ 2 ^ 34 * slope.divisor }
+    requires fits { (k : ℕ) → at + k < end → FitsSigned w32 (value_on from slope k) }
+    ensures { IsDrawn out.old out.new at end (λ m. value_on from slope (m - at)) }
 {
-    let mut m = at;
-    while end - m >= LANES {
-        slope.draw(&mut out[m..m + LANES], from, strides);
-        slope.leap(strides);
-        m += LANES;
+    let mut on = slope;
+    for m in at..end {
+        out[m] = (from as i64 + on.value()) as i32;
+        on.advance();
     }
-    m
 }
 
 // A line from its n-th part on, where each frame takes `gain` parts. Its first value and its step are
-// divided out; then LANES frames are drawn at a time, and of the rest each takes an addition and a comparison.
+// divided out.
 fn draw_steps(out: &mut [Fix], at: usize, end: usize, segment: Segment, n: u64, gain: u64)
     requires ends { end ≤ length out.old }
     requires order { at ≤ end }
@@ -97,11 +100,11 @@ fn draw_steps(out: &mut [Fix], at: usize, end: usize, segment: Segment, n: u64, 
     requires gain { gain ≤ segment.parts }
     ensures { IsDrawn out.old out.new at end (λ m. values.along segment.from segment.to (n + gain * (m - at)) segment.parts) }
 {
-    let mut slope = share_from(rise(segment.from, segment.to), n, gain, segment.parts);
-    let middle = draw_strides(out, at, end, segment.from, &mut slope);
-    for m in middle..end {
-        out[m] = (segment.from as i64 + slope.value()) as i32;
-        slope.advance();
+    let slope = share_from(rise(segment.from, segment.to), n, gain, segment.parts);
+    if end - at >= LANES && slope.is_narrow() {
+        draw_lanes(out, at, end, segment.from, &slope);
+    } else {
+        draw_singly(out, at, end, segment.from, slope);
     }
 }
 

@@ -3,6 +3,7 @@
 
 mod cursor;
 mod drawing;
+mod lanes;
 mod levels;
 mod slope;
 mod spans;

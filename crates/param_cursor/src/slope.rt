@@ -1,14 +1,13 @@
-ghost use Rattle.std.specs.Prelude.{◌≡◌, pos, ◌+◌, ◌+ℤ◌, ◌*ℤ◌, ◌*◌, ◌<◌, ◌≤◌, ◌^◌, ℕ, unsigned_abs, length, slice_index_or, FitsSigned, IfSome};
+ghost use Rattle.std.specs.Prelude.{◌≡◌, pos, ◌+ℤ◌, ◌*ℤ◌, ◌≤ℤ◌, ◌<ℤ◌, ◌*◌, ◌+◌, ◌<◌, ◌≤◌, ◌^◌, ℕ, unsigned_abs, FitsSigned, true};
 ghost use Rattle.std.specs.Int.{w32, int_div_euclid};
-ghost use Rattle.param_cursor.specs.Strides.{IsStride, IsStrided};
+ghost use Rattle.param_cursor.specs.Rising.{numerator_on, value_on};
+ghost use Rattle.param_cursor.specs.Lanes.{IsNarrow, AreLanes};
 
+use crate::lanes::{LANES, Lanes};
 use std::marker::Model;
 use wa_base::Fix;
 
-// So many frames are drawn at once.
-pub(crate) const LANES: usize = 16;
-
-const MOST_DIVISOR: u64 = 1 << 31;
+const MOST_DIVISOR: u64 = 1 << 30;
 
 const MOST_STEP: u64 = 1 << 26;
 
@@ -34,17 +33,30 @@ impl Model for Slope {
     ghost invariant = { IsReduced };
 }
 
-// How a slope goes on from any frame, for each number of frames below LANES and for LANES frames.
-#[derive(Drop)]
-pub(crate) struct Strides {
-    wholes: [i32; LANES],
-    carries: [u32; LANES],
-    whole: i64,
-    rest: u64,
-}
-
 // A quotient, rounded down, and its remainder.
 fn divided(numerator: i128, divisor: u64) -> (i64, u64)
+    requires some { 1 ≤ divisor }
+    requires small { unsigned_abs numerator ≤ 2 ^ 34 * divisor }
+    ensures parts { result.0 *ℤ pos divisor +ℤ pos result.1 ≡ numerator }
+    ensures rest { result.1 < divisor }
+{
+    match (i64::try_from(numerator), i64::try_from(divisor)) {
+        (Ok(numerator), Ok(divisor)) => divided_in_64_bits(numerator, divisor),
+        _ => divided_in_128_bits(numerator, divisor),
+    }
+}
+
+fn divided_in_64_bits(numerator: i64, divisor: i64) -> (i64, u64)
+    requires { pos 1 ≤ℤ divisor }
+    ensures parts { result.0 *ℤ divisor +ℤ pos result.1 ≡ numerator }
+    ensures rest { pos result.1 <ℤ divisor }
+{
+    let quotient = numerator.div_euclid(divisor);
+    let rest = numerator.rem_euclid(divisor);
+    (quotient, rest as u64)
+}
+
+fn divided_in_128_bits(numerator: i128, divisor: u64) -> (i64, u64)
     requires some { 1 ≤ divisor }
     requires small { unsigned_abs numerator ≤ 2 ^ 34 * divisor }
     ensures parts { result.0 *ℤ pos divisor +ℤ pos result.1 ≡ numerator }
@@ -55,13 +67,21 @@ fn divided(numerator: i128, divisor: u64) -> (i64, u64)
     (quotient as i64, rest as u64)
 }
 
-// A value of a slope so many frames on, where its stride is known.
-fn value_on(first: i64, rest: u32, whole: i32, carry: u32) -> i64
-    requires { unsigned_abs first ≤ 2 ^ 40 }
-    ensures up { carry ≤ rest → result ≡ first +ℤ whole +ℤ pos 1 }
-    ensures same { rest < carry → result ≡ first +ℤ whole }
+// The whole number and the remainder that lead from one quotient to another over the same divisor.
+fn way(from: (i64, u64), to: (i64, u64), divisor: u64) -> (i64, u64)
+    requires from { from.1 < divisor }
+    requires to { to.1 < divisor }
+    requires small { unsigned_abs from.0 ≤ 2 ^ 34 }
+    requires near { unsigned_abs to.0 ≤ 2 ^ 35 }
+    ensures parts { (from.0 *ℤ pos divisor +ℤ pos from.1) +ℤ (result.0 *ℤ pos divisor +ℤ pos result.1) ≡ to.0 *ℤ pos divisor +ℤ pos to.1 }
+    ensures rest { result.1 < divisor }
 {
-    first + i64::from(whole) + i64::from(rest >= carry)
+    let whole = to.0 - from.0;
+    if from.1 <= to.1 {
+        (whole, to.1 - from.1)
+    } else {
+        (whole - 1, to.1 + (divisor - from.1))
+    }
 }
 
 impl Slope {
@@ -98,42 +118,43 @@ impl Slope {
         (self.value, self.rest)
     }
 
-    // How the slope goes on from any frame, where that has 32 bits.
-    pub(crate) fn strides(&self) -> Option<Strides>
-        ensures { IfSome result (λ strides. IsStrided strides self.now.step self.now.divisor) }
+    // Whether the divisor and each step fit 32 bits.
+    pub(crate) fn is_narrow(&self) -> bool
+        ensures { result ≡ true → IsNarrow self.now }
     {
-        if self.divisor > MOST_DIVISOR || self.step.unsigned_abs() > MOST_STEP {
-            return None;
-        }
-        Some(self.strides_of_32_bits())
+        self.divisor <= MOST_DIVISOR && self.step.unsigned_abs() <= MOST_STEP
     }
 
-    fn strides_of_32_bits(&self) -> Strides
-        requires divisor { self.now.divisor ≤ 2 ^ 31 }
-        requires step { unsigned_abs self.now.step ≤ (2 ^ 26 + 1) * self.now.divisor }
-        ensures { IsStrided result self.now.step self.now.divisor }
+    // The values of the next LANES frames of a slope that begins at a value.
+    pub(crate) fn lanes(&self, base: Fix) -> Lanes
+        requires narrow { IsNarrow self.now }
+        requires small { (i : ℕ) → i < 8 → unsigned_abs (numerator_on self.now i) ≤ 2 ^ 34 * self.now.divisor }
+        requires fits { (i : ℕ) → i < 8 → FitsSigned w32 (value_on base self.now i) }
+        ensures { AreLanes result (base *ℤ pos self.now.divisor +ℤ self.now.numerator) self.now.step self.now.divisor }
     {
-        let mut strides = Strides {
-            wholes: [0; LANES],
-            carries: [0; LANES],
-            whole: 0,
-            rest: 0,
-        };
+        let mut values = [0; LANES];
+        let mut rests = [0; LANES];
         let mut on = Slope {
-            value: 0,
-            rest: 0,
+            value: self.value,
+            rest: self.rest,
             step: self.step,
             step_rest: self.step_rest,
             divisor: self.divisor,
         };
         for i in 0..LANES {
-            let (whole, rest) = on.parts();
-            strides.wholes[i] = whole as i32;
-            strides.carries[i] = (self.divisor - rest) as u32;
+            let (value, rest) = on.parts();
+            values[i] = (i64::from(base) + value) as i32;
+            rests[i] = rest as i32;
             on.advance();
         }
-        (strides.whole, strides.rest) = on.parts();
-        strides
+        let (whole, part) = way(self.parts(), on.parts(), self.divisor);
+        Lanes {
+            values,
+            rests,
+            whole: whole as i32,
+            part: part as i32,
+            divisor: self.divisor as i32,
+        }
     }
 
     // Goes one step on.
@@ -160,46 +181,5 @@ impl Slope {
             self.value = self.value + 1;
             self.rest = self.rest - room;
         }
-    }
-
-    // Goes LANES steps on.
-    pub(crate) fn leap(&mut self, strides: &Strides)
-        requires numerator { unsigned_abs self.old.numerator ≤ 2 ^ 34 * self.old.divisor }
-        requires strides { IsStrided strides.now self.old.step self.old.divisor }
-        ensures { self.new ≡ record self.old { numerator = self.old.numerator +ℤ self.old.step *ℤ pos 16 } }
-    {
-        self.raise(strides.whole, strides.rest);
-    }
-
-    // The next LANES frames of a slope that begins at a value.
-    pub(crate) fn draw(&self, out: &mut [Fix], base: Fix, strides: &Strides)
-        requires room { length out.old ≡ 16 }
-        requires numerator { unsigned_abs self.now.numerator ≤ 2 ^ 34 * self.now.divisor }
-        requires strides { IsStrided strides.now self.now.step self.now.divisor }
-        requires fits { (i : ℕ) → i < 16 → FitsSigned w32 (base +ℤ int_div_euclid (self.now.numerator +ℤ self.now.step *ℤ pos i) (pos self.now.divisor)) }
-        ensures length { length out.new ≡ 16 }
-        ensures values { (i : ℕ) → i < 16 → slice_index_or out.new i (pos 0) ≡ base +ℤ int_div_euclid (self.now.numerator +ℤ self.now.step *ℤ pos i) (pos self.now.divisor) }
-    {
-        for i in 0..LANES {
-            out[i] = self.lane(base, strides, i);
-        }
-    }
-
-    // The value so many frames on.
-    fn lane(&self, base: Fix, strides: &Strides, i: usize) -> Fix
-        requires lane { i < 16 }
-        requires small { self.now.divisor ≤ 2 ^ 31 }
-        requires numerator { unsigned_abs self.now.numerator ≤ 2 ^ 34 * self.now.divisor }
-        requires stride { IsStride (slice_index_or strides.now.wholes i (pos 0)) (slice_index_or strides.now.carries i 0) self.now.step self.now.divisor i }
-        requires fits { FitsSigned w32 (base +ℤ int_div_euclid (self.now.numerator +ℤ self.now.step *ℤ pos i) (pos self.now.divisor)) }
-        ensures { result ≡ base +ℤ int_div_euclid (self.now.numerator +ℤ self.now.step *ℤ pos i) (pos self.now.divisor) }
-    {
-        let first = i64::from(base) + self.value;
-        value_on(
-            first,
-            self.rest as u32,
-            strides.wholes[i],
-            strides.carries[i],
-        ) as i32
     }
 }

@@ -136,7 +136,9 @@ pub(crate) fn block_end(next: Option<&Event>, first: u64, count: usize) -> usize
     }
 }
 
-// The frames between two events that stand side by side.
+// The frames between two events that stand side by side. Of most parameters the value stays, and this
+// is not called.
+#[cold]
 pub(crate) fn draw_around(
     out: &mut [Fix],
     at: usize,

@@ -2,7 +2,7 @@ use Rattle.std.proofs.Common.{rules, ◌≡◌, ◌*ℤ◌, pos, FitsSigned, to_
 use Rattle.std.specs.Int.{w64, w128}
 use Rattle.std.proofs.lemmas.Int.{to_z-of_z, ints}
 use Rattle.param_cursor.proofs.Parts.{rest_is, product_fits, rest_fits}
-use Rattle.param_cursor.proofs.slope.divided.Goals as goal
+use Rattle.param_cursor.proofs.slope.divided_in_128_bits.Goals as goal
 
 pub overflow_cast-result-2 : goal.overflow_cast-result-2
 overflow_cast-result-2 c =
