@@ -344,6 +344,8 @@ TEXTS = [
     Worst("16 MiB of objects that nothing reads", member_of('{"":0},', "0")),
     Worst("16 MiB of empty objects", member_of("{},", "0")),
     Worst("16 MiB of arrays", member_of("[],", "0")),
+    Worst("16 MiB of arrays within arrays", member_of("[" * 120 + "]" * 120 + ",", "0")),
+    Worst("16 MiB of arrays of five numbers", member_of("[0,0,0,0,0],", "0")),
     Worst("16 MiB of numbers", member_of("0,", "0")),
     Worst("16 MiB of texts", member_of('"",', "0")),
     Worst("a text of 16 MiB", lambda: filled(text_of([])[:-1] + ',"x":"', "\\u0000", '"}')),
