@@ -25,3 +25,7 @@ first_one old value heard same = omega (arith, ints, same)
 
 pub last_one : (old new u v w value heard : ℤ) → new ≡ old +ℤ ((u +ℤ v) +ℤ (w +ℤ value)) → value ≡ heard → new +ℤ pos 0 ≡ (old +ℤ ((u +ℤ v) +ℤ w)) +ℤ heard
 last_one old new u v w value heard adds same = omega (arith, ints, adds, same)
+
+pub as_it_is : (interp : Interp) (channels n q : ℕ) (values : List ℤ) (c m : ℕ) → channels ≡ n → c < n → sample q values c m ≡ mix interp channels n (frame_at q values m) c
+as_it_is interp channels n q values c m equal low =
+    sym (ap (λ k. mix interp k n (frame_at q values m) c) equal ∙ mix_same interp n (frame_at q values m) c low)

@@ -1,5 +1,6 @@
 ghost use Rattle.std.specs.Prelude.{◌≡◌, ◌↔◌, ◌≤◌, ◌<◌, ◌+◌, ◌*◌, ◌+ℤ◌, ℕ, pos, length, slice_index_or, map, filter, if◌then◌else◌, IfSome, IsTrue};
-ghost use Rattle.mix_rules.specs.Mixing.{total};
+ghost use Rattle.mix_rules.specs.Blocks.{frame_at};
+ghost use Rattle.mix_rules.specs.Mixing.{mix, total};
 ghost use Rattle.channel_mix.specs.Sums.{sum_at};
 ghost use Rattle.conn_graph.specs.declared.edges.Edge.{Edge as an_edge};
 ghost use Rattle.conn_graph.specs.Ends.{reader_of};
@@ -99,20 +100,53 @@ fn hear<'a>(
     ensures sums { (w : world) (c m : ℕ) → c < inlet.count → m < sums.old.frames →
         sum_at sums.new c m +ℤ waiting_at result (c * sums.old.frames + m) ≡ (sum_at sums.old c m +ℤ waiting_at waiting.entry (c * sums.old.frames + m)) +ℤ (if leads_to inlet.target edge.now then part (frame_of w blocks.now counts.now m) inlet.interp inlet.count c edge.now else pos 0) }
 {
-    let Some(fourth) = moving(blocks, counts, edge, inlet) else {
-        hear_alone(sums, blocks, counts, edge, inlet);
+    if !inlet.target.is_same(edge.to) {
         return waiting;
-    };
+    }
+    let place = slot(reader(edge.from));
+    let channels = counts[place] as usize;
+    match blocks[place].output(edge.output as usize, channels) {
+        Held::Steady(held) => {
+            sums.add_steady(held, inlet.interp);
+            waiting
+        }
+        Held::Moving(values) => add_or_wait(sums, values, channels, inlet, waiting),
+    }
+}
+
+// Adds what moves, or lets it wait until there are four: only what has the inlet's number of channels waits.
+fn add_or_wait<'a>(
+    sums: &mut Sums,
+    values: &'a [Fix],
+    channels: usize,
+    inlet: Inlet,
+    waiting: Waiting<'a>,
+) -> Waiting<'a>
+    requires added { sums.old.added < 8192 }
+    requires count { sums.old.count ≡ inlet.count }
+    requires length { length values.now ≡ channels * sums.old.frames }
+    requires waiting { AreWaiting (inlet.count * sums.old.frames) waiting }
+    ensures frames { sums.new.frames ≡ sums.old.frames }
+    ensures count { sums.new.count ≡ inlet.count }
+    ensures added { sums.new.added + count_of result ≤ sums.old.added + count_of waiting.entry + 1 }
+    ensures waiting { AreWaiting (inlet.count * sums.old.frames) result }
+    ensures sums { (c m : ℕ) → c < inlet.count → m < sums.old.frames →
+        sum_at sums.new c m +ℤ waiting_at result (c * sums.old.frames + m) ≡ (sum_at sums.old c m +ℤ waiting_at waiting.entry (c * sums.old.frames + m)) +ℤ mix inlet.interp channels inlet.count (frame_at sums.old.frames values.now m) c }
+{
+    if channels != inlet.count {
+        sums.add_moving(values, channels, inlet.interp);
+        return waiting;
+    }
     match waiting {
-        Waiting::None => Waiting::One(fourth),
-        Waiting::One(first) => Waiting::Two(first, fourth),
-        Waiting::Two(first, second) => Waiting::Three(first, second, fourth),
+        Waiting::None => Waiting::One(values),
+        Waiting::One(first) => Waiting::Two(first, values),
+        Waiting::Two(first, second) => Waiting::Three(first, second, values),
         Waiting::Three(first, second, third) => {
             sums.add_four(Four {
                 first,
                 second,
                 third,
-                fourth,
+                fourth: values,
             });
             Waiting::None
         }
@@ -139,27 +173,6 @@ fn add_waiting(sums: &mut Sums, waiting: Waiting<'_>, inlet: Inlet)
             sums.add_moving(first, inlet.count, inlet.interp);
             sums.add_moving(second, inlet.count, inlet.interp);
             sums.add_moving(third, inlet.count, inlet.interp);
-        }
-    }
-}
-
-// Adds what a connection carries by itself, if it leads to the inlet.
-fn hear_alone(sums: &mut Sums, blocks: &[Block], counts: &[u32], edge: &Edge, inlet: Inlet)
-    requires added { sums.old.added < 8192 }
-    requires count { sums.old.count ≡ inlet.count }
-    requires source { IsSource sums.old.frames counts.now blocks.now edge.now }
-    ensures frames { sums.new.frames ≡ sums.old.frames }
-    ensures count { sums.new.count ≡ inlet.count }
-    ensures added { sums.new.added ≤ sums.old.added + 1 }
-    ensures sums { (w : world) (c m : ℕ) → c < inlet.count → m < sums.old.frames →
-        sum_at sums.new c m ≡ sum_at sums.old c m +ℤ (if leads_to inlet.target edge.now then part (frame_of w blocks.now counts.now m) inlet.interp inlet.count c edge.now else pos 0) }
-{
-    if inlet.target.is_same(edge.to) {
-        let place = slot(reader(edge.from));
-        let channels = counts[place] as usize;
-        match blocks[place].output(edge.output as usize, channels) {
-            Held::Steady(held) => sums.add_steady(held, inlet.interp),
-            Held::Moving(values) => sums.add_moving(values, channels, inlet.interp),
         }
     }
 }

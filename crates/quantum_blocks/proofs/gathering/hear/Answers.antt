@@ -1,59 +1,64 @@
-use Rattle.std.proofs.Common.{ℕ, ℤ, pos, ◌≡◌, ◌+◌, ◌*◌, ◌+ℤ◌, ◌<◌, slice_index_or, sym, ◌∙◌, ap, arith, subst}
+use Rattle.std.proofs.Common.{ℕ, ℤ, pos, ◌≡◌, ◌+◌, ◌*◌, ◌+ℤ◌, ◌<◌, true, length, slice_index_or, sym, ◌∙◌, ap, arith, subst}
 use Rattle.std.specs.Prelude.{if◌then◌else◌}
 use Rattle.std.proofs.lemmas.Int.{ints}
+use Rattle.std.proofs.lemmas.List.{get_or_default}
+use Rattle.wa_base.specs.declared.graph_names.End.{End}
+use Rattle.mix_rules.specs.Blocks.{frame_at}
+use Rattle.mix_rules.specs.Mixing.{mix}
+use Rattle.conn_graph.specs.Ends.{reader_of}
 use Rattle.meaning.specs.Values.{part}
 use Rattle.channel_mix.specs.Sums.{sum_at}
-use Rattle.quantum_blocks.specs.Blocks.{frame_of}
+use Rattle.quantum_blocks.specs.Blocks.{BlockView, no_block, slot, block_of, carried, counts_in, frame_of}
 use Rattle.quantum_blocks.specs.Connections.{leads_to}
-use Rattle.quantum_blocks.specs.Pairs.{IsBrought}
 use Rattle.quantum_blocks.specs.Waiting.{waiting_at}
-use Rattle.quantum_blocks.specs.declared.gathering.Waiting.{Waiting}
-use Rattle.quantum_blocks.proofs.Added.{first_one, then_one, last_one}
 use Rattle.quantum_blocks.proofs.gathering.hear.Goals as goal
 
-pub returns-in_default-clause-sums : goal.returns-in_default-clause-sums
-returns-in_default-clause-sums c w channel m in_range now =
-    let added = c.hear_alone.ensures.sums w channel m in_range now in
+pub returns-then-not-is_same-clause-sums : goal.returns-then-not-is_same-clause-sums
+returns-then-not-is_same-clause-sums c w channel m in_range now =
+    let elsewhere = sym c.is_same.ensures ∙ c.if-not-is_same.true in
+    let none = ap (λ b. if b then part (frame_of w c.args.blocks.now c.args.counts.now m) c.args.inlet.interp c.args.inlet.count channel c.args.edge.now else pos 0) elsewhere in
+    omega (arith, ints, none)
+
+pub returns-in-Steady-clause-sums : goal.returns-in-Steady-clause-sums
+returns-in-Steady-clause-sums c w channel m in_range now =
+    let source : End = reader_of c.args.edge.now.from.0 in
+    let o : ℕ = c.args.edge.now.output in
+    let place = c.slot-place.ensures ∙ ap slot c.reader.ensures in
+    let old : ℤ = sum_at c.args.sums.now channel m in
+    let held = c.in-Steady.ensures in
+    let block : c.index-blocks-place.result ≡ block_of c.args.blocks.now source =
+    c.index-blocks-place.is ∙ get_or_default c.args.blocks.now c.slot-place.result c.index-blocks-place.result no_block (rw place c.requires.source.block) ∙ ap (λ k. slice_index_or c.args.blocks.now k no_block) place in
+    let heard : c.index-blocks-place.result.frames ≡ c.args.sums.now.frames = ap (λ (b : BlockView). b.frames) block ∙ c.requires.source.frames in
+    let now' : m < c.index-blocks-place.result.frames = subst (λ k. m < k) (sym heard) now in
+    let channels : slice_index_or c.args.counts.now c.slot-place.result 0 ≡ counts_in c.args.counts.now source =
+    get_or_default c.args.counts.now c.slot-place.result 0 1 (rw place c.requires.source.count) ∙ ap (λ k. slice_index_or c.args.counts.now k 1) place in
+    let leads : leads_to c.args.inlet.target c.args.edge.now ≡ true = sym c.is_same.ensures ∙ c.if-not-is_same.false in
+    let added = c.add_steady.ensures.sums channel m (subst (λ n. channel < n) (sym c.requires.count) in_range) now
+    ∙ ap (λ (f : ℕ → ℤ). old +ℤ mix c.args.inlet.interp (length c.in-Steady.held.now) c.args.sums.now.count f channel) (held.1 m now')
+    ∙ ap (λ n. old +ℤ mix c.args.inlet.interp n c.args.sums.now.count (carried c.index-blocks-place.result (slice_index_or c.args.counts.now c.slot-place.result 0) o m) channel) held.0
+    ∙ ap (λ n. old +ℤ mix c.args.inlet.interp n c.args.sums.now.count (carried c.index-blocks-place.result n o m) channel) channels
+    ∙ ap (λ (b : BlockView). old +ℤ mix c.args.inlet.interp (counts_in c.args.counts.now source) c.args.sums.now.count (carried b (counts_in c.args.counts.now source) o m) channel) block
+    ∙ ap (λ n. old +ℤ mix c.args.inlet.interp (counts_in c.args.counts.now source) n (carried (block_of c.args.blocks.now source) (counts_in c.args.counts.now source) o m) channel) c.requires.count
+    ∙ ap (λ b. old +ℤ (if b then part (frame_of w c.args.blocks.now c.args.counts.now m) c.args.inlet.interp c.args.inlet.count channel c.args.edge.now else pos 0)) (sym leads) in
     omega (arith, ints, added)
 
-pub returns-in-None-clause-sums : goal.returns-in-None-clause-sums
-returns-in-None-clause-sums c w channel m in_range now =
-    let k : ℕ = channel * c.args.sums.now.frames + m in
-    let heard : ℤ = part (frame_of w c.args.blocks.now c.args.counts.now m) c.args.inlet.interp c.args.inlet.count channel c.args.edge.now in
-    let brought : IsBrought c.args.sums.now.frames c.args.counts.now c.args.blocks.now c.args.edge.now c.args.inlet c.in-Some.fourth.now = c.in-Some.ensures c.args.sums.now.frames c.requires.source in
-    let old : ℤ = sum_at c.args.sums.now channel m in
-    let value : ℤ = slice_index_or c.in-Some.fourth.now k (pos 0) in
-    let same : value ≡ (if leads_to c.args.inlet.target c.args.edge.now then heard else pos 0) = brought.values w channel m in_range now ∙ ap (λ b. if b then heard else pos 0) (sym brought.leads) in
-    first_one old value _ same ∙ ap (λ (x : Waiting). (old +ℤ waiting_at x k) +ℤ (if leads_to c.args.inlet.target c.args.edge.now then heard else pos 0)) (sym c.in-None.is)
-
-pub returns-in-One-clause-sums : goal.returns-in-One-clause-sums
-returns-in-One-clause-sums c w channel m in_range now =
-    let k : ℕ = channel * c.args.sums.now.frames + m in
-    let heard : ℤ = part (frame_of w c.args.blocks.now c.args.counts.now m) c.args.inlet.interp c.args.inlet.count channel c.args.edge.now in
-    let brought : IsBrought c.args.sums.now.frames c.args.counts.now c.args.blocks.now c.args.edge.now c.args.inlet c.in-Some.fourth.now = c.in-Some.ensures c.args.sums.now.frames c.requires.source in
-    let old : ℤ = sum_at c.args.sums.now channel m in
-    let value : ℤ = slice_index_or c.in-Some.fourth.now k (pos 0) in
-    let same : value ≡ (if leads_to c.args.inlet.target c.args.edge.now then heard else pos 0) = brought.values w channel m in_range now ∙ ap (λ b. if b then heard else pos 0) (sym brought.leads) in
-    then_one old (slice_index_or c.in-One.first.now k (pos 0)) value _ same ∙ ap (λ (x : Waiting). (old +ℤ waiting_at x k) +ℤ (if leads_to c.args.inlet.target c.args.edge.now then heard else pos 0)) (sym c.in-One.is)
-
-pub returns-in-Two-clause-sums : goal.returns-in-Two-clause-sums
-returns-in-Two-clause-sums c w channel m in_range now =
-    let k : ℕ = channel * c.args.sums.now.frames + m in
-    let heard : ℤ = part (frame_of w c.args.blocks.now c.args.counts.now m) c.args.inlet.interp c.args.inlet.count channel c.args.edge.now in
-    let brought : IsBrought c.args.sums.now.frames c.args.counts.now c.args.blocks.now c.args.edge.now c.args.inlet c.in-Some.fourth.now = c.in-Some.ensures c.args.sums.now.frames c.requires.source in
-    let old : ℤ = sum_at c.args.sums.now channel m in
-    let value : ℤ = slice_index_or c.in-Some.fourth.now k (pos 0) in
-    let same : value ≡ (if leads_to c.args.inlet.target c.args.edge.now then heard else pos 0) = brought.values w channel m in_range now ∙ ap (λ b. if b then heard else pos 0) (sym brought.leads) in
-    then_one old (slice_index_or c.in-Two.first.now k (pos 0) +ℤ slice_index_or c.in-Two.second.now k (pos 0)) value _ same ∙ ap (λ (x : Waiting). (old +ℤ waiting_at x k) +ℤ (if leads_to c.args.inlet.target c.args.edge.now then heard else pos 0)) (sym c.in-Two.is)
-
-pub returns-in-Three-clause-sums : goal.returns-in-Three-clause-sums
-returns-in-Three-clause-sums c w channel m in_range now =
-    let k : ℕ = channel * c.args.sums.now.frames + m in
-    let heard : ℤ = part (frame_of w c.args.blocks.now c.args.counts.now m) c.args.inlet.interp c.args.inlet.count channel c.args.edge.now in
-    let brought : IsBrought c.args.sums.now.frames c.args.counts.now c.args.blocks.now c.args.edge.now c.args.inlet c.in-Some.fourth.now = c.in-Some.ensures c.args.sums.now.frames c.requires.source in
-    let old : ℤ = sum_at c.args.sums.now channel m in
-    let value : ℤ = slice_index_or c.in-Some.fourth.now k (pos 0) in
-    let same : value ≡ (if leads_to c.args.inlet.target c.args.edge.now then heard else pos 0) = brought.values w channel m in_range now ∙ ap (λ b. if b then heard else pos 0) (sym brought.leads) in
-    let all = c.add_four.ensures.sums channel m (subst (λ n. channel < n) (sym c.requires.count) in_range) now in
-    last_one old _ (slice_index_or c.in-Three.first.now k (pos 0)) (slice_index_or c.in-Three.second.now k (pos 0)) (slice_index_or c.in-Three.third.now k (pos 0)) value _ all same
-    ∙ ap (λ (x : Waiting). (old +ℤ waiting_at x k) +ℤ (if leads_to c.args.inlet.target c.args.edge.now then heard else pos 0)) (sym c.in-Three.is)
+pub returns-in-Moving-clause-sums : goal.returns-in-Moving-clause-sums
+returns-in-Moving-clause-sums c w channel m in_range now =
+    let source : End = reader_of c.args.edge.now.from.0 in
+    let o : ℕ = c.args.edge.now.output in
+    let place = c.slot-place.ensures ∙ ap slot c.reader.ensures in
+    let before : ℤ = sum_at c.args.sums.now channel m +ℤ waiting_at c.args.waiting (channel * c.args.sums.now.frames + m) in
+    let held = c.in-Moving.ensures in
+    let block : c.index-blocks-place.result ≡ block_of c.args.blocks.now source =
+    c.index-blocks-place.is ∙ get_or_default c.args.blocks.now c.slot-place.result c.index-blocks-place.result no_block (rw place c.requires.source.block) ∙ ap (λ k. slice_index_or c.args.blocks.now k no_block) place in
+    let heard : c.index-blocks-place.result.frames ≡ c.args.sums.now.frames = ap (λ (b : BlockView). b.frames) block ∙ c.requires.source.frames in
+    let now' : m < c.index-blocks-place.result.frames = subst (λ k. m < k) (sym heard) now in
+    let channels : slice_index_or c.args.counts.now c.slot-place.result 0 ≡ counts_in c.args.counts.now source =
+    get_or_default c.args.counts.now c.slot-place.result 0 1 (rw place c.requires.source.count) ∙ ap (λ k. slice_index_or c.args.counts.now k 1) place in
+    let leads : leads_to c.args.inlet.target c.args.edge.now ≡ true = sym c.is_same.ensures ∙ c.if-not-is_same.false in
+    c.add_or_wait.ensures.sums channel m in_range now
+    ∙ ap (λ k. before +ℤ mix c.args.inlet.interp (slice_index_or c.args.counts.now c.slot-place.result 0) c.args.inlet.count (frame_at k c.in-Moving.values.now m) channel) (sym heard)
+    ∙ ap (λ (f : ℕ → ℤ). before +ℤ mix c.args.inlet.interp (slice_index_or c.args.counts.now c.slot-place.result 0) c.args.inlet.count f channel) (held.1 m now')
+    ∙ ap (λ n. before +ℤ mix c.args.inlet.interp n c.args.inlet.count (carried c.index-blocks-place.result n o m) channel) channels
+    ∙ ap (λ (b : BlockView). before +ℤ mix c.args.inlet.interp (counts_in c.args.counts.now source) c.args.inlet.count (carried b (counts_in c.args.counts.now source) o m) channel) block
+    ∙ ap (λ b. before +ℤ (if b then part (frame_of w c.args.blocks.now c.args.counts.now m) c.args.inlet.interp c.args.inlet.count channel c.args.edge.now else pos 0)) (sym leads)
