@@ -19,6 +19,7 @@ impl Number {
     ghost use Rattle.json_tree.specs.View.{number_view};
 
     /// The whole number; `None` of a float.
+    #[inline]
     pub fn as_i128(&self) -> Option<i128>
         ensures { result ≡ as_integer (number_view self.now) }
     {
@@ -30,6 +31,7 @@ impl Number {
     }
 
     // The number that a token of JSON writes; `None` where no float is as large.
+    #[inline]
     pub(crate) fn parse(text: &str) -> Option<Number>
         ensures { option_map number_view result ≡ number_of text.now }
     {
@@ -41,6 +43,7 @@ impl Number {
         }
     }
 
+    #[inline]
     fn unsigned(numeral: &Numeral<'_>) -> Option<Number>
         ensures { option_map number_view result ≡ number_from false numeral.now }
     {
@@ -50,6 +53,7 @@ impl Number {
         }
     }
 
+    #[inline]
     fn negative(numeral: &Numeral<'_>) -> Option<Number>
         ensures { option_map number_view result ≡ number_from true numeral.now }
     {
@@ -61,6 +65,7 @@ impl Number {
         Number::nearest(true, numeral)
     }
 
+    #[inline]
     fn nearest(negative: bool, numeral: &Numeral<'_>) -> Option<Number>
         ensures { option_map number_view result ≡ float_of negative numeral.now }
     {
@@ -73,6 +78,7 @@ impl Number {
     }
 }
 
+#[inline]
 fn has_minus(bytes: &[u8]) -> bool
     ensures value { result ≡ (slice_index bytes.now 0 == 45) }
     ensures some { IsTrue result → 0 < length bytes.now }

@@ -132,6 +132,7 @@ fn read_members<'a>(
 }
 
 // Adds an item. There is room for one at first, and for twice as many whenever more is needed.
+#[inline]
 fn push<T: Drop>(list: &mut Vec<T>, item: T) -> Result<(), ReadErr>
     ensures ok { OnOk result (list.new.items ≡ list.old.items ++ item ∷ []) }
     ensures no_memory { IfErr result (λ e. e ≡ ReadErr.NoMemory) }

@@ -10,12 +10,14 @@ pub struct Text<'a> {
 
 impl<'a> Text<'a> {
     /// The text itself, in the form that a value has it.
+    #[inline]
     pub(crate) fn new(text: &'a str) -> Text<'a>
         ensures { result.text.now ≡ text.now }
     {
         Text { text }
     }
 
+    #[inline]
     pub fn as_str(&self) -> &'a str
         ensures { result.now ≡ self.now.text.now }
     {

@@ -21,6 +21,7 @@ impl<'a> Value<'a> {
     ghost use Rattle.json_tree.specs.View.{number_view, items_view};
 
     /// The value of the member of that name. It walks the members from the last one on.
+    #[inline]
     pub fn get(&self, name: &str) -> Option<&Value<'a>>
         ensures { option_map (λ v. view v.now) result ≡ get name.now (view self.now) }
     {
@@ -31,6 +32,7 @@ impl<'a> Value<'a> {
         }
     }
 
+    #[inline]
     pub fn as_str(&self) -> Option<&str>
         ensures { option_map (λ s. s.now) result ≡ as_str (view self.now) }
     {
@@ -41,6 +43,7 @@ impl<'a> Value<'a> {
         }
     }
 
+    #[inline]
     pub fn as_bool(&self) -> Option<bool>
         ensures { result ≡ as_bool (view self.now) }
     {
@@ -51,6 +54,7 @@ impl<'a> Value<'a> {
         }
     }
 
+    #[inline]
     pub fn as_number(&self) -> Option<&Number>
         ensures { option_map (λ n. number_view n.now) result ≡ as_number (view self.now) }
     {
@@ -62,6 +66,7 @@ impl<'a> Value<'a> {
     }
 
     /// The items of an array.
+    #[inline]
     pub fn as_array(&self) -> Option<&[Value<'a>]>
         ensures { option_map (λ list. items_view list.now) result ≡ as_array (view self.now) }
     {
@@ -72,18 +77,21 @@ impl<'a> Value<'a> {
         }
     }
 
+    #[inline]
     pub fn is_array(&self) -> bool
         ensures { result ≡ is_some (as_array (view self.now)) }
     {
         matches!(self, Value::Array(_))
     }
 
+    #[inline]
     pub fn is_object(&self) -> bool
         ensures { result ≡ is_some (as_object (view self.now)) }
     {
         matches!(self, Value::Object(_))
     }
 
+    #[inline]
     pub fn is_null(&self) -> bool
         ensures { result ≡ is_some (as_null (view self.now)) }
     {
