@@ -1,6 +1,6 @@
 use buffer_store::{Shape, Store};
 use std::alloc::Global;
-use wa_base::{BufId, Exc, Feature};
+use wa_base::{BufId, Exc, Feature, Refusal};
 use wav_io::decode;
 
 // Two frames of two channels, 16 bits.
@@ -18,11 +18,15 @@ fn has(store: &Store, want: &[i32]) -> bool {
 }
 
 // What writing the first buffer gives.
-fn written(store: &mut Store, channel: u32, samples: &[i32], at: u64) -> Result<(), Exc> {
+fn written(store: &mut Store, channel: u32, samples: &[i32], at: u64) -> Result<(), Refusal> {
     if store.len() == 0 {
-        return Err(Exc::InvalidState);
+        return Err(Refusal::Exc(Exc::InvalidState));
     }
     store.write_channel(BufId(0), channel, samples, at)
+}
+
+fn refused(exc: Exc) -> Result<(), Refusal> {
+    Err(Refusal::Exc(exc))
 }
 
 #[test]
@@ -38,7 +42,7 @@ fn a_channel_is_written(rt: HostRuntime) {
     assert!(rt; written(&mut store, 0, &[5], u64::MAX) == Ok(()));
     assert!(rt; written(&mut store, 0, &[], 0) == Ok(()));
     assert!(rt; has(&store, &[2, 7, 8]));
-    assert!(rt; written(&mut store, 1, &[5], 0) == Err(Exc::IndexSize));
+    assert!(rt; written(&mut store, 1, &[5], 0) == refused(Exc::IndexSize));
 }
 
 #[test]
@@ -48,8 +52,8 @@ fn a_frozen_buffer_stays(rt: HostRuntime) {
     assert!(rt; written(&mut store, 0, &[2, 4, 6], 0) == Ok(()));
     assert!(rt; store.len() == 1);
     store.freeze(BufId(0));
-    let acquired = Err(Exc::NotSupported(Some(Feature::BufferAcquired)));
-    assert!(rt; written(&mut store, 1, &[5], 0) == Err(Exc::IndexSize));
+    let acquired = refused(Exc::NotSupported(Some(Feature::BufferAcquired)));
+    assert!(rt; written(&mut store, 1, &[5], 0) == refused(Exc::IndexSize));
     assert!(rt; written(&mut store, 0, &[5], 0) == acquired);
     assert!(rt; written(&mut store, 0, &[], 3) == acquired);
     assert!(rt; has(&store, &[2, 4, 6]));
@@ -57,10 +61,10 @@ fn a_frozen_buffer_stays(rt: HostRuntime) {
 
 // Whether a recording becomes the store's second buffer, and a copy of the store is as it was.
 fn adopts(alloc: Global, store: &mut Store) -> bool {
-    let Ok(mut wav) = decode(alloc, FILE) else {
+    let Ok(wav) = decode(alloc, FILE) else {
         return false;
     };
-    store.adopt(&mut wav) == Ok(BufId(1))
+    store.adopt(&wav) == Ok(BufId(1))
 }
 
 #[test]
@@ -86,9 +90,11 @@ fn a_copy_is_apart(rt: HostRuntime) {
     assert!(rt; three_frames(&mut store) == Some(BufId(0)));
     let copied = store.copy();
     assert!(rt; copied.is_ok());
-    if let Ok(copy) = copied {
+    if let Ok(mut copy) = copied {
         assert!(rt; written(&mut store, 0, &[2, 4, 6], 0) == Ok(()));
         assert!(rt; has(&copy, &[0, 0, 0]));
+        assert!(rt; written(&mut copy, 0, &[1], 2) == Ok(()));
+        assert!(rt; has(&copy, &[0, 0, 1]));
         assert!(rt; has(&store, &[2, 4, 6]));
     }
 }

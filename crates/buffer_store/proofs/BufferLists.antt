@@ -49,6 +49,12 @@ set_is_changed i change [] b is = refl
 set_is_changed zero change (m ∷ bs) b is = ap (λ x. change x ∷ bs) is
 set_is_changed (suc i) change (m ∷ bs) b is = ap (λ xs. m ∷ xs) (set_is_changed i change bs b is)
 
+-- a buffer that is put back as it was
+pub set_same : (i : ℕ) (bs : List Buffer) (b : Buffer) → b ≡ slice_index_or bs i b → slice_set bs i b ≡ bs
+set_same i [] b is = refl
+set_same zero (m ∷ bs) b is = ap (λ x. x ∷ bs) is
+set_same (suc i) (m ∷ bs) b is = ap (λ xs. m ∷ xs) (set_same i bs b is)
+
 total_changed : (i : ℕ) (change : Buffer → Buffer) (bs : List Buffer) → ((b : Buffer) → slice_get bs i ≡ Some b → Keeps change b) → All IsBuffer bs
     → total_of (changed_at i change bs) ≡ total_of bs
 total_changed i change [] keeps each = refl

@@ -44,13 +44,6 @@ module _ (front old rest new : List ℤ) (at : ℕ) (early : at < length old) wh
       (ap (λ xs. take at old ++ xs) (sym (append_assoc (take (length old - at) new) (drop (at + length new) old) rest))
       ∙ sym (append_assoc (take at old) (take (length old - at) new ++ drop (at + length new) old) rest))
 
--- what was written over a list of the same length is all of it
-pub over_all : (old new : List ℤ) → length new ≡ length old → take (length old) (new ++ drop (length new) old) ≡ new
-over_all old new same =
-    ap (λ xs. take (length old) (new ++ xs)) (drop_all (length new) old (omega arith))
-    ∙ ap (take (length old)) (append-nil new)
-    ∙ take_all (length old) new (omega arith)
-
 -- a channel that a buffer has is in its samples
 module _ (buffer : Buffer) (channel : ℕ) (is : IsBuffer buffer) (has : channel < buffer.shape.channels) where
   pub within : channel * buffer.shape.frames + buffer.shape.frames ≤ length buffer.samples
@@ -118,21 +111,18 @@ module _ (buffer : Buffer) (channel : ℕ) (is : IsBuffer buffer) (has : channel
       ∙ sym (length-append front (old ++ rest))
       ∙ ap length (sym parts)
 
-  -- what a write to the lent samples leaves
-  pub write_is : (new lent out : List ℤ) (at count : ℕ) → at < buffer.shape.frames → lent ≡ buffer.samples → count ≡ min (length new) (buffer.shape.frames - at)
-      → out ≡ take (channel * buffer.shape.frames + at) lent
-      ++ (take count new ++ drop (channel * buffer.shape.frames + at + length (take count new)) lent)
-      → take (length buffer.samples) (out ++ drop (length out) buffer.samples) ≡ (with_written channel new at buffer).samples
-  write_is new lent out at count early all few wrote =
+  -- what a write over the samples leaves
+  pub write_is : (new out : List ℤ) (at count : ℕ) → at < buffer.shape.frames → count ≡ min (length new) (buffer.shape.frames - at)
+      → out ≡ take (channel * buffer.shape.frames + at) buffer.samples
+      ++ (take count new ++ drop (channel * buffer.shape.frames + at + length (take count new)) buffer.samples)
+      → out ≡ (with_written channel new at buffer).samples
+  write_is new out at count early few wrote =
       let room : ℕ = buffer.shape.frames - at in
       let part : take count new ≡ take room new = ap (λ n. take n new) (let e : count ≡ min room (length new) = omega arith in e) ∙ take_min room new in
       let size : length (take count new) ≡ min (length new) room = length-take count new ∙ omega arith in
-      let written_all : out ≡ (with_written channel new at buffer).samples =
       wrote
-      ∙ ap (λ xs. take (channel * buffer.shape.frames + at) xs ++ (take count new ++ drop (channel * buffer.shape.frames + at + length (take count new)) xs)) all
       ∙ ap₂ (λ xs n. take (channel * buffer.shape.frames + at) buffer.samples ++ (xs ++ drop (channel * buffer.shape.frames + at + n) buffer.samples)) part size
-      ∙ samples_written new at early in
-      over_all buffer.samples out (ap length written_all ∙ length-with_written new at) ∙ written_all
+      ∙ samples_written new at early
 
   -- the channel that is written
   pub this_channel : (new : List ℤ) (at : ℕ) → channel_of (with_written channel new at buffer) channel ≡ written (channel_of buffer channel) at new

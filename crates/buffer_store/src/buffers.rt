@@ -1,7 +1,9 @@
-ghost use Rattle.std.specs.Prelude.{◌≡◌, ◌<◌, ◌≤◌, ◌+◌, ◌-◌, ◌*◌, ◌++◌, length, take, drop, min, IfOk};
+ghost use Rattle.std.specs.Prelude.{◌≡◌, ◌<◌, ◌≤◌, ◌+◌, ◌-◌, ◌*◌, ◌++◌, length, take, drop, min, IfOk, OnOk, OnErr};
 ghost use Rattle.buffer_store.specs.Buffers as spec;
 
-use wa_base::{Fix, NoMemory, Samples};
+use crate::shared::SharedSamples;
+use std::alloc::Global;
+use wa_base::{Fix, NoMemory};
 
 /// What a buffer has besides its samples.
 #[derive(Clone, Copy, PartialEq, Eq)]
@@ -21,7 +23,7 @@ pub struct Shape {
 pub struct Buffer {
     pub shape: Shape,
     /// The samples, one channel after another.
-    pub samples: Samples,
+    pub samples: SharedSamples,
 }
 
 impl Buffer {
@@ -38,35 +40,37 @@ impl Buffer {
     }
 
     /// Writes samples of a channel from a frame on. What would lie past the channel's end is dropped.
-    pub(crate) fn write(&mut self, channel: u32, samples: &[Fix], at: u64)
+    /// After `NoMemory` the buffer is as before.
+    pub(crate) fn write(
+        &mut self,
+        alloc: Global,
+        channel: u32,
+        samples: &[Fix],
+        at: u64,
+    ) -> Result<(), NoMemory>
         requires buffer { spec.IsBuffer self.old }
         requires small { length self.old.samples ≤ 134217728 }
         requires channel { channel < self.old.shape.channels }
-        ensures { self.new ≡ spec.with_written channel samples.now at self.old }
+        ensures ok { OnOk result (self.new ≡ spec.with_written channel samples.now at self.old) }
+        ensures err { OnErr result (self.new ≡ self.old) }
     {
         if at >= self.shape.frames {
-            return;
+            return Ok(());
         }
         let room = (self.shape.frames - at) as usize;
         let start = channel as usize * self.shape.frames as usize + at as usize;
         let count = samples.len().min(room);
-        write_at(self.samples.as_mut_slice(), start, &samples[..count]);
+        self.samples.write(alloc, start, &samples[..count])?;
+        Ok(())
     }
 
-    /// An equal buffer with memory of its own.
-    pub(crate) fn copy(&self) -> Result<Buffer, NoMemory>
-        ensures { IfOk result (λ copy. copy ≡ self.now) }
+    /// An equal buffer, which shares the samples.
+    pub(crate) fn share(&self) -> Result<Buffer, NoMemory>
+        ensures { IfOk result (λ other. other ≡ self.now) }
     {
         Ok(Buffer {
             shape: self.shape,
-            samples: self.samples.copy()?,
+            samples: self.samples.share()?,
         })
     }
-}
-
-fn write_at(out: &mut [Fix], start: usize, samples: &[Fix])
-    requires { start + length samples.now ≤ length out.old }
-    ensures { out.new ≡ take start out.old ++ (samples.now ++ drop (start + length samples.now) out.old) }
-{
-    out[start..start + samples.len()].copy_from_slice(samples);
 }

@@ -1,13 +1,12 @@
 ghost use Rattle.std.specs.Prelude.{◌≡◌, ◌↔◌, ◌<◌, ◌≤◌, ◌+◌, ◌*◌, ◌∷◌, ◌++◌, [], Some, None, length, slice_get, IfOk, IsErrOf, OnOk, OnErr};
-ghost use Rattle.std.specs.Result.{result_err};
 ghost use Rattle.buffer_store.specs.Recordings.{IsRecording};
 ghost use Rattle.buffer_store.specs.Buffers as spec;
 
 use crate::buffers::{Buffer, Shape};
+use crate::shared::SharedSamples;
 use crate::wav::Wav;
 use std::alloc::Global;
 use std::marker::Model;
-use std::mem;
 use wa_base::{BufId, Exc, Feature, Fix, NoMemory, Refusal, Samples};
 
 const MAX_CHANNELS: u32 = 32;
@@ -68,11 +67,9 @@ impl Store {
         if let Some(exc) = self.creation_refusal(channels, frames, rate) {
             return Err(Refusal::Exc(exc));
         }
-        let samples = silent(
-            *self.buffers.allocator(),
-            channels as usize * frames as usize,
-        )?;
-        self.adopt(&mut Wav {
+        let alloc = *self.buffers.allocator();
+        let samples = silent(alloc, channels as usize * frames as usize)?;
+        self.adopt(&Wav {
             rate,
             channels,
             frames,
@@ -107,27 +104,24 @@ impl Store {
         None
     }
 
-    /// Moves the samples of a recording (decodeAudioData) into a new buffer without a copy, as
-    /// `Vec::append` moves items, and leaves the recording without samples.
+    /// Makes a new buffer of a recording (decodeAudioData), which shares its samples.
     ///
     /// It is refused with NotSupportedError and the feature `buffer-limit` where all buffers would have
-    /// more than 134,217,728 samples. After a refusal, and after `NoMemory`, the buffers and the
-    /// recording are as before.
-    pub fn adopt(&mut self, wav: &mut Wav) -> Result<BufId, Refusal>
-        requires { IsRecording wav.old }
+    /// more than 134,217,728 samples. After a refusal, and after `NoMemory`, the buffers are as before.
+    pub fn adopt(&mut self, wav: &Wav) -> Result<BufId, Refusal>
+        requires { IsRecording wav.now }
         ensures id { IfOk result (λ id. id.0 ≡ length self.old) }
-        ensures buffers { OnOk result (self.new ≡ self.old ++ spec.recorded wav.old ∷ []) }
-        ensures accepted { OnOk result (spec.adoption_refusal self.old wav.old ≡ None) }
-        ensures refused { (exc : Exc) → IsErrOf result (Refusal.Exc exc) ↔ (spec.adoption_refusal self.old wav.old ≡ Some exc) }
-        ensures err { OnErr result ((self.new ≡ self.old) × (wav.new ≡ wav.old)) }
+        ensures buffers { OnOk result (self.new ≡ self.old ++ spec.recorded wav.now ∷ []) }
+        ensures accepted { OnOk result (spec.adoption_refusal self.old wav.now ≡ None) }
+        ensures refused { (exc : Exc) → IsErrOf result (Refusal.Exc exc) ↔ (spec.adoption_refusal self.old wav.now ≡ Some exc) }
+        ensures err { OnErr result (self.new ≡ self.old) }
     {
         if let Some(exc) = self.adoption_refusal(wav) {
             return Err(Refusal::Exc(exc));
         }
+        let samples = wav.samples.share()?;
         self.buffers.reserve(1).map_err(NoMemory::from)?;
         let id = BufId(self.buffers.len() as u32);
-        let none = Samples::new(*self.buffers.allocator());
-        let samples = mem::replace(&mut wav.samples, none);
         self.total += samples.len() as u64;
         self.buffers.push_reserved(Buffer {
             shape: Shape {
@@ -150,27 +144,29 @@ impl Store {
     }
 
     /// Writes samples of a channel from the frame `at` on (copyToChannel). What would lie past the end
-    /// of the buffer is dropped.
+    /// of the buffer is dropped. Samples that have another owner are copied first.
     ///
     /// It is refused with IndexSizeError where the buffer has no such channel, then with
-    /// NotSupportedError and the feature `buffer-acquired` where it is frozen. A refused call changes
-    /// nothing.
+    /// NotSupportedError and the feature `buffer-acquired` where it is frozen. After a refusal, and after
+    /// `NoMemory`, the buffers are as before.
     pub fn write_channel(
         &mut self,
         buf: BufId,
         channel: u32,
         samples: &[Fix],
         at: u64,
-    ) -> Result<(), Exc>
+    ) -> Result<(), Refusal>
         requires { buf.0 < length self.old }
-        ensures refusal { result_err result ≡ spec.refusal_at self.old buf.0 (spec.write_refusal channel) }
+        ensures accepted { OnOk result (spec.refusal_at self.old buf.0 (spec.write_refusal channel) ≡ None) }
+        ensures refused { (exc : Exc) → IsErrOf result (Refusal.Exc exc) ↔ (spec.refusal_at self.old buf.0 (spec.write_refusal channel) ≡ Some exc) }
         ensures ok { OnOk result (self.new ≡ spec.changed_at buf.0 (spec.with_written channel samples.now at) self.old) }
         ensures err { OnErr result (self.new ≡ self.old) }
     {
         if let Some(exc) = self.write_refusal(buf, channel) {
-            return Err(exc);
+            return Err(Refusal::Exc(exc));
         }
-        self.buffers[buf.0 as usize].write(channel, samples, at);
+        let alloc = *self.buffers.allocator();
+        self.buffers[buf.0 as usize].write(alloc, channel, samples, at)?;
         Ok(())
     }
 
@@ -223,11 +219,11 @@ impl Store {
         self.buffers.len() as u32
     }
 
-    /// Equal buffers with memory of their own.
+    /// Equal buffers, which share their samples.
     pub fn copy(&self) -> Result<Store, NoMemory>
         ensures { IfOk result (λ copy. copy ≡ self.now) }
     {
-        let buffers = copy_all(*self.buffers.allocator(), self.buffers.as_slice())?;
+        let buffers = share_all(*self.buffers.allocator(), self.buffers.as_slice())?;
         Ok(Store {
             buffers,
             total: self.total,
@@ -236,20 +232,20 @@ impl Store {
 }
 
 // So many samples of 0.
-fn silent(alloc: Global, count: usize) -> Result<Samples, NoMemory>
+fn silent(alloc: Global, count: usize) -> Result<SharedSamples, NoMemory>
     ensures { IfOk result (λ samples. samples ≡ spec.zeros count) }
 {
     let samples = vec![in alloc; 0; count]?;
-    Ok(Samples::from(samples))
+    SharedSamples::new(alloc, Samples::from(samples))
 }
 
-// Copies of buffers, in their order.
-fn copy_all(alloc: Global, buffers: &[Buffer]) -> Result<Vec<Buffer>, NoMemory>
-    ensures { IfOk result (λ copies. copies.items ≡ buffers.now) }
+// Equal buffers, in their order.
+fn share_all(alloc: Global, buffers: &[Buffer]) -> Result<Vec<Buffer>, NoMemory>
+    ensures { IfOk result (λ shared. shared.items ≡ buffers.now) }
 {
-    let mut copies = Vec::with_capacity(alloc, buffers.len())?;
+    let mut shared = Vec::with_capacity(alloc, buffers.len())?;
     for buffer in buffers {
-        copies.push_reserved(buffer.copy()?);
+        shared.push_reserved(buffer.share()?);
     }
-    Ok(copies)
+    Ok(shared)
 }

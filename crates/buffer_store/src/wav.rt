@@ -1,4 +1,4 @@
-use wa_base::Samples;
+use crate::shared::SharedSamples;
 
 /// What a WAV file of PCM samples holds.
 #[derive(Drop)]
@@ -10,5 +10,5 @@ pub struct Wav {
     /// The number of frames, at least 1.
     pub frames: u64,
     /// The samples, one channel after another. The value v stands for v / 2^24.
-    pub samples: Samples,
+    pub samples: SharedSamples,
 }

@@ -21,18 +21,17 @@ pub enum Message {
 }
 
 impl Message {
-    /// Makes the same change in a world, which takes over what the message holds. After `NoMemory` the
-    /// world and the message are as before.
-    pub(crate) fn absorb_into(&mut self, world: &mut World) -> Result<(), NoMemory>
+    /// Makes the same change in a world. After `NoMemory` the world is as before.
+    pub(crate) fn apply_to(&self, world: &mut World) -> Result<(), NoMemory>
         requires valid { IsValid world.old }
-        requires accepted { IsAcceptedBy (plain world.old) self.old }
-        ensures ok { OnOk result (plain world.new ≡ after_message (plain world.old) self.old) }
+        requires accepted { IsAcceptedBy (plain world.old) self.now }
+        ensures ok { OnOk result (plain world.new ≡ after_message (plain world.old) self.now) }
         ensures valid { IsValid world.new }
         ensures graph { CountsEdits world.old.graph world.new.graph }
-        ensures err { OnErr result ((plain world.new ≡ plain world.old) × (self.new ≡ self.old)) }
+        ensures err { OnErr result (plain world.new ≡ plain world.old) }
     {
         match self {
-            Message::Change(change) => world.absorb(change),
+            Message::Change(change) => world.apply(change),
             Message::Slots(first) => {
                 world.set_slots(*first);
                 Ok(())

@@ -78,7 +78,7 @@ impl Queue {
 
     // Makes the change of a message that was the first one. After `NoMemory` the message is the first
     // one again, and the world is as before.
-    fn hear(&mut self, mut message: Message, world: &mut World) -> Result<(), NoMemory>
+    fn hear(&mut self, message: Message, world: &mut World) -> Result<(), NoMemory>
         requires valid { IsValid world.old }
         requires accepted { IsAcceptedBy (plain world.old) message }
         requires room { 0 < self.old.room }
@@ -88,7 +88,7 @@ impl Queue {
         ensures err { OnErr result ((self.new.messages ≡ message ∷ self.old.messages) × (plain world.new ≡ plain world.old)) }
         ensures room { OnErr result (self.new.room + 1 ≡ self.old.room) }
     {
-        if let Err(lack) = message.absorb_into(world) {
+        if let Err(lack) = message.apply_to(world) {
             self.messages.push_front_reserved(message);
             return Err(lack);
         }

@@ -170,7 +170,3 @@ pub follows : (w new : World) (change : Change) (r : Result (Unit {0}) NoMemory)
     → Grows change.time (plain w) (plain new)
 follows w new change (Ok v) valid accepts done failed = rw done (edited_grows (plain w) change.time change.edit accepts.named accepts.accepted (plain_valid w valid))
 follows w new change (Err e) valid accepts done failed = rw failed (grows_same change.time (plain w))
-
-pub first_of_err : (A B : Type 0) (r : Result (Unit {0}) NoMemory) → OnErr r (A × B) → OnErr r A
-first_of_err A B (Ok v) both = both
-first_of_err A B (Err e) both = both.0

@@ -1,8 +1,6 @@
-ghost use Rattle.std.specs.Prelude.{◌≡◌, ◌∷◌, ◌++◌, [], None, IsOk, IsErr, IfOk, OnOk, OnErr, IsErrOf};
+ghost use Rattle.std.specs.Prelude.{◌≡◌, None, IsOk, IsErr, OnOk, OnErr, IsErrOf};
 ghost use Rattle.wa_base.specs.declared.exceptions.Exc.{Exc as an_exception};
 ghost use Rattle.wa_base.specs.declared.exceptions.Refusal.TheVariants as refusal;
-ghost use Rattle.buffer_store.specs.Recordings.{IsRecording};
-ghost use Rattle.buffer_store.specs.Buffers.{adoption_refusal, recorded};
 ghost use Rattle.meaning.specs.Sources as spec;
 ghost use Rattle.meaning.specs.World.{plain};
 
@@ -67,52 +65,27 @@ impl World {
                 frames,
                 rate,
             } => made(self.store.create(*channels, *frames, *rate)),
-            BufferEdit::Adopt { wav } => self.adopt(&mut copy_of(wav)?),
+            BufferEdit::Adopt { wav } => made(self.store.adopt(wav)),
             BufferEdit::Write {
                 buffer,
                 channel,
                 samples,
                 first,
-            } => {
-                let _accepted = self
-                    .store
-                    .write_channel(*buffer, *channel, samples.as_slice(), *first);
-                Ok(())
-            }
+            } => made(
+                self.store
+                    .write_channel(*buffer, *channel, samples.as_slice(), *first),
+            ),
         }
     }
-
-    // Moves a recording that is accepted into a new buffer.
-    pub(crate) fn adopt(&mut self, wav: &mut Wav) -> Result<(), NoMemory>
-        requires named { IsRecording wav.old }
-        requires accepted { adoption_refusal self.old.store wav.old ≡ None }
-        ensures ok { OnOk result (plain self.new ≡ spec.with_store (plain self.old) (self.old.store ++ recorded wav.old ∷ [])) }
-        ensures err { OnErr result ((plain self.new ≡ plain self.old) × (wav.new ≡ wav.old)) }
-        ensures graph { self.new.graph ≡ self.old.graph }
-    {
-        made(self.store.adopt(wav))
-    }
 }
 
-// A recording with memory of its own.
-fn copy_of(wav: &Wav) -> Result<Wav, NoMemory>
-    ensures { IfOk result (λ copy. copy ≡ wav.now) }
+// An edit that the world accepts fails only for want of memory.
+fn made<T: Copy>(edited: Result<T, Refusal>) -> Result<(), NoMemory>
+    requires accepted { (exc : an_exception) → IsErrOf edited (refusal.Exc exc) → ⊥ }
+    ensures ok { OnOk result (IsOk edited) }
+    ensures err { OnErr result (IsErr edited) }
 {
-    Ok(Wav {
-        rate: wav.rate,
-        channels: wav.channels,
-        frames: wav.frames,
-        samples: wav.samples.copy()?,
-    })
-}
-
-// A buffer that the world accepts fails only for want of memory.
-fn made(buffer: Result<BufId, Refusal>) -> Result<(), NoMemory>
-    requires accepted { (exc : an_exception) → IsErrOf buffer (refusal.Exc exc) → ⊥ }
-    ensures ok { OnOk result (IsOk buffer) }
-    ensures err { OnErr result (IsErr buffer) }
-{
-    match buffer {
+    match edited {
         Ok(_) => Ok(()),
         Err(Refusal::NoMemory) => Err(NoMemory),
         Err(Refusal::Exc(_)) => unreachable!(),

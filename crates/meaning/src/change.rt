@@ -114,8 +114,8 @@ impl World {
         }
     }
 
-    /// Makes a change that the world accepts. What the change holds is copied. After `NoMemory` the
-    /// world is as before. The graph counts its edits, so that whoever keeps its number can tell whether
+    /// Makes a change that the world accepts. What the change holds is copied, but for a recording, whose
+    /// samples are shared. After `NoMemory` the world is as before. The graph counts its edits, so that whoever keeps its number can tell whether
     /// it is still the same.
     pub fn apply(&mut self, change: &Change) -> Result<(), NoMemory>
         requires valid { IsValid self.old }
@@ -126,26 +126,6 @@ impl World {
         ensures grows { changes.Grows change.now.time (plain self.old) (plain self.new) }
     {
         self.edit(change.time, &change.edit)
-    }
-
-    /// Makes a change that the world accepts. A recording that the change holds is moved into the world
-    /// without a copy, as `Vec::append` moves items. After `NoMemory` the world and the change are as
-    /// before.
-    pub fn absorb(&mut self, change: &mut Change) -> Result<(), NoMemory>
-        requires valid { IsValid self.old }
-        requires accepted { changes.Accepts (plain self.old) change.old }
-        ensures ok { OnOk result (plain self.new ≡ changes.changed (plain self.old) change.old) }
-        ensures err { OnErr result ((plain self.new ≡ plain self.old) × (change.new ≡ change.old)) }
-        ensures graph { CountsEdits self.old.graph self.new.graph }
-        ensures grows { changes.Grows change.old.time (plain self.old) (plain self.new) }
-    {
-        if let Edit::Buffers {
-            edit: BufferEdit::Adopt { wav },
-        } = &mut change.edit
-        {
-            return self.adopt(wav);
-        }
-        self.apply(change)
     }
 
     // Makes an edit that the world accepts.

@@ -8,7 +8,7 @@ use crate::chunk_walk::{Chunk, HEAD_LEN, chunk_at};
 use crate::format_chunk::{Format, format_in};
 use crate::values::values_in;
 use crate::wav::WavErr;
-use buffer_store::Wav;
+use buffer_store::{SharedSamples, Wav};
 use std::alloc::Global;
 
 const RIFF_LEN: usize = 12;
@@ -148,10 +148,11 @@ fn wav_in(alloc: Global, bytes: &[u8], format: &Format, chunk: &Chunk) -> Result
     if frames == 0 {
         return Err(WavErr::NoData(chunk.place as u64));
     }
+    let samples = values_in(alloc, bytes, format, start, frames)?;
     Ok(Wav {
         rate: format.rate,
         channels: format.channels,
         frames: frames as u64,
-        samples: values_in(alloc, bytes, format, start, frames)?,
+        samples: SharedSamples::new(alloc, samples)?,
     })
 }

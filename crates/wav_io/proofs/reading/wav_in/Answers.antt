@@ -7,7 +7,7 @@ pub returns-then-frames-eq0-clause-fault : goal.returns-then-frames-eq0-clause-f
 returns-then-frames-eq0-clause-fault c named = no_block c.args.bytes.now c.args.format.now c.args.chunk.now _ c.frames_in-frames.ensures.value c.if-frames-eq0.true
 
 pub returns-clause-ok : goal.returns-clause-ok
-returns-clause-ok c = some_blocks c.args.bytes.now c.args.format.now c.args.chunk.now _ c.frames_in-frames.ensures.value _ c.if-frames-eq0.false c.in_ok-values_in.ensures
+returns-clause-ok c = some_blocks c.args.bytes.now c.args.format.now c.args.chunk.now _ c.frames_in-frames.ensures.value _ c.if-frames-eq0.false (c.in_ok-new.ensures ∙ c.in_ok-samples.ensures)
 
 pub returns-clause-recording : goal.returns-clause-recording
 returns-clause-recording c =
@@ -16,5 +16,5 @@ returns-clause-recording c =
       channels_low = c.requires.channels_low;
       channels_high = c.requires.channels_high;
       frames = omega arith;
-      samples = ap length c.in_ok-values_in.ensures ∙ length-values_in c.args.bytes.now c.args.format.now _ _;
+      samples = ap length (c.in_ok-new.ensures ∙ c.in_ok-samples.ensures) ∙ length-values_in c.args.bytes.now c.args.format.now _ _;
     }
