@@ -28,7 +28,7 @@ class WorstScripts(unittest.TestCase):
             self.assertLessEqual(len(text), MOST, it.shows)
             self.assertTrue(text.startswith('{"version":1,') and text.endswith("}"), it.shows)
             if it.shows.startswith("16 MiB"):
-                self.assertGreater(len(text), MOST - 20, it.shows)
+                self.assertGreater(len(text), MOST - 2**8, it.shows)
             if len(text) <= READ:
                 script_of(text.encode())
                 read += 1
@@ -36,7 +36,7 @@ class WorstScripts(unittest.TestCase):
 
     @unittest.skipUnless(os.access(PROGRAM, os.X_OK), "there is no program")
     def test_a_run_is_measured(self) -> None:
-        asked = argparse.Namespace(program=PROGRAM, patience=100, seconds=None, memory=None)
+        asked = argparse.Namespace(waplay=PROGRAM, patience=100, seconds=None, memory=None)
         (number,) = [at for at, it in enumerate(TABLE) if it.shows == "8,192 connections"]
         length, ran = measured(number, asked)
         self.assertEqual((length, ran.status), (len(TABLE[number].text()), 0))

@@ -3,6 +3,7 @@
 
 #include <errno.h>
 #include <fcntl.h>
+#include <malloc.h>
 #include <stdio.h>
 #include <stdlib.h>
 #include <unistd.h>
@@ -46,6 +47,8 @@ void *calloc(size_t count, size_t size) {
     return is_refused() ? NULL : __libc_calloc(count, size);
 }
 
+/* Where there is less than before, nothing grows. */
 void *realloc(void *old, size_t size) {
+    if (old && size <= malloc_usable_size(old)) return __libc_realloc(old, size);
     return is_refused() ? NULL : __libc_realloc(old, size);
 }

@@ -15,13 +15,15 @@ import sys
 import tempfile
 from pathlib import Path
 
-from waplay_tools.places import SHIPPED
+from waplay_tools.places import PROGRAMS
+from waplay_tools.program_words import option_of
 from waplay_tools.random_scripts.assets import write_assets
 from waplay_tools.running import Ran, Terms, run
 from waplay_tools.standing import STATUSES
 from waplay_tools.worst.scripts import TABLE
 
-WIDTHS = "{:50} {:>10} {:>6} {:>8} {:>7}"
+WIDTHS = "{:64} {:>10} {:>6} {:>8} {:>7}"
+WANTED = sorted({it.program for it in TABLE}, reverse=True)
 
 
 def arguments() -> argparse.Namespace:
@@ -34,9 +36,15 @@ def arguments() -> argparse.Namespace:
     words.add_argument(
         "some", nargs="*", metavar="TEXT", help="run those alone whose name has one of these texts"
     )
-    words.add_argument(
-        "--program", type=Path, default=SHIPPED, metavar="FILE", help="the program that is run"
-    )
+    for name in WANTED:
+        words.add_argument(
+            option_of(name),
+            dest=name,
+            type=Path,
+            default=PROGRAMS[name],
+            metavar="FILE",
+            help=f"{name}; the shipped one",
+        )
     words.add_argument(
         "--patience",
         type=float,
@@ -62,7 +70,8 @@ def measured(number: int, asked: argparse.Namespace) -> tuple[int, Ran]:
         with concurrent.futures.ProcessPoolExecutor(1) as apart:
             length = apart.submit(written, number, room).result()
         terms = Terms(Path(room, "script.json"), seconds=asked.patience)
-        return length, run([asked.program.resolve(), *TABLE[number].words], room, terms)
+        program: Path = getattr(asked, TABLE[number].program)
+        return length, run([program.resolve(), *TABLE[number].words], room, terms)
 
 
 def told(length: int, ran: Ran, asked: argparse.Namespace) -> tuple[list[str], bool]:
@@ -78,9 +87,10 @@ def told(length: int, ran: Ran, asked: argparse.Namespace) -> tuple[list[str], b
 def main() -> int:
     """Prints the table, and gives the status."""
     asked = arguments()
-    if not os.access(asked.program, os.X_OK):
-        print(f"tools/worst: there is no program {asked.program}", file=sys.stderr)
-        return 2
+    for program in (getattr(asked, name) for name in WANTED):
+        if not os.access(program, os.X_OK):
+            print(f"tools/worst: there is no program {program}", file=sys.stderr)
+            return 2
     print(WIDTHS.format("script", "bytes", "status", "seconds", "MiB"))
     wrong = 0
     for number, it in enumerate(TABLE):

@@ -17,16 +17,19 @@ LONGEST = 2**18  # the frames of such a delay
 ASSET = 2**26 - 44  # the samples of the longest asset
 CHECKED = ("--mode", "check", "out.wav")
 MIGRATED = ("--mode", "migrate", "out.json")
+DERIVED = ("derive", "12800", "0", "why.txt")
 
 
 @dataclasses.dataclass(frozen=True)
 class Worst:
-    """A script: what it shows, how its text is made, its words, and how its assets are."""
+    """A script: what it shows, how its text is made, the words and the name of the program that
+    reads it, and how its assets are."""
 
     shows: str
     text: Callable[[], str]
     words: tuple[str, ...] = ("out.wav",)
     assets: Callable[[], dict[str, Asset]] = dict
+    program: str = "waplay"
 
 
 def text_of(calls: Iterable[Call], **context: int) -> str:
@@ -151,6 +154,27 @@ def round_of_gains() -> str:
     cut = {"op": "disconnect", "from": "n0", "to": "n1"}
     changes = [cut, joined[0]]
     return suspended(100, [*gains, *joined], lambda number: [changes[(number + 1) % 2]])
+
+
+def played_and_changed() -> str:
+    """The asset, played through a gain that changes at each of 100 suspensions."""
+    played: list[Call] = [
+        {"op": "decodeAudioData", "as": "b", "path": "long.wav"},
+        {"op": "createBufferSource", "as": "s", "buffer": "b"},
+        {"op": "createGain", "as": "g"},
+        {"op": "connect", "from": "s", "to": "g"},
+        {"op": "connect", "from": "g", "to": "destination"},
+        {"op": "start", "node": "s"},
+    ]
+    change: Call = {"op": "setValue", "node": "g", "param": "gain"}
+    return suspended(100, played, lambda number: [{**change, "value": number}])
+
+
+def changed_beside_connections() -> str:
+    """A gain that changes at each of 1,000 suspensions, beside all 8,192 connections."""
+    change: Call = {"op": "setValue", "node": "g", "param": "gain"}
+    made: list[Call] = [*splitter(), *cables(), {"op": "createGain", "as": "g"}]
+    return suspended(1000, made, lambda number: [{**change, "value": number}])
 
 
 def made_at_suspensions() -> str:
@@ -422,4 +446,19 @@ ROOM = [
     Worst("200,000 names", named),
     Worst("all of a session at its limit at once", all_at_once, assets=long_asset(RATE)),
 ]
-TABLE = [*TIMELINES, *CONNECTIONS, *GRAPHS, *TEXTS, *MIGRATIONS, *ROOM]
+EXPLAINED = [
+    Worst(
+        "a sample of a 64 MiB asset after 100 changes, derived",
+        played_and_changed,
+        DERIVED,
+        long_asset(RATE),
+        "waexplain",
+    ),
+    Worst(
+        "a sample after 1,000 changes beside 8,192 connections, derived",
+        changed_beside_connections,
+        DERIVED,
+        program="waexplain",
+    ),
+]
+TABLE = [*TIMELINES, *CONNECTIONS, *GRAPHS, *TEXTS, *MIGRATIONS, *ROOM, *EXPLAINED]
