@@ -23,7 +23,7 @@ from waplay_tools.standing import STATUSES
 from waplay_tools.worst.scripts import TABLE
 
 WIDTHS = "{:64} {:>10} {:>6} {:>8} {:>7}"
-WANTED = sorted({it.program for it in TABLE}, reverse=True)
+WANTED = [name for name in PROGRAMS if any(it.program == name for it in TABLE)]
 
 
 def arguments() -> argparse.Namespace:
