@@ -29,7 +29,8 @@ impl SharedSamples {
         Ok(SharedSamples { samples })
     }
 
-    /// The same samples with one more owner. They are not copied.
+    /// The same samples with one more owner. They are not copied. `NoMemory` comes where there are more
+    /// owners than can be counted.
     pub fn share(&self) -> Result<SharedSamples, NoMemory>
         ensures { IfOk result (λ shared. shared ≡ self.now) }
     {

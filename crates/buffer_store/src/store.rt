@@ -92,8 +92,10 @@ impl Store {
         self.limit_refusal(channels, frames)
     }
 
-    // Why so many samples more are refused.
-    fn limit_refusal(&self, channels: u32, frames: u64) -> Option<Exc>
+    /// The exception with which a buffer of so many channels and frames would be refused now for its size
+    /// alone: NotSupportedError with the feature `buffer-limit` where all buffers would have more than
+    /// 134,217,728 samples.
+    pub fn limit_refusal(&self, channels: u32, frames: u64) -> Option<Exc>
         requires low { 1 ≤ channels }
         requires high { channels ≤ 32 }
         ensures { result ≡ spec.limit_refusal self.now channels frames }

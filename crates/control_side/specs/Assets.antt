@@ -11,7 +11,9 @@ use Rattle.script_ast.specs.declared.operations.Op.{Op}
 use Rattle.script_ast.specs.declared.operations.Op.TheVariants as op
 use Rattle.transcript.specs.declared.lines.Answer.TheVariants.{Rejected}
 use Rattle.wav_io.specs.WavGrammar.{wav_of}
+use Rattle.buffer_store.specs.Buffers.{limit_refusal}
 use Rattle.buffer_store.specs.declared.wav.Wav.{Wav}
+use Rattle.wav_io.specs.declared.wav.Head.{Head}
 use Rattle.wav_io.specs.declared.wav.WavErr.{WavErr}
 use Rattle.meaning.specs.declared.buffers.BufferEdit.TheVariants.{Adopt}
 use Rattle.meaning.specs.declared.change.Edit.{Edit}
@@ -57,6 +59,12 @@ decodes machine (Some bytes) =
     else by_reading machine (wav_of bytes)
 
 -- ---- what is said of it
+
+-- why a recording becomes no buffer, by all but its samples: its rate is another one than the context's, or all buffers would be too long
+abbrev pub head_refusal : Machine → Head → Option Exc
+head_refusal machine head =
+    if head.rate == machine.world.spec.rate then limit_refusal machine.world.store head.channels head.frames
+    else Some (NotSupported (Some Resampling))
 
 -- what was fetched comes with a call that decodes
 abbrev pub HasAsset : Op → Option Fetched → Type 0

@@ -1,7 +1,6 @@
-ghost use Rattle.std.specs.Prelude.{◌≡◌, IfOk, Ok};
+ghost use Rattle.std.specs.Prelude.{◌≡◌, ◌≤◌, IfOk, Ok, None};
 ghost use Rattle.io_edge.specs.Fetch.{IsWithin};
-ghost use Rattle.buffer_store.specs.Recordings.{IsRecording};
-ghost use Rattle.wav_io.specs.WavGrammar.{rate_of, wav_of};
+ghost use Rattle.wav_io.specs.WavGrammar.{head_of, wav_of};
 ghost use Rattle.control_side.specs.Assets as spec;
 ghost use Rattle.control_side.specs.Assets.{IsFit};
 
@@ -12,7 +11,7 @@ use meaning::{BufferEdit, Edit};
 use std::alloc::Global;
 use transcript::Answer;
 use wa_base::{Exc, Feature, NoMemory};
-use wav_io::{Wav, WavErr, decode, rate_of};
+use wav_io::{Head, WavErr, decode, head_of};
 
 // What decodeAudioData comes to (the BaseAudioContext interface).
 impl Control {
@@ -30,39 +29,39 @@ impl Control {
                 return Ok(rejected(Exc::NotSupported(Some(Feature::AssetSize))));
             }
         };
-        match rate_of(bytes.as_slice()) {
-            Ok(rate) if rate == self.spec().rate => self.decode_samples(alloc, bytes.as_slice()),
-            Ok(_) => Ok(rejected(Exc::NotSupported(Some(Feature::Resampling)))),
+        match head_of(bytes.as_slice()) {
+            Ok(head) => match self.head_refusal(head) {
+                Some(exc) => Ok(rejected(exc)),
+                None => self.decode_samples(alloc, bytes.as_slice(), head),
+            },
             Err(_) => Ok(rejected(Exc::Encoding)),
         }
     }
 
-    // What comes of a file at the rate of the context.
-    fn decode_samples(&self, alloc: Global, bytes: &[u8]) -> Result<Decided, NoMemory>
-        requires { rate_of bytes.now ≡ Ok self.now.world.spec.rate }
+    // Why a recording does not become a buffer, whatever its samples are.
+    fn head_refusal(&self, head: Head) -> Option<Exc>
+        requires { (1 ≤ head.channels) × (head.channels ≤ 32) }
+        ensures { result ≡ spec.head_refusal self.now head }
+    {
+        if head.rate != self.spec().rate {
+            return Some(Exc::NotSupported(Some(Feature::Resampling)));
+        }
+        self.world().store.limit_refusal(head.channels, head.frames)
+    }
+
+    // The samples of a file become a buffer.
+    fn decode_samples(&self, alloc: Global, bytes: &[u8], head: Head) -> Result<Decided, NoMemory>
+        requires head { head_of bytes.now ≡ Ok head }
+        requires accepted { spec.head_refusal self.now head ≡ None }
         ensures decided { IfOk result (λ decided. decided ≡ spec.by_reading self.now (wav_of bytes.now)) }
         ensures fits { IfOk result (IsFit self.now) }
     {
         match decode(alloc, bytes) {
-            Ok(wav) => Ok(self.adopt(wav)),
+            Ok(wav) => Ok(Decided::Change(Edit::Buffers {
+                edit: BufferEdit::Adopt { wav },
+            })),
             Err(WavErr::NoMemory) => Err(NoMemory),
             Err(_) => Ok(rejected(Exc::Encoding)),
-        }
-    }
-
-    // A recording at the rate of the context becomes a buffer.
-    fn adopt(&self, wav: Wav) -> Decided
-        requires recording { IsRecording wav }
-        requires rate { wav.rate ≡ self.now.world.spec.rate }
-        ensures decided { result ≡ spec.adopts self.now wav }
-        ensures fits { IsFit self.now result }
-    {
-        let edit = Edit::Buffers {
-            edit: BufferEdit::Adopt { wav },
-        };
-        match self.world().refusal(self.context().now(), &edit) {
-            Some(exc) => rejected(exc),
-            None => Decided::Change(edit),
         }
     }
 }

@@ -16,7 +16,11 @@ use std::alloc::Global;
 const MAX_DEPTH: usize = 127;
 
 impl<'a> Value<'a> {
-    /// The value that bytes are. The scratch grows to their length.
+    /// The value that bytes are as a JSON text (RFC 8259). The scratch grows to their length.
+    ///
+    /// `BadJson` comes where the bytes are no UTF-8 or no JSON text, where a number is greater than all
+    /// floats, or where arrays and objects nest more than 127 deep; `NoMemory` where the scratch or a list
+    /// can't grow.
     pub fn from_slice(
         alloc: Global,
         bytes: &'a [u8],

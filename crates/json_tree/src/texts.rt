@@ -17,6 +17,7 @@ impl<'a> Text<'a> {
         Text { text }
     }
 
+    /// The characters, without quotes and with the escapes resolved.
     #[inline]
     pub fn as_str(&self) -> &'a str
         ensures { result.now ≡ self.now.text.now }

@@ -32,6 +32,7 @@ impl<'a> Value<'a> {
         }
     }
 
+    /// The text of a string.
     #[inline]
     pub fn as_str(&self) -> Option<&str>
         ensures { option_map (λ s. s.now) result ≡ as_str (view self.now) }
@@ -43,6 +44,7 @@ impl<'a> Value<'a> {
         }
     }
 
+    /// Which of `true` and `false` it is.
     #[inline]
     pub fn as_bool(&self) -> Option<bool>
         ensures { result ≡ as_bool (view self.now) }
@@ -54,6 +56,7 @@ impl<'a> Value<'a> {
         }
     }
 
+    /// The number.
     #[inline]
     pub fn as_number(&self) -> Option<&Number>
         ensures { option_map (λ n. number_view n.now) result ≡ as_number (view self.now) }
@@ -77,6 +80,7 @@ impl<'a> Value<'a> {
         }
     }
 
+    /// Whether it is an array.
     #[inline]
     pub fn is_array(&self) -> bool
         ensures { result ≡ is_some (as_array (view self.now)) }
@@ -84,6 +88,7 @@ impl<'a> Value<'a> {
         matches!(self, Value::Array(_))
     }
 
+    /// Whether it is an object.
     #[inline]
     pub fn is_object(&self) -> bool
         ensures { result ≡ is_some (as_object (view self.now)) }
@@ -91,6 +96,7 @@ impl<'a> Value<'a> {
         matches!(self, Value::Object(_))
     }
 
+    /// Whether it is `null`.
     #[inline]
     pub fn is_null(&self) -> bool
         ensures { result ≡ is_some (as_null (view self.now)) }

@@ -115,8 +115,8 @@ impl World {
     }
 
     /// Makes a change that the world accepts. What the change holds is copied, but for a recording, whose
-    /// samples are shared. After `NoMemory` the world is as before. The graph counts its edits, so that whoever keeps its number can tell whether
-    /// it is still the same.
+    /// samples are shared. After `NoMemory` the world is as before. The graph counts its edits, so that
+    /// whoever keeps its number can tell whether it is still the same.
     pub fn apply(&mut self, change: &Change) -> Result<(), NoMemory>
         requires valid { IsValid self.old }
         requires accepted { changes.Accepts (plain self.old) change.now }

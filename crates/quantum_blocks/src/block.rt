@@ -565,8 +565,8 @@ impl Block {
         }
     }
 
-    /// Becomes what another block is, multiplied by one gain.
-    pub fn scale_by(&mut self, other: &Block, gain: Fix)
+    // Becomes what another block is, multiplied by one gain.
+    fn scale_by(&mut self, other: &Block, gain: Fix)
         requires room { other.now.lanes * self.old.frames ≤ room_of self.old }
         requires frames { other.now.frames ≡ self.old.frames }
         ensures frames { self.new.frames ≡ self.old.frames }
@@ -587,8 +587,8 @@ impl Block {
         }
     }
 
-    /// Becomes what another block is, multiplied at each frame by the gain there.
-    pub fn scale_by_frame(&mut self, other: &Block, gains: &[Fix])
+    // Becomes what another block is, multiplied at each frame by the gain there.
+    fn scale_by_frame(&mut self, other: &Block, gains: &[Fix])
         requires room { other.now.lanes * self.old.frames ≤ room_of self.old }
         requires gains { length gains.now ≡ self.old.frames }
         requires frames { other.now.frames ≡ self.old.frames }

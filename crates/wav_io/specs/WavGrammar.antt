@@ -10,6 +10,7 @@ use Rattle.wav_io.specs.declared.chunk_walk.Chunk.{Chunk}
 use Rattle.wav_io.specs.declared.chunk_walk.Kind.{Kind}
 use Rattle.wav_io.specs.declared.chunk_walk.Kind.TheVariants.{FormatChunk, DataChunk, Other}
 use Rattle.buffer_store.specs.declared.wav.Wav.{Wav}
+use Rattle.wav_io.specs.declared.wav.Head.{Head}
 use Rattle.wav_io.specs.declared.wav.WavErr.{WavErr}
 use Rattle.wav_io.specs.declared.wav.WavErr.TheVariants.{NotRiff, NoFormat, UnknownTag, BadBits, BadShape, NoData, DataFirst}
 
@@ -195,6 +196,10 @@ judged_by bytes place chunks = judged bytes (first_format chunks) (first_data ch
 unfoldable pub wav_of : List ℕ → Result Wav WavErr
 wav_of bytes = if is_riff bytes then judged_by bytes 12 (chunks_from bytes 12) else Err (NotRiff 0)
 
--- the frames a second of a file that is read
-abbrev pub rate_of : List ℕ → Result ℕ WavErr
-rate_of bytes = wav_of bytes >>= λ wav. Ok wav.rate
+-- what a recording is, without its samples
+abbrev pub head : Wav → Head
+head wav = record { rate = wav.rate; channels = wav.channels; frames = wav.frames }
+
+-- that of a file that is read
+abbrev pub head_of : List ℕ → Result Head WavErr
+head_of bytes = wav_of bytes >>= λ wav. Ok (head wav)

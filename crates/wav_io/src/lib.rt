@@ -14,9 +14,9 @@ mod wav;
 
 pub use buffer_store::Wav;
 pub use chunks::header;
-pub use reading::{decode, rate_of};
+pub use reading::{decode, head_of};
 pub use samples::frames_into;
-pub use wav::WavErr;
+pub use wav::{Head, WavErr};
 
 /// The list of a file's chunks goes on wherever the file has eight bytes for another one.
 pub fn chunks_law()

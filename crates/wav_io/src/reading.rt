@@ -7,7 +7,7 @@ ghost use Rattle.wav_io.specs.WavRest.{IsRest};
 use crate::chunk_walk::{Chunk, HEAD_LEN, chunk_at};
 use crate::format_chunk::{Format, format_in};
 use crate::values::values_in;
-use crate::wav::WavErr;
+use crate::wav::{Head, WavErr};
 use buffer_store::{SharedSamples, Wav};
 use std::alloc::Global;
 
@@ -30,16 +30,22 @@ pub fn decode(alloc: Global, bytes: &[u8]) -> Result<Wav, WavErr>
     wav_in(alloc, bytes, &format, &data_chunk)
 }
 
-/// The frames a second of a file that `decode` reads, or the file's first fault. It looks at no sample,
-/// and takes no memory.
-pub fn rate_of(bytes: &[u8]) -> Result<u32, WavErr>
-    ensures { result ≡ grammar.rate_of bytes.now }
+/// What `decode` would read from a file, without the samples, or the file's first fault. It looks at no
+/// sample, and takes no memory.
+pub fn head_of(bytes: &[u8]) -> Result<Head, WavErr>
+    ensures value { result ≡ grammar.head_of bytes.now }
+    ensures channels { IfOk result (λ head. (1 ≤ head.channels) × (head.channels ≤ 32)) }
 {
     let (format, data_chunk) = parts_of(bytes)?;
-    if frames_in(bytes, &format, &data_chunk) == 0 {
+    let frames = frames_in(bytes, &format, &data_chunk);
+    if frames == 0 {
         return Err(WavErr::NoData(data_chunk.place as u64));
     }
-    Ok(format.rate)
+    Ok(Head {
+        rate: format.rate,
+        channels: format.channels,
+        frames: frames as u64,
+    })
 }
 
 // The format of a file and the chunk of its data, or the fault that stands before them.

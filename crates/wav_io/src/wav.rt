@@ -2,6 +2,17 @@ use std::alloc::{AllocError, AllocFailed};
 use thiserror::Error;
 use wa_base::NoMemory;
 
+/// What a WAV file of PCM samples holds, without the samples.
+#[derive(Clone, Copy, Debug, PartialEq, Eq)]
+pub struct Head {
+    /// The frames a second. Any number of 32 bits can stand in a file, 0 too.
+    pub rate: u32,
+    /// The number of channels, from 1 to 32.
+    pub channels: u32,
+    /// The number of frames, at least 1.
+    pub frames: u64,
+}
+
 /// Why bytes are no WAV file of PCM samples: their first fault, with its place in bytes from the start
 /// of the file.
 #[derive(Clone, Copy, Debug, PartialEq, Eq, Error)]
