@@ -49,8 +49,9 @@ pub record IsHeard (found : Option HeardView) (equation : Equation) (born now : 
 abbrev pub IsSilentFrom : ℕ → ℕ → (ℕ → ℕ → ℤ) → Type 0
 IsSilentFrom q first at = (c k : ℕ) → k < q → at (first + k) c ≡ pos 0
 
--- A causal node hears a silent quantum, if it has heard its input before the first frame of it and no further; else it stays.
+-- A causal node hears a silent quantum, if it has heard its input before the first frame of it and no further; else it stays. Its room stays in any case.
 pub record IsRested (q first : ℕ) (old new : HeardView) : Type 0 where
+  pub room : room_of new ≡ room_of old
   pub heard : old.time ≡ first → (at : ℕ → ℕ → ℤ) → HasHeard at old → IsSilentFrom q first at → IsHeard (Some new) (equation_of old.state) old.birth (first + q) at
   pub kept : (old.time ≡ first → ⊥) → new ≡ old
 

@@ -23,7 +23,7 @@ use Rattle.quantum_blocks.specs.Blocks.{slot, counts_in}
 use Rattle.quantum_blocks.specs.Fits.{AreInRange}
 use Rattle.delay_bank.specs.Banks.{BankView as DelayBank}
 use Rattle.quantum_render.specs.Listening.{HasKept}
-use Rattle.quantum_render.specs.Plans.{AreMost, AreCounted}
+use Rattle.quantum_render.specs.Plans.{AreMost, AreCounted, AsCounted}
 use Rattle.quantum_render.proofs.ReaderCounts.{are_most}
 use Rattle.quantum_blocks.proofs.Orders.{no_end, next_in_order}
 use Rattle.quantum_render.proofs.Ports.{some_frames, outputs_few}
@@ -116,6 +116,22 @@ module _ (w : World) (valid : IsValid w) (delays : DelayBank) (first : ℕ) (ord
       };
       known = counted_more;
     }
+
+  -- where the next end has its count already
+  pub counting_holds : delays.quantum ≡ quantum_of w.spec → AsCounted delays w first counts x → Counting w delays first order (i + 1) counts
+  counting_holds same is = record {
+    done = x ∷ c.done;
+    legal = next.4;
+    range = c.range;
+    known = λ tape time kept d in_d known. by_test tape time kept d in_d known (same_end d x) refl;
+  }
+    where
+      by_test : (tape : List World) → first ≡ quantum_of w.spec * length tape → HasKept delays w tape first → (d : End) → IsIn d (ends w.graph.value) → IsKnown w.graph.value (x ∷ c.done) d
+          → (b : Bool) → same_end d x ≡ b → counts_in counts d ≡ count (quantum_of w.spec) (tape ++ w ∷ []) (length tape) d
+      by_test tape time kept d in_d known true t =
+          let same_end : d ≡ x = same_end_is d x t in
+          ap (counts_in counts) same_end ∙ own_count same (counts_in counts x) is tape time kept ∙ ap (count (quantum_of w.spec) (tape ++ w ∷ []) (length tape)) (sym same_end)
+      by_test tape time kept d in_d known false t = c.known tape time kept d in_d (known_before w.graph.value x c.done d known t)
 
 pub counting_ends : (w : World) (delays : DelayBank) (first : ℕ) (order : List End) (i : ℕ) (counts : List ℕ) → Counting w delays first order i counts → length order ≤ i → (tape : List World) → first ≡ quantum_of w.spec * length tape → HasKept delays w tape first → AreCounted (quantum_of w.spec) w counts tape
 counting_ends w delays first order i counts c l tape time kept d in_d =

@@ -4,7 +4,9 @@ pub mod LevelLaws
 pub mod Ports
 pub mod CountingLaws
 pub mod ReaderCounts
+pub mod Along
 pub mod CountPass
+pub mod Steady
 pub mod Passing
 pub mod OutLaws
 pub mod SiteLaws
@@ -19,3 +21,4 @@ pub mod Remembering
 pub mod Kept
 pub mod Following
 pub mod Standing
+pub mod Settled

@@ -1,5 +1,5 @@
 -- Rendering a quantum along a legal order.
-use Rattle.std.proofs.Common.{ℕ, suc, pos, ◌≡◌, ◌+◌, ◌*◌, ◌<◌, ◌≤◌, length, List, [], ◌∷◌, ◌++◌, drop, slice_index_or, Bool, true, false, Option, None, inl, inr, refl, sym, ◌∙◌, ap, arith, subst}
+use Rattle.std.proofs.Common.{ℕ, suc, pos, ◌≡◌, ◌+◌, ◌*◌, ◌<◌, ◌≤◌, length, List, [], ◌∷◌, ◌++◌, drop, slice_index_or, Bool, true, false, Option, None, Some, inl, inr, refl, sym, ◌∙◌, ap, arith, subst}
 use mathlib.Core.Path.{fun_ext}
 use Rattle.std.specs.Prelude.{if◌then◌else◌, nat_lt}
 use Rattle.std.proofs.Math.ListN.{drop_of_length-le}
@@ -30,8 +30,8 @@ use Rattle.quantum_blocks.specs.Fits.{AreFit}
 use Rattle.quantum_render.specs.Plans.{IsPlan, AreCounted}
 use Rattle.automation.specs.Levels.{LevelView}
 use Rattle.quantum_render.specs.Sites.{SiteView}
-use Rattle.filter_bank.specs.Heard.{IsHeard}
-use Rattle.filter_bank.specs.Banks.{heard_at, IsRestedIfThere}
+use Rattle.filter_bank.specs.Heard.{HeardView, room_of, IsHeard}
+use Rattle.filter_bank.specs.Banks.{BankView as CausalBank, heard_at, IsRestedIfThere, HaveRoom}
 use Rattle.delay_bank.specs.Kept.{DelayView, IsKept}
 use Rattle.delay_bank.specs.Banks.{delay_at}
 use Rattle.quantum_render.specs.declared.memory.Memory.{Memory}
@@ -223,6 +223,14 @@ module _ (w : World) (valid : IsValid w) (order : List End) (i : ℕ) (counts : 
         (subst (λ (ds : List (Option DelayView)). IsKept memory.delays.quantum (slice_index_or ds n None) capacity (node_at w n).attrs.birth (first + quantum_of w.spec) (writer_in (quantum_of w.spec) (frame (quantum_of w.spec) (tape ++ w ∷ [])) n)) (sym same)
         (all_kept w valid tape first begins counts counted timely c.done legal_end memory.delays c.rooms.delay_quantum (c.kept tape begins counted timely ready) n longest time capacity low is));
   }
+
+-- there is as much room once the causal nodes have rested
+pub rested_rooms : (q first : ℕ) (old new : CausalBank) → ((n : ℕ) → IsRestedIfThere q first (heard_at old n) (heard_at new n)) → (counts : List ℕ) → HaveRoom old counts → HaveRoom new counts
+rested_rooms q first old new rested counts rooms n g there low = by_old (heard_at old n) refl (subst (IsRestedIfThere q first (heard_at old n)) there (rested n))
+  where
+    by_old : (o : Option HeardView) → heard_at old n ≡ o → IsRestedIfThere q first o (Some g) → (slice_index_or counts (2 * n + 1) 1 ≤ room_of g) × (room_of g ≤ 32)
+    by_old None is none = absurd none
+    by_old (Some f) is stays = subst (λ k. (slice_index_or counts (2 * n + 1) 1 ≤ k) × (k ≤ 32)) (sym stays.room) (rooms n f is low)
 
 -- the muted ends of a plan have their places
 pub mute_there : (w : World) → IsValid w → (order mute : List End) (sources : List (List Edge)) → IsPlan w order mute sources → (counts : List ℕ) (blocks : List BlockView) → AreFit w counts blocks

@@ -17,7 +17,7 @@ use Rattle.quantum_render.specs.declared.memory.Memory.{Memory}
 use Rattle.automation.specs.Ready.{AutomationView, IsReady}
 use Rattle.quantum_blocks.specs.Blocks.{BlockView}
 use Rattle.quantum_blocks.specs.Fits.{AreInRange, AreFit}
-use Rattle.quantum_render.specs.Plans.{IsPlan, PlanView, AreCycles, AreCounted}
+use Rattle.quantum_render.specs.Plans.{IsPlan, PlanView, AreCycles, AreCounted, AreSteady}
 
 -- What contracts see of a renderer. Callers read the context and the number of quanta.
 pub record RendererView : Type 0 where
@@ -32,6 +32,8 @@ pub record RendererView : Type 0 where
   pub muted : List End
   pub into : List (List Edge)
   pub cycles : List Bool
+  -- the ends whose channels hang on the time
+  pub timed : List End
   -- the place in each timeline, and the level of each node's parameter
   pub automation : AutomationView
   -- what the nodes remember: the causal nodes what they have heard, and the delays what their writers wrote
@@ -45,7 +47,7 @@ pub record RendererView : Type 0 where
 
 -- its plan
 abbrev pub plan_of : RendererView → PlanView
-plan_of r = record { planned = r.planned; tie = r.tie; order = r.order; muted = r.muted; into = r.into; cycles = r.cycles }
+plan_of r = record { planned = r.planned; tie = r.tie; order = r.order; muted = r.muted; into = r.into; cycles = r.cycles; timed = r.timed }
 
 -- what the writer of a delay did in a past
 abbrev pub past_writer : Past → ℕ → Writer
@@ -98,6 +100,26 @@ pub record IsGrown (r : RendererView) (w : World) : Type 0 where
   pub blocks : AreFit w r.counts r.blocks
   pub causal_rooms : HaveRoom r.memory.causal r.counts
   pub delay_rooms : HaveDelayRoom r.memory.delays r.counts
+
+-- ---- after `pass` over a world
+
+-- All is there that a quantum of the world takes, whatever its counts are: a plan, rooms and memory for those of the last one.
+pub record IsFitted (r : RendererView) (w : World) : Type 0 where
+  pub plan : IsPlan w r.order r.muted r.into
+  pub cycles : AreCycles w.graph.value r.cycles
+  pub range : AreInRange w r.counts
+  pub blocks : AreFit w r.counts r.blocks
+  pub causal_rooms : HaveRoom r.memory.causal r.counts
+  pub delay_rooms : HaveDelayRoom r.memory.delays r.counts
+  pub causal_known : r.memory.causal.known ≡ length r.memory.causal.nodes
+  pub delays_known : r.memory.delays.known ≡ length r.memory.delays.delays
+  pub causal_all : length w.nodes ≤ length r.memory.causal.nodes
+  pub delays_all : length w.nodes ≤ length r.memory.delays.delays
+
+-- A renderer is settled in a world where its counts can change with the time alone.
+pub record IsSettled (r : RendererView) (w : World) : Type 0 where
+  pub fitted : IsFitted r w
+  pub steady : AreSteady w r.order r.muted r.timed r.counts
 
 -- what holds of every renderer: all parts are for quanta of the context's size
 pub record IsWhole (context : ContextSpec) (number : ℕ) (automated : AutomationView) (remembered : Memory) (frames : ℕ) (last : List ℤ) : Type 0 where

@@ -1,4 +1,4 @@
-ghost use Rattle.std.specs.Prelude.{ℤ, ◌≡◌, ◌≤◌, ◌<◌, ◌*◌, ◌^◌, ℕ, List, length, map, filter, slice_index_or, max, if◌then◌else◌, All, true};
+ghost use Rattle.std.specs.Prelude.{ℤ, ◌≡◌, ◌≤◌, ◌<◌, ◌*◌, ◌^◌, ◌⊎◌, ℕ, List, length, map, filter, slice_index_or, max, if◌then◌else◌, All, IsTrue, true};
 ghost use Rattle.wa_base.specs.Contexts.{quantum_of};
 ghost use Rattle.mix_rules.specs.Counts.{greatest as greatest_of};
 ghost use Rattle.law_base.specs.Members.{IsIn};
@@ -15,8 +15,9 @@ ghost use Rattle.quantum_blocks.specs.Blocks.{slot as slot_of, counts_in};
 ghost use Rattle.quantum_blocks.specs.Connections.{into as leads_into, leads_to};
 ghost use Rattle.quantum_blocks.specs.Fits.{AreInRange};
 ghost use Rattle.quantum_render.specs.Listening.{HasKept};
-ghost use Rattle.quantum_render.specs.Plans.{AreCycles, AreMost, IsPlan, AreCounted};
+ghost use Rattle.quantum_render.specs.Plans.{AreCycles, AreMost, IsPlan, AreCounted, AsCounted, IsSteady, AreSteady};
 
+use crate::plan::Plan;
 use channel_mix::count;
 use conn_graph::{Edge, Target};
 use cycle_order::Parts;
@@ -55,6 +56,98 @@ pub(crate) fn count_channels(counts: &mut [u32], order: &[End], census: Census<'
         let into = census.into.part(end.node.0 as usize);
         counts[slot(*end)] = count_of(counts, census, *end, into);
     }
+}
+
+// Whether ends have the channels that they are counted to have.
+pub(crate) fn are_counted(counts: &[u32], timed: &[End], census: Census<'_>) -> bool
+    requires valid { IsValid census.world.now }
+    requires plan { (order muted : List an_end) × IsPlan census.world.now order muted census.into.now }
+    requires range { AreInRange census.world.now counts.now }
+    requires there { (d : an_end) → IsIn d timed.now → IsIn d (ends census.world.now.graph.value) }
+    requires cycles { AreCycles census.world.now.graph.value census.cycles.now }
+    requires time { census.first ≤ 2 ^ 62 }
+    ensures { IsTrue result → (d : an_end) → IsIn d timed.now → AsCounted census.entry.delays.now census.entry.world.now census.entry.first counts.now d }
+{
+    for end in timed {
+        let into = census.into.part(end.node.0 as usize);
+        if !has_count(counts, *end, count_of(counts, census, *end, into)) {
+            return false;
+        }
+    }
+    true
+}
+
+// Whether the counts of a plan's ends are steady, but for those that hang on the time.
+pub(crate) fn are_steady(counts: &[u32], plan: &Plan, world: &World) -> bool
+    requires valid { IsValid world.now }
+    requires plan { IsPlan world.now plan.now.order plan.now.muted plan.now.into }
+    requires range { AreInRange world.now counts.now }
+    ensures { IsTrue result → AreSteady world.now plan.now.order plan.now.muted plan.now.timed counts.now }
+{
+    have_one(counts, plan.muted()) && are_steady_along(counts, plan, world)
+}
+
+// Whether each of so many ends has one channel.
+fn have_one(counts: &[u32], muted: &[End]) -> bool
+    requires { (d : an_end) → IsIn d muted.now → slot_of d < length counts.now }
+    ensures { IsTrue result → (d : an_end) → IsIn d muted.now → counts_in counts.now d ≡ 1 }
+{
+    for end in muted {
+        if !has_count(counts, *end, 1) {
+            return false;
+        }
+    }
+    true
+}
+
+// Whether each end of a plan's order is steady, or the next of those that hang on the time.
+fn are_steady_along(counts: &[u32], plan: &Plan, world: &World) -> bool
+    requires valid { IsValid world.now }
+    requires plan { IsPlan world.now plan.now.order plan.now.muted plan.now.into }
+    requires range { AreInRange world.now counts.now }
+    ensures there { IsTrue result → (d : an_end) → IsIn d plan.now.timed → IsIn d (ends world.now.graph.value) }
+    ensures steady { IsTrue result → (d : an_end) → IsIn d plan.now.order → IsIn d plan.now.timed ⊎ IsSteady world.now counts.now d }
+{
+    let timed = plan.timed();
+    let mut next = 0;
+    for end in plan.order() {
+        if next < timed.len() && slot(timed[next]) == slot(*end) {
+            next += 1;
+        } else {
+            let into = plan.sources().part(end.node.0 as usize);
+            if !is_steady(counts, world, *end, into) {
+                return false;
+            }
+        }
+    }
+    next == timed.len()
+}
+
+// Whether an end has the channels that its row says, and these hang on this quantum alone.
+fn is_steady(counts: &[u32], world: &World, end: End, into: &[Edge]) -> bool
+    requires valid { IsValid world.now }
+    requires range { AreInRange world.now counts.now }
+    requires there { IsIn end (ends world.now.graph.value) }
+    requires into { into.now ≡ leads_into world.now.graph.value end.node.0 }
+    ensures { IsTrue result → IsSteady world.now counts.now end }
+{
+    let row = world.nodes.kind(end.node).row();
+    if row.keeps.is_written() && !end.writer {
+        return false;
+    }
+    match row.channels {
+        Channels::Always(channels) => has_count(counts, end, channels),
+        Channels::OfInput => has_count(counts, end, input_count(counts, world, end.node, into)),
+        Channels::OfBuffer => false,
+    }
+}
+
+// Whether an end has so many channels.
+fn has_count(counts: &[u32], end: End, count: u32) -> bool
+    requires { slot_of end < length counts.now }
+    ensures { IsTrue result → counts_in counts.now end ≡ count }
+{
+    counts[slot(end)] == count
 }
 
 // The number of channels of an end, by the kind of its node.

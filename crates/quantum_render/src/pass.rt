@@ -39,6 +39,8 @@ pub(crate) fn render_quantum<'a>(
         drafts_of blocks.new quantum.now.counts.now m d ≡ value (quantum_of quantum.now.world.now.spec) (tape ++ quantum.now.world.now ∷ []) (quantum_of quantum.now.world.now.spec * length tape + m) d }
     ensures memory { (tape : List a_world) → quantum.now.first ≡ quantum_of quantum.now.world.now.spec * length tape → AreCounted (quantum_of quantum.now.world.now.spec) quantum.now.world.now quantum.now.counts.now tape → IsTimely quantum.now.world.now → IsMemory memory.old quantum.now.world.now tape quantum.now.first →
         IsMemory memory.new quantum.now.world.now tape (quantum.now.first + quantum_of quantum.now.world.now.spec) }
+    ensures rooms { HasRooms memory.new quantum.now.world.now quantum.now.counts.now }
+    ensures all { (memory.new.causal.known ≡ length memory.new.causal.nodes) × (memory.new.delays.known ≡ length memory.new.delays.delays) }
     ensures known { (memory.new.causal.known ≡ length memory.old.causal.nodes) × (memory.new.delays.known ≡ length memory.old.delays.delays) }
 {
     let first = quantum.first;

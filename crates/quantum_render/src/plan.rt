@@ -8,6 +8,7 @@ use crate::site::{Quantum, Site};
 use conn_graph::{Edge, Graph};
 use cycle_order::{Ends, Layout, Parts, lay_out, marked};
 use meaning::World;
+use node_table::Channels;
 use quantum_blocks::places_of;
 use std::alloc::Global;
 use std::marker::Model;
@@ -28,6 +29,8 @@ pub(crate) struct Plan {
     near: Vec<usize>,
     // For each node, whether it is a delay in a cycle.
     cycles: Vec<bool>,
+    // The ends of the order whose number of channels hangs on the time, in the same order.
+    timed: Vec<End>,
 }
 
 impl Model for Plan {
@@ -42,6 +45,7 @@ impl Model for Plan {
       muted = p.muted;
       into = p.into;
       cycles = p.cycles.items;
+      timed = p.timed.items;
     } };
 }
 
@@ -59,6 +63,7 @@ impl Plan {
             into: Parts::new(alloc)?,
             near: Vec::new(alloc),
             cycles: Vec::new(alloc),
+            timed: Vec::new(alloc),
         })
     }
 
@@ -78,6 +83,7 @@ impl Plan {
         let near = places_of(alloc, world)?;
         let Layout { marks, order, into } = lay_out(alloc, graph, tie, steps)?;
         let cycles = marked(alloc, graph.len(), marks.in_cycle.as_slice())?;
+        let timed = timed_ends(alloc, world, order.ends.as_slice())?;
         Ok(Plan {
             planned: Some(graph.edits()),
             tie,
@@ -86,6 +92,7 @@ impl Plan {
             into,
             near,
             cycles,
+            timed,
         })
     }
 
@@ -163,10 +170,43 @@ impl Plan {
         self.cycles.as_slice()
     }
 
+    // The ends whose number of channels hangs on the time.
+    pub(crate) fn timed(&self) -> &[End]
+        ensures { result.now ≡ self.now.timed }
+    {
+        self.timed.as_slice()
+    }
+
     // For each node, the connections that lead to it.
     pub(crate) fn sources(&self) -> &Parts<Edge>
         ensures { result.now ≡ self.now.into }
     {
         &self.into
+    }
+}
+
+// The ends of an order whose number of channels hangs on the time.
+fn timed_ends(alloc: Global, world: &World, order: &[End]) -> Result<Vec<End>, NoMemory> {
+    let mut timed = Vec::new(alloc);
+    for end in order {
+        if is_timed(world, *end) {
+            timed.push(*end)?;
+        }
+    }
+    Ok(timed)
+}
+
+// Whether the number of channels of an end hangs on the time: it is the reader of a delay, or it plays a buffer.
+fn is_timed(world: &World, end: End) -> bool {
+    if end.node.0 >= world.nodes.len() {
+        return false;
+    }
+    let row = world.nodes.kind(end.node).row();
+    if row.keeps.is_written() {
+        return !end.writer;
+    }
+    match row.channels {
+        Channels::Always(_) | Channels::OfInput => false,
+        Channels::OfBuffer => true,
     }
 }

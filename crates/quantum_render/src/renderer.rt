@@ -1,4 +1,4 @@
-ghost use Rattle.std.specs.Prelude.{◌≡◌, ◌<◌, ◌≤◌, ◌+◌, ◌-◌, ◌*◌, ◌^◌, ◌++◌, ◌∷◌, ◌↔◌, [], ℕ, List, Some, None, pos, length, slice_index_or, IfOk, OnOk, OnErr};
+ghost use Rattle.std.specs.Prelude.{◌≡◌, ◌<◌, ◌≤◌, ◌+◌, ◌-◌, ◌*◌, ◌^◌, ◌++◌, ◌∷◌, ◌↔◌, [], ℕ, List, Some, None, pos, length, slice_index_or, IsTrue, IfOk, OnOk, OnErr};
 ghost use Rattle.wa_base.specs.Contexts.{IsSupported, quantum_of};
 ghost use Rattle.law_base.specs.Members.{IsIn};
 ghost use Rattle.meaning.specs.declared.params.Param.{Param as a_param};
@@ -9,10 +9,10 @@ ghost use Rattle.meaning.specs.Worlds.{IsRegular};
 ghost use Rattle.std.specs.List.{sum_by};
 ghost use Rattle.automation.specs.Ready.{looks_at};
 ghost use Rattle.quantum_render.specs.Plans.{IsPlanned, IsUnedited};
-ghost use Rattle.quantum_render.specs.Stands.{StandsFor, Shows, IsPrepared, IsCounted, IsGrown, plan_of};
+ghost use Rattle.quantum_render.specs.Stands.{StandsFor, Shows, IsPrepared, IsCounted, IsGrown, IsFitted, IsSettled, plan_of};
 
 use crate::bench::Bench;
-use crate::counting::{Census, count_channels};
+use crate::counting::{Census, are_counted, are_steady, count_channels};
 use crate::memory::Memory;
 use crate::pass::render_quantum;
 use crate::plan::Plan;
@@ -31,7 +31,8 @@ use wa_base::{ContextSpec, Fix, NoMemory, NodeId, Steps, Tie};
 /// Renders one quantum after another (the rendering loop of the recommendation). A quantum has as
 /// many frames as the context asks for.
 ///
-/// A quantum takes four calls over one unchanged world: `prepare`, `counts`, `grow` and `pass`.
+/// A quantum takes four calls over one unchanged world: `prepare`, `counts`, `grow` and `pass`; or `again`
+/// and `pass`, where nothing changed since the last one but what a quantum itself changes.
 /// Contracts say for which tapes of worlds a renderer stands: those whose quanta it went through.
 #[derive(Drop)]
 pub struct Renderer {
@@ -61,6 +62,7 @@ impl Model for Renderer {
       muted = r.plan.muted;
       into = r.plan.into;
       cycles = r.plan.cycles;
+      timed = r.plan.timed;
       automation = r.automation;
       memory = r.memory;
       counts = r.counts.items;
@@ -190,6 +192,57 @@ impl Renderer {
         self.memory.delays.grow(counts)
     }
 
+    /// Goes on to the next quantum of a world in which the renderer is settled, instead of `prepare`,
+    /// `counts` and `grow`. Returns whether each end has as many channels as before; where one has not,
+    /// these have to be called. After `NoMemory` the renderer stands for the same tapes.
+    ///
+    /// It looks at those ends alone whose channels hang on the time, at no connection of the graph, and
+    /// in each timeline at no more events than their number has binary digits.
+    pub fn again<L: Ledger>(
+        &mut self,
+        world: &World,
+        first: u64,
+        steps: &mut Steps<L>,
+    ) -> Result<bool, NoMemory>
+        requires valid { IsValid world.now }
+        requires spec { world.now.spec ≡ self.old.spec }
+        requires settled { IsSettled self.old world.now }
+        requires first { first ≡ quantum_of self.old.spec * self.old.quanta }
+        requires time { first ≤ 2 ^ 62 }
+        ensures grown { IfOk result (λ same. IsTrue same → IsGrown self.new world.now) }
+        ensures stands { (tape : List a_world) → StandsFor self.old tape ↔ StandsFor self.new tape }
+        ensures counts { self.new.counts ≡ self.old.counts }
+        ensures spec { self.new.spec ≡ self.old.spec }
+        ensures plan { plan_of self.new ≡ plan_of self.old }
+        ensures quanta { self.new.quanta ≡ self.old.quanta }
+        ensures out { self.new.out ≡ self.old.out }
+        ensures cost { (digits : a_param → ℕ) → ((p : a_param) → IsIn p world.now.params.items → length p.line.events < 2 ^ digits p)
+            → steps.new ≤ steps.old + sum_by digits world.now.params.items }
+    {
+        let nodes = world.nodes.len() as usize;
+        self.automation
+            .prepare(world.params.as_slice(), nodes, first, steps)?;
+        let census = Census {
+            world,
+            into: self.plan.sources(),
+            near: self.plan.near(),
+            cycles: self.plan.cycles(),
+            delays: &self.memory.delays,
+            first,
+        };
+        Ok(are_counted(self.counts.as_slice(), self.plan.timed(), census))
+    }
+
+    /// Whether the renderer is settled in the world of the last quantum: whether its counts can change
+    /// with the time alone. It looks at each node and each connection once.
+    pub fn is_settled(&self, world: &World) -> bool
+        requires valid { IsValid world.now }
+        requires fitted { IsFitted self.now world.now }
+        ensures { IsTrue result → IsSettled self.now world.now }
+    {
+        are_steady(self.counts.as_slice(), &self.plan, world)
+    }
+
     /// Renders the next quantum, which begins at frame `first`. It takes no memory, and looks at four
     /// events of each timeline and those with a time in the quantum at most.
     pub fn pass<L: Ledger>(&mut self, world: &World, first: u64, steps: &mut Steps<L>)
@@ -201,6 +254,8 @@ impl Renderer {
         ensures stands { (tape : List a_world) → StandsFor self.old tape → IsRegular (quantum_of self.old.spec) (tape ++ world.now ∷ []) → StandsFor self.new (tape ++ world.now ∷ []) }
         ensures shows { (tape : List a_world) → StandsFor self.old tape → IsRegular (quantum_of self.old.spec) (tape ++ world.now ∷ []) → Shows self.new (tape ++ world.now ∷ []) }
         ensures spec { self.new.spec ≡ self.old.spec }
+        ensures fitted { IsFitted self.new world.now }
+        ensures counts { self.new.counts ≡ self.old.counts }
         ensures plan { plan_of self.new ≡ plan_of self.old }
         ensures quanta { self.new.quanta ≡ self.old.quanta + 1 }
         ensures cost { steps.new ≤ steps.old + sum_by (looks_at (quantum_of self.old.spec) first) world.now.params.items }

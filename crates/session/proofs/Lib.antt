@@ -13,6 +13,7 @@ mod Planning
 mod Quanta
 mod Replaying
 mod Samples
+mod Settling
 mod Showing
 mod Sides
 mod Standing

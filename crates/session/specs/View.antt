@@ -8,11 +8,12 @@ use Rattle.meaning.specs.World.{sounding}
 use Rattle.meaning.specs.Validity.{IsValid}
 use Rattle.ctx_state.specs.Context.{is_closed}
 use Rattle.control_msgs.specs.declared.message.Message.{Message}
+use Rattle.control_msgs.specs.declared.message.Message.TheVariants as message
 use Rattle.control_msgs.specs.Messages.{after_message, after_messages, AreAcceptedBy}
 use Rattle.meaning.specs.Worlds.{IsRegular}
 use Rattle.conn_graph.specs.Walks.{GraphView}
 use Rattle.quantum_render.specs.Plans.{PlanView, IsPlanned, IsUnedited}
-use Rattle.quantum_render.specs.Stands.{RendererView, StandsFor, plan_of}
+use Rattle.quantum_render.specs.Stands.{RendererView, StandsFor, IsSettled, plan_of}
 use Rattle.script_ast.specs.declared.call_list.Call.{Call}
 use Rattle.io_edge.specs.Paths.{Paths}
 use Rattle.session.specs.Folders.{Folder, IsFolderOf, AgreeBetween}
@@ -46,11 +47,18 @@ pub record PlansFor (plan : PlanView) (graph : GraphView) : Type 0 where
   pub earlier : IfSome plan.planned (λ edits. edits ≤ graph.edits)
   pub unedited : IsUnedited plan.planned graph → IsPlanned graph.value plan
 
--- what holds of every such side, whose world has a graph that is edited on and on: its world can hear all messages, and its renderer planned for the graph
-pub record IsSide (side : SideView) (graph : GraphView) : Type 0 where
+-- a message is one of a render quantum, and no change
+abbrev pub IsOfQuantum : Message → Type 0
+IsOfQuantum (message.Change change) = ⊥
+IsOfQuantum (message.Slots first) = Unit {0}
+IsOfQuantum (message.Ended next) = Unit {0}
+
+-- what holds of every such side, whose world has a graph that is edited on and on: its world can hear all messages, and its renderer planned for the graph; where it says so, the renderer is settled in the world that is sent
+pub record IsSide (side : SideView) (graph : GraphView) (settled : Bool) : Type 0 where
   pub valid : IsValid side.world
   pub accepted : AreAcceptedBy side.world side.messages
   pub plans : PlansFor (plan_of side.renderer) graph
+  pub settles : settled ≡ true → IsSettled side.renderer (sent side)
 
 -- ---- what holds of every session
 

@@ -1,13 +1,14 @@
-ghost use Rattle.std.specs.Prelude.{◌≡◌, ◌≤◌, ◌<◌, ◌+◌, ◌*◌, ◌++◌, ◌∷◌, [], List, length, IfOk, OnOk, OnErr};
+ghost use Rattle.std.specs.Prelude.{◌≡◌, ◌≤◌, ◌<◌, ◌+◌, ◌*◌, ◌++◌, ◌∷◌, [], List, length, IsTrue, IfOk, OnOk, OnErr};
 ghost use Rattle.wa_base.specs.Contexts.{IsSupported, quantum_of};
 ghost use Rattle.control_msgs.specs.Messages.{IsAcceptedBy};
 ghost use Rattle.meaning.specs.declared.world.World.{World as a_world};
 ghost use Rattle.meaning.specs.World.{plain};
 ghost use Rattle.meaning.specs.Validity.{IsValid};
 ghost use Rattle.meaning.specs.Worlds.{IsRegular, first_world};
-ghost use Rattle.quantum_render.specs.Stands.{StandsFor, Shows, plan_of};
+ghost use Rattle.quantum_render.specs.Plans.{AreSteady};
+ghost use Rattle.quantum_render.specs.Stands.{StandsFor, Shows, IsGrown, IsSettled, plan_of};
 ghost use Rattle.session.specs.Frames.{WritesBelow};
-ghost use Rattle.session.specs.View.{IsAt, PlansFor, Renders, MakesRoom, Gets, GoesOn, Waits, sent};
+ghost use Rattle.session.specs.View.{IsAt, PlansFor, Renders, MakesRoom, Gets, GoesOn, Waits, IsOfQuantum, sent};
 
 use control_msgs::{Message, Queue};
 use meaning::World;
@@ -24,6 +25,8 @@ pub(crate) struct RenderSide {
     world: World,
     queue: Queue,
     renderer: Renderer,
+    // Whether the renderer is settled in the world that it is sent: no change came since it was found so.
+    settled: bool,
 }
 
 impl Model for RenderSide {
@@ -34,7 +37,7 @@ impl Model for RenderSide {
 
     ghost view = { λ s. record { world = plain s.world; messages = s.queue.messages; room = s.queue.room; renderer = s.renderer } };
 
-    ghost invariant = { λ s. IsSide (record { world = plain s.world; messages = s.queue.messages; room = s.queue.room; renderer = s.renderer }) s.world.graph };
+    ghost invariant = { λ s. IsSide (record { world = plain s.world; messages = s.queue.messages; room = s.queue.room; renderer = s.renderer }) s.world.graph s.settled };
 }
 
 impl RenderSide {
@@ -52,6 +55,7 @@ impl RenderSide {
             world,
             queue: Queue::new(alloc),
             renderer,
+            settled: false,
         })
     }
 
@@ -69,6 +73,8 @@ impl RenderSide {
         requires accepted { IsAcceptedBy (sent self.old) message }
         ensures { Gets message self.old self.new }
     {
+        let quiet = is_of_quantum(&message);
+        self.settled = self.settled && quiet;
         self.queue.post(message);
     }
 
@@ -82,38 +88,58 @@ impl RenderSide {
         ensures ok { OnOk result (GoesOn first samples.old samples.new self.old self.new) }
         ensures err { OnErr result (Waits first self.old self.new × (samples.new ≡ samples.old)) }
     {
+        let settled = self.settled;
+        self.settled = false;
         self.queue.drain_into(&mut self.world)?;
-        render_quantum(&mut self.renderer, &self.world, first)?;
+        self.settled = render_quantum(&mut self.renderer, &self.world, first, settled)?;
         copy_out(&self.renderer, self.world.spec, first, samples);
         Ok(())
     }
 }
 
-// Renders the quantum that begins at `first`, and counts no steps. After `NoMemory` the renderer
-// stands for the tapes for which it stood.
-fn render_quantum(renderer: &mut Renderer, world: &World, first: u64) -> Result<(), NoMemory>
+// Whether a message is one of a render quantum, and no change.
+fn is_of_quantum(message: &Message) -> bool
+    ensures { IsTrue result → IsOfQuantum message.now }
+{
+    match message {
+        Message::Change(_) => false,
+        Message::Slots(_) | Message::Ended(_) => true,
+    }
+}
+
+// Renders the quantum that begins at `first`, and counts no steps. Returns whether the renderer is settled in
+// the world afterwards. After `NoMemory` the renderer stands for the tapes for which it stood.
+fn render_quantum(
+    renderer: &mut Renderer,
+    world: &World,
+    first: u64,
+    settled: bool,
+) -> Result<bool, NoMemory>
     requires valid { IsValid world.now }
     requires spec { world.now.spec ≡ renderer.old.spec }
     requires first { first ≡ quantum_of renderer.old.spec * renderer.old.quanta }
     requires time { first ≤ 33555456 }
     requires planned { PlansFor (plan_of renderer.old) world.now.graph }
+    requires settled { IsTrue settled → IsSettled renderer.old world.now }
     ensures stands { (tape : List a_world) → StandsFor renderer.old tape → IsRegular (quantum_of world.now.spec) (tape ++ world.now ∷ []) → OnOk result (StandsFor renderer.new (tape ++ world.now ∷ [])) }
     ensures shows { (tape : List a_world) → StandsFor renderer.old tape → IsRegular (quantum_of world.now.spec) (tape ++ world.now ∷ []) → OnOk result (Shows renderer.new (tape ++ world.now ∷ [])) }
+    ensures settled { IfOk result (λ settled. IsTrue settled → IsSettled renderer.new world.now) }
     ensures quanta { OnOk result (renderer.new.quanta ≡ renderer.old.quanta + 1) }
     ensures spec { renderer.new.spec ≡ renderer.old.spec }
     ensures planned { PlansFor (plan_of renderer.new) world.now.graph }
     ensures err { OnErr result (renderer.new.quanta ≡ renderer.old.quanta) }
     ensures err_stands { (tape : List a_world) → StandsFor renderer.old tape → OnErr result (StandsFor renderer.new tape) }
 {
-    render_counted::<Brand>(renderer, world, first, Blank::new(1))
+    render_counted::<Brand>(renderer, world, first, settled, Blank::new(1))
 }
 
 fn render_counted<L: Ledger>(
     renderer: &mut Renderer,
     world: &World,
     first: u64,
+    settled: bool,
     blank: Blank,
-) -> Result<(), NoMemory>
+) -> Result<bool, NoMemory>
     requires name { blank.name ≡ L.name }
     requires parts { blank.parts ≡ L.parts }
     requires some { 0 < L.parts }
@@ -122,8 +148,10 @@ fn render_counted<L: Ledger>(
     requires first { first ≡ quantum_of renderer.old.spec * renderer.old.quanta }
     requires time { first ≤ 33555456 }
     requires planned { PlansFor (plan_of renderer.old) world.now.graph }
+    requires settled { IsTrue settled → IsSettled renderer.old world.now }
     ensures stands { (tape : List a_world) → StandsFor renderer.old tape → IsRegular (quantum_of world.now.spec) (tape ++ world.now ∷ []) → OnOk result (StandsFor renderer.new (tape ++ world.now ∷ [])) }
     ensures shows { (tape : List a_world) → StandsFor renderer.old tape → IsRegular (quantum_of world.now.spec) (tape ++ world.now ∷ []) → OnOk result (Shows renderer.new (tape ++ world.now ∷ [])) }
+    ensures settled { IfOk result (λ settled. IsTrue settled → IsSettled renderer.new world.now) }
     ensures quanta { OnOk result (renderer.new.quanta ≡ renderer.old.quanta + 1) }
     ensures spec { renderer.new.spec ≡ renderer.old.spec }
     ensures planned { PlansFor (plan_of renderer.new) world.now.graph }
@@ -131,11 +159,43 @@ fn render_counted<L: Ledger>(
     ensures err_stands { (tape : List a_world) → StandsFor renderer.old tape → OnErr result (StandsFor renderer.new tape) }
 {
     let mut steps: Steps<L> = Steps::new(blank);
-    renderer.prepare(world, &mut steps)?;
-    renderer.counts(world, first, &mut steps);
-    renderer.grow(world)?;
+    let same = make_ready(renderer, world, first, settled, &mut steps)?;
     renderer.pass(world, first, &mut steps);
-    Ok(())
+    if same {
+        return Ok(true);
+    }
+    Ok(renderer.is_settled(world))
+}
+
+// Makes a renderer ready for the quantum that begins at `first`. Returns whether it goes on with the counts
+// that it had, as it may where it is settled.
+fn make_ready<L: Ledger>(
+    renderer: &mut Renderer,
+    world: &World,
+    first: u64,
+    settled: bool,
+    steps: &mut Steps<L>,
+) -> Result<bool, NoMemory>
+    requires valid { IsValid world.now }
+    requires spec { world.now.spec ≡ renderer.old.spec }
+    requires first { first ≡ quantum_of renderer.old.spec * renderer.old.quanta }
+    requires time { first ≤ 33555456 }
+    requires planned { PlansFor (plan_of renderer.old) world.now.graph }
+    requires settled { IsTrue settled → IsSettled renderer.old world.now }
+    ensures grown { OnOk result (IsGrown renderer.new world.now) }
+    ensures steady { IfOk result (λ same. IsTrue same → AreSteady world.now renderer.new.order renderer.new.muted renderer.new.timed renderer.new.counts) }
+    ensures stands { (tape : List a_world) → StandsFor renderer.old tape → StandsFor renderer.new tape }
+    ensures quanta { renderer.new.quanta ≡ renderer.old.quanta }
+    ensures spec { renderer.new.spec ≡ renderer.old.spec }
+    ensures planned { PlansFor (plan_of renderer.new) world.now.graph }
+{
+    if settled && renderer.again(world, first, steps)? {
+        return Ok(true);
+    }
+    renderer.prepare(world, steps)?;
+    renderer.counts(world, first, steps);
+    renderer.grow(world)?;
+    Ok(false)
 }
 
 // Copies the last quantum, which began at `first`, into samples that stand channel after channel.

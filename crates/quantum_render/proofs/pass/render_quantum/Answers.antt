@@ -1,10 +1,11 @@
-use Rattle.std.proofs.Common.{ℕ, ◌≡◌, ◌<◌, ◌≤◌, List, length, slice_index_or, refl, sym, ◌∙◌, ap, subst}
+use Rattle.std.proofs.Common.{ℕ, ◌≡◌, ◌<◌, ◌≤◌, List, length, slice_index_or, Option, None, refl, sym, ◌∙◌, ap, subst}
 use Rattle.wa_base.specs.Contexts.{quantum_of}
 use Rattle.wa_base.specs.declared.graph_names.End.{End}
 use Rattle.law_base.specs.Members.{IsIn}
 use Rattle.conn_graph.specs.Ends.{ends}
 use Rattle.meaning.proofs.Joined.{joined}
 use Rattle.filter_bank.specs.Banks.{heard_at, IsRestedIfThere}
+use Rattle.delay_bank.specs.Kept.{DelayView}
 use Rattle.quantum_blocks.specs.Blocks.{slot, IsSilent}
 use Rattle.quantum_blocks.specs.Fits.{AreFit}
 use Rattle.quantum_render.specs.declared.site.Quantum.{Quantum}
@@ -12,7 +13,7 @@ use Rattle.quantum_render.specs.Sites.{SiteView, site_in}
 use Rattle.quantum_render.specs.Listening.{HasRooms}
 use Rattle.quantum_render.specs.Renders.{IsRendered}
 use Rattle.quantum_blocks.proofs.Orders.{no_end}
-use Rattle.quantum_render.proofs.Passing.{still_fit, passing_begins, next, passing_rendered, passing_ends, all_remembered, mute_there}
+use Rattle.quantum_render.proofs.Passing.{still_fit, passing_begins, next, passing_rendered, passing_ends, all_remembered, rested_rooms, mute_there}
 use Rattle.quantum_render.proofs.Ports.{some_frames}
 use Rattle.quantum_render.proofs.pass.render_quantum.Goals as goal
 
@@ -83,5 +84,14 @@ returns c =
           (subst (λ k. (n : ℕ) → IsRestedIfThere k q.first (heard_at c.loop-end.memory.causal n) (heard_at c.rest.new.self n)) rooms.causal_quantum
           c.rest.ensures.each)
           c.end_quantum.ensures.delays c.end_quantum.ensures.quantum;
+      rooms = record {
+        causal = subst (λ n. length q.world.now.nodes ≤ n) (sym c.rest.ensures.count) rooms.causal;
+        delays = subst (λ (ds : List (Option DelayView)). length q.world.now.nodes ≤ length ds) (sym c.end_quantum.ensures.delays) rooms.delays;
+        causal_rooms = rested_rooms c.loop-end.memory.causal.quantum q.first c.loop-end.memory.causal c.rest.new.self c.rest.ensures.each q.counts.now rooms.causal_rooms;
+        delay_rooms = λ n d there low. rooms.delay_rooms n d (ap (λ (ds : List (Option DelayView)). slice_index_or ds n None) (sym c.end_quantum.ensures.delays) ∙ there) low;
+        causal_quantum = c.rest.ensures.quantum ∙ rooms.causal_quantum;
+        delay_quantum = c.end_quantum.ensures.quantum ∙ rooms.delay_quantum;
+      };
+      all = (c.rest.ensures.known ∙ sym c.rest.ensures.count, c.end_quantum.ensures.known ∙ ap length (sym c.end_quantum.ensures.delays));
       known = (c.rest.ensures.known ∙ c.loop-end.invariant.passing.causal, c.end_quantum.ensures.known ∙ c.loop-end.invariant.passing.delays);
     }

@@ -16,6 +16,7 @@ pub returns-clause-rested : goal.returns-clause-rested
 returns-clause-rested c =
     let early : c.args.self.now.time ≡ c.args.first → c.args.self.now.time ≤ 2 ^ 62 = λ here. subst (λ n. n ≤ 2 ^ 62) (sym here) c.requires.time in
     record {
+      room = c.hear.ensures.room;
       heard = λ here at heard silent. record {
         causal = c.hear.new.self;
         there = refl;

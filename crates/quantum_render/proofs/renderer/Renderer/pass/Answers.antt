@@ -11,7 +11,9 @@ use Rattle.law_base.proofs.Rows.{rows_up}
 use Rattle.quantum_blocks.specs.Blocks.{BlockView, no_block, shown, slot, block_of}
 use Rattle.quantum_blocks.specs.Fits.{AreInRange, AreFit}
 use Rattle.quantum_render.specs.Plans.{AreCounted}
-use Rattle.quantum_render.specs.Stands.{RendererView, StandsFor}
+use Rattle.filter_bank.specs.Banks.{HaveRoom}
+use Rattle.delay_bank.specs.Banks.{HaveRoom as HaveDelayRoom}
+use Rattle.quantum_render.specs.Stands.{RendererView, StandsFor, IsGrown}
 use Rattle.meaning.specs.declared.params.Param.{Param}
 use Rattle.automation.specs.Ready.{AreOfNodes}
 use Rattle.automation.specs.Levels.{LevelView, AreLevels}
@@ -123,3 +125,23 @@ returns-clause-stands g c tape stands regular =
     (stands_on r w c.requires.valid spec tape stands regular c.args.first c.requires.first quantum c.render_quantum.new.memory
     (c.render_quantum.ensures.quanta.1 ∙ c.self.invariant.delays ∙ ap (λ (x : RendererView). quantum_of x.spec) c.self.view_is) causal delays after) in
     record { quanta = on.quanta; nodes = on.nodes; causal = on.causal; delays = on.delays }
+
+pub returns-clause-fitted : goal.returns-clause-fitted
+returns-clause-fitted g c =
+    let w : World = c.args.world.now in
+    let counts : c.as_slice-2.result.now ≡ c.self.inside.counts.items = c.as_slice-2.ensures.value in
+    let grown = subst (λ (r : RendererView). IsGrown r w) (sym c.self.view_is) c.requires.grown in
+    let rooms = c.render_quantum.ensures.rooms in
+    record {
+      plan = grown.counted.plan;
+      cycles = grown.counted.cycles;
+      range = grown.counted.range;
+      blocks = subst (AreFit w c.self.inside.counts.items) (sym (rewritten _ c.render_quantum.new.blocks _ (c.render_quantum.auto.blocks ∙ c.as_mut_slice-blocks.ensures.len)))
+          (subst (λ (ns : List ℕ). AreFit w ns c.render_quantum.new.blocks) counts c.render_quantum.ensures.fit);
+      causal_rooms = subst (λ (ns : List ℕ). HaveRoom c.render_quantum.new.memory.causal ns) counts rooms.causal_rooms;
+      delay_rooms = subst (λ (ns : List ℕ). HaveDelayRoom c.render_quantum.new.memory.delays ns) counts rooms.delay_rooms;
+      causal_known = c.render_quantum.ensures.all.0;
+      delays_known = c.render_quantum.ensures.all.1;
+      causal_all = rooms.causal;
+      delays_all = rooms.delays;
+    }

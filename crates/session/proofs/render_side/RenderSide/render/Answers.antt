@@ -1,4 +1,4 @@
-use Rattle.std.proofs.Common.{ℕ, ◌≡◌, ◌+◌, ◌*◌, ◌++◌, ◌∷◌, [], length, sym, ◌∙◌, ap, subst, arith, length-append}
+use Rattle.std.proofs.Common.{ℕ, ◌≡◌, ◌+◌, ◌*◌, ◌++◌, ◌∷◌, [], List, length, sym, ◌∙◌, ap, subst, arith, length-append}
 use Rattle.law_base.proofs.Rows.{next_quantum}
 use Rattle.wa_base.specs.Contexts.{quantum_of}
 use Rattle.meaning.specs.declared.world.World.{World}
@@ -7,7 +7,10 @@ use Rattle.meaning.specs.Worlds.{IsRegular}
 use Rattle.control_msgs.specs.Messages.{after_messages}
 use Rattle.session.specs.Rows.{samples_of}
 use Rattle.session.specs.View.{Renders}
-use Rattle.quantum_render.specs.Stands.{plan_of}
+use Rattle.control_msgs.specs.declared.message.Message.{Message}
+use Rattle.meaning.proofs.Valid.{plain_valid}
+use Rattle.quantum_render.specs.Stands.{IsSettled, plan_of}
+use Rattle.session.proofs.Settling.{settled_raw, settled_plain}
 use Rattle.session.proofs.Planning.{plans_on}
 use Rattle.session.proofs.Standing.{length_worlds, raw_regular, renders_more, samples_more}
 use Rattle.session.proofs.render_side.RenderSide.render.Goals as goal
@@ -23,11 +26,23 @@ next_turn q first n more is next = ap (λ f. f + q) is ∙ sym (next_quantum q n
 pub render_quantum-requires-clause-planned : goal.render_quantum-requires-clause-planned
 render_quantum-requires-clause-planned c = plans_on (plan_of c.self.inside.renderer) c.self.inside.world.graph c.drain_into.new.world.graph c.drain_into.ensures.graph c.self.invariant.plans
 
+pub render_quantum-requires-clause-settled : goal.render_quantum-requires-clause-settled
+render_quantum-requires-clause-settled c t = settled_raw c.self.inside.renderer c.drain_into.new.world (subst (IsSettled c.self.inside.renderer) (sym c.in_ok-drain_into.ensures.ok.1) (c.self.invariant.settles t))
+
+pub invariant_of-self-2 : goal.invariant_of-self-2
+invariant_of-self-2 c = record {
+  valid = plain_valid c.drain_into.new.world c.drain_into.ensures.valid;
+  accepted = c.drain_into.ensures.accepted;
+  plans = c.render_quantum.ensures.planned;
+  settles = λ t. subst (λ (ms : List Message). IsSettled c.render_quantum.new.renderer (after_messages (plain c.drain_into.new.world) ms)) (sym c.in_ok-drain_into.ensures.ok.0)
+      (settled_plain c.render_quantum.new.renderer c.drain_into.new.world (c.in_ok-self-inside.ensures.settled t));
+}
+
 pub returns-clause-ok : goal.returns-clause-ok
 returns-clause-ok c =
     let world = c.drain_into.new.world in
     let renderer = c.render_quantum.new.renderer in
-    let rendered = c.in_ok-render_quantum.ensures in
+    let rendered = c.in_ok-self-inside.ensures in
     let at = rw (← c.self.view_is) at c.requires.at in
     let long = rw (← c.self.view_is) at c.requires.long in
     let q = quantum_of world.spec in
