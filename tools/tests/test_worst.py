@@ -5,6 +5,7 @@ The program is the one that the variable WAPLAY names, or else the shipped one. 
 there, it is not run."""
 
 import argparse
+import json
 import os
 import unittest
 from pathlib import Path
@@ -13,7 +14,7 @@ from waplay_tools.expecting.reading import script_of
 from waplay_tools.places import SHIPPED
 from waplay_tools.running import Ran
 from waplay_tools.worst.__main__ import measured, told
-from waplay_tools.worst.scripts import MOST, TABLE
+from waplay_tools.worst.scripts import MOST, TABLE, all_at_once, all_at_once_in_full_length
 
 PROGRAM = Path(os.environ.get("WAPLAY") or SHIPPED).absolute()
 READ = 1000000  # bytes of a script that the second calculation reads soon
@@ -27,12 +28,23 @@ class WorstScripts(unittest.TestCase):
             text = it.text()
             self.assertLessEqual(len(text), MOST, it.shows)
             self.assertTrue(text.startswith('{"version":1,') and text.endswith("}"), it.shows)
-            if it.shows.startswith("16 MiB"):
+            if "16 MiB" in it.shows:
                 self.assertGreater(len(text), MOST - 2**8, it.shows)
             if len(text) <= READ:
                 script_of(text.encode())
                 read += 1
         self.assertGreater(read, 10)
+
+    def test_full_length_adds_calls_before_rendering_starts(self) -> None:
+        fullest = json.loads(all_at_once())
+        longest = json.loads(all_at_once_in_full_length())
+        calls, last = fullest["calls"], len(fullest["calls"]) - 1
+        added = longest["calls"][last:-1]
+        self.assertGreater(len(added), 400000)
+        self.assertEqual({call["op"] for call in added}, {"connect"})
+        del longest["calls"][last:-1]
+        self.assertEqual(calls[last]["op"], "startRendering")
+        self.assertEqual(longest, fullest)
 
     @unittest.skipUnless(os.access(PROGRAM, os.X_OK), "there is no program")
     def test_a_run_is_measured(self) -> None:

@@ -1,2 +1,5 @@
 mod Places
 mod Looks
+mod Running
+mod Stands
+mod Taken

@@ -1,15 +1,13 @@
 -- Items by their places, and levels by their nodes.
-use Rattle.std.proofs.Common.{ℕ, zero, suc, ◌≡◌, ◌+◌, ◌<◌, length, List, [], ◌∷◌, ◌++◌, take, slice_index_or, slice_set, Bool, true, false, inl, inr, refl, sym, ◌∙◌, ap, arith, subst}
-use Rattle.std.specs.Prelude.{◌⊎◌, ◌==◌}
+use Rattle.std.proofs.Common.{ℕ, zero, suc, ◌≡◌, ◌+◌, ◌<◌, length, List, [], ◌∷◌, ◌++◌, take, slice_index_or, slice_set, Result, Ok, Err, Bool, true, false, inl, inr, refl, sym, ◌∙◌, ap, arith, subst}
+use Rattle.std.specs.Prelude.{◌⊎◌, ◌==◌, OnOk}
 use Rattle.std.proofs.lemmas.List.{get_or-set_other, get_or_default}
 use Rattle.std.proofs.Math.Seq.{take-append_seam}
 use Rattle.std.proofs.lemmas.Grind.{get_or-set_at}
 use Rattle.std.proofs.lemmas.Bool.Decides.{nat_tests}
-use Rattle.automation.specs.Levels.{LevelView, HasRoom, IsLevelOf, no_level, level_of}
+use Rattle.automation.specs.Levels.{LevelView, HasRoom, no_level, level_of}
 use Rattle.law_base.specs.Members.{IsIn}
 use Rattle.meaning.specs.declared.params.Param.{Param}
-use Rattle.meaning.proofs.FirstItems.{AreInOrder}
-use Rattle.meaning.proofs.ParamOrder.{nodes_rise}
 
 -- an item of a list stands at a place
 pub place_of : {X : Type 0} (xs : List X) (x : X) → IsIn x xs → (i : ℕ) × (i < length xs) × ((d : X) → slice_index_or xs i d ≡ x)
@@ -23,7 +21,7 @@ in_list [] i d l = absurd (omega arith)
 in_list (x ∷ xs) zero d l = inl refl
 in_list (x ∷ xs) (suc i) d l = inr (in_list xs i d (omega arith))
 
-before_or_here : (i j : ℕ) → j < i + 1 → (j < i) ⊎ (j ≡ i)
+pub before_or_here : (i j : ℕ) → j < i + 1 → (j < i) ⊎ (j ≡ i)
 before_or_here i j l = grind arith
 
 -- ---- one level is written
@@ -54,26 +52,11 @@ module _ (q : ℕ) (levels : List LevelView) (node : ℕ) (y : LevelView) (withi
       by_place (inr same) =
           subst (HasRoom q) (sym (own_level _ (ap (λ k. (slice_index_or params k p).id.node.0) same ∙ ap (λ (x : Param). x.id.node.0) (get_or_default params i p d l) ∙ sym here))) own
 
-  -- the parameters before one have their levels, and it has too
-  pub taken_more : (params : List Param) (first i : ℕ) (d : Param) → AreInOrder params → node ≡ (slice_index_or params i d).id.node.0
-      → IsLevelOf q (slice_index_or params i d) first y
-      → ((j : ℕ) (p : Param) → j < i → IsLevelOf q (slice_index_or params j p) first (level_of levels (slice_index_or params j p).id.node.0))
-      → i < length params → (j : ℕ) (p : Param) → j < i + 1 → IsLevelOf q (slice_index_or params j p) first (level_of (slice_set levels node y) (slice_index_or params j p).id.node.0)
-  taken_more params first i d order here own old l j p low = by_place (before_or_here i j low)
-    where
-      by_place : (j < i) ⊎ (j ≡ i) → IsLevelOf q (slice_index_or params j p) first (level_of (slice_set levels node y) (slice_index_or params j p).id.node.0)
-      by_place (inl before) =
-          subst (IsLevelOf q (slice_index_or params j p) first)
-          (sym (other_level _ (λ e.
-          let rise = nodes_rise params order j i p before l in
-          let same : (slice_index_or params j p).id.node.0 ≡ (slice_index_or params i p).id.node.0 = e ∙ here ∙ ap (λ (x : Param). x.id.node.0) (get_or_default params i d p l) in
-          absurd (omega (arith, rise, same)))))
-          (old j p before)
-      by_place (inr same) =
-          let item : slice_index_or params i d ≡ slice_index_or params j p = get_or_default params i d p l ∙ ap (λ k. slice_index_or params k p) (sym same) in
-          subst (λ (x : Param). IsLevelOf q x first (level_of (slice_set levels node y) x.id.node.0)) item
-          (subst (IsLevelOf q (slice_index_or params i d) first) (sym (own_level _ (sym here))) own)
-
 -- a list that was written over as a whole
 pub rewritten : {X : Type 0} (n : ℕ) (new rest : List X) → length new ≡ n → take n (new ++ rest) ≡ new
 rewritten n new rest e = subst (λ k. take k (new ++ rest) ≡ new) e (take-append_seam new rest)
+
+-- what follows from three results of a call that succeeds
+pub all_ok : {E A B C D : Type 0} (r : Result (Unit {0}) E) → OnOk r A → OnOk r B → OnOk r C → (A → B → C → D) → OnOk r D
+all_ok (Ok u) a b c f = f a b c
+all_ok (Err e) a b c f = tt

@@ -1,5 +1,5 @@
 -- The values of a parameter in a quantum of q frames.
-use Rattle.std.specs.Prelude.{ℕ, ◌+◌, ◌≡◌, ◌<◌, ℤ, pos, Bool, true, List, [], length, slice_index_or, if◌then◌else◌}
+use Rattle.std.specs.Prelude.{ℕ, ◌+◌, ◌≡◌, ◌<◌, ◌≤◌, ℤ, pos, Bool, true, List, [], length, slice_index_or, if◌then◌else◌}
 use Rattle.wa_base.specs.declared.graph_names.Rate.{Rate}
 use Rattle.wa_base.specs.declared.graph_names.Rate.TheVariants.{A, K}
 use Rattle.param_events.specs.Values.{value_at}
@@ -30,6 +30,10 @@ pub record IsLevelOf (q : ℕ) (param : Param) (first : ℕ) (level : LevelView)
   pub room : HasRoom q level
   pub rate : level.rate ≡ param.rate
   pub values : (m : ℕ) → m < q → level_at level m ≡ value_at param.line.base param.line.events (first + taken_at param.rate m)
+
+-- a level is that of a parameter in the quantum that begins at a frame, and in all later ones
+abbrev pub Keeps : ℕ → ℕ → LevelView → Param → Type 0
+Keeps q first level param = (later : ℕ) → first ≤ later → IsLevelOf q param later level
 
 -- stands where there is no level
 abbrev pub no_level : LevelView

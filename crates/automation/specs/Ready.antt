@@ -1,15 +1,16 @@
--- What is at hand before the values of a quantum are taken.
-use Rattle.std.specs.Prelude.{ℕ, ◌+◌, ◌<◌, ◌≡◌, List, length, map}
+-- What is at hand before the values of a quantum are taken, and after it.
+use Rattle.std.specs.Prelude.{ℕ, ◌+◌, ◌<◌, ◌≤◌, ◌≡◌, ◌⊎◌, List, [], ◌∷◌, length, map, filter, not, slice_index_or}
 use Rattle.std.specs.List.Sorted.{IsStrictlyIncreasing}
 use Rattle.law_base.specs.Members.{IsIn}
 use Rattle.meaning.specs.declared.params.Param.{Param}
 use Rattle.param_cursor.specs.Cursors.{place_at, within}
-use Rattle.automation.specs.Levels.{LevelView, HasRoom, level_of}
+use Rattle.automation.specs.declared.automation.Running.{Running}
+use Rattle.automation.specs.Levels.{LevelView, HasRoom, Keeps, level_of}
 
--- What contracts see of an automation: the frames of a quantum, a place in each timeline, and the level of each node.
+-- What contracts see of an automation: the frames of a quantum, the parameters whose levels may still change, and the level of each node.
 pub record AutomationView : Type 0 where
   pub quantum : ℕ
-  pub cursors : List ℕ
+  pub running : List Running
   pub levels : List LevelView
 
 -- the parameters stand in order of their nodes, of which each has one at most, and there are so many nodes
@@ -17,14 +18,46 @@ pub record AreOfNodes (nodes : ℕ) (params : List Param) : Type 0 where
   pub order : IsStrictlyIncreasing (map (λ (p : Param). p.id.node.0) params)
   pub there : (p : Param) → IsIn p params → p.id.node.0 < nodes
 
+abbrev pub param_of : Running → ℕ
+param_of r = r.param
+
+-- numbers rise, from one on and below another
+abbrev pub RiseWithin : ℕ → ℕ → List ℕ → Type 0
+RiseWithin low end [] = Unit {0}
+RiseWithin low end (i ∷ is) = (low ≤ i) × (i < end) × RiseWithin (i + 1) end is
+
+-- those that run are some of so many parameters, in order
+abbrev pub AreRunning : ℕ → List Running → Type 0
+AreRunning count running = RiseWithin 0 count (map param_of running)
+
 -- the place in the timeline of a parameter of a cursor that stands at a frame
 abbrev pub place_in : ℕ → Param → ℕ
 place_in first p = place_at first p.line.events
 
--- Each cursor stands at a frame in the timeline of its parameter, and for each parameter there is room.
+-- a cursor stands at a frame in the timeline of its parameter
+abbrev pub Stands : List Param → ℕ → Running → Type 0
+Stands params first r = (d : Param) → r.cursor ≡ place_in first (slice_index_or params r.param d)
+
+-- for each parameter there is room
+abbrev pub HaveRoom : List Param → AutomationView → Type 0
+HaveRoom params a = (p : Param) → IsIn p params → (p.id.node.0 < length a.levels) × HasRoom a.quantum (level_of a.levels p.id.node.0)
+
+-- each parameter is one of some, or keeps its level from a frame on
+abbrev pub OthersKeep : List Param → ℕ → AutomationView → List Running → Type 0
+OthersKeep params first a some = (i : ℕ) (d : Param) → i < length params → IsIn i (map param_of some) ⊎ Keeps a.quantum first (level_of a.levels (slice_index_or params i d).id.node.0) (slice_index_or params i d)
+
+-- Each running cursor stands at a frame in the timeline of its parameter, for each parameter there is room, and those that do not run keep their levels.
 pub record IsReady (params : List Param) (first : ℕ) (a : AutomationView) : Type 0 where
-  pub stands : a.cursors ≡ map (place_in first) params
-  pub room : (p : Param) → IsIn p params → (p.id.node.0 < length a.levels) × HasRoom a.quantum (level_of a.levels p.id.node.0)
+  pub running : AreRunning (length params) a.running
+  pub stands : (r : Running) → IsIn r a.running → Stands params first r
+  pub room : HaveRoom params a
+  pub others : OthersKeep params first a a.running
+
+-- After a quantum those keep their levels of which it was found that they do, and those that did not run.
+pub record IsHeld (params : List Param) (first : ℕ) (a : AutomationView) : Type 0 where
+  pub running : AreRunning (length params) a.running
+  pub room : HaveRoom params a
+  pub others : OthersKeep params first a (filter (λ r. not r.keeps) a.running)
 
 -- the looks that a quantum of q frames takes at the events of a timeline: two, and those with a time in the quantum
 abbrev pub looks_at : ℕ → ℕ → Param → ℕ

@@ -1,10 +1,11 @@
-ghost use Rattle.std.specs.Prelude.{max, ◌≡◌, [], ◌<◌, ◌≤◌, ◌+◌, ◌^◌, ℕ, length, map, OnOk};
+ghost use Rattle.std.specs.Prelude.{max, ◌≡◌, [], ◌<◌, ◌≤◌, ◌+◌, ◌^◌, ℕ, length, map, filter, not, OnOk};
 ghost use Rattle.std.specs.List.{sum_by};
 ghost use Rattle.law_base.specs.Members.{IsIn};
 ghost use Rattle.wa_base.specs.Contexts.{IsQuantumSize};
 ghost use Rattle.meaning.specs.declared.params.Param.{Param as a_param};
+ghost use Rattle.automation.specs.declared.automation.Running.{Running as a_running};
 ghost use Rattle.automation.specs.Levels.{AreLevels, HasRoom, level_of};
-ghost use Rattle.automation.specs.Ready.{AreOfNodes, IsReady, looks_at, place_in};
+ghost use Rattle.automation.specs.Ready.{AreOfNodes, AreRunning, IsHeld, IsReady, Stands, looks_at, param_of};
 
 use crate::level::Level;
 use meaning::Param;
@@ -14,18 +15,29 @@ use std::marker::Model;
 use std::sync::ledger::Ledger;
 use wa_base::{NoMemory, NodeId, Steps};
 
-/// The automation of all parameters of a world: for each a place in its timeline, and its level in
-/// the last quantum.
+/// The automation of all parameters of a world: the level of each in the last quantum, and for each
+/// whose level may still change the place in its timeline.
 ///
-/// A quantum takes two calls over the same parameters: `prepare`, and `take`. Each node has at most
-/// one parameter of those that can be automated, so a level is named by its node.
+/// A quantum takes two calls over the same parameters: `prepare`, or `again` where no parameter
+/// changed since the last quantum, and `take`. Each node has at most one parameter of those that can
+/// be automated, so a level is named by its node.
 #[derive(Drop)]
 pub struct Automation {
     alloc: Global,
     // The frames of a render quantum.
     quantum: usize,
-    cursors: Vec<Cursor>,
+    running: Vec<Running>,
     levels: Vec<Level>,
+}
+
+// A parameter whose level may still change.
+#[derive(Clone, Copy)]
+struct Running {
+    // its place among all parameters
+    param: usize,
+    cursor: Cursor,
+    // whether its level was found to be that of all later quanta
+    keeps: bool,
 }
 
 impl Model for Automation {
@@ -34,7 +46,7 @@ impl Model for Automation {
 
     ghost Value = { AutomationView };
 
-    ghost view = { λ s. record { quantum = s.quantum; cursors = s.cursors.items; levels = s.levels.items } };
+    ghost view = { λ s. record { quantum = s.quantum; running = s.running.items; levels = s.levels.items } };
 
     ghost invariant = { λ s. IsQuantumSize s.quantum };
 }
@@ -43,12 +55,12 @@ impl Automation {
     /// Of no parameter, for render quanta of so many frames. It takes no memory.
     pub fn new(alloc: Global, quantum: usize) -> Automation
         requires { IsQuantumSize quantum }
-        ensures { result ≡ record { quantum = quantum; cursors = []; levels = [] } }
+        ensures { result ≡ record { quantum = quantum; running = []; levels = [] } }
     {
         Automation {
             alloc,
             quantum,
-            cursors: Vec::new(alloc),
+            running: Vec::new(alloc),
             levels: Vec::new(alloc),
         }
     }
@@ -69,17 +81,25 @@ impl Automation {
         ensures levels { OnOk result (length self.new.levels ≡ max (length self.old.levels) nodes) }
         ensures cost { (digits : a_param → ℕ) → ((p : a_param) → IsIn p params.now → length p.line.events < 2 ^ digits p) → steps.new ≤ steps.old + sum_by digits params.now }
     {
-        self.cursors.resize(params.len(), Cursor::new())?;
         extend(self.alloc, &mut self.levels, nodes)?;
-        make_ready(
-            self.levels.as_mut_slice(),
-            self.cursors.as_mut_slice(),
-            params,
-            self.quantum,
-            first,
-            steps,
-        )?;
-        Ok(())
+        reserve_each(self.levels.as_mut_slice(), params, self.quantum)?;
+        self.running.clear();
+        run_each(&mut self.running, params, first, steps)
+    }
+
+    /// Moves to a frame in each timeline, where no parameter changed since the last `take`. It takes no
+    /// memory, and looks at no more events of a timeline than their number has binary digits.
+    ///
+    /// A parameter whose level stays is left out, and so it is in all later quanta.
+    pub fn again<L: Ledger>(&mut self, params: &[Param], first: u64, steps: &mut Steps<L>)
+        requires { IsHeld params.now first self.old }
+        ensures quantum { self.new.quantum ≡ self.old.quantum }
+        ensures ready { IsReady params.now first self.new }
+        ensures levels { self.new.levels ≡ self.old.levels }
+        ensures cost { (digits : a_param → ℕ) → ((p : a_param) → IsIn p params.now → length p.line.events < 2 ^ digits p) → steps.new ≤ steps.old + sum_by digits params.now }
+    {
+        leave_out(&mut self.running);
+        reseek_each(self.running.as_mut_slice(), params, first, steps);
     }
 
     /// Takes the values of all parameters in the quantum that begins at `first`. It takes no memory,
@@ -90,11 +110,12 @@ impl Automation {
         requires ready { IsReady params.now first self.old }
         ensures quantum { self.new.quantum ≡ self.old.quantum }
         ensures levels { AreLevels self.old.quantum params.now first self.new.levels }
+        ensures held { IsHeld params.now first self.new }
         ensures cost { steps.new ≤ steps.old + sum_by (looks_at self.old.quantum first) params.now }
     {
         take_each(
             self.levels.as_mut_slice(),
-            self.cursors.as_mut_slice(),
+            self.running.as_mut_slice(),
             params,
             first,
             self.quantum,
@@ -120,34 +141,74 @@ fn extend(alloc: Global, levels: &mut Vec<Level>, nodes: usize) -> Result<(), No
     Ok(())
 }
 
-// Takes the memory for the values of each parameter, and moves each cursor to a frame in its timeline.
-fn make_ready<L: Ledger>(
-    levels: &mut [Level],
-    cursors: &mut [Cursor],
-    params: &[Param],
-    frames: usize,
-    first: u64,
-    steps: &mut Steps<L>,
-) -> Result<(), NoMemory>
-    requires nodes { AreOfNodes (length levels.old) params.now }
-    requires cursors { length cursors.old ≡ length params.now }
+// Takes the memory for the values of each parameter.
+fn reserve_each(levels: &mut [Level], params: &[Param], frames: usize) -> Result<(), NoMemory>
+    requires { AreOfNodes (length levels.old) params.now }
     ensures length { length levels.new ≡ length levels.old }
     ensures room { OnOk result ((p : a_param) → IsIn p params.now → HasRoom frames (level_of levels.new p.id.node.0)) }
-    ensures stands { OnOk result (cursors.new ≡ map (place_in first) params.now) }
-    ensures cost { (digits : a_param → ℕ) → ((p : a_param) → IsIn p params.now → length p.line.events < 2 ^ digits p) → steps.new ≤ steps.old + sum_by digits params.now }
 {
-    for (i, param) in params.iter().enumerate() {
+    for param in params {
         let node = param.id.node.0 as usize;
         levels[node].reserve(frames)?;
-        cursors[i].reseek(first, &param.line, steps);
     }
     Ok(())
 }
 
-// Takes the values of each parameter, one after another.
+// Has each parameter run, and moves to a frame in its timeline.
+fn run_each<L: Ledger>(
+    running: &mut Vec<Running>,
+    params: &[Param],
+    first: u64,
+    steps: &mut Steps<L>,
+) -> Result<(), NoMemory>
+    requires { running.old.items ≡ [] }
+    ensures running { OnOk result (AreRunning (length params.now) running.new.items) }
+    ensures all { OnOk result ((i : ℕ) → i < length params.now → IsIn i (map param_of running.new.items)) }
+    ensures stands { OnOk result ((r : a_running) → IsIn r running.new.items → Stands params.now first r) }
+    ensures cost { (digits : a_param → ℕ) → ((p : a_param) → IsIn p params.now → length p.line.events < 2 ^ digits p) → steps.new ≤ steps.old + sum_by digits params.now }
+{
+    for (i, param) in params.iter().enumerate() {
+        let mut cursor = Cursor::new();
+        cursor.reseek(first, &param.line, steps);
+        running.push(Running {
+            param: i,
+            cursor,
+            keeps: false,
+        })?;
+    }
+    Ok(())
+}
+
+// Leaves out the parameters whose levels stay.
+fn leave_out(running: &mut Vec<Running>)
+    ensures { running.new.items ≡ filter (λ r. not r.keeps) running.old.items }
+{
+    running.retain(|one| !one.keeps);
+}
+
+// Moves to a frame in the timeline of each running parameter.
+fn reseek_each<L: Ledger>(
+    running: &mut [Running],
+    params: &[Param],
+    first: u64,
+    steps: &mut Steps<L>,
+)
+    requires { AreRunning (length params.now) running.old }
+    ensures params { map param_of running.new ≡ map param_of running.old }
+    ensures stands { (r : a_running) → IsIn r running.new → Stands params.now first r }
+    ensures cost { (digits : a_param → ℕ) → ((p : a_param) → IsIn p params.now → length p.line.events < 2 ^ digits p) → steps.new ≤ steps.old + sum_by digits params.now }
+{
+    for k in 0..running.len() {
+        let one = &mut running[k];
+        let param = &params[one.param];
+        one.cursor.reseek(first, &param.line, steps);
+    }
+}
+
+// Takes the values of each running parameter, one after another.
 fn take_each<L: Ledger>(
     levels: &mut [Level],
-    cursors: &mut [Cursor],
+    running: &mut [Running],
     params: &[Param],
     first: u64,
     frames: usize,
@@ -156,12 +217,15 @@ fn take_each<L: Ledger>(
     requires nodes { (nodes : ℕ) × AreOfNodes nodes params.now }
     requires quantum { IsQuantumSize frames }
     requires first { first ≤ 2 ^ 62 }
-    requires ready { IsReady params.now first (record { quantum = frames; cursors = cursors.old; levels = levels.old }) }
+    requires ready { IsReady params.now first (record { quantum = frames; running = running.old; levels = levels.old }) }
     ensures levels { AreLevels frames params.now first levels.new }
+    ensures held { IsHeld params.now first (record { quantum = frames; running = running.new; levels = levels.new }) }
     ensures cost { steps.new ≤ steps.old + sum_by (looks_at frames first) params.now }
 {
-    for (i, param) in params.iter().enumerate() {
+    for k in 0..running.len() {
+        let one = &mut running[k];
+        let param = &params[one.param];
         let node = param.id.node.0 as usize;
-        levels[node].take(param, &mut cursors[i], first, frames, steps);
+        one.keeps = levels[node].take(param, &mut one.cursor, first, frames, steps);
     }
 }

@@ -1,7 +1,7 @@
-ghost use Rattle.std.specs.Prelude.{◌≡◌, ◌<◌, ◌≤◌, ◌+◌, ◌^◌, ℕ, pos, length, slice_index_or, OnOk};
+ghost use Rattle.std.specs.Prelude.{◌≡◌, ◌<◌, ◌≤◌, ◌+◌, ◌^◌, ℕ, pos, length, slice_index_or, IsTrue, OnOk};
 ghost use Rattle.wa_base.specs.Contexts.{IsQuantumSize};
 ghost use Rattle.param_cursor.specs.Cursors.{place_at, within};
-ghost use Rattle.automation.specs.Levels.{HasRoom, IsLevelOf};
+ghost use Rattle.automation.specs.Levels.{HasRoom, IsLevelOf, Keeps};
 ghost use Rattle.automation.specs.Held.{AreValues};
 
 use meaning::Param;
@@ -56,7 +56,8 @@ impl Level {
         Ok(())
     }
 
-    // Takes the values of a parameter in the quantum of so many frames that begins at `first`.
+    // Takes the values of a parameter in the quantum of so many frames that begins at `first`. Returns
+    // whether they are those of all later quanta too.
     pub(crate) fn take<L: Ledger>(
         &mut self,
         param: &Param,
@@ -64,12 +65,13 @@ impl Level {
         first: u64,
         frames: usize,
         steps: &mut Steps<L>,
-    )
+    ) -> bool
         requires room { HasRoom frames self.old }
         requires quantum { IsQuantumSize frames }
         requires first { first ≤ 2 ^ 62 }
         requires stands { cursor.old ≡ place_at first param.now.line.events }
         ensures level { IsLevelOf frames param.now first self.new }
+        ensures keeps { IsTrue result → Keeps frames first self.new param.now }
         ensures cost { steps.new ≤ steps.old + 2 + length (within first (first + frames) param.now.line.events) }
     {
         self.rate = param.rate;
@@ -77,12 +79,17 @@ impl Level {
             Rate::A => frames,
             Rate::K => 1,
         };
+        let is_past = cursor.is_past(&param.line);
         match cursor.draw(&mut self.values[0..count], first, &param.line, steps) {
             Some(value) => {
                 self.steady = true;
                 self.values[0] = value;
+                is_past
             }
-            None => self.steady = count == 1,
+            None => {
+                self.steady = count == 1;
+                false
+            }
         }
     }
 

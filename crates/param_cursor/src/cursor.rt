@@ -1,4 +1,4 @@
-ghost use Rattle.std.specs.Prelude.{◌≡◌, ℕ, pos, length, ◌+◌, ◌<◌, ◌≤◌, ◌^◌, option_copied, slice_index_or, slice_get, take, IfSome, None};
+ghost use Rattle.std.specs.Prelude.{◌≡◌, ◌↔◌, ℕ, pos, length, ◌+◌, ◌<◌, ◌≤◌, ◌^◌, option_copied, slice_index_or, slice_get, take, IfSome, IsTrue, None};
 ghost use Rattle.param_events.specs.Events.{last};
 ghost use Rattle.param_events.specs.Timeline.{IsTimeline};
 ghost use Rattle.param_events.specs.Values.{value_at};
@@ -93,9 +93,18 @@ impl Cursor {
         }
     }
 
+    /// Whether no event of a timeline is to come: whether each has a time before the frame at which the
+    /// cursor stands.
+    pub fn is_past(&self, line: &Timeline) -> bool
+        ensures { IsTrue result ↔ self.now ≡ length line.now.events }
+    {
+        self.place == line.len()
+    }
+
     /// Takes the intrinsic values of a block of at most 1,024 frames that begins where the cursor stands,
     /// and moves the cursor behind it. It answers the value that all frames have, and writes nothing, or
-    /// it writes one for each. It looks at no more than two events, and those with a time in the block.
+    /// it writes one for each. Where no event is to come, a value that all frames have is that of all later
+    /// frames too. It looks at no more than two events, and those with a time in the block.
     ///
     /// A ramp, and a curve between two of its points, is divided out only where it begins or the block
     /// does. From there on each frame takes an addition and a comparison.
@@ -110,6 +119,7 @@ impl Cursor {
         requires frames { length out.old ≤ 1024 }
         requires stands { self.old ≡ cursors.place_at first line.now.events }
         ensures level { IfSome result (λ value. (m : ℕ) → m < length out.new → value_at line.now.base line.now.events (first + m) ≡ value) }
+        ensures lasts { self.old ≡ length line.now.events → IfSome result (λ value. (later : ℕ) → first ≤ later → value_at line.now.base line.now.events later ≡ value) }
         ensures values { result ≡ None → (m : ℕ) → m < length out.new → slice_index_or out.new m (pos 0) ≡ value_at line.now.base line.now.events (first + m) }
         ensures stands { self.new ≡ cursors.place_at (first + length out.new) line.now.events }
         ensures moved { steps.new + self.old ≤ steps.old + 2 + self.new }

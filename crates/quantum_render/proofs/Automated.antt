@@ -20,7 +20,7 @@ use Rattle.meaning.specs.Validity.{IsValid, param_ids}
 use Rattle.meaning.proofs.Automating.{found_param}
 use Rattle.meaning.proofs.Sounding.{intrinsic_sounding, k_rate_sounding}
 use Rattle.automation.specs.Levels.{LevelView, HasRoom, IsLevelOf, AreLevels, level_at, level_of, no_level, taken_at}
-use Rattle.automation.specs.Ready.{AreOfNodes}
+use Rattle.automation.specs.Ready.{AreOfNodes, AutomationView, IsHeld}
 use Rattle.quantum_render.proofs.LevelLaws.{taken_at as taken_in}
 
 id_in : (params : List Param) (p : Param) → IsIn p params → IsIn p.id (map (λ (q : Param). q.id) params)
@@ -31,6 +31,17 @@ id_in (q ∷ qs) p (inr is) = inr (id_in qs p is)
 -- the parameters of a valid world are of its nodes
 pub of_nodes : (w : World) → IsValid w → AreOfNodes (length w.nodes) w.params.items
 of_nodes w valid = record { order = valid.params.order; there = λ p is. valid.params.there p.id (id_in w.params.items p is) }
+
+-- levels that are kept from a frame on are kept from a later one on
+pub held_later : (params : List Param) (first later : ℕ) (a : AutomationView) → first ≤ later → IsHeld params first a → IsHeld params later a
+held_later params first later a l is = record {
+  running = is.running;
+  room = is.room;
+  others = λ i d low. elim (is.others i d low) [
+    | inl moves ↦ inl moves
+    | inr keeps ↦ inr (λ even up. keeps even (omega (arith, l, up)))
+  ];
+}
 
 -- the parameter that a node's kind has is there
 pub has_param : (w : World) → IsValid w → (node : ℕ) (name : ParamName) → node < length w.nodes → param_name (kind_of w node) ≡ Some name → IsIn (param_id node name) (param_ids w)

@@ -45,6 +45,7 @@ pub record PlanView : Type 0 where
   pub muted : List End
   pub into : List (List Edge)
   pub cycles : List Bool
+  -- the ends whose channels seem to hang on the time: nothing is promised of them, and each use looks whether the others are steady
   pub timed : List End
 
 -- the plan of a graph, by the plan's tie

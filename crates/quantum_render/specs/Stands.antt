@@ -14,7 +14,7 @@ use Rattle.delay_line.specs.Delays.{Writer}
 use Rattle.filter_bank.specs.Banks.{AreHeard, AreNew, HaveRoom}
 use Rattle.delay_bank.specs.Banks.{AreKept, AreNew as AreNewDelays, HaveRoom as HaveDelayRoom}
 use Rattle.quantum_render.specs.declared.memory.Memory.{Memory}
-use Rattle.automation.specs.Ready.{AutomationView, IsReady}
+use Rattle.automation.specs.Ready.{AutomationView, IsReady, IsHeld}
 use Rattle.quantum_blocks.specs.Blocks.{BlockView}
 use Rattle.quantum_blocks.specs.Fits.{AreInRange, AreFit}
 use Rattle.quantum_render.specs.Plans.{IsPlan, PlanView, AreCycles, AreCounted, AreSteady}
@@ -34,7 +34,7 @@ pub record RendererView : Type 0 where
   pub cycles : List Bool
   -- the ends whose channels hang on the time
   pub timed : List End
-  -- the place in each timeline, and the level of each node's parameter
+  -- the level of each node's parameter, and the place in each timeline that goes on
   pub automation : AutomationView
   -- what the nodes remember: the causal nodes what they have heard, and the delays what their writers wrote
   pub memory : Memory
@@ -103,11 +103,12 @@ pub record IsGrown (r : RendererView) (w : World) : Type 0 where
 
 -- ---- after `pass` over a world
 
--- All is there that a quantum of the world takes, whatever its counts are: a plan, rooms and memory for those of the last one.
+-- All is there that a quantum of the world takes, whatever its counts are: a plan, levels, rooms and memory for those of the last one.
 pub record IsFitted (r : RendererView) (w : World) : Type 0 where
   pub plan : IsPlan w r.order r.muted r.into
   pub cycles : AreCycles w.graph.value r.cycles
   pub range : AreInRange w r.counts
+  pub automation : IsHeld w.params.items (quantum_of r.spec * r.quanta) r.automation
   pub blocks : AreFit w r.counts r.blocks
   pub causal_rooms : HaveRoom r.memory.causal r.counts
   pub delay_rooms : HaveDelayRoom r.memory.delays r.counts

@@ -196,7 +196,8 @@ fn timed_ends(alloc: Global, world: &World, order: &[End]) -> Result<Vec<End>, N
     Ok(timed)
 }
 
-// Whether the number of channels of an end hangs on the time: it is the reader of a delay, or it plays a buffer.
+// Whether the number of channels of an end hangs on the time: it is the reader of a delay, or it plays
+// a buffer.
 fn is_timed(world: &World, end: End) -> bool {
     if end.node.0 >= world.nodes.len() {
         return false;

@@ -194,22 +194,17 @@ impl Renderer {
 
     /// Goes on to the next quantum of a world in which the renderer is settled, instead of `prepare`,
     /// `counts` and `grow`. Returns whether each end has as many channels as before; where one has not,
-    /// these have to be called. After `NoMemory` the renderer stands for the same tapes.
+    /// these have to be called. It takes no memory.
     ///
     /// It looks at those ends alone whose channels hang on the time, at no connection of the graph, and
-    /// in each timeline at no more events than their number has binary digits.
-    pub fn again<L: Ledger>(
-        &mut self,
-        world: &World,
-        first: u64,
-        steps: &mut Steps<L>,
-    ) -> Result<bool, NoMemory>
+    /// in each timeline that goes on at no more events than their number has binary digits.
+    pub fn again<L: Ledger>(&mut self, world: &World, first: u64, steps: &mut Steps<L>) -> bool
         requires valid { IsValid world.now }
         requires spec { world.now.spec ≡ self.old.spec }
         requires settled { IsSettled self.old world.now }
         requires first { first ≡ quantum_of self.old.spec * self.old.quanta }
         requires time { first ≤ 2 ^ 62 }
-        ensures grown { IfOk result (λ same. IsTrue same → IsGrown self.new world.now) }
+        ensures grown { IsTrue result → IsGrown self.new world.now }
         ensures stands { (tape : List a_world) → StandsFor self.old tape ↔ StandsFor self.new tape }
         ensures counts { self.new.counts ≡ self.old.counts }
         ensures spec { self.new.spec ≡ self.old.spec }
@@ -219,9 +214,7 @@ impl Renderer {
         ensures cost { (digits : a_param → ℕ) → ((p : a_param) → IsIn p world.now.params.items → length p.line.events < 2 ^ digits p)
             → steps.new ≤ steps.old + sum_by digits world.now.params.items }
     {
-        let nodes = world.nodes.len() as usize;
-        self.automation
-            .prepare(world.params.as_slice(), nodes, first, steps)?;
+        self.automation.again(world.params.as_slice(), first, steps);
         let census = Census {
             world,
             into: self.plan.sources(),
@@ -230,7 +223,7 @@ impl Renderer {
             delays: &self.memory.delays,
             first,
         };
-        Ok(are_counted(self.counts.as_slice(), self.plan.timed(), census))
+        are_counted(self.counts.as_slice(), self.plan.timed(), census)
     }
 
     /// Whether the renderer is settled in the world of the last quantum: whether its counts can change

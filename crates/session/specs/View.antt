@@ -20,6 +20,8 @@ use Rattle.session.specs.Folders.{Folder, IsFolderOf, AgreeBetween}
 use Rattle.control_side.specs.Machine.{Machine, world_caught_up}
 use Rattle.session.specs.Rows.{samples_of}
 use Rattle.control_side.specs.Step.{Sends}
+use Rattle.session.specs.declared.render_side.Standing.{Standing}
+use Rattle.session.specs.declared.render_side.Standing.TheVariants.{Settled}
 use Rattle.session.specs.Session.{Told, Played, first_told, quanta_left, finished, replayed, turns, TurnsDecode}
 
 -- the machine and the lines, whether there is audio, the samples, and with audio the renderer
@@ -53,12 +55,12 @@ IsOfQuantum (message.Change change) = ⊥
 IsOfQuantum (message.Slots first) = Unit {0}
 IsOfQuantum (message.Ended next) = Unit {0}
 
--- what holds of every such side, whose world has a graph that is edited on and on: its world can hear all messages, and its renderer planned for the graph; where it says so, the renderer is settled in the world that is sent
-pub record IsSide (side : SideView) (graph : GraphView) (settled : Bool) : Type 0 where
+-- what holds of every such side, whose world has a graph that is edited on and on: its world can hear all messages, and its renderer planned for the graph; where it stands so, the renderer is settled in the world that is sent
+pub record IsSide (side : SideView) (graph : GraphView) (standing : Standing) : Type 0 where
   pub valid : IsValid side.world
   pub accepted : AreAcceptedBy side.world side.messages
   pub plans : PlansFor (plan_of side.renderer) graph
-  pub settles : settled ≡ true → IsSettled side.renderer (sent side)
+  pub settles : standing ≡ Settled → IsSettled side.renderer (sent side)
 
 -- ---- what holds of every session
 

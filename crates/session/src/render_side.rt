@@ -6,7 +6,8 @@ ghost use Rattle.meaning.specs.World.{plain};
 ghost use Rattle.meaning.specs.Validity.{IsValid};
 ghost use Rattle.meaning.specs.Worlds.{IsRegular, first_world};
 ghost use Rattle.quantum_render.specs.Plans.{AreSteady};
-ghost use Rattle.quantum_render.specs.Stands.{StandsFor, Shows, IsGrown, IsSettled, plan_of};
+ghost use Rattle.quantum_render.specs.Stands.{StandsFor, Shows, IsFitted, IsGrown, IsSettled, plan_of};
+ghost use Rattle.session.specs.declared.render_side.Standing.TheVariants.{Settled};
 ghost use Rattle.session.specs.Frames.{WritesBelow};
 ghost use Rattle.session.specs.View.{IsAt, PlansFor, Renders, MakesRoom, Gets, GoesOn, Waits, IsOfQuantum, sent};
 
@@ -25,8 +26,18 @@ pub(crate) struct RenderSide {
     world: World,
     queue: Queue,
     renderer: Renderer,
-    // Whether the renderer is settled in the world that it is sent: no change came since it was found so.
-    settled: bool,
+    standing: Standing,
+}
+
+// What is known of the renderer in the world that it is sent.
+#[derive(Clone, Copy)]
+enum Standing {
+    // A change was sent since the last quantum.
+    Changed,
+    // No change was sent since the last quantum.
+    Unchanged,
+    // No change was sent since the renderer was found to be settled.
+    Settled,
 }
 
 impl Model for RenderSide {
@@ -37,7 +48,7 @@ impl Model for RenderSide {
 
     ghost view = { λ s. record { world = plain s.world; messages = s.queue.messages; room = s.queue.room; renderer = s.renderer } };
 
-    ghost invariant = { λ s. IsSide (record { world = plain s.world; messages = s.queue.messages; room = s.queue.room; renderer = s.renderer }) s.world.graph s.settled };
+    ghost invariant = { λ s. IsSide (record { world = plain s.world; messages = s.queue.messages; room = s.queue.room; renderer = s.renderer }) s.world.graph s.standing };
 }
 
 impl RenderSide {
@@ -55,7 +66,7 @@ impl RenderSide {
             world,
             queue: Queue::new(alloc),
             renderer,
-            settled: false,
+            standing: Standing::Changed,
         })
     }
 
@@ -73,8 +84,7 @@ impl RenderSide {
         requires accepted { IsAcceptedBy (sent self.old) message }
         ensures { Gets message self.old self.new }
     {
-        let quiet = is_of_quantum(&message);
-        self.settled = self.settled && quiet;
+        self.standing = standing_with(self.standing, &message);
         self.queue.post(message);
     }
 
@@ -88,58 +98,59 @@ impl RenderSide {
         ensures ok { OnOk result (GoesOn first samples.old samples.new self.old self.new) }
         ensures err { OnErr result (Waits first self.old self.new × (samples.new ≡ samples.old)) }
     {
-        let settled = self.settled;
-        self.settled = false;
+        let standing = self.standing;
+        self.standing = Standing::Changed;
         self.queue.drain_into(&mut self.world)?;
-        self.settled = render_quantum(&mut self.renderer, &self.world, first, settled)?;
+        self.standing = render_quantum(&mut self.renderer, &self.world, first, standing)?;
         copy_out(&self.renderer, self.world.spec, first, samples);
         Ok(())
     }
 }
 
-// Whether a message is one of a render quantum, and no change.
-fn is_of_quantum(message: &Message) -> bool
-    ensures { IsTrue result → IsOfQuantum message.now }
+// What is known of a renderer once a message was sent to its world.
+fn standing_with(before: Standing, message: &Message) -> Standing
+    ensures before { result ≡ Settled → before ≡ Settled }
+    ensures quiet { result ≡ Settled → IsOfQuantum message.now }
 {
     match message {
-        Message::Change(_) => false,
-        Message::Slots(_) | Message::Ended(_) => true,
+        Message::Change(_) => Standing::Changed,
+        Message::Slots(_) | Message::Ended(_) => before,
     }
 }
 
-// Renders the quantum that begins at `first`, and counts no steps. Returns whether the renderer is settled in
-// the world afterwards. After `NoMemory` the renderer stands for the tapes for which it stood.
+// Renders the quantum that begins at `first`, and counts no steps. Returns what is known of the renderer in
+// this world afterwards. After `NoMemory` it stands for the tapes for which it stood.
 fn render_quantum(
     renderer: &mut Renderer,
     world: &World,
     first: u64,
-    settled: bool,
-) -> Result<bool, NoMemory>
+    standing: Standing,
+) -> Result<Standing, NoMemory>
     requires valid { IsValid world.now }
     requires spec { world.now.spec ≡ renderer.old.spec }
     requires first { first ≡ quantum_of renderer.old.spec * renderer.old.quanta }
     requires time { first ≤ 33555456 }
     requires planned { PlansFor (plan_of renderer.old) world.now.graph }
-    requires settled { IsTrue settled → IsSettled renderer.old world.now }
+    requires settled { standing ≡ Settled → IsSettled renderer.old world.now }
     ensures stands { (tape : List a_world) → StandsFor renderer.old tape → IsRegular (quantum_of world.now.spec) (tape ++ world.now ∷ []) → OnOk result (StandsFor renderer.new (tape ++ world.now ∷ [])) }
     ensures shows { (tape : List a_world) → StandsFor renderer.old tape → IsRegular (quantum_of world.now.spec) (tape ++ world.now ∷ []) → OnOk result (Shows renderer.new (tape ++ world.now ∷ [])) }
-    ensures settled { IfOk result (λ settled. IsTrue settled → IsSettled renderer.new world.now) }
+    ensures settled { IfOk result (λ standing. standing ≡ Settled → IsSettled renderer.new world.now) }
     ensures quanta { OnOk result (renderer.new.quanta ≡ renderer.old.quanta + 1) }
     ensures spec { renderer.new.spec ≡ renderer.old.spec }
     ensures planned { PlansFor (plan_of renderer.new) world.now.graph }
     ensures err { OnErr result (renderer.new.quanta ≡ renderer.old.quanta) }
     ensures err_stands { (tape : List a_world) → StandsFor renderer.old tape → OnErr result (StandsFor renderer.new tape) }
 {
-    render_counted::<Brand>(renderer, world, first, settled, Blank::new(1))
+    render_counted::<Brand>(renderer, world, first, standing, Blank::new(1))
 }
 
 fn render_counted<L: Ledger>(
     renderer: &mut Renderer,
     world: &World,
     first: u64,
-    settled: bool,
+    standing: Standing,
     blank: Blank,
-) -> Result<bool, NoMemory>
+) -> Result<Standing, NoMemory>
     requires name { blank.name ≡ L.name }
     requires parts { blank.parts ≡ L.parts }
     requires some { 0 < L.parts }
@@ -148,10 +159,10 @@ fn render_counted<L: Ledger>(
     requires first { first ≡ quantum_of renderer.old.spec * renderer.old.quanta }
     requires time { first ≤ 33555456 }
     requires planned { PlansFor (plan_of renderer.old) world.now.graph }
-    requires settled { IsTrue settled → IsSettled renderer.old world.now }
+    requires settled { standing ≡ Settled → IsSettled renderer.old world.now }
     ensures stands { (tape : List a_world) → StandsFor renderer.old tape → IsRegular (quantum_of world.now.spec) (tape ++ world.now ∷ []) → OnOk result (StandsFor renderer.new (tape ++ world.now ∷ [])) }
     ensures shows { (tape : List a_world) → StandsFor renderer.old tape → IsRegular (quantum_of world.now.spec) (tape ++ world.now ∷ []) → OnOk result (Shows renderer.new (tape ++ world.now ∷ [])) }
-    ensures settled { IfOk result (λ settled. IsTrue settled → IsSettled renderer.new world.now) }
+    ensures settled { IfOk result (λ standing. standing ≡ Settled → IsSettled renderer.new world.now) }
     ensures quanta { OnOk result (renderer.new.quanta ≡ renderer.old.quanta + 1) }
     ensures spec { renderer.new.spec ≡ renderer.old.spec }
     ensures planned { PlansFor (plan_of renderer.new) world.now.graph }
@@ -159,12 +170,40 @@ fn render_counted<L: Ledger>(
     ensures err_stands { (tape : List a_world) → StandsFor renderer.old tape → OnErr result (StandsFor renderer.new tape) }
 {
     let mut steps: Steps<L> = Steps::new(blank);
-    let same = make_ready(renderer, world, first, settled, &mut steps)?;
+    let same = make_ready(renderer, world, first, standing, &mut steps)?;
     renderer.pass(world, first, &mut steps);
     if same {
-        return Ok(true);
+        return Ok(Standing::Settled);
     }
-    Ok(renderer.is_settled(world))
+    Ok(standing_after(renderer, world, standing))
+}
+
+// What is known of a renderer after a quantum of a world. Where a change came before the quantum one is likely
+// to come before the next, so nobody looks whether it is settled.
+fn standing_after(renderer: &Renderer, world: &World, before: Standing) -> Standing
+    requires valid { IsValid world.now }
+    requires fitted { IsFitted renderer.now world.now }
+    ensures { result ≡ Settled → IsSettled renderer.now world.now }
+{
+    match before {
+        Standing::Changed => Standing::Unchanged,
+        Standing::Unchanged | Standing::Settled => {
+            if renderer.is_settled(world) {
+                Standing::Settled
+            } else {
+                Standing::Unchanged
+            }
+        }
+    }
+}
+
+fn is_settled(standing: Standing) -> bool
+    ensures { IsTrue result → standing ≡ Settled }
+{
+    match standing {
+        Standing::Settled => true,
+        Standing::Changed | Standing::Unchanged => false,
+    }
 }
 
 // Makes a renderer ready for the quantum that begins at `first`. Returns whether it goes on with the counts
@@ -173,7 +212,7 @@ fn make_ready<L: Ledger>(
     renderer: &mut Renderer,
     world: &World,
     first: u64,
-    settled: bool,
+    standing: Standing,
     steps: &mut Steps<L>,
 ) -> Result<bool, NoMemory>
     requires valid { IsValid world.now }
@@ -181,7 +220,7 @@ fn make_ready<L: Ledger>(
     requires first { first ≡ quantum_of renderer.old.spec * renderer.old.quanta }
     requires time { first ≤ 33555456 }
     requires planned { PlansFor (plan_of renderer.old) world.now.graph }
-    requires settled { IsTrue settled → IsSettled renderer.old world.now }
+    requires settled { standing ≡ Settled → IsSettled renderer.old world.now }
     ensures grown { OnOk result (IsGrown renderer.new world.now) }
     ensures steady { IfOk result (λ same. IsTrue same → AreSteady world.now renderer.new.order renderer.new.muted renderer.new.timed renderer.new.counts) }
     ensures stands { (tape : List a_world) → StandsFor renderer.old tape → StandsFor renderer.new tape }
@@ -189,7 +228,7 @@ fn make_ready<L: Ledger>(
     ensures spec { renderer.new.spec ≡ renderer.old.spec }
     ensures planned { PlansFor (plan_of renderer.new) world.now.graph }
 {
-    if settled && renderer.again(world, first, steps)? {
+    if is_settled(standing) && renderer.again(world, first, steps) {
         return Ok(true);
     }
     renderer.prepare(world, steps)?;

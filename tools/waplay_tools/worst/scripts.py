@@ -268,6 +268,14 @@ def all_at_once() -> str:
     return text_of([*calls, START], channels=32, length=2**21)
 
 
+def all_at_once_in_full_length() -> str:
+    """All at once, and before rendering starts one connection again and again, as often as there is
+    room. No call is known that keeps more memory for its bytes."""
+    before, behind = all_at_once().rsplit('{"op":"startRendering"', 1)
+    part = '{"op":"connect","from":"s","to":"d0"},'
+    return filled(before, part, '{"op":"startRendering"' + behind)
+
+
 def longest_programs() -> str:
     """As many processors as there may be, of the longest program, which hear 32 channels for three
     quanta."""
@@ -445,6 +453,11 @@ ROOM = [
     Worst("200,000 suspensions in falling order of time", scheduled, CHECKED),
     Worst("200,000 names", named),
     Worst("all of a session at its limit at once", all_at_once, assets=long_asset(RATE)),
+    Worst(
+        "all of a session at its limit at once, in 16 MiB of calls",
+        all_at_once_in_full_length,
+        assets=long_asset(RATE),
+    ),
 ]
 EXPLAINED = [
     Worst(

@@ -22,6 +22,12 @@ level_all : (o : Option ℤ) (base : ℤ) (es : List Event) (place first count :
 level_all None base es place first count line stands later h = tt
 level_all (Some v) base es place first count line stands later h = λ m low. between_at base es place first (first + m) line stands (omega arith) (λ d l. let t = later d l in omega (arith, t, low)) ∙ h (first + m) (omega arith)
 
+-- where no event is to come, it is that of all later frames
+level_lasts : (o : Option ℤ) (base : ℤ) (es : List Event) (place first : ℕ) → IsTimeline es → StandsAt place es first → place ≡ length es
+    → IfSome o (λ v. (later : ℕ) → first ≤ later → between base (last (take place es)) (slice_get es place) later ≡ v) → IfSome o (λ v. (later : ℕ) → first ≤ later → value_at base es later ≡ v)
+level_lasts None base es place first line stands past h = tt
+level_lasts (Some v) base es place first line stands past h = λ later from. between_at base es place first later line stands from (λ d l. absurd (omega (arith, l, past))) ∙ h later from
+
 pub event_before-here-requires : goal.event_before-here-requires
 event_before-here-requires g c = subst (λ p. p ≤ length c.args.line.now.events) (sym (c.self.view_is ∙ c.requires.stands)) (place_within c.args.first c.args.line.now.events)
 
@@ -48,6 +54,16 @@ returns-then-is_some-clause-level g c =
     let whole : c.block_end-end.result ≡ length c.args.out.now = c.if-end-count.true in
     let held = simp (c.base.ensures, to_z-of_z _ _ base, c.event_before-here.ensures.value, c.event_at-next.ensures.value) at c.level-level.ensures in
     level_all c.level-level.result c.args.line.now.base events place c.args.first (length c.args.out.now) c.event_at-next.ensures.timeline stands (λ d l. let t = later d l in omega (arith, t, whole)) held
+
+pub returns-then-is_some-clause-lasts : goal.returns-then-is_some-clause-lasts
+returns-then-is_some-clause-lasts g c past =
+    let events = c.args.line.now.events in
+    let place = c.self.inside.place in
+    let stands = stands_at c.args.first place events c.event_at-next.ensures.timeline.ordered (c.self.view_is ∙ c.requires.stands) in
+    let result : FitsSigned w32 c.base.result = search rules in
+    let base : FitsSigned w32 c.args.line.now.base = subst (FitsSigned w32) c.base.ensures result in
+    let held = simp (c.base.ensures, to_z-of_z _ _ base, c.event_before-here.ensures.value, c.event_at-next.ensures.value) at c.level-level.ensures in
+    level_lasts c.level-level.result c.args.line.now.base events place c.args.first c.event_at-next.ensures.timeline stands (c.self.view_is ∙ past) held
 
 pub returns-then-is_some-clause-stands : goal.returns-then-is_some-clause-stands
 returns-then-is_some-clause-stands g c =

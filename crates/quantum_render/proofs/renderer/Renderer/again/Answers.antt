@@ -5,33 +5,33 @@ use Rattle.law_base.specs.Members.{IsIn}
 use Rattle.conn_graph.specs.Ends.{ends}
 use Rattle.meaning.specs.declared.params.Param.{Param}
 use Rattle.meaning.specs.declared.world.World.{World}
-use Rattle.automation.specs.Ready.{AreOfNodes, IsReady}
+use Rattle.automation.specs.Ready.{IsReady, IsHeld}
 use Rattle.quantum_render.specs.Plans.{AsCounted}
 use Rattle.quantum_render.specs.Stands.{RendererView, StandsFor, IsGrown}
-use Rattle.quantum_render.proofs.Automated.{of_nodes}
 use Rattle.quantum_render.proofs.Following.{stands_like}
 use Rattle.quantum_render.proofs.Settled.{again_grown}
 use Rattle.quantum_render.proofs.renderer.Renderer.again.Goals as goal
 
-pub prepare-requires : goal.prepare-requires
-prepare-requires g c =
-    subst (λ (ps : List Param). AreOfNodes c.len-nodes.result ps) (sym c.as_slice.ensures)
-    (subst (λ n. AreOfNodes n c.args.world.now.params.items) (sym c.len-nodes.ensures.value) (of_nodes c.args.world.now c.requires.valid))
+pub again-requires : goal.again-requires
+again-requires g c =
+    let held = subst (λ (x : RendererView). IsHeld c.args.world.now.params.items (quantum_of x.spec * x.quanta) x.automation) (sym c.self.view_is) c.requires.settled.fitted.automation in
+    subst (λ (ps : List Param). IsHeld ps c.args.first c.self.inside.automation) (sym c.as_slice.ensures)
+    (subst (λ f. IsHeld c.args.world.now.params.items f c.self.inside.automation) (sym (c.requires.first ∙ ap (λ (x : RendererView). quantum_of x.spec * x.quanta) (sym c.self.view_is))) held)
 
 pub returns-clause-grown : goal.returns-clause-grown
 returns-clause-grown g c same =
     let w : World = c.args.world.now in
     let r : RendererView = c.args.self.now in
     let quantum : r.memory.delays.quantum ≡ quantum_of r.spec = subst (λ (x : RendererView). x.memory.delays.quantum ≡ quantum_of x.spec) c.self.view_is c.self.invariant.delays in
-    let ready = subst (λ (x : RendererView). IsReady w.params.items (quantum_of x.spec * x.quanta) c.prepare.new.self) c.self.view_is
-    (subst (λ (ps : List Param). IsReady ps (quantum_of c.self.inside.spec * c.self.inside.quanta) c.prepare.new.self) c.as_slice.ensures
-    (subst (λ f. IsReady c.as_slice.result.now f c.prepare.new.self) (c.requires.first ∙ ap (λ (x : RendererView). quantum_of x.spec * x.quanta) (sym c.self.view_is)) c.in_ok-prepare.ensures.ready)) in
+    let ready = subst (λ (x : RendererView). IsReady w.params.items (quantum_of x.spec * x.quanta) c.again.new.self) c.self.view_is
+    (subst (λ (ps : List Param). IsReady ps (quantum_of c.self.inside.spec * c.self.inside.quanta) c.again.new.self) c.as_slice.ensures
+    (subst (λ f. IsReady c.as_slice.result.now f c.again.new.self) (c.requires.first ∙ ap (λ (x : RendererView). quantum_of x.spec * x.quanta) (sym c.self.view_is)) c.again.ensures.ready)) in
     let counted : (d : End) → IsIn d c.self.inside.plan.timed → AsCounted c.self.inside.memory.delays w c.args.first c.self.inside.counts.items d =
     subst (λ (ts : List End). (d : End) → IsIn d ts → AsCounted c.self.inside.memory.delays w c.args.first c.self.inside.counts.items d) c.timed.ensures
     (subst (λ (ns : List ℕ). (d : End) → IsIn d c.timed.result.now → AsCounted c.self.inside.memory.delays w c.args.first ns d) c.as_slice-2.ensures.value (c.are_counted.ensures same)) in
-    subst (λ (x : RendererView). IsGrown (record x { automation = c.prepare.new.self }) w) (sym c.self.view_is)
+    subst (λ (x : RendererView). IsGrown (record x { automation = c.again.new.self }) w) (sym c.self.view_is)
     (again_grown r w c.requires.valid (sym c.requires.spec) c.args.first c.requires.first quantum c.requires.settled
-    (subst (λ (x : RendererView). (d : End) → IsIn d x.timed → AsCounted x.memory.delays w c.args.first x.counts d) c.self.view_is counted) c.prepare.new.self ready)
+    (subst (λ (x : RendererView). (d : End) → IsIn d x.timed → AsCounted x.memory.delays w c.args.first x.counts d) c.self.view_is counted) c.again.new.self ready)
 
 pub are_counted-requires-clause-there : goal.are_counted-requires-clause-there
 are_counted-requires-clause-there g c d is =
@@ -40,12 +40,6 @@ are_counted-requires-clause-there g c d is =
 
 pub returns-clause-stands : goal.returns-clause-stands
 returns-clause-stands g c tape = (
-  λ stands. stands_like _ _ refl refl refl c.self.inside.memory.causal.known c.self.inside.memory.delays.known refl refl refl refl refl refl tape (subst (λ (r : RendererView). StandsFor r tape) (sym c.self.view_is) stands),
-  λ stands. subst (λ (r : RendererView). StandsFor r tape) c.self.view_is (stands_like _ _ refl refl refl c.self.inside.memory.causal.known c.self.inside.memory.delays.known refl refl refl refl refl refl tape stands),
-)
-
-pub returns-in_err-prepare-clause-stands : goal.returns-in_err-prepare-clause-stands
-returns-in_err-prepare-clause-stands g c tape = (
   λ stands. stands_like _ _ refl refl refl c.self.inside.memory.causal.known c.self.inside.memory.delays.known refl refl refl refl refl refl tape (subst (λ (r : RendererView). StandsFor r tape) (sym c.self.view_is) stands),
   λ stands. subst (λ (r : RendererView). StandsFor r tape) c.self.view_is (stands_like _ _ refl refl refl c.self.inside.memory.causal.known c.self.inside.memory.delays.known refl refl refl refl refl refl tape stands),
 )

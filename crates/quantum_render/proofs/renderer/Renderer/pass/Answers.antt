@@ -7,7 +7,7 @@ use Rattle.conn_graph.specs.Ends.{reader_of}
 use Rattle.meaning.specs.declared.world.World.{World}
 use Rattle.meaning.specs.Rendered.{sample}
 use Rattle.meaning.specs.Validity.{IsValid}
-use Rattle.law_base.proofs.Rows.{rows_up}
+use Rattle.law_base.proofs.Rows.{rows_up, next_quantum}
 use Rattle.quantum_blocks.specs.Blocks.{BlockView, no_block, shown, slot, block_of}
 use Rattle.quantum_blocks.specs.Fits.{AreInRange, AreFit}
 use Rattle.quantum_render.specs.Plans.{AreCounted}
@@ -15,9 +15,9 @@ use Rattle.filter_bank.specs.Banks.{HaveRoom}
 use Rattle.delay_bank.specs.Banks.{HaveRoom as HaveDelayRoom}
 use Rattle.quantum_render.specs.Stands.{RendererView, StandsFor, IsGrown}
 use Rattle.meaning.specs.declared.params.Param.{Param}
-use Rattle.automation.specs.Ready.{AreOfNodes}
+use Rattle.automation.specs.Ready.{AreOfNodes, IsHeld}
 use Rattle.automation.specs.Levels.{LevelView, AreLevels}
-use Rattle.quantum_render.proofs.Automated.{of_nodes}
+use Rattle.quantum_render.proofs.Automated.{of_nodes, held_later}
 use Rattle.quantum_render.specs.Listening.{IsMemory, HasRooms}
 use Rattle.quantum_render.proofs.Kept.{whole, timely}
 use Rattle.quantum_render.proofs.Ports.{some_frames}
@@ -136,6 +136,11 @@ returns-clause-fitted g c =
       plan = grown.counted.plan;
       cycles = grown.counted.cycles;
       range = grown.counted.range;
+      automation =
+          let q = quantum_of c.self.inside.spec in
+          let begun : c.args.first ≡ q * c.self.inside.quanta = c.requires.first ∙ ap (λ (x : RendererView). quantum_of x.spec * x.quanta) (sym c.self.view_is) in
+          held_later w.params.items c.args.first (q * (c.self.inside.quanta + 1)) c.take.new.self (omega (arith, begun, next_quantum q c.self.inside.quanta))
+          (subst (λ (ps : List Param). IsHeld ps c.args.first c.take.new.self) c.as_slice.ensures c.take.ensures.held);
       blocks = subst (AreFit w c.self.inside.counts.items) (sym (rewritten _ c.render_quantum.new.blocks _ (c.render_quantum.auto.blocks ∙ c.as_mut_slice-blocks.ensures.len)))
           (subst (λ (ns : List ℕ). AreFit w ns c.render_quantum.new.blocks) counts c.render_quantum.ensures.fit);
       causal_rooms = subst (λ (ns : List ℕ). HaveRoom c.render_quantum.new.memory.causal ns) counts rooms.causal_rooms;

@@ -6,7 +6,6 @@ use Rattle.quantum_render.specs.Stands.{IsSettled}
 use Rattle.session.specs.View.{SideView, sent}
 use Rattle.session.proofs.Settling.{settled_after}
 use Rattle.session.proofs.render_side.RenderSide.post.Goals as goal
-use Rattle.session.proofs.render_side.RenderSide.post.Goals.{then-self, else-self}
 
 pub invariant_of-self : goal.invariant_of-self
 invariant_of-self c =
@@ -14,12 +13,9 @@ invariant_of-self c =
     record {
       valid = c.self.invariant.valid;
       plans = c.self.invariant.plans;
-      settles = λ t. elim c.if-self.branch [
-        | then-self b ↦
-            subst (IsSettled c.self.inside.renderer) (sym (ap (after_messages (plain c.self.inside.world)) c.post.ensures.messages ∙ after_more (plain c.self.inside.world) c.self.inside.queue.messages c.args.message))
-            (settled_after c.self.inside.renderer (after_messages (plain c.self.inside.world) c.self.inside.queue.messages) c.args.message (c.is_of_quantum-quiet.ensures (sym b.self-is ∙ t)) (c.self.invariant.settles b.if-self.true))
-        | else-self b ↦ absurd (let no = sym b.self-is ∙ t in cc)
-      ];
+      settles = λ t.
+          subst (IsSettled c.self.inside.renderer) (sym (ap (after_messages (plain c.self.inside.world)) c.post.ensures.messages ∙ after_more (plain c.self.inside.world) c.self.inside.queue.messages c.args.message))
+          (settled_after c.self.inside.renderer (after_messages (plain c.self.inside.world) c.self.inside.queue.messages) c.args.message (c.standing_with-self-inside.ensures.quiet t) (c.self.invariant.settles (c.standing_with-self-inside.ensures.before t)));
       accepted = subst (AreAcceptedBy (plain c.self.inside.world)) (sym c.post.ensures.messages) (accepted_more (plain c.self.inside.world) c.self.inside.queue.messages c.args.message c.self.invariant.accepted accepted);
     }
 
