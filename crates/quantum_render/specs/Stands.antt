@@ -103,12 +103,11 @@ pub record IsGrown (r : RendererView) (w : World) : Type 0 where
 
 -- ---- after `pass` over a world
 
--- All is there that a quantum of the world takes, whatever its counts are: a plan, levels, rooms and memory for those of the last one.
+-- All is there that a quantum of the world takes, whatever its counts are: a plan, rooms and memory for those of the last one.
 pub record IsFitted (r : RendererView) (w : World) : Type 0 where
   pub plan : IsPlan w r.order r.muted r.into
   pub cycles : AreCycles w.graph.value r.cycles
   pub range : AreInRange w r.counts
-  pub automation : IsHeld w.params.items (quantum_of r.spec * r.quanta) r.automation
   pub blocks : AreFit w r.counts r.blocks
   pub causal_rooms : HaveRoom r.memory.causal r.counts
   pub delay_rooms : HaveDelayRoom r.memory.delays r.counts
@@ -121,6 +120,10 @@ pub record IsFitted (r : RendererView) (w : World) : Type 0 where
 pub record IsSettled (r : RendererView) (w : World) : Type 0 where
   pub fitted : IsFitted r w
   pub steady : AreSteady w r.order r.muted r.timed r.counts
+
+-- Its levels are held in a world: those that it found to stay are the parameters' levels in all later quanta.
+abbrev pub HoldsLevels : RendererView → World → Type 0
+HoldsLevels r w = IsHeld w.params.items (quantum_of r.spec * r.quanta) r.automation
 
 -- what holds of every renderer: all parts are for quanta of the context's size
 pub record IsWhole (context : ContextSpec) (number : ℕ) (automated : AutomationView) (remembered : Memory) (frames : ℕ) (last : List ℤ) : Type 0 where

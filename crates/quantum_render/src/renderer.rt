@@ -1,6 +1,7 @@
 ghost use Rattle.std.specs.Prelude.{◌≡◌, ◌<◌, ◌≤◌, ◌+◌, ◌-◌, ◌*◌, ◌^◌, ◌++◌, ◌∷◌, ◌↔◌, [], ℕ, List, Some, None, pos, length, slice_index_or, IsTrue, IfOk, OnOk, OnErr};
 ghost use Rattle.wa_base.specs.Contexts.{IsSupported, quantum_of};
 ghost use Rattle.law_base.specs.Members.{IsIn};
+ghost use Rattle.wa_base.specs.declared.graph_names.End.{End as an_end};
 ghost use Rattle.meaning.specs.declared.params.Param.{Param as a_param};
 ghost use Rattle.meaning.specs.declared.world.World.{World as a_world};
 ghost use Rattle.meaning.specs.Rendered.{sample};
@@ -8,8 +9,8 @@ ghost use Rattle.meaning.specs.Validity.{IsValid};
 ghost use Rattle.meaning.specs.Worlds.{IsRegular};
 ghost use Rattle.std.specs.List.{sum_by};
 ghost use Rattle.automation.specs.Ready.{looks_at};
-ghost use Rattle.quantum_render.specs.Plans.{IsPlanned, IsUnedited};
-ghost use Rattle.quantum_render.specs.Stands.{StandsFor, Shows, IsPrepared, IsCounted, IsGrown, IsFitted, IsSettled, plan_of};
+ghost use Rattle.quantum_render.specs.Plans.{IsPlanned, IsUnedited, AsCounted};
+ghost use Rattle.quantum_render.specs.Stands.{StandsFor, Shows, IsPrepared, IsCounted, IsGrown, IsFitted, IsSettled, HoldsLevels, plan_of};
 
 use crate::bench::Bench;
 use crate::counting::{Census, are_counted, are_steady, count_channels};
@@ -31,8 +32,8 @@ use wa_base::{ContextSpec, Fix, NoMemory, NodeId, Steps, Tie};
 /// Renders one quantum after another (the rendering loop of the recommendation). A quantum has as
 /// many frames as the context asks for.
 ///
-/// A quantum takes four calls over one unchanged world: `prepare`, `counts`, `grow` and `pass`; or `again`
-/// and `pass`, where nothing changed since the last one but what a quantum itself changes.
+/// A quantum takes four calls over one unchanged world: `prepare`, `counts`, `grow` and `pass`; or `again` or
+/// `again_edited`, and `pass`, where neither nodes nor connections changed since the last one.
 /// Contracts say for which tapes of worlds a renderer stands: those whose quanta it went through.
 #[derive(Drop)]
 pub struct Renderer {
@@ -193,8 +194,8 @@ impl Renderer {
     }
 
     /// Goes on to the next quantum of a world in which the renderer is settled, instead of `prepare`,
-    /// `counts` and `grow`. Returns whether each end has as many channels as before; where one has not,
-    /// these have to be called. It takes no memory.
+    /// `counts` and `grow`, where no parameter was edited since the last one. Returns whether each end has
+    /// as many channels as before; where one has not, those have to be called. It takes no memory.
     ///
     /// It looks at those ends alone whose channels hang on the time, at no connection of the graph, and
     /// in each timeline that goes on at no more events than their number has binary digits.
@@ -202,6 +203,7 @@ impl Renderer {
         requires valid { IsValid world.now }
         requires spec { world.now.spec ≡ self.old.spec }
         requires settled { IsSettled self.old world.now }
+        requires held { HoldsLevels self.old world.now }
         requires first { first ≡ quantum_of self.old.spec * self.old.quanta }
         requires time { first ≤ 2 ^ 62 }
         ensures grown { IsTrue result → IsGrown self.new world.now }
@@ -214,7 +216,49 @@ impl Renderer {
         ensures cost { (digits : a_param → ℕ) → ((p : a_param) → IsIn p world.now.params.items → length p.line.events < 2 ^ digits p)
             → steps.new ≤ steps.old + sum_by digits world.now.params.items }
     {
+        let same = self.keeps_counts(world, first);
         self.automation.again(world.params.as_slice(), first, steps);
+        same
+    }
+
+    /// The same where parameters were edited. It takes the memory for their levels. After `NoMemory` the
+    /// renderer stands for the same tapes.
+    pub fn again_edited<L: Ledger>(
+        &mut self,
+        world: &World,
+        first: u64,
+        steps: &mut Steps<L>,
+    ) -> Result<bool, NoMemory>
+        requires valid { IsValid world.now }
+        requires spec { world.now.spec ≡ self.old.spec }
+        requires settled { IsSettled self.old world.now }
+        requires first { first ≡ quantum_of self.old.spec * self.old.quanta }
+        requires time { first ≤ 2 ^ 62 }
+        ensures grown { IfOk result (λ same. IsTrue same → IsGrown self.new world.now) }
+        ensures stands { (tape : List a_world) → StandsFor self.old tape ↔ StandsFor self.new tape }
+        ensures counts { self.new.counts ≡ self.old.counts }
+        ensures spec { self.new.spec ≡ self.old.spec }
+        ensures plan { plan_of self.new ≡ plan_of self.old }
+        ensures quanta { self.new.quanta ≡ self.old.quanta }
+        ensures out { self.new.out ≡ self.old.out }
+        ensures cost { (digits : a_param → ℕ) → ((p : a_param) → IsIn p world.now.params.items → length p.line.events < 2 ^ digits p)
+            → steps.new ≤ steps.old + sum_by digits world.now.params.items }
+    {
+        let same = self.keeps_counts(world, first);
+        let nodes = world.nodes.len() as usize;
+        self.automation
+            .prepare(world.params.as_slice(), nodes, first, steps)?;
+        Ok(same)
+    }
+
+    // Whether each end whose channels hang on the time has in the next quantum as many as in the last one.
+    fn keeps_counts(&self, world: &World, first: u64) -> bool
+        requires valid { IsValid world.now }
+        requires spec { world.now.spec ≡ self.now.spec }
+        requires settled { IsSettled self.now world.now }
+        requires time { first ≤ 2 ^ 62 }
+        ensures { IsTrue result → (d : an_end) → IsIn d self.now.timed → AsCounted self.now.memory.delays world.now first self.now.counts d }
+    {
         let census = Census {
             world,
             into: self.plan.sources(),
@@ -248,6 +292,7 @@ impl Renderer {
         ensures shows { (tape : List a_world) → StandsFor self.old tape → IsRegular (quantum_of self.old.spec) (tape ++ world.now ∷ []) → Shows self.new (tape ++ world.now ∷ []) }
         ensures spec { self.new.spec ≡ self.old.spec }
         ensures fitted { IsFitted self.new world.now }
+        ensures held { HoldsLevels self.new world.now }
         ensures counts { self.new.counts ≡ self.old.counts }
         ensures plan { plan_of self.new ≡ plan_of self.old }
         ensures quanta { self.new.quanta ≡ self.old.quanta + 1 }

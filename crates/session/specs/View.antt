@@ -8,12 +8,11 @@ use Rattle.meaning.specs.World.{sounding}
 use Rattle.meaning.specs.Validity.{IsValid}
 use Rattle.ctx_state.specs.Context.{is_closed}
 use Rattle.control_msgs.specs.declared.message.Message.{Message}
-use Rattle.control_msgs.specs.declared.message.Message.TheVariants as message
 use Rattle.control_msgs.specs.Messages.{after_message, after_messages, AreAcceptedBy}
 use Rattle.meaning.specs.Worlds.{IsRegular}
 use Rattle.conn_graph.specs.Walks.{GraphView}
 use Rattle.quantum_render.specs.Plans.{PlanView, IsPlanned, IsUnedited}
-use Rattle.quantum_render.specs.Stands.{RendererView, StandsFor, IsSettled, plan_of}
+use Rattle.quantum_render.specs.Stands.{RendererView, StandsFor, IsSettled, HoldsLevels, plan_of}
 use Rattle.script_ast.specs.declared.call_list.Call.{Call}
 use Rattle.io_edge.specs.Paths.{Paths}
 use Rattle.session.specs.Folders.{Folder, IsFolderOf, AgreeBetween}
@@ -21,7 +20,7 @@ use Rattle.control_side.specs.Machine.{Machine, world_caught_up}
 use Rattle.session.specs.Rows.{samples_of}
 use Rattle.control_side.specs.Step.{Sends}
 use Rattle.session.specs.declared.render_side.Standing.{Standing}
-use Rattle.session.specs.declared.render_side.Standing.TheVariants.{Settled}
+use Rattle.session.specs.declared.render_side.Standing.TheVariants.{Changed, Unchanged, Edited, Settled}
 use Rattle.session.specs.Session.{Told, Played, first_told, quanta_left, finished, replayed, turns, TurnsDecode}
 
 -- the machine and the lines, whether there is audio, the samples, and with audio the renderer
@@ -49,18 +48,19 @@ pub record PlansFor (plan : PlanView) (graph : GraphView) : Type 0 where
   pub earlier : IfSome plan.planned (λ edits. edits ≤ graph.edits)
   pub unedited : IsUnedited plan.planned graph → IsPlanned graph.value plan
 
--- a message is one of a render quantum, and no change
-abbrev pub IsOfQuantum : Message → Type 0
-IsOfQuantum (message.Change change) = ⊥
-IsOfQuantum (message.Slots first) = Unit {0}
-IsOfQuantum (message.Ended next) = Unit {0}
+-- what is known of a renderer in a world, by how it stands there
+abbrev pub IsStanding : Standing → RendererView → World → Type 0
+IsStanding Changed r w = Unit {0}
+IsStanding Unchanged r w = Unit {0}
+IsStanding Edited r w = IsSettled r w
+IsStanding Settled r w = IsSettled r w × HoldsLevels r w
 
--- what holds of every such side, whose world has a graph that is edited on and on: its world can hear all messages, and its renderer planned for the graph; where it stands so, the renderer is settled in the world that is sent
+-- what holds of every such side, whose world has a graph that is edited on and on: its world can hear all messages, and its renderer planned for the graph, and stands as it says in the world that is sent
 pub record IsSide (side : SideView) (graph : GraphView) (standing : Standing) : Type 0 where
   pub valid : IsValid side.world
   pub accepted : AreAcceptedBy side.world side.messages
   pub plans : PlansFor (plan_of side.renderer) graph
-  pub settles : standing ≡ Settled → IsSettled side.renderer (sent side)
+  pub stands : IsStanding standing side.renderer (sent side)
 
 -- ---- what holds of every session
 

@@ -1,18 +1,18 @@
-ghost use Rattle.std.specs.Prelude.{◌≡◌, ◌≤◌, ◌<◌, ◌+◌, ◌*◌, ◌++◌, ◌∷◌, [], List, length, IsTrue, IfOk, OnOk, OnErr};
+ghost use Rattle.std.specs.Prelude.{◌≡◌, ◌≤◌, ◌<◌, ◌+◌, ◌*◌, ◌++◌, ◌∷◌, [], ℕ, List, length, IsTrue, IfOk, OnOk, OnErr};
 ghost use Rattle.wa_base.specs.Contexts.{IsSupported, quantum_of};
-ghost use Rattle.control_msgs.specs.Messages.{IsAcceptedBy};
+ghost use Rattle.control_msgs.specs.Messages.{IsAcceptedBy, after_message};
 ghost use Rattle.meaning.specs.declared.world.World.{World as a_world};
+ghost use Rattle.meaning.specs.Changes.{edited};
 ghost use Rattle.meaning.specs.World.{plain};
 ghost use Rattle.meaning.specs.Validity.{IsValid};
 ghost use Rattle.meaning.specs.Worlds.{IsRegular, first_world};
 ghost use Rattle.quantum_render.specs.Plans.{AreSteady};
-ghost use Rattle.quantum_render.specs.Stands.{StandsFor, Shows, IsFitted, IsGrown, IsSettled, plan_of};
-ghost use Rattle.session.specs.declared.render_side.Standing.TheVariants.{Settled};
+ghost use Rattle.quantum_render.specs.Stands.{RendererView as a_renderer, StandsFor, Shows, IsFitted, IsGrown, HoldsLevels, plan_of};
 ghost use Rattle.session.specs.Frames.{WritesBelow};
-ghost use Rattle.session.specs.View.{IsAt, PlansFor, Renders, MakesRoom, Gets, GoesOn, Waits, IsOfQuantum, sent};
+ghost use Rattle.session.specs.View.{IsAt, PlansFor, Renders, MakesRoom, Gets, GoesOn, Waits, IsStanding, sent};
 
 use control_msgs::{Message, Queue};
-use meaning::World;
+use meaning::{Edit, World};
 use quantum_render::Renderer;
 use std::alloc::Global;
 use std::marker::{Brand, Model};
@@ -32,12 +32,14 @@ pub(crate) struct RenderSide {
 // What is known of the renderer in the world that it is sent.
 #[derive(Clone, Copy)]
 enum Standing {
-    // A change was sent since the last quantum.
+    // Nodes or connections changed since the last quantum.
     Changed,
-    // No change was sent since the last quantum.
+    // They did not.
     Unchanged,
-    // No change was sent since the renderer was found to be settled.
+    // They did not since the renderer was found to be settled.
     Settled,
+    // The same, but a parameter was edited since the last quantum.
+    Edited,
 }
 
 impl Model for RenderSide {
@@ -109,12 +111,31 @@ impl RenderSide {
 
 // What is known of a renderer once a message was sent to its world.
 fn standing_with(before: Standing, message: &Message) -> Standing
-    ensures before { result ≡ Settled → before ≡ Settled }
-    ensures quiet { result ≡ Settled → IsOfQuantum message.now }
+    ensures { (r : a_renderer) (w : a_world) → IsStanding before r w → IsStanding result r (after_message w message.now) }
 {
     match message {
-        Message::Change(_) => Standing::Changed,
+        Message::Change(change) => standing_edited(before, &change.edit),
         Message::Slots(_) | Message::Ended(_) => before,
+    }
+}
+
+// And once its world was edited: sources and buffers have no part in what is kept.
+fn standing_edited(before: Standing, edit: &Edit) -> Standing
+    ensures { (r : a_renderer) (w : a_world) (now : ℕ) → IsStanding before r w → IsStanding result r (edited w now edit.now) }
+{
+    match edit {
+        Edit::Source { .. } | Edit::Buffers { .. } => before,
+        Edit::Param { .. } => match before {
+            Standing::Settled => Standing::Edited,
+            Standing::Changed | Standing::Unchanged | Standing::Edited => before,
+        },
+        Edit::Create { .. }
+        | Edit::CreateBufferSource { .. }
+        | Edit::CreateConvolver { .. }
+        | Edit::Connect { .. }
+        | Edit::Disconnect { .. }
+        | Edit::Attribute { .. }
+        | Edit::SetCurve { .. } => Standing::Changed,
     }
 }
 
@@ -131,10 +152,10 @@ fn render_quantum(
     requires first { first ≡ quantum_of renderer.old.spec * renderer.old.quanta }
     requires time { first ≤ 33555456 }
     requires planned { PlansFor (plan_of renderer.old) world.now.graph }
-    requires settled { standing ≡ Settled → IsSettled renderer.old world.now }
+    requires standing { IsStanding standing renderer.old world.now }
     ensures stands { (tape : List a_world) → StandsFor renderer.old tape → IsRegular (quantum_of world.now.spec) (tape ++ world.now ∷ []) → OnOk result (StandsFor renderer.new (tape ++ world.now ∷ [])) }
     ensures shows { (tape : List a_world) → StandsFor renderer.old tape → IsRegular (quantum_of world.now.spec) (tape ++ world.now ∷ []) → OnOk result (Shows renderer.new (tape ++ world.now ∷ [])) }
-    ensures settled { IfOk result (λ standing. standing ≡ Settled → IsSettled renderer.new world.now) }
+    ensures standing { IfOk result (λ standing. IsStanding standing renderer.new world.now) }
     ensures quanta { OnOk result (renderer.new.quanta ≡ renderer.old.quanta + 1) }
     ensures spec { renderer.new.spec ≡ renderer.old.spec }
     ensures planned { PlansFor (plan_of renderer.new) world.now.graph }
@@ -159,10 +180,10 @@ fn render_counted<L: Ledger>(
     requires first { first ≡ quantum_of renderer.old.spec * renderer.old.quanta }
     requires time { first ≤ 33555456 }
     requires planned { PlansFor (plan_of renderer.old) world.now.graph }
-    requires settled { standing ≡ Settled → IsSettled renderer.old world.now }
+    requires standing { IsStanding standing renderer.old world.now }
     ensures stands { (tape : List a_world) → StandsFor renderer.old tape → IsRegular (quantum_of world.now.spec) (tape ++ world.now ∷ []) → OnOk result (StandsFor renderer.new (tape ++ world.now ∷ [])) }
     ensures shows { (tape : List a_world) → StandsFor renderer.old tape → IsRegular (quantum_of world.now.spec) (tape ++ world.now ∷ []) → OnOk result (Shows renderer.new (tape ++ world.now ∷ [])) }
-    ensures settled { IfOk result (λ standing. standing ≡ Settled → IsSettled renderer.new world.now) }
+    ensures standing { IfOk result (λ standing. IsStanding standing renderer.new world.now) }
     ensures quanta { OnOk result (renderer.new.quanta ≡ renderer.old.quanta + 1) }
     ensures spec { renderer.new.spec ≡ renderer.old.spec }
     ensures planned { PlansFor (plan_of renderer.new) world.now.graph }
@@ -178,16 +199,17 @@ fn render_counted<L: Ledger>(
     Ok(standing_after(renderer, world, standing))
 }
 
-// What is known of a renderer after a quantum of a world. Where a change came before the quantum one is likely
-// to come before the next, so nobody looks whether it is settled.
+// What is known of a renderer after a quantum of a world. Where nodes or connections changed before it, they
+// are likely to change before the next, so nobody looks whether it is settled.
 fn standing_after(renderer: &Renderer, world: &World, before: Standing) -> Standing
     requires valid { IsValid world.now }
     requires fitted { IsFitted renderer.now world.now }
-    ensures { result ≡ Settled → IsSettled renderer.now world.now }
+    requires held { HoldsLevels renderer.now world.now }
+    ensures { IsStanding result renderer.now world.now }
 {
     match before {
         Standing::Changed => Standing::Unchanged,
-        Standing::Unchanged | Standing::Settled => {
+        Standing::Unchanged | Standing::Settled | Standing::Edited => {
             if renderer.is_settled(world) {
                 Standing::Settled
             } else {
@@ -197,12 +219,30 @@ fn standing_after(renderer: &Renderer, world: &World, before: Standing) -> Stand
     }
 }
 
-fn is_settled(standing: Standing) -> bool
-    ensures { IsTrue result → standing ≡ Settled }
+// Has a renderer go on with the counts that it had, where it may. Returns whether it does.
+fn go_on<L: Ledger>(
+    renderer: &mut Renderer,
+    world: &World,
+    first: u64,
+    standing: Standing,
+    steps: &mut Steps<L>,
+) -> Result<bool, NoMemory>
+    requires valid { IsValid world.now }
+    requires spec { world.now.spec ≡ renderer.old.spec }
+    requires first { first ≡ quantum_of renderer.old.spec * renderer.old.quanta }
+    requires time { first ≤ 33555456 }
+    requires standing { IsStanding standing renderer.old world.now }
+    ensures grown { IfOk result (λ same. IsTrue same → IsGrown renderer.new world.now) }
+    ensures steady { IfOk result (λ same. IsTrue same → AreSteady world.now renderer.new.order renderer.new.muted renderer.new.timed renderer.new.counts) }
+    ensures stands { (tape : List a_world) → StandsFor renderer.old tape → StandsFor renderer.new tape }
+    ensures plan { plan_of renderer.new ≡ plan_of renderer.old }
+    ensures quanta { renderer.new.quanta ≡ renderer.old.quanta }
+    ensures spec { renderer.new.spec ≡ renderer.old.spec }
 {
     match standing {
-        Standing::Settled => true,
-        Standing::Changed | Standing::Unchanged => false,
+        Standing::Changed | Standing::Unchanged => Ok(false),
+        Standing::Settled => Ok(renderer.again(world, first, steps)),
+        Standing::Edited => renderer.again_edited(world, first, steps),
     }
 }
 
@@ -220,7 +260,7 @@ fn make_ready<L: Ledger>(
     requires first { first ≡ quantum_of renderer.old.spec * renderer.old.quanta }
     requires time { first ≤ 33555456 }
     requires planned { PlansFor (plan_of renderer.old) world.now.graph }
-    requires settled { standing ≡ Settled → IsSettled renderer.old world.now }
+    requires standing { IsStanding standing renderer.old world.now }
     ensures grown { OnOk result (IsGrown renderer.new world.now) }
     ensures steady { IfOk result (λ same. IsTrue same → AreSteady world.now renderer.new.order renderer.new.muted renderer.new.timed renderer.new.counts) }
     ensures stands { (tape : List a_world) → StandsFor renderer.old tape → StandsFor renderer.new tape }
@@ -228,7 +268,7 @@ fn make_ready<L: Ledger>(
     ensures spec { renderer.new.spec ≡ renderer.old.spec }
     ensures planned { PlansFor (plan_of renderer.new) world.now.graph }
 {
-    if is_settled(standing) && renderer.again(world, first, steps) {
+    if go_on(renderer, world, first, standing, steps)? {
         return Ok(true);
     }
     renderer.prepare(world, steps)?;

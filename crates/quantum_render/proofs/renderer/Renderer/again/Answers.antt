@@ -1,12 +1,8 @@
 use Rattle.std.proofs.Common.{ℕ, List, ◌≡◌, ◌*◌, refl, sym, ◌∙◌, ap, subst}
 use Rattle.wa_base.specs.Contexts.{quantum_of}
-use Rattle.wa_base.specs.declared.graph_names.End.{End}
-use Rattle.law_base.specs.Members.{IsIn}
-use Rattle.conn_graph.specs.Ends.{ends}
 use Rattle.meaning.specs.declared.params.Param.{Param}
 use Rattle.meaning.specs.declared.world.World.{World}
 use Rattle.automation.specs.Ready.{IsReady, IsHeld}
-use Rattle.quantum_render.specs.Plans.{AsCounted}
 use Rattle.quantum_render.specs.Stands.{RendererView, StandsFor, IsGrown}
 use Rattle.quantum_render.proofs.Following.{stands_like}
 use Rattle.quantum_render.proofs.Settled.{again_grown}
@@ -14,7 +10,7 @@ use Rattle.quantum_render.proofs.renderer.Renderer.again.Goals as goal
 
 pub again-requires : goal.again-requires
 again-requires g c =
-    let held = subst (λ (x : RendererView). IsHeld c.args.world.now.params.items (quantum_of x.spec * x.quanta) x.automation) (sym c.self.view_is) c.requires.settled.fitted.automation in
+    let held = subst (λ (x : RendererView). IsHeld c.args.world.now.params.items (quantum_of x.spec * x.quanta) x.automation) (sym c.self.view_is) c.requires.held in
     subst (λ (ps : List Param). IsHeld ps c.args.first c.self.inside.automation) (sym c.as_slice.ensures)
     (subst (λ f. IsHeld c.args.world.now.params.items f c.self.inside.automation) (sym (c.requires.first ∙ ap (λ (x : RendererView). quantum_of x.spec * x.quanta) (sym c.self.view_is))) held)
 
@@ -26,17 +22,9 @@ returns-clause-grown g c same =
     let ready = subst (λ (x : RendererView). IsReady w.params.items (quantum_of x.spec * x.quanta) c.again.new.self) c.self.view_is
     (subst (λ (ps : List Param). IsReady ps (quantum_of c.self.inside.spec * c.self.inside.quanta) c.again.new.self) c.as_slice.ensures
     (subst (λ f. IsReady c.as_slice.result.now f c.again.new.self) (c.requires.first ∙ ap (λ (x : RendererView). quantum_of x.spec * x.quanta) (sym c.self.view_is)) c.again.ensures.ready)) in
-    let counted : (d : End) → IsIn d c.self.inside.plan.timed → AsCounted c.self.inside.memory.delays w c.args.first c.self.inside.counts.items d =
-    subst (λ (ts : List End). (d : End) → IsIn d ts → AsCounted c.self.inside.memory.delays w c.args.first c.self.inside.counts.items d) c.timed.ensures
-    (subst (λ (ns : List ℕ). (d : End) → IsIn d c.timed.result.now → AsCounted c.self.inside.memory.delays w c.args.first ns d) c.as_slice-2.ensures.value (c.are_counted.ensures same)) in
     subst (λ (x : RendererView). IsGrown (record x { automation = c.again.new.self }) w) (sym c.self.view_is)
     (again_grown r w c.requires.valid (sym c.requires.spec) c.args.first c.requires.first quantum c.requires.settled
-    (subst (λ (x : RendererView). (d : End) → IsIn d x.timed → AsCounted x.memory.delays w c.args.first x.counts d) c.self.view_is counted) c.again.new.self ready)
-
-pub are_counted-requires-clause-there : goal.are_counted-requires-clause-there
-are_counted-requires-clause-there g c d is =
-    let there = subst (λ (x : RendererView). (e : End) → IsIn e x.timed → IsIn e (ends c.args.world.now.graph.value)) (sym c.self.view_is) c.requires.settled.steady.there in
-    there d (subst (IsIn d) c.timed.ensures is)
+    (c.keeps_counts-same.ensures same) c.again.new.self ready)
 
 pub returns-clause-stands : goal.returns-clause-stands
 returns-clause-stands g c tape = (

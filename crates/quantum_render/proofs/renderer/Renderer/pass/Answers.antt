@@ -136,11 +136,6 @@ returns-clause-fitted g c =
       plan = grown.counted.plan;
       cycles = grown.counted.cycles;
       range = grown.counted.range;
-      automation =
-          let q = quantum_of c.self.inside.spec in
-          let begun : c.args.first ≡ q * c.self.inside.quanta = c.requires.first ∙ ap (λ (x : RendererView). quantum_of x.spec * x.quanta) (sym c.self.view_is) in
-          held_later w.params.items c.args.first (q * (c.self.inside.quanta + 1)) c.take.new.self (omega (arith, begun, next_quantum q c.self.inside.quanta))
-          (subst (λ (ps : List Param). IsHeld ps c.args.first c.take.new.self) c.as_slice.ensures c.take.ensures.held);
       blocks = subst (AreFit w c.self.inside.counts.items) (sym (rewritten _ c.render_quantum.new.blocks _ (c.render_quantum.auto.blocks ∙ c.as_mut_slice-blocks.ensures.len)))
           (subst (λ (ns : List ℕ). AreFit w ns c.render_quantum.new.blocks) counts c.render_quantum.ensures.fit);
       causal_rooms = subst (λ (ns : List ℕ). HaveRoom c.render_quantum.new.memory.causal ns) counts rooms.causal_rooms;
@@ -150,3 +145,10 @@ returns-clause-fitted g c =
       causal_all = rooms.causal;
       delays_all = rooms.delays;
     }
+
+pub returns-clause-held : goal.returns-clause-held
+returns-clause-held g c =
+    let q = quantum_of c.self.inside.spec in
+    let begun : c.args.first ≡ q * c.self.inside.quanta = c.requires.first ∙ ap (λ (x : RendererView). quantum_of x.spec * x.quanta) (sym c.self.view_is) in
+    held_later c.args.world.now.params.items c.args.first (q * (c.self.inside.quanta + 1)) c.take.new.self (omega (arith, begun, next_quantum q c.self.inside.quanta))
+    (subst (λ (ps : List Param). IsHeld ps c.args.first c.take.new.self) c.as_slice.ensures c.take.ensures.held)

@@ -10,6 +10,6 @@ pub invariant_of-result : goal.invariant_of-result
 invariant_of-result c = record {
   valid = plain_valid c.in_ok-world.world c.in_ok-world.ensures.valid;
   accepted = subst (AreAcceptedBy (plain c.in_ok-world.world)) (sym c.new-3.ensures) tt;
-  settles = λ t. absurd cc;
+  stands = tt;
   plans = plans_none (plan_of c.in_ok-renderer.renderer) c.in_ok-world.world.graph c.in_ok-renderer.ensures.planned;
 }

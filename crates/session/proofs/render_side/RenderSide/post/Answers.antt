@@ -2,9 +2,7 @@ use Rattle.std.proofs.Common.{sym, ◌∙◌, ap, subst}
 use Rattle.meaning.specs.World.{plain}
 use Rattle.control_msgs.specs.Messages.{after_message, after_messages, AreAcceptedBy}
 use Rattle.control_msgs.proofs.Hearing.{accepted_more, after_more}
-use Rattle.quantum_render.specs.Stands.{IsSettled}
-use Rattle.session.specs.View.{SideView, sent}
-use Rattle.session.proofs.Settling.{settled_after}
+use Rattle.session.specs.View.{IsStanding, SideView, sent}
 use Rattle.session.proofs.render_side.RenderSide.post.Goals as goal
 
 pub invariant_of-self : goal.invariant_of-self
@@ -13,9 +11,9 @@ invariant_of-self c =
     record {
       valid = c.self.invariant.valid;
       plans = c.self.invariant.plans;
-      settles = λ t.
-          subst (IsSettled c.self.inside.renderer) (sym (ap (after_messages (plain c.self.inside.world)) c.post.ensures.messages ∙ after_more (plain c.self.inside.world) c.self.inside.queue.messages c.args.message))
-          (settled_after c.self.inside.renderer (after_messages (plain c.self.inside.world) c.self.inside.queue.messages) c.args.message (c.standing_with-self-inside.ensures.quiet t) (c.self.invariant.settles (c.standing_with-self-inside.ensures.before t)));
+      stands =
+          subst (IsStanding c.standing_with-self-inside.result c.self.inside.renderer) (sym (ap (after_messages (plain c.self.inside.world)) c.post.ensures.messages ∙ after_more (plain c.self.inside.world) c.self.inside.queue.messages c.args.message))
+          (c.standing_with-self-inside.ensures c.self.inside.renderer (after_messages (plain c.self.inside.world) c.self.inside.queue.messages) c.self.invariant.stands);
       accepted = subst (AreAcceptedBy (plain c.self.inside.world)) (sym c.post.ensures.messages) (accepted_more (plain c.self.inside.world) c.self.inside.queue.messages c.args.message c.self.invariant.accepted accepted);
     }
 

@@ -6,11 +6,11 @@ use Rattle.meaning.specs.World.{plain}
 use Rattle.meaning.specs.Worlds.{IsRegular}
 use Rattle.control_msgs.specs.Messages.{after_messages}
 use Rattle.session.specs.Rows.{samples_of}
-use Rattle.session.specs.View.{Renders}
+use Rattle.session.specs.View.{IsStanding, Renders}
 use Rattle.control_msgs.specs.declared.message.Message.{Message}
 use Rattle.meaning.proofs.Valid.{plain_valid}
-use Rattle.quantum_render.specs.Stands.{IsSettled, plan_of}
-use Rattle.session.proofs.Settling.{settled_raw, settled_plain}
+use Rattle.quantum_render.specs.Stands.{plan_of}
+use Rattle.session.proofs.Settling.{standing_raw, standing_plain}
 use Rattle.session.proofs.Planning.{plans_on}
 use Rattle.session.proofs.Standing.{length_worlds, raw_regular, renders_more, samples_more}
 use Rattle.session.proofs.render_side.RenderSide.render.Goals as goal
@@ -26,16 +26,17 @@ next_turn q first n more is next = ap (λ f. f + q) is ∙ sym (next_quantum q n
 pub render_quantum-requires-clause-planned : goal.render_quantum-requires-clause-planned
 render_quantum-requires-clause-planned c = plans_on (plan_of c.self.inside.renderer) c.self.inside.world.graph c.drain_into.new.world.graph c.drain_into.ensures.graph c.self.invariant.plans
 
-pub render_quantum-requires-clause-settled : goal.render_quantum-requires-clause-settled
-render_quantum-requires-clause-settled c t = settled_raw c.self.inside.renderer c.drain_into.new.world (subst (IsSettled c.self.inside.renderer) (sym c.in_ok-drain_into.ensures.ok.1) (c.self.invariant.settles t))
+pub render_quantum-requires-clause-standing : goal.render_quantum-requires-clause-standing
+render_quantum-requires-clause-standing c =
+    standing_raw c.self.inside.standing c.self.inside.renderer c.drain_into.new.world (subst (IsStanding c.self.inside.standing c.self.inside.renderer) (sym c.in_ok-drain_into.ensures.ok.1) c.self.invariant.stands)
 
 pub invariant_of-self-2 : goal.invariant_of-self-2
 invariant_of-self-2 c = record {
   valid = plain_valid c.drain_into.new.world c.drain_into.ensures.valid;
   accepted = c.drain_into.ensures.accepted;
   plans = c.render_quantum.ensures.planned;
-  settles = λ t. subst (λ (ms : List Message). IsSettled c.render_quantum.new.renderer (after_messages (plain c.drain_into.new.world) ms)) (sym c.in_ok-drain_into.ensures.ok.0)
-      (settled_plain c.render_quantum.new.renderer c.drain_into.new.world (c.in_ok-self-inside.ensures.settled t));
+  stands = subst (λ (ms : List Message). IsStanding c.in_ok-self-inside.field-0 c.render_quantum.new.renderer (after_messages (plain c.drain_into.new.world) ms)) (sym c.in_ok-drain_into.ensures.ok.0)
+      (standing_plain c.in_ok-self-inside.field-0 c.render_quantum.new.renderer c.drain_into.new.world c.in_ok-self-inside.ensures.standing);
 }
 
 pub returns-clause-ok : goal.returns-clause-ok
