@@ -14,7 +14,16 @@ from waplay_tools.expecting.reading import script_of
 from waplay_tools.places import SHIPPED
 from waplay_tools.running import Ran
 from waplay_tools.worst.__main__ import measured, told
-from waplay_tools.worst.scripts import MOST, TABLE, all_at_once, all_at_once_in_full_length
+from waplay_tools.worst.scripts import (
+    ASSET,
+    LEFT,
+    MOST,
+    PAGE,
+    TABLE,
+    all_at_once,
+    all_at_once_in_full_length,
+    writes,
+)
 
 PROGRAM = Path(os.environ.get("WAPLAY") or SHIPPED).absolute()
 READ = 1000000  # bytes of a script that the second calculation reads soon
@@ -40,11 +49,26 @@ class WorstScripts(unittest.TestCase):
         longest = json.loads(all_at_once_in_full_length())
         calls, last = fullest["calls"], len(fullest["calls"]) - 1
         added = longest["calls"][last:-1]
-        self.assertGreater(len(added), 400000)
-        self.assertEqual({call["op"] for call in added}, {"connect"})
+        self.assertGreater(len(added), 190000)
+        self.assertEqual({call["op"] for call in added}, {"copyToChannel"})
         del longest["calls"][last:-1]
         self.assertEqual(calls[last]["op"], "startRendering")
         self.assertEqual(longest, fullest)
+
+    def test_all_at_once_has_as_many_samples_as_buffers_may_have(self) -> None:
+        calls = json.loads(all_at_once())["calls"]
+        made = [call for call in calls if call["op"] == "createBuffer"]
+        created = sum(call["channels"] * call["length"] for call in made)
+        self.assertEqual(created + ASSET + LEFT, 2**27)
+
+    def test_each_write_has_two_pages_of_its_own(self) -> None:
+        written = list(writes("ab", 3, 20 * PAGE))
+        self.assertEqual(len(written), 2 * 3 * 10)
+        pages = set()
+        for call in written:
+            for at in range(call["at"], call["at"] + len(call["samples"])):
+                pages.add((call["buffer"], call["channel"], at // PAGE))
+        self.assertEqual(len(pages), 2 * len(written))
 
     @unittest.skipUnless(os.access(PROGRAM, os.X_OK), "there is no program")
     def test_a_run_is_measured(self) -> None:

@@ -1,8 +1,7 @@
 -- Items by their places, and levels by their nodes.
-use Rattle.std.proofs.Common.{ℕ, zero, suc, ◌≡◌, ◌+◌, ◌<◌, length, List, [], ◌∷◌, ◌++◌, take, slice_index_or, slice_set, Result, Ok, Err, Bool, true, false, inl, inr, refl, sym, ◌∙◌, ap, arith, subst}
+use Rattle.std.proofs.Common.{ℕ, zero, suc, ◌≡◌, ◌+◌, ◌<◌, length, List, [], ◌∷◌, slice_index_or, slice_set, Result, Ok, Err, Bool, true, false, inl, inr, refl, sym, ◌∙◌, ap, arith, subst}
 use Rattle.std.specs.Prelude.{◌⊎◌, ◌==◌, OnOk}
 use Rattle.std.proofs.lemmas.List.{get_or-set_other, get_or_default}
-use Rattle.std.proofs.Math.Seq.{take-append_seam}
 use Rattle.std.proofs.lemmas.Grind.{get_or-set_at}
 use Rattle.std.proofs.lemmas.Bool.Decides.{nat_tests}
 use Rattle.automation.specs.Levels.{LevelView, HasRoom, no_level, level_of}
@@ -51,10 +50,6 @@ module _ (q : ℕ) (levels : List LevelView) (node : ℕ) (y : LevelView) (withi
       by_place (inl before) = room_stays own _ (old j p before)
       by_place (inr same) =
           subst (HasRoom q) (sym (own_level _ (ap (λ k. (slice_index_or params k p).id.node.0) same ∙ ap (λ (x : Param). x.id.node.0) (get_or_default params i p d l) ∙ sym here))) own
-
--- a list that was written over as a whole
-pub rewritten : {X : Type 0} (n : ℕ) (new rest : List X) → length new ≡ n → take n (new ++ rest) ≡ new
-rewritten n new rest e = subst (λ k. take k (new ++ rest) ≡ new) e (take-append_seam new rest)
 
 -- what follows from three results of a call that succeeds
 pub all_ok : {E A B C D : Type 0} (r : Result (Unit {0}) E) → OnOk r A → OnOk r B → OnOk r C → (A → B → C → D) → OnOk r D

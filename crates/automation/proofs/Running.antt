@@ -1,13 +1,12 @@
 -- Parameters that run: some of all, in order.
-use Rattle.std.proofs.Common.{ℕ, zero, suc, ◌≡◌, ◌+◌, ◌≤◌, ◌<◌, length, List, [], ◌∷◌, ◌++◌, map, take, drop, slice_index_or, slice_set, Bool, true, false, cond, inl, inr, refl, sym, ◌∙◌, ap, arith, subst}
-use Rattle.std.specs.Prelude.{◌⊎◌, filter}
+use Rattle.std.proofs.Common.{ℕ, zero, suc, ◌≡◌, ◌+◌, ◌≤◌, ◌<◌, length, List, [], ◌∷◌, ◌++◌, map, take, drop, slice_index_or, slice_set, inl, inr, sym, ◌∙◌, ap, arith, subst}
+use Rattle.std.specs.Prelude.{◌⊎◌}
 use Rattle.std.specs.List.{sum_by}
-use Rattle.std.proofs.lemmas.List.{drop_more, get_or-map, get_or-set_other, length-map}
+use Rattle.std.proofs.lemmas.List.{append_assoc, append-nil, drop_all, drop_more, get_or-map, get_or-set_other, length-map}
 use Rattle.std.proofs.lemmas.Grind.{get_or-set_at}
 use Rattle.std.proofs.lemmas.List.Sums.{sum-map, sum_by-cons, sum_by_more, sum_by-take-le}
 use Rattle.law_base.specs.Members.{IsIn}
-use Rattle.automation.specs.declared.automation.Running.{Running}
-use Rattle.automation.specs.Ready.{AreRunning, RiseWithin, param_of}
+use Rattle.automation.specs.Ready.{AreRunning, RiseWithin, RunningView, param_of}
 use Rattle.automation.proofs.Places.{before_or_here, in_list}
 
 -- ---- numbers that rise
@@ -27,14 +26,26 @@ rise_below low end [] r i is = absurd is
 rise_below low end (j ∷ js) r i (inl same) = let below = r.1 in omega (arith, below, same)
 rise_below low end (j ∷ js) r i (inr later) = rise_below (j + 1) end js r.2 i later
 
--- those that pass a test rise too
-pub rise_filter : (low end : ℕ) (p : Running → Bool) (rs : List Running) → RiseWithin low end (map param_of rs) → RiseWithin low end (map param_of (filter p rs))
-rise_filter low end p [] up = tt
-rise_filter low end p (r ∷ rs) up = by_test (p r) refl (rise_filter (r.param + 1) end p rs up.2)
-  where
-    by_test : (b : Bool) → p r ≡ b → RiseWithin (r.param + 1) end (map param_of (filter p rs)) → RiseWithin low end (map param_of (cond b (r ∷ filter p rs) (filter p rs)))
-    by_test true is rest = (up.0, up.1, rest)
-    by_test false is rest = rise_lower (r.param + 1) low end _ (let from = up.0 in omega (arith, from)) rest
+-- they still rise without one
+pub rise_without : (low end : ℕ) (is : List ℕ) (i : ℕ) (js : List ℕ) → RiseWithin low end (is ++ i ∷ js) → RiseWithin low end (is ++ js)
+rise_without low end [] i js up = rise_lower (i + 1) low end js (let from = up.0 in omega (arith, from)) up.2
+rise_without low end (k ∷ is) i js up = (up.0, up.1, rise_without (k + 1) end is i js up.2)
+
+-- ---- some that are done, and those from a place on
+
+module _ (end k : ℕ) (done all : List ℕ) where
+  -- the next one joins those that are done
+  pub rise_on : (i : ℕ) → k < length all → slice_index_or all k 0 ≡ i → RiseWithin 0 end (done ++ drop k all) → RiseWithin 0 end ((done ++ i ∷ []) ++ drop (k + 1) all)
+  rise_on i l is up =
+      subst (RiseWithin 0 end) (ap (λ (ns : List ℕ). done ++ ns) (drop_more all k 0 l ∙ ap (λ n. n ∷ drop (k + 1) all) is) ∙ sym (append_assoc done (i ∷ []) (drop (k + 1) all))) up
+
+  -- the next one is left out
+  pub rise_past : k < length all → RiseWithin 0 end (done ++ drop k all) → RiseWithin 0 end (done ++ drop (k + 1) all)
+  rise_past l up = rise_without 0 end done (slice_index_or all k 0) (drop (k + 1) all) (subst (λ (ns : List ℕ). RiseWithin 0 end (done ++ ns)) (drop_more all k 0 l) up)
+
+  -- none is left
+  pub rise_done : length all ≤ k → RiseWithin 0 end (done ++ drop k all) → RiseWithin 0 end done
+  rise_done past up = subst (RiseWithin 0 end) (ap (λ (ns : List ℕ). done ++ ns) (drop_all k all past) ∙ append-nil done) up
 
 -- ---- what runs takes no more than all
 
@@ -55,8 +66,8 @@ sum_rising f d low xs (i ∷ is) l up =
     let head = sum_by-cons (λ k. f (slice_index_or xs k d)) i is in
     omega (arith, rest, front, own, head)
 
--- what the parameters take that run is no more than what all take
-pub sum_running : {X : Type 0} (f : X → ℕ) (d : X) (xs : List X) (is : List ℕ) → RiseWithin 0 (length xs) is → sum_by (λ i. f (slice_index_or xs i d)) is ≤ sum_by f xs
+-- the items at places that rise take no more than all
+sum_running : {X : Type 0} (f : X → ℕ) (d : X) (xs : List X) (is : List ℕ) → RiseWithin 0 (length xs) is → sum_by (λ i. f (slice_index_or xs i d)) is ≤ sum_by f xs
 sum_running f d xs is up = let all = sum_rising f d 0 xs is (omega arith) up in omega (arith, all)
 
 -- ---- those that are still to come
@@ -74,28 +85,36 @@ cost_at f xs i = slice_index_or (map f xs) i 0
 pub cost_is : {X : Type 0} (f : X → ℕ) (xs : List X) (i : ℕ) (x : X) → i < length xs → x ≡ slice_index_or xs i x → cost_at f xs i ≡ f x
 cost_is f xs i x l is = get_or-map f xs i x 0 l ∙ ap f (sym is)
 
--- what those take that run is no more than what all take
+-- the parameters that run take no more than all do
 pub cost_running : {X : Type 0} (f : X → ℕ) (xs : List X) (is : List ℕ) → RiseWithin 0 (length xs) is → sum_by (cost_at f xs) is ≤ sum_by f xs
 cost_running f xs is up =
     let all = sum_running (λ n. n) 0 (map f xs) is (subst (λ n. RiseWithin 0 n is) (sym (length-map xs f)) up) in
     omega (arith, all, sum-map f xs)
 
 -- the places stay where none is changed
-pub places_stay : (rs : List Running) (k : ℕ) (y r : Running) → k < length rs → y.param ≡ (slice_index_or rs k r).param → map param_of (slice_set rs k y) ≡ map param_of rs
+pub places_stay : (rs : List RunningView) (k : ℕ) (y r : RunningView) → k < length rs → y.param ≡ (slice_index_or rs k r).param → map param_of (slice_set rs k y) ≡ map param_of rs
 places_stay [] k y r l same = absurd (omega (arith, l))
 places_stay (x ∷ xs) zero y r l same = ap (λ n. n ∷ map param_of xs) same
 places_stay (x ∷ xs) (suc k) y r l same = ap (λ ns. x.param ∷ ns) (places_stay xs k y r (omega (arith, l)) same)
 
-module _ (old running : List Running) (same : map param_of running ≡ map param_of old) (k : ℕ) (r : Running) (l : k < length old) where
+module _ (old running : List RunningView) (same : map param_of running ≡ map param_of old) (k : ℕ) (r : RunningView) (l : k < length old) where
   pub same_length : length running ≡ length old
   same_length = sym (length-map running param_of) ∙ ap length same ∙ length-map old param_of
 
   pub place_is : (d : ℕ) → slice_index_or (map param_of old) k d ≡ (slice_index_or running k r).param
   place_is d = ap (λ (ns : List ℕ). slice_index_or ns k d) (sym same) ∙ get_or-map param_of running k r d (omega (arith, l, same_length))
 
-  pub place_low : (count : ℕ) → AreRunning count old → (slice_index_or running k r).param < count
-  place_low count up =
-      rise_below 0 count (map param_of old) up _ (subst (λ n. IsIn n (map param_of old)) (place_is 0) (in_list (map param_of old) k 0 (omega (arith, l, length-map old param_of))))
+-- a place of those that run is below their number
+pub place_low : (old : List RunningView) (k place : ℕ) → k < length old → slice_index_or (map param_of old) k 0 ≡ place → (count : ℕ) → AreRunning count old → place < count
+place_low old k place l is count up = rise_below 0 count (map param_of old) up place (subst (λ n. IsIn n (map param_of old)) is (in_list (map param_of old) k 0 (omega (arith, l, length-map old param_of))))
+
+-- one that is still to come, and is as it was
+module _ (old running : List RunningView) (k : ℕ) (r : RunningView) (l : k < length old) (is : r ≡ slice_index_or running k r) (same : slice_index_or running k r ≡ slice_index_or old k r) (place : ℕ) (at : place ≡ r.param) where
+  pub next_is : (d : ℕ) → slice_index_or (map param_of old) k d ≡ place
+  next_is d = get_or-map param_of old k r d l ∙ ap param_of (sym same ∙ sym is) ∙ sym at
+
+  pub next_low : (count : ℕ) → AreRunning count old → place < count
+  next_low count up = place_low old k place l (next_is 0) count up
 
 -- one more item has what those before it have
 pub item_more : {X : Type 0} (P : X → Type 0) (xs : List X) (k : ℕ) (y : X) → k < length xs → P y → ((j : ℕ) (d : X) → j < k → P (slice_index_or xs j d)) → (j : ℕ) (d : X) → j < k + 1 → P (slice_index_or (slice_set xs k y) j d)

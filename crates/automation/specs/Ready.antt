@@ -1,16 +1,20 @@
 -- What is at hand before the values of a quantum are taken, and after it.
-use Rattle.std.specs.Prelude.{ℕ, ◌+◌, ◌<◌, ◌≤◌, ◌≡◌, ◌⊎◌, List, [], ◌∷◌, length, map, filter, not, slice_index_or}
+use Rattle.std.specs.Prelude.{ℕ, ◌+◌, ◌<◌, ◌≤◌, ◌≡◌, ◌⊎◌, List, [], ◌∷◌, length, map, slice_index_or}
 use Rattle.std.specs.List.Sorted.{IsStrictlyIncreasing}
 use Rattle.law_base.specs.Members.{IsIn}
 use Rattle.meaning.specs.declared.params.Param.{Param}
 use Rattle.param_cursor.specs.Cursors.{place_at, within}
-use Rattle.automation.specs.declared.automation.Running.{Running}
 use Rattle.automation.specs.Levels.{LevelView, HasRoom, Keeps, level_of}
+
+-- What contracts see of a parameter whose level may still change: its place among all parameters, and that of its cursor.
+pub record RunningView : Type 0 where
+  pub param : ℕ
+  pub cursor : ℕ
 
 -- What contracts see of an automation: the frames of a quantum, the parameters whose levels may still change, and the level of each node.
 pub record AutomationView : Type 0 where
   pub quantum : ℕ
-  pub running : List Running
+  pub running : List RunningView
   pub levels : List LevelView
 
 -- the parameters stand in order of their nodes, of which each has one at most, and there are so many nodes
@@ -18,7 +22,7 @@ pub record AreOfNodes (nodes : ℕ) (params : List Param) : Type 0 where
   pub order : IsStrictlyIncreasing (map (λ (p : Param). p.id.node.0) params)
   pub there : (p : Param) → IsIn p params → p.id.node.0 < nodes
 
-abbrev pub param_of : Running → ℕ
+abbrev pub param_of : RunningView → ℕ
 param_of r = r.param
 
 -- numbers rise, from one on and below another
@@ -27,7 +31,7 @@ RiseWithin low end [] = Unit {0}
 RiseWithin low end (i ∷ is) = (low ≤ i) × (i < end) × RiseWithin (i + 1) end is
 
 -- those that run are some of so many parameters, in order
-abbrev pub AreRunning : ℕ → List Running → Type 0
+abbrev pub AreRunning : ℕ → List RunningView → Type 0
 AreRunning count running = RiseWithin 0 count (map param_of running)
 
 -- the place in the timeline of a parameter of a cursor that stands at a frame
@@ -35,29 +39,27 @@ abbrev pub place_in : ℕ → Param → ℕ
 place_in first p = place_at first p.line.events
 
 -- a cursor stands at a frame in the timeline of its parameter
-abbrev pub Stands : List Param → ℕ → Running → Type 0
+abbrev pub Stands : List Param → ℕ → RunningView → Type 0
 Stands params first r = (d : Param) → r.cursor ≡ place_in first (slice_index_or params r.param d)
 
 -- for each parameter there is room
 abbrev pub HaveRoom : List Param → AutomationView → Type 0
 HaveRoom params a = (p : Param) → IsIn p params → (p.id.node.0 < length a.levels) × HasRoom a.quantum (level_of a.levels p.id.node.0)
 
--- each parameter is one of some, or keeps its level from a frame on
-abbrev pub OthersKeep : List Param → ℕ → AutomationView → List Running → Type 0
-OthersKeep params first a some = (i : ℕ) (d : Param) → i < length params → IsIn i (map param_of some) ⊎ Keeps a.quantum first (level_of a.levels (slice_index_or params i d).id.node.0) (slice_index_or params i d)
+-- each parameter runs, or keeps its level from a frame on
+abbrev pub OthersKeep : List Param → ℕ → AutomationView → Type 0
+OthersKeep params first a = (i : ℕ) (d : Param) → i < length params → IsIn i (map param_of a.running) ⊎ Keeps a.quantum first (level_of a.levels (slice_index_or params i d).id.node.0) (slice_index_or params i d)
 
--- Each running cursor stands at a frame in the timeline of its parameter, for each parameter there is room, and those that do not run keep their levels.
-pub record IsReady (params : List Param) (first : ℕ) (a : AutomationView) : Type 0 where
-  pub running : AreRunning (length params) a.running
-  pub stands : (r : Running) → IsIn r a.running → Stands params first r
-  pub room : HaveRoom params a
-  pub others : OthersKeep params first a a.running
-
--- After a quantum those keep their levels of which it was found that they do, and those that did not run.
+-- For each parameter there is room, and those that do not run keep their levels.
 pub record IsHeld (params : List Param) (first : ℕ) (a : AutomationView) : Type 0 where
   pub running : AreRunning (length params) a.running
   pub room : HaveRoom params a
-  pub others : OthersKeep params first a (filter (λ r. not r.keeps) a.running)
+  pub others : OthersKeep params first a
+
+-- And each running cursor stands at a frame in the timeline of its parameter.
+pub record IsReady (params : List Param) (first : ℕ) (a : AutomationView) : Type 0 where
+  pub held : IsHeld params first a
+  pub stands : (r : RunningView) → IsIn r a.running → Stands params first r
 
 -- the looks that a quantum of q frames takes at the events of a timeline: two, and those with a time in the quantum
 abbrev pub looks_at : ℕ → ℕ → Param → ℕ

@@ -1,11 +1,10 @@
-ghost use Rattle.std.specs.Prelude.{max, ◌≡◌, [], ◌<◌, ◌≤◌, ◌+◌, ◌^◌, ℕ, length, map, filter, not, OnOk};
+ghost use Rattle.std.specs.Prelude.{max, ◌≡◌, [], ◌<◌, ◌≤◌, ◌+◌, ◌^◌, ℕ, length, map, take, OnOk};
 ghost use Rattle.std.specs.List.{sum_by};
 ghost use Rattle.law_base.specs.Members.{IsIn};
 ghost use Rattle.wa_base.specs.Contexts.{IsQuantumSize};
 ghost use Rattle.meaning.specs.declared.params.Param.{Param as a_param};
-ghost use Rattle.automation.specs.declared.automation.Running.{Running as a_running};
 ghost use Rattle.automation.specs.Levels.{AreLevels, HasRoom, level_of};
-ghost use Rattle.automation.specs.Ready.{AreOfNodes, AreRunning, IsHeld, IsReady, Stands, looks_at, param_of};
+ghost use Rattle.automation.specs.Ready.{RunningView as a_running, AreOfNodes, AreRunning, IsHeld, IsReady, Stands, looks_at, param_of};
 
 use crate::level::Level;
 use meaning::Param;
@@ -36,8 +35,16 @@ struct Running {
     // its place among all parameters
     param: usize,
     cursor: Cursor,
-    // whether its level was found to be that of all later quanta
-    keeps: bool,
+}
+
+impl Model for Running {
+    ghost use Rattle.automation.specs.Ready.{RunningView};
+
+    ghost Value = { RunningView };
+
+    ghost view = { λ r. record { param = r.param; cursor = r.cursor } };
+
+    ghost inverse = { λ r. record { param = r.param; cursor = r.cursor } };
 }
 
 impl Model for Automation {
@@ -89,8 +96,6 @@ impl Automation {
 
     /// Moves to a frame in each timeline, where no parameter changed since the last `take`. It takes no
     /// memory, and looks at no more events of a timeline than their number has binary digits.
-    ///
-    /// A parameter whose level stays is left out, and so it is in all later quanta.
     pub fn again<L: Ledger>(&mut self, params: &[Param], first: u64, steps: &mut Steps<L>)
         requires { IsHeld params.now first self.old }
         ensures quantum { self.new.quantum ≡ self.old.quantum }
@@ -98,12 +103,13 @@ impl Automation {
         ensures levels { self.new.levels ≡ self.old.levels }
         ensures cost { (digits : a_param → ℕ) → ((p : a_param) → IsIn p params.now → length p.line.events < 2 ^ digits p) → steps.new ≤ steps.old + sum_by digits params.now }
     {
-        leave_out(&mut self.running);
         reseek_each(self.running.as_mut_slice(), params, first, steps);
     }
 
     /// Takes the values of all parameters in the quantum that begins at `first`. It takes no memory,
     /// and looks at two events of each timeline and those with a time in the quantum at most.
+    ///
+    /// A parameter whose level stays is left out until the next `prepare`.
     pub fn take<L: Ledger>(&mut self, params: &[Param], first: u64, steps: &mut Steps<L>)
         requires nodes { (nodes : ℕ) × AreOfNodes nodes params.now }
         requires first { first ≤ 2 ^ 62 }
@@ -113,7 +119,7 @@ impl Automation {
         ensures held { IsHeld params.now first self.new }
         ensures cost { steps.new ≤ steps.old + sum_by (looks_at self.old.quantum first) params.now }
     {
-        take_each(
+        let moving = take_each(
             self.levels.as_mut_slice(),
             self.running.as_mut_slice(),
             params,
@@ -121,6 +127,7 @@ impl Automation {
             self.quantum,
             steps,
         );
+        self.running.truncate(moving);
     }
 
     /// The levels, one for each node. That of a node without a parameter says nothing.
@@ -170,20 +177,9 @@ fn run_each<L: Ledger>(
     for (i, param) in params.iter().enumerate() {
         let mut cursor = Cursor::new();
         cursor.reseek(first, &param.line, steps);
-        running.push(Running {
-            param: i,
-            cursor,
-            keeps: false,
-        })?;
+        running.push(Running { param: i, cursor })?;
     }
     Ok(())
-}
-
-// Leaves out the parameters whose levels stay.
-fn leave_out(running: &mut Vec<Running>)
-    ensures { running.new.items ≡ filter (λ r. not r.keeps) running.old.items }
-{
-    running.retain(|one| !one.keeps);
 }
 
 // Moves to a frame in the timeline of each running parameter.
@@ -205,7 +201,8 @@ fn reseek_each<L: Ledger>(
     }
 }
 
-// Takes the values of each running parameter, one after another.
+// Takes the values of each running parameter, one after another. Returns how many have a level that may still
+// change: these stand in front then.
 fn take_each<L: Ledger>(
     levels: &mut [Level],
     running: &mut [Running],
@@ -213,19 +210,25 @@ fn take_each<L: Ledger>(
     first: u64,
     frames: usize,
     steps: &mut Steps<L>,
-)
+) -> usize
     requires nodes { (nodes : ℕ) × AreOfNodes nodes params.now }
     requires quantum { IsQuantumSize frames }
     requires first { first ≤ 2 ^ 62 }
     requires ready { IsReady params.now first (record { quantum = frames; running = running.old; levels = levels.old }) }
     ensures levels { AreLevels frames params.now first levels.new }
-    ensures held { IsHeld params.now first (record { quantum = frames; running = running.new; levels = levels.new }) }
+    ensures held { IsHeld params.now first (record { quantum = frames; running = take result running.new; levels = levels.new }) }
     ensures cost { steps.new ≤ steps.old + sum_by (looks_at frames first) params.now }
 {
+    let mut moving = 0;
     for k in 0..running.len() {
-        let one = &mut running[k];
+        let mut one = running[k];
         let param = &params[one.param];
         let node = param.id.node.0 as usize;
-        one.keeps = levels[node].take(param, &mut one.cursor, first, frames, steps);
+        let stays = levels[node].take(param, &mut one.cursor, first, frames, steps);
+        if !stays {
+            running[moving] = one;
+            moving += 1;
+        }
     }
+    moving
 }

@@ -1,4 +1,5 @@
 use sched_source::{Loop, Sched};
+use wa_base::Channel;
 
 const BUFFER: [i32; 5] = [2, 4, 6, 8, 10];
 
@@ -22,10 +23,10 @@ fn plays_in_pieces(rate: u32, points: Loop) -> bool {
         return false;
     }
     let mut whole = [-1; 24];
-    sched.play(&mut whole, &BUFFER, 0);
+    sched.play(&mut whole, &Channel::from(BUFFER.as_slice()), 0);
     for (first, sample) in whole.iter().enumerate() {
         let mut one = [-1; 1];
-        sched.play(&mut one, &BUFFER, first as u64);
+        sched.play(&mut one, &Channel::from(BUFFER.as_slice()), first as u64);
         if one[0] != *sample {
             return false;
         }

@@ -1,9 +1,8 @@
 ghost use Rattle.std.specs.Prelude.{◌≡◌, ◌<◌, ◌≤◌, ◌+◌, ◌-◌, ◌*◌, ◌++◌, length, take, drop, min, IfOk, OnOk, OnErr};
 ghost use Rattle.buffer_store.specs.Buffers as spec;
 
-use crate::shared::SharedSamples;
 use std::alloc::Global;
-use wa_base::{Fix, NoMemory};
+use wa_base::{Channel, Fix, NoMemory, PagedSamples};
 
 /// What a buffer has besides its samples.
 #[derive(Clone, Copy, PartialEq, Eq)]
@@ -23,20 +22,20 @@ pub struct Shape {
 pub struct Buffer {
     pub shape: Shape,
     /// The samples, one channel after another.
-    pub samples: SharedSamples,
+    pub samples: PagedSamples,
 }
 
 impl Buffer {
     /// The samples of a channel.
-    pub(crate) fn channel(&self, channel: u32) -> &[Fix]
+    pub(crate) fn channel(&self, channel: u32) -> Channel<'_>
         requires buffer { spec.IsBuffer self.now }
         requires small { length self.now.samples ≤ 134217728 }
         requires channel { channel < self.now.shape.channels }
-        ensures { result.now ≡ spec.channel_of self.now channel }
+        ensures value { result ≡ spec.channel_of self.now channel }
+        ensures small { length result ≤ 134217728 }
     {
         let frames = self.shape.frames as usize;
-        let start = channel as usize * frames;
-        &self.samples.as_slice()[start..start + frames]
+        self.samples.channel(channel as usize * frames, frames)
     }
 
     /// Writes samples of a channel from a frame on. What would lie past the channel's end is dropped.

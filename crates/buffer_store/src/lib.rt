@@ -4,12 +4,10 @@
 ghost use Rattle.buffer_store.specs.BufferLaws.{WritingLaw};
 
 mod buffers;
-mod shared;
 mod store;
 mod wav;
 
 pub use buffers::{Buffer, Shape};
-pub use shared::SharedSamples;
 pub use store::Store;
 pub use wav::Wav;
 

@@ -1,13 +1,13 @@
 ghost use Rattle.std.specs.Prelude.{◌≡◌, ◌↔◌, ◌<◌, ◌≤◌, ◌+◌, ◌*◌, ◌∷◌, ◌++◌, [], Some, None, length, slice_get, IfOk, IsErrOf, OnOk, OnErr};
 ghost use Rattle.buffer_store.specs.Recordings.{IsRecording};
 ghost use Rattle.buffer_store.specs.Buffers as spec;
+ghost use Rattle.buffer_store.specs.Buffers.{IsBuffer};
 
 use crate::buffers::{Buffer, Shape};
-use crate::shared::SharedSamples;
 use crate::wav::Wav;
 use std::alloc::Global;
 use std::marker::Model;
-use wa_base::{BufId, Exc, Feature, Fix, NoMemory, Refusal, Samples};
+use wa_base::{BufId, Channel, Exc, Feature, Fix, NoMemory, PagedSamples, Refusal};
 
 const MAX_CHANNELS: u32 = 32;
 
@@ -67,14 +67,14 @@ impl Store {
         if let Some(exc) = self.creation_refusal(channels, frames, rate) {
             return Err(Refusal::Exc(exc));
         }
-        let alloc = *self.buffers.allocator();
-        let samples = silent(alloc, channels as usize * frames as usize)?;
-        self.adopt(&Wav {
-            rate,
+        let shape = Shape {
             channels,
             frames,
-            samples,
-        })
+            rate,
+            frozen: false,
+        };
+        let samples = PagedSamples::silence(channels as usize * frames as usize);
+        Ok(self.push(Buffer { shape, samples })?)
     }
 
     /// The exception with which `create` would refuse a buffer now.
@@ -121,19 +121,28 @@ impl Store {
         if let Some(exc) = self.adoption_refusal(wav) {
             return Err(Refusal::Exc(exc));
         }
-        let samples = wav.samples.share()?;
+        let shape = Shape {
+            channels: wav.channels,
+            frames: wav.frames,
+            rate: wav.rate,
+            frozen: false,
+        };
+        let samples = PagedSamples::shared(wav.samples.share()?);
+        Ok(self.push(Buffer { shape, samples })?)
+    }
+
+    // Appends a buffer, for whose samples there is room.
+    fn push(&mut self, buffer: Buffer) -> Result<BufId, NoMemory>
+        requires buffer { IsBuffer buffer }
+        requires room { spec.limit_refusal self.old buffer.shape.channels buffer.shape.frames ≡ None }
+        ensures id { IfOk result (λ id. id.0 ≡ length self.old) }
+        ensures buffers { OnOk result (self.new ≡ self.old ++ buffer ∷ []) }
+        ensures err { OnErr result (self.new ≡ self.old) }
+    {
         self.buffers.reserve(1).map_err(NoMemory::from)?;
         let id = BufId(self.buffers.len() as u32);
-        self.total += samples.len() as u64;
-        self.buffers.push_reserved(Buffer {
-            shape: Shape {
-                channels: wav.channels,
-                frames: wav.frames,
-                rate: wav.rate,
-                frozen: false,
-            },
-            samples,
-        });
+        self.total += buffer.samples.len() as u64;
+        self.buffers.push_reserved(buffer);
         Ok(id)
     }
 
@@ -146,7 +155,7 @@ impl Store {
     }
 
     /// Writes samples of a channel from the frame `at` on (copyToChannel). What would lie past the end
-    /// of the buffer is dropped. Samples that have another owner are copied first.
+    /// of the buffer is dropped. It takes memory for what is written, and leaves what others share.
     ///
     /// It is refused with IndexSizeError where the buffer has no such channel, then with
     /// NotSupportedError and the feature `buffer-acquired` where it is frozen. After a refusal, and after
@@ -206,9 +215,10 @@ impl Store {
     }
 
     /// The samples of a channel of a buffer.
-    pub fn channel(&self, buf: BufId, channel: u32) -> &[Fix]
+    pub fn channel(&self, buf: BufId, channel: u32) -> Channel<'_>
         requires there { spec.HasChannel self.now buf.0 channel }
-        ensures value { spec.channel_at self.now buf.0 channel ≡ Some result.now }
+        ensures value { spec.channel_at self.now buf.0 channel ≡ Some result }
+        ensures small { length result ≤ 134217728 }
     {
         self.buffers[buf.0 as usize].channel(channel)
     }
@@ -231,14 +241,6 @@ impl Store {
             total: self.total,
         })
     }
-}
-
-// So many samples of 0.
-fn silent(alloc: Global, count: usize) -> Result<SharedSamples, NoMemory>
-    ensures { IfOk result (λ samples. samples ≡ spec.zeros count) }
-{
-    let samples = vec![in alloc; 0; count]?;
-    SharedSamples::new(alloc, Samples::from(samples))
 }
 
 // Equal buffers, in their order.

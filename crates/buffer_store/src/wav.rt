@@ -1,4 +1,4 @@
-use crate::shared::SharedSamples;
+use wa_base::SharedSamples;
 
 /// What a WAV file of PCM samples holds.
 #[derive(Drop)]

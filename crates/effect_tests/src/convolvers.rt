@@ -5,7 +5,7 @@ use convolve::Convolver;
 use node_table::{Causal, response_refusal};
 use std::alloc::Global;
 use std::test::Fail;
-use wa_base::{Exc, Feature, Fix, NoMemory};
+use wa_base::{Channel, Exc, Feature, Fix, NoMemory};
 
 const ONE: Fix = 16_777_216;
 
@@ -73,7 +73,7 @@ fn are_blocks(
     requires { frames ≤ 1024 }
 {
     let response = response_of(alloc, random, taps)?;
-    if response_refusal(&response).is_some() {
+    if response_refusal(&Channel::from(response.as_slice())).is_some() {
         return Ok(false);
     }
     let mut convolver = Convolver::new(alloc, &response)?;
@@ -112,7 +112,7 @@ fn loud_frames(alloc: Global, frame: Fix) -> Result<Vec<Fix>, NoMemory>
 fn is_exact(alloc: Global, response: &[Fix], input: &[Fix]) -> Result<bool, NoMemory>
     requires { length input.now ≡ 2176 }
 {
-    if response_refusal(response).is_some() {
+    if response_refusal(&Channel::from(response)).is_some() {
         return Ok(false);
     }
     let mut convolver = Convolver::new(alloc, response)?;
@@ -139,7 +139,7 @@ fn no_sum_wraps(rt: HostRuntime) -> Result<(), Fail> {
 
 // The outputs of the second channel, which comes a frame late, and then hears an impulse and silence.
 fn late_channel(alloc: Global, response: &[Fix; 3]) -> Result<[Fix; 4], NoMemory> {
-    if response_refusal(response).is_some() {
+    if response_refusal(&Channel::from(response.as_slice())).is_some() {
         return Ok([0; 4]);
     }
     let mut convolver = Convolver::new(alloc, response)?;
@@ -169,14 +169,23 @@ fn a_late_channel_was_silent_before(rt: HostRuntime) -> Result<(), Fail> {
 #[test]
 fn responses_that_no_convolver_has(rt: HostRuntime) -> Result<(), Fail> {
     let long = vec![in rt.alloc(); 0; 16_385]?;
-    assert_eq!(rt; response_refusal(&long[1..]), None);
+    assert_eq!(rt; response_refusal(&Channel::from(&long[1..])), None);
     assert_eq!(rt;
-        response_refusal(&long),
+        response_refusal(&Channel::from(long.as_slice())),
         Some(Exc::NotSupported(Some(Feature::LongResponse)))
     );
     let loud = Some(Exc::NotSupported(Some(Feature::LoudResponse)));
-    assert_eq!(rt; response_refusal(&[TWO, -TWO]), None);
-    assert_eq!(rt; response_refusal(&[0, TWO + 1]), loud);
-    assert_eq!(rt; response_refusal(&[i32::MIN]), loud);
+    assert_eq!(rt;
+        response_refusal(&Channel::from([TWO, -TWO].as_slice())),
+        None
+    );
+    assert_eq!(rt;
+        response_refusal(&Channel::from([0, TWO + 1].as_slice())),
+        loud
+    );
+    assert_eq!(rt;
+        response_refusal(&Channel::from([i32::MIN].as_slice())),
+        loud
+    );
     Ok(())
 }

@@ -49,6 +49,6 @@ pub(crate) fn played_at(world: &World, node: NodeId, channel: u32, frame: u64) -
     }
     let mut samples = [0];
     play.sched
-        .play(&mut samples, world.store.channel(buffer, channel), frame);
+        .play(&mut samples, &world.store.channel(buffer, channel), frame);
     samples[0]
 }

@@ -47,7 +47,7 @@ impl World {
         requires buffer { IsBufferOf self.now.store buffer }
         ensures { result ≡ refusal_of (samples_in self.now.store buffer 0) }
     {
-        response_refusal(self.store.channel(buffer?, 0))
+        response_refusal(&self.store.channel(buffer?, 0))
     }
 
     // The samples of a response, with memory of their own.
@@ -58,10 +58,7 @@ impl World {
     {
         let alloc = self.params.alloc();
         match buffer {
-            Some(buffer) => Ok(Samples::from(Vec::from_slice(
-                alloc,
-                self.store.channel(buffer, 0),
-            )?)),
+            Some(buffer) => self.store.channel(buffer, 0).copy(alloc),
             None => Ok(Samples::from(Vec::new(alloc))),
         }
     }

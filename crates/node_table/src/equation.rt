@@ -3,7 +3,7 @@ ghost use Rattle.node_table.specs.Equations as spec;
 
 use crate::program::Program;
 use crate::refusals::{filter_refusal, response_refusal};
-use wa_base::{Exc, NoMemory, Samples};
+use wa_base::{Channel, Exc, NoMemory, Samples};
 
 /// What a node puts out on a channel at each frame, from all frames that the channel took in since the
 /// node's creation.
@@ -39,7 +39,9 @@ impl Equation {
             Equation::Filter { forward, back } => {
                 filter_refusal(forward.as_slice(), back.as_slice())
             }
-            Equation::Convolution { response } => response_refusal(response.as_slice()),
+            Equation::Convolution { response } => response_refusal(&Channel::from(
+                response.as_slice(),
+            )),
             Equation::Processor { .. } => None,
         }
     }

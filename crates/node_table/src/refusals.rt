@@ -1,11 +1,11 @@
-ghost use Rattle.std.specs.Prelude.{◌≡◌, None, option_copied};
+ghost use Rattle.std.specs.Prelude.{◌≡◌, ◌≤◌, None, length, option_copied};
 ghost use Rattle.node_table.specs.Convolutions as convolutions;
 ghost use Rattle.node_table.specs.Curves as curves;
 ghost use Rattle.node_table.specs.Curves.{IsCurve};
 ghost use Rattle.node_table.specs.Filters as filters;
 ghost use Rattle.node_table.specs.Filters.{IsFilter};
 
-use wa_base::{Exc, Feature, Fix};
+use wa_base::{Channel, Exc, Feature, Fix};
 
 /// The most coefficients of each list of a filter.
 const MAX_COEFFICIENTS: usize = 20;
@@ -55,7 +55,7 @@ fn is_zero(coefficient: Fix) -> bool
 /// Why a convolver cannot have a response: NotSupportedError and the feature `long-response` for more
 /// than 16,384 samples, then NotSupportedError and the feature `loud-response` where one of them is
 /// further from 0 than 2.0. Samples are in units of 2^-24.
-pub fn response_refusal(response: &[Fix]) -> Option<Exc>
+pub fn response_refusal(response: &Channel<'_>) -> Option<Exc>
     ensures { result ≡ convolutions.response_refusal response.now }
 {
     if response.len() > MAX_RESPONSE {
@@ -68,10 +68,16 @@ pub fn response_refusal(response: &[Fix]) -> Option<Exc>
 }
 
 // Whether no sample is further from 0 than 2.0.
-fn all_small(response: &[Fix]) -> bool
+fn all_small(response: &Channel<'_>) -> bool
+    requires { length response.now ≤ 16384 }
     ensures { result ≡ convolutions.all_small response.now }
 {
-    response.iter().all(|sample| is_small(*sample))
+    for at in 0..response.len() {
+        if !is_small(response.get(at)) {
+            return false;
+        }
+    }
+    true
 }
 
 fn is_small(sample: Fix) -> bool

@@ -72,6 +72,14 @@ module _ (q : ℕ) (some : 0 < q) (w : World) (joined : IsJoined (sounding w)) (
       by_test false t =
           ap (λ b. λ o. carried b (counts_in counts d) o m) (writes.others d (not_same d x t)) ∙ right m l d in_d (known_before w.graph.value x done d known t)
 
+-- what was silent stays so where an end is silenced
+pub stays_silent : (blocks blocks' : List BlockView) (e : End) → Writes blocks blocks' e → IsSilent blocks' e → (d : End) → IsSilent blocks d → IsSilent blocks' d
+stays_silent blocks blocks' e writes own d = by_end (same_end d e) refl
+  where
+    by_end : (b : Bool) → same_end d e ≡ b → IsSilent blocks d → IsSilent blocks' d
+    by_end true t old = subst (IsSilent blocks') (sym (same_end_is d e t)) own
+    by_end false t old = subst (λ (b : BlockView). (lane m : ℕ) → lane < b.lanes → m < b.frames → at b lane m ≡ pos 0) (sym (writes.others d (not_same d e t))) old
+
 -- one more end is silent
 pub silent_more : (blocks blocks' : List BlockView) (mute : List End) (k : ℕ) (e : End) → Writes blocks blocks' (slice_index_or mute k e) → IsSilent blocks' (slice_index_or mute k e) → k < length mute
     → ((i : ℕ) (d : End) → i < k → IsSilent blocks (slice_index_or mute i d))
@@ -81,11 +89,6 @@ silent_more blocks blocks' mute k e writes own within silent i d l = by_place (b
     before_or_here : (i k : ℕ) → i < k + 1 → (i < k) ⊎ (i ≡ k)
     before_or_here i k l = grind arith
 
-    by_end : (y : End) (b : Bool) → same_end y (slice_index_or mute k e) ≡ b → IsSilent blocks y → IsSilent blocks' y
-    by_end y true t old = subst (IsSilent blocks') (sym (same_end_is y (slice_index_or mute k e) t)) own
-    by_end y false t old =
-        subst (λ (b : BlockView). (lane m : ℕ) → lane < b.lanes → m < b.frames → at b lane m ≡ pos 0) (sym (writes.others y (not_same y (slice_index_or mute k e) t))) old
-
     by_place : (i < k) ⊎ (i ≡ k) → IsSilent blocks' (slice_index_or mute i d)
-    by_place (inl before) = let y : End = slice_index_or mute i d in by_end y (same_end y (slice_index_or mute k e)) refl (silent i d before)
+    by_place (inl before) = stays_silent blocks blocks' (slice_index_or mute k e) writes own (slice_index_or mute i d) (silent i d before)
     by_place (inr here) = subst (IsSilent blocks') (sym (ap (λ j. slice_index_or mute j d) here ∙ get_or_default mute k d e within)) own

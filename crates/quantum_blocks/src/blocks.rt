@@ -46,12 +46,13 @@ fn fit_each(blocks: &mut [Block], world: &World, counts: &[u32]) -> Result<(), N
     Ok(())
 }
 
-/// Silences the lanes of each end.
+/// Silences the lanes of each end. What is silent stays so.
 pub fn hush(blocks: &mut [Block], muted: &[End])
     requires { (i : ℕ) (d : an_end) → i < length muted.now → slot_of (slice_index_or muted.now i d) < length blocks.old }
     ensures lanes { lanes_of blocks.new ≡ lanes_of blocks.old }
     ensures frames { frames_of blocks.new ≡ frames_of blocks.old }
     ensures silent { (i : ℕ) (d : an_end) → i < length muted.now → IsSilent blocks.new (slice_index_or muted.now i d) }
+    ensures kept { (d : an_end) → IsSilent blocks.old d → IsSilent blocks.new d }
 {
     for end in muted {
         hush_end(blocks, *end);

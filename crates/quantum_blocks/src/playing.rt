@@ -89,7 +89,7 @@ impl Source<'_> {
     {
         if lane < self.channels() {
             self.sched
-                .play(out, self.store.channel(self.buffer, lane), first);
+                .play(out, &self.store.channel(self.buffer, lane), first);
         } else {
             fill(out, 0);
         }

@@ -38,7 +38,7 @@ held_later params first later a l is = record {
   running = is.running;
   room = is.room;
   others = λ i d low. elim (is.others i d low) [
-    | inl moves ↦ inl moves
+    | inl runs ↦ inl runs
     | inr keeps ↦ inr (λ even up. keeps even (omega (arith, l, up)))
   ];
 }

@@ -1,4 +1,6 @@
 mod Automated
+pub mod Silence
+pub mod Idling
 pub mod InputLaws
 pub mod LevelLaws
 pub mod Ports

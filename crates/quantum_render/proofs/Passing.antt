@@ -1,9 +1,7 @@
 -- Rendering a quantum along a legal order.
-use Rattle.std.proofs.Common.{ℕ, suc, pos, ◌≡◌, ◌+◌, ◌*◌, ◌<◌, ◌≤◌, length, List, [], ◌∷◌, ◌++◌, drop, slice_index_or, Bool, true, false, Option, None, Some, inl, inr, refl, sym, ◌∙◌, ap, arith, subst}
-use mathlib.Core.Path.{fun_ext}
-use Rattle.std.specs.Prelude.{if◌then◌else◌, nat_lt}
+use Rattle.std.proofs.Common.{ℕ, suc, ◌≡◌, ◌+◌, ◌*◌, ◌<◌, ◌≤◌, length, List, [], ◌∷◌, ◌++◌, drop, slice_index_or, false, Option, None, Some, inl, inr, refl, sym, ◌∙◌, ap, arith, subst}
+use Rattle.std.specs.Prelude.{if◌then◌else◌}
 use Rattle.std.proofs.Math.ListN.{drop_of_length-le}
-use Rattle.std.proofs.lemmas.Bool.Decides.{nat_tests}
 use Rattle.std.proofs.lemmas.List.{length-map}
 use Rattle.wa_base.specs.Contexts.{quantum_of}
 use Rattle.wa_base.specs.declared.graph_names.End.{End}
@@ -45,6 +43,7 @@ use Rattle.quantum_blocks.proofs.Sources.{IsIn-get_or, end_low, same_nodes}
 use Rattle.quantum_blocks.proofs.Connections.{lanes_kept, frames_kept}
 use Rattle.quantum_blocks.proofs.PassLaws.{one_more_right}
 use Rattle.quantum_blocks.proofs.Orders.{no_end, next_in_order}
+use Rattle.quantum_render.proofs.Idling.{silent_drafts}
 use Rattle.quantum_render.proofs.Ports.{some_frames}
 
 -- where lanes and frames stay, blocks still fit
@@ -91,7 +90,7 @@ passing_begins w some joined order mute sources plan counts first memory rooms b
   delays = refl;
   right = λ tape begins counted timely ready m l d in_d known. elim known [
     | inr none ↦ absurd none
-    | inl k ↦ quiet d in_d k m l ∙ muted_right (quantum_of w.spec) some w joined tape m l d in_d (inl k)
+    | inl k ↦ silent_drafts w counts blocks fit d in_d (at_place d mute (plan.all d in_d k) silent) m l ∙ muted_right (quantum_of w.spec) some w joined tape m l d in_d (inl k)
   ];
   heard = λ tape begins counted timely ready. ready.heard;
   kept = λ tape begins counted timely ready n longest time capacity low is.
@@ -102,14 +101,6 @@ passing_begins w some joined order mute sources plan counts first memory rooms b
     at_place d [] h each = absurd h
     at_place d (x ∷ xs) (inl is) each = subst (IsSilent blocks) (sym is) (each 0 no_end (omega arith))
     at_place d (x ∷ xs) (inr h) each = at_place d xs h (λ i e low. each (suc i) e (omega arith))
-
-    quiet : (d : End) → IsIn d (ends w.graph.value) → muted w.graph.value d ≡ true → (m : ℕ) → m < quantum_of w.spec → drafts_of blocks counts m d ≡ (λ o c. pos 0)
-    quiet d in_d k m l = fun_ext (λ o. fun_ext (λ c. by_lane c (o * counts_in counts d + c) (nat_lt c (counts_in counts d)) (nat_lt (o * counts_in counts d + c) (block_of blocks d).lanes) refl))
-      where
-        by_lane : (c lane : ℕ) (a b : Bool) → nat_lt lane (block_of blocks d).lanes ≡ b → (if a then if b then at (block_of blocks d) lane m else pos 0 else pos 0) ≡ pos 0
-        by_lane c lane false b t = refl
-        by_lane c lane true false t = refl
-        by_lane c lane true true t = at_place d mute (plan.all d in_d k) silent lane m (let low : lane < (block_of blocks d).lanes = grind (arith, nat_tests) in low) (subst (λ n. m < n) (sym (fit.frames d in_d)) l)
 
 module _ (w : World) (valid : IsValid w) (order : List End) (i : ℕ) (counts : List ℕ) (first : ℕ) (old memory : Memory) (blocks : List BlockView)
     (c : Passing w order i counts first old memory blocks) (l : i < length order) where

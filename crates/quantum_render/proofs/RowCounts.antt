@@ -1,28 +1,18 @@
 -- How many channels the end of a node has, by the row of its kind.
-use Rattle.std.proofs.Common.{ℕ, ◌≡◌, ◌⊎◌, inl, inr, Bool, true, false, refl, sym, ◌∙◌, ap, subst}
+use Rattle.std.proofs.Common.{ℕ, ◌≡◌, ◌⊎◌, inl, inr, Bool, true, false, refl, sym, ◌∙◌, ap}
 use Rattle.std.specs.Prelude.{if◌then◌else◌, ◌&&◌, not}
 use Rattle.wa_base.specs.declared.graph_names.End.{End}
 use Rattle.node_table.specs.declared.kinds.Kind.{Kind}
 use Rattle.node_table.specs.declared.rows.Row.{Row}
 use Rattle.node_table.specs.declared.rows.Channels.{Channels}
-use Rattle.node_table.specs.Kinds.{row, outputs, is_delay_kind}
-use Rattle.node_table.proofs.NodeLists.{HasLanes}
+use Rattle.node_table.specs.Kinds.{row, is_delay_kind}
 use Rattle.meaning.specs.declared.world.World.{World}
 use Rattle.meaning.specs.World.{kind_of}
-use Rattle.meaning.specs.Validity.{IsValid}
 use Rattle.meaning.specs.Counts.{Counts, reader_channels, output_channels, count_by_kind}
-use Rattle.meaning.proofs.NodeKinds.{row_there}
 
 -- the row of a node's kind is that of its node
 pub own_row : (w : World) (n : ℕ) (kind : Kind) (r : Row) → kind_of w n ≡ kind → r ≡ row kind → row (kind_of w n) ≡ r
 own_row w n kind r is own = ap row is ∙ sym own
-
-pub own_channels : (w : World) (n : ℕ) (r : Row) (c : Channels) → row (kind_of w n) ≡ r → r.channels ≡ c → (row (kind_of w n)).channels ≡ c
-own_channels w n r c own is = ap (λ (x : Row). x.channels) own ∙ is
-
--- all outputs together have no more than 32
-pub lanes_of : (w : World) → IsValid w → (n : ℕ) (c : Channels) → (row (kind_of w n)).channels ≡ c → HasLanes c (outputs (kind_of w n))
-lanes_of w valid n c is = subst (λ x. HasLanes x (outputs (kind_of w n))) is (row_there w valid n).lanes
 
 -- an end that is no reader of a delay has them as its row says
 pub counted_by_row : (q : ℕ) (w w' : World) (j : ℕ) (earlier : ℕ → Counts) (now : Counts) (e : End) (c : Channels) → (row (kind_of w' e.node.0)).channels ≡ c

@@ -1,5 +1,6 @@
 -- A renderer that goes on in a world in which it is settled.
 use Rattle.std.proofs.Common.{ℕ, ◌≡◌, ◌*◌, ◌≤◌, max, length, sym, ◌∙◌, ap, arith, subst}
+use Rattle.std.specs.Prelude.{List, ◌↔◌}
 use Rattle.wa_base.specs.Contexts.{quantum_of}
 use Rattle.wa_base.specs.declared.contexts.ContextSpec.{ContextSpec}
 use Rattle.wa_base.specs.declared.graph_names.End.{End}
@@ -8,7 +9,8 @@ use Rattle.automation.specs.Ready.{AutomationView, IsReady}
 use Rattle.meaning.specs.declared.world.World.{World}
 use Rattle.meaning.specs.Validity.{IsValid}
 use Rattle.quantum_render.specs.Plans.{AreCounted, AsCounted}
-use Rattle.quantum_render.specs.Stands.{RendererView, StandsFor, HasMemory, IsGrown, IsSettled}
+use Rattle.quantum_render.specs.Stands.{RendererView, StandsFor, HasMemory, IsGrown, IsSettled, Rests}
+use Rattle.quantum_render.specs.Idle.{RestView}
 use Rattle.quantum_render.proofs.Standing.{begins_now, kept_now}
 use Rattle.quantum_render.proofs.Steady.{steady_all_counted}
 
@@ -28,8 +30,9 @@ module _ (r : RendererView) (w : World) (valid : IsValid w) (spec : r.spec ≡ w
     fresh_delays = λ n longest time capacity high low kind writer. let known = settled.fitted.delays_known in let all = settled.fitted.delays_all in absurd (omega (arith, high, low, known, all));
   }
 
-  pub again_grown : ((d : End) → IsIn d r.timed → AsCounted r.memory.delays w first r.counts d) → (automated : AutomationView) → IsReady w.params.items (quantum_of r.spec * r.quanta) automated → IsGrown (record r { automation = automated }) w
-  again_grown each automated ready = record {
+  pub again_grown : ((d : End) → IsIn d r.timed → AsCounted r.memory.delays w first r.counts d) → (automated : AutomationView) → IsReady w.params.items (quantum_of r.spec * r.quanta) automated → (rest : RestView) → Rests (record r { rest = rest }) w
+      → IsGrown (record r { automation = automated; rest = rest }) w
+  again_grown each automated ready rest rests = record {
     counted = record {
       plan = settled.fitted.plan;
       cycles = settled.fitted.cycles;
@@ -46,4 +49,30 @@ module _ (r : RendererView) (w : World) (valid : IsValid w) (spec : r.spec ≡ w
     blocks = settled.fitted.blocks;
     causal_rooms = settled.fitted.causal_rooms;
     delay_rooms = settled.fitted.delay_rooms;
+    rests = rests;
   }
+
+-- ---- what a renderer knows of idle ends has no part in it
+
+pub settled_with : (r : RendererView) (rest : RestView) (w : World) → IsSettled r w → IsSettled (record r { rest = rest }) w
+settled_with r rest w is = record {
+  fitted = record {
+    plan = is.fitted.plan;
+    cycles = is.fitted.cycles;
+    range = is.fitted.range;
+    blocks = is.fitted.blocks;
+    causal_rooms = is.fitted.causal_rooms;
+    delay_rooms = is.fitted.delay_rooms;
+    causal_known = is.fitted.causal_known;
+    delays_known = is.fitted.delays_known;
+    causal_all = is.fitted.causal_all;
+    delays_all = is.fitted.delays_all;
+  };
+  steady = is.steady;
+}
+
+pub stands_with : (r : RendererView) (rest : RestView) (tape : List World) → StandsFor r tape ↔ StandsFor (record r { rest = rest }) tape
+stands_with r rest tape = (
+  λ is. record { quanta = is.quanta; nodes = is.nodes; causal = is.causal; delays = is.delays },
+  λ is. record { quanta = is.quanta; nodes = is.nodes; causal = is.causal; delays = is.delays },
+)

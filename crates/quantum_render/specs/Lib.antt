@@ -5,3 +5,4 @@ pub mod Renders
 pub mod Plans
 pub mod Stands
 pub mod Listening
+pub mod Idle

@@ -18,6 +18,7 @@ use Rattle.automation.specs.Ready.{AutomationView, IsReady, IsHeld}
 use Rattle.quantum_blocks.specs.Blocks.{BlockView}
 use Rattle.quantum_blocks.specs.Fits.{AreInRange, AreFit}
 use Rattle.quantum_render.specs.Plans.{IsPlan, PlanView, AreCycles, AreCounted, AreSteady}
+use Rattle.quantum_render.specs.Idle.{RestView, AreIdle}
 
 -- What contracts see of a renderer. Callers read the context and the number of quanta.
 pub record RendererView : Type 0 where
@@ -42,6 +43,8 @@ pub record RendererView : Type 0 where
   pub counts : List ℕ
   -- the block of each end
   pub blocks : List BlockView
+  -- which ends are idle, as far as it looked ahead
+  pub rest : RestView
   -- what the destination carried in the last quantum
   pub out : List ℤ
 
@@ -95,11 +98,16 @@ pub record IsCounted (r : RendererView) (w : World) : Type 0 where
   pub memory : HasMemory r w
   pub counted : (tape : List World) → StandsFor r tape → IsRegular (quantum_of r.spec) (tape ++ w ∷ []) → AreCounted (quantum_of r.spec) w r.counts tape
 
+-- What a renderer knows of idle ends is so, if it is known of all of the next quantum.
+abbrev pub Rests : RendererView → World → Type 0
+Rests r w = quantum_of r.spec * (r.quanta + 1) ≤ r.rest.until → AreIdle w r.counts (quantum_of r.spec * r.quanta) r.rest.until r.rest.marks r.blocks
+
 pub record IsGrown (r : RendererView) (w : World) : Type 0 where
   pub counted : IsCounted r w
   pub blocks : AreFit w r.counts r.blocks
   pub causal_rooms : HaveRoom r.memory.causal r.counts
   pub delay_rooms : HaveDelayRoom r.memory.delays r.counts
+  pub rests : Rests r w
 
 -- ---- after `pass` over a world
 

@@ -1,4 +1,4 @@
-ghost use Rattle.std.specs.Prelude.{ℤ, ◌≡◌, ◌≤◌, ◌<◌, ◌*◌, ◌^◌, ◌⊎◌, ℕ, List, length, map, filter, slice_index_or, max, if◌then◌else◌, All, IsTrue, true};
+ghost use Rattle.std.specs.Prelude.{ℤ, ◌≡◌, ◌≤◌, ◌<◌, ◌+◌, ◌*◌, ◌^◌, ◌⊎◌, ℕ, List, length, map, filter, slice_index_or, max, if◌then◌else◌, All, IsTrue, true};
 ghost use Rattle.wa_base.specs.Contexts.{quantum_of};
 ghost use Rattle.mix_rules.specs.Counts.{greatest as greatest_of};
 ghost use Rattle.law_base.specs.Members.{IsIn};
@@ -11,19 +11,22 @@ ghost use Rattle.meaning.specs.declared.world.World.{World as a_world};
 ghost use Rattle.meaning.specs.World.{sounding, kind_of, played_channels};
 ghost use Rattle.meaning.specs.Validity.{IsValid};
 ghost use Rattle.meaning.specs.Counts.{Counts as some_counts, input_channels, reader_channels, count_by_kind};
-ghost use Rattle.quantum_blocks.specs.Blocks.{slot as slot_of, counts_in};
+ghost use Rattle.node_table.specs.declared.kinds.Kind.TheVariants.{Buffer};
+ghost use Rattle.quantum_blocks.specs.Blocks.{BlockView as a_block, slot as slot_of, counts_in};
 ghost use Rattle.quantum_blocks.specs.Connections.{into as leads_into, leads_to};
 ghost use Rattle.quantum_blocks.specs.Fits.{AreInRange};
 ghost use Rattle.quantum_render.specs.Listening.{HasKept};
+ghost use Rattle.quantum_render.specs.Idle.{IsMarked, AreIdle};
 ghost use Rattle.quantum_render.specs.Plans.{AreCycles, AreMost, IsPlan, AreCounted, AsCounted, IsSteady, AreSteady};
 
-use crate::plan::Plan;
+use crate::plan::{Plan, channels_of};
+use crate::rest::is_marked;
 use channel_mix::count;
 use conn_graph::{Edge, Target};
 use cycle_order::Parts;
 use delay_bank::Delays;
 use meaning::World;
-use node_table::Channels;
+use node_table::{Channels, Kind};
 use quantum_blocks::{near_of, reader, slot, sounding, writer};
 use wa_base::{End, NodeId};
 
@@ -41,15 +44,15 @@ pub(crate) struct Census<'a> {
 
 // Counts the channels of each end, along an order in which each stands behind the ends that it hears. A
 // muted end has one channel.
-pub(crate) fn count_channels(counts: &mut [u32], order: &[End], census: Census<'_>)
-    requires valid { IsValid census.world.now }
-    requires plan { (muted : List an_end) × IsPlan census.world.now order.now muted census.into.now }
-    requires cycles { AreCycles census.world.now.graph.value census.cycles.now }
-    requires time { census.first ≤ 2 ^ 62 }
-    requires delays { census.delays.now.quantum ≡ quantum_of census.world.now.spec }
-    requires places { length counts.old ≡ 2 * length census.world.now.nodes }
-    ensures range { AreInRange census.entry.world.now counts.new }
-    ensures counted { (tape : List a_world) → census.entry.first ≡ quantum_of census.entry.world.now.spec * length tape → HasKept census.entry.delays.now census.entry.world.now tape census.entry.first → AreCounted (quantum_of census.entry.world.now.spec) census.entry.world.now counts.new tape }
+pub(crate) fn count_channels(counts: &mut [u32], order: &[End], census: &Census<'_>)
+    requires valid { IsValid census.now.world.now }
+    requires plan { (muted : List an_end) × IsPlan census.now.world.now order.now muted census.now.into.now }
+    requires cycles { AreCycles census.now.world.now.graph.value census.now.cycles.now }
+    requires time { census.now.first ≤ 2 ^ 62 }
+    requires delays { census.now.delays.now.quantum ≡ quantum_of census.now.world.now.spec }
+    requires places { length counts.old ≡ 2 * length census.now.world.now.nodes }
+    ensures range { AreInRange census.now.world.now counts.new }
+    ensures counted { (tape : List a_world) → census.now.first ≡ quantum_of census.now.world.now.spec * length tape → HasKept census.now.delays.now census.now.world.now tape census.now.first → AreCounted (quantum_of census.now.world.now.spec) census.now.world.now counts.new tape }
 {
     counts.fill(1);
     for end in order {
@@ -58,23 +61,45 @@ pub(crate) fn count_channels(counts: &mut [u32], order: &[End], census: Census<'
     }
 }
 
-// Whether ends have the channels that they are counted to have.
-pub(crate) fn are_counted(counts: &[u32], timed: &[End], census: Census<'_>) -> bool
-    requires valid { IsValid census.world.now }
-    requires plan { (order muted : List an_end) × IsPlan census.world.now order muted census.into.now }
-    requires range { AreInRange census.world.now counts.now }
-    requires there { (d : an_end) → IsIn d timed.now → IsIn d (ends census.world.now.graph.value) }
-    requires cycles { AreCycles census.world.now.graph.value census.cycles.now }
-    requires time { census.first ≤ 2 ^ 62 }
-    ensures { IsTrue result → (d : an_end) → IsIn d timed.now → AsCounted census.entry.delays.now census.entry.world.now census.entry.first counts.now d }
+// Whether ends have the channels that they are counted to have. Those that are idle have them.
+pub(crate) fn are_counted(counts: &[u32], timed: &[End], idle: &[bool], census: &Census<'_>) -> bool
+    requires valid { IsValid census.now.world.now }
+    requires plan { (order muted : List an_end) × IsPlan census.now.world.now order muted census.now.into.now }
+    requires range { AreInRange census.now.world.now counts.now }
+    requires there { (d : an_end) → IsIn d timed.now → IsIn d (ends census.now.world.now.graph.value) }
+    requires cycles { AreCycles census.now.world.now.graph.value census.now.cycles.now }
+    requires time { census.now.first ≤ 2 ^ 62 }
+    requires idle { (blocks : List a_block) × AreIdle census.now.world.now counts.now census.now.first (census.now.first + quantum_of census.now.world.now.spec) idle.now blocks }
+    ensures { IsTrue result → (d : an_end) → IsIn d timed.now → AsCounted census.now.delays.now census.now.world.now census.now.first counts.now d }
 {
     for end in timed {
-        let into = census.into.part(end.node.0 as usize);
-        if !has_count(counts, *end, count_of(counts, census, *end, into)) {
+        if !(is_idle_buffer(idle, census.world, *end) || is_counted(counts, census, *end)) {
             return false;
         }
     }
     true
+}
+
+// Whether an end is idle, and plays a buffer.
+fn is_idle_buffer(idle: &[bool], world: &World, end: End) -> bool
+    requires { end.node.0 < length world.now.nodes }
+    ensures { IsTrue result → IsMarked idle.now end × (rate : ℕ) × (kind_of world.now end.node.0 ≡ Buffer rate) }
+{
+    is_marked(idle, end) && matches!(world.nodes.kind(end.node), Kind::Buffer { .. })
+}
+
+// Whether an end has the channels that it is counted to have.
+fn is_counted(counts: &[u32], census: &Census<'_>, end: End) -> bool
+    requires valid { IsValid census.now.world.now }
+    requires plan { (order muted : List an_end) × IsPlan census.now.world.now order muted census.now.into.now }
+    requires range { AreInRange census.now.world.now counts.now }
+    requires there { IsIn end (ends census.now.world.now.graph.value) }
+    requires cycles { AreCycles census.now.world.now.graph.value census.now.cycles.now }
+    requires time { census.now.first ≤ 2 ^ 62 }
+    ensures { IsTrue result → AsCounted census.now.delays.now census.now.world.now census.now.first counts.now end }
+{
+    let into = census.into.part(end.node.0 as usize);
+    has_count(counts, end, count_of(counts, census, end, into))
 }
 
 // Whether the counts of a plan's ends are steady, but for those that hang on the time.
@@ -131,19 +156,17 @@ fn is_steady(counts: &[u32], world: &World, end: End, into: &[Edge]) -> bool
     requires into { into.now ≡ leads_into world.now.graph.value end.node.0 }
     ensures { IsTrue result → IsSteady world.now counts.now end }
 {
-    let row = world.nodes.kind(end.node).row();
-    if row.keeps.is_written() && !end.writer {
-        return false;
-    }
-    match row.channels {
-        Channels::Always(channels) => has_count(counts, end, channels),
-        Channels::OfInput => has_count(counts, end, input_count(counts, world, end.node, into)),
-        Channels::OfBuffer => false,
+    match channels_of(world, end) {
+        Some(Channels::Always(channels)) => has_count(counts, end, channels),
+        Some(Channels::OfInput) => {
+            has_count(counts, end, input_count(counts, world, end.node, into))
+        }
+        Some(Channels::OfBuffer) | None => false,
     }
 }
 
 // Whether an end has so many channels.
-fn has_count(counts: &[u32], end: End, count: u32) -> bool
+pub(crate) fn has_count(counts: &[u32], end: End, count: u32) -> bool
     requires { slot_of end < length counts.now }
     ensures { IsTrue result → counts_in counts.now end ≡ count }
 {
@@ -151,41 +174,38 @@ fn has_count(counts: &[u32], end: End, count: u32) -> bool
 }
 
 // The number of channels of an end, by the kind of its node.
-fn count_of(counts: &[u32], census: Census<'_>, end: End, into: &[Edge]) -> u32
-    requires valid { IsValid census.world.now }
-    requires range { AreInRange census.world.now counts.now }
-    requires there { IsIn end (ends census.world.now.graph.value) }
-    requires into { into.now ≡ leads_into census.world.now.graph.value end.node.0 }
-    requires cycles { AreCycles census.world.now.graph.value census.cycles.now }
-    requires time { census.first ≤ 2 ^ 62 }
-    ensures value { (j : ℕ) (earlier : ℕ → some_counts) → census.entry.first ≡ quantum_of census.entry.world.now.spec * j → AreMost census.entry.delays.now census.entry.world.now j earlier → result ≡ count_by_kind (quantum_of census.entry.world.now.spec) (sounding census.entry.world.now) j earlier (counts_in counts.now) (kind_of census.entry.world.now end.node.0) end }
+fn count_of(counts: &[u32], census: &Census<'_>, end: End, into: &[Edge]) -> u32
+    requires valid { IsValid census.now.world.now }
+    requires range { AreInRange census.now.world.now counts.now }
+    requires there { IsIn end (ends census.now.world.now.graph.value) }
+    requires into { into.now ≡ leads_into census.now.world.now.graph.value end.node.0 }
+    requires cycles { AreCycles census.now.world.now.graph.value census.now.cycles.now }
+    requires time { census.now.first ≤ 2 ^ 62 }
+    ensures value { (j : ℕ) (earlier : ℕ → some_counts) → census.now.first ≡ quantum_of census.now.world.now.spec * j → AreMost census.now.delays.now census.now.world.now j earlier → result ≡ count_by_kind (quantum_of census.now.world.now.spec) (sounding census.now.world.now) j earlier (counts_in counts.now) (kind_of census.now.world.now end.node.0) end }
     ensures range { (1 ≤ result) × (result ≤ 32) }
-    ensures lanes { outputs (kind_of census.entry.world.now end.node.0) * result ≤ 32 }
-    ensures mono { (row_of (kind_of census.entry.world.now end.node.0)).channels ≡ Always 1 → result ≡ 1 }
+    ensures lanes { outputs (kind_of census.now.world.now end.node.0) * result ≤ 32 }
+    ensures mono { (row_of (kind_of census.now.world.now end.node.0)).channels ≡ Always 1 → result ≡ 1 }
 {
-    let row = census.world.nodes.kind(end.node).row();
-    if row.keeps.is_written() && !end.writer {
-        return reader_count(counts, census, end.node);
-    }
-    match row.channels {
-        Channels::Always(channels) => channels,
-        Channels::OfInput => input_count(counts, census.world, end.node, into),
-        Channels::OfBuffer => {
+    match channels_of(census.world, end) {
+        Some(Channels::Always(channels)) => channels,
+        Some(Channels::OfInput) => input_count(counts, census.world, end.node, into),
+        Some(Channels::OfBuffer) => {
             let near = near_of(census.near, end.node);
             played_count(census.world, end.node, near, census.first)
         }
+        None => reader_count(counts, census, end.node),
     }
 }
 
 // The reader of a delay has the most channels that the writer had: in a cycle before this quantum, and
 // else in it too.
-fn reader_count(counts: &[u32], census: Census<'_>, node: NodeId) -> u32
-    requires valid { IsValid census.world.now }
-    requires range { AreInRange census.world.now counts.now }
-    requires node { node.0 < length census.world.now.nodes }
-    requires delay { is_delay_kind (kind_of census.world.now node.0) ≡ true }
-    requires cycles { AreCycles census.world.now.graph.value census.cycles.now }
-    ensures value { (j : ℕ) (earlier : ℕ → some_counts) → AreMost census.entry.delays.now census.entry.world.now j earlier → result ≡ reader_channels (quantum_of census.entry.world.now.spec) (sounding census.entry.world.now) j earlier (counts_in counts.now) node.0 }
+fn reader_count(counts: &[u32], census: &Census<'_>, node: NodeId) -> u32
+    requires valid { IsValid census.now.world.now }
+    requires range { AreInRange census.now.world.now counts.now }
+    requires node { node.0 < length census.now.world.now.nodes }
+    requires delay { is_delay_kind (kind_of census.now.world.now node.0) ≡ true }
+    requires cycles { AreCycles census.now.world.now.graph.value census.now.cycles.now }
+    ensures value { (j : ℕ) (earlier : ℕ → some_counts) → AreMost census.now.delays.now census.now.world.now j earlier → result ≡ reader_channels (quantum_of census.now.world.now.spec) (sounding census.now.world.now) j earlier (counts_in counts.now) node.0 }
     ensures range { (1 ≤ result) × (result ≤ 32) }
 {
     let most = census.delays.most(node);

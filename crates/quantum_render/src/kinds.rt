@@ -248,7 +248,7 @@ fn render_buffer(blocks: &mut [Block], site: &Site)
 }
 
 // Whether a block is seen at once to be silent: what moves is not looked at.
-fn is_silent(block: &Block) -> bool
+pub(crate) fn is_silent(block: &Block) -> bool
     ensures { IsTrue result → (lane m : ℕ) → lane < block.now.lanes → m < block.now.frames → at block.now lane m ≡ pos 0 }
 {
     match block.held() {

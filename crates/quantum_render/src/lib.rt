@@ -8,6 +8,7 @@ mod memory;
 mod pass;
 mod plan;
 mod renderer;
+mod rest;
 mod site;
 
 pub use renderer::Renderer;

@@ -1,6 +1,8 @@
-ghost use Rattle.std.specs.Prelude.{◌≡◌, ◌≤◌, ◌+◌, ◌↔◌, length, Some, None, IsTrue, IfOk, OnOk, OnErr};
+ghost use Rattle.std.specs.Prelude.{◌≡◌, ◌≤◌, ◌<◌, ◌+◌, ◌⊎◌, ◌↔◌, length, Some, None, not, true, false, IsTrue, IfSome, IfOk, OnOk, OnErr};
 ghost use Rattle.law_base.specs.Members.{IsIn};
 ghost use Rattle.conn_graph.specs.Ends.{ends};
+ghost use Rattle.node_table.specs.Kinds.{row as row_of, is_delay_kind};
+ghost use Rattle.meaning.specs.World.{kind_of};
 ghost use Rattle.quantum_render.specs.Sites.{IsQuantum, site_in};
 ghost use Rattle.quantum_render.specs.Plans.{IsPlan, IsPlanned, IsUnedited, AreCycles};
 
@@ -202,12 +204,23 @@ fn is_timed(world: &World, end: End) -> bool {
     if end.node.0 >= world.nodes.len() {
         return false;
     }
-    let row = world.nodes.kind(end.node).row();
-    if row.keeps.is_written() {
-        return !end.writer;
+    match channels_of(world, end) {
+        Some(Channels::Always(_) | Channels::OfInput) => false,
+        Some(Channels::OfBuffer) | None => true,
     }
-    match row.channels {
-        Channels::Always(_) | Channels::OfInput => false,
-        Channels::OfBuffer => true,
+}
+
+// How many channels an end has, by its node's row. That of a delay's reader does not say it.
+pub(crate) fn channels_of(world: &World, end: End) -> Option<Channels>
+    requires { end.node.0 < length world.now.nodes }
+    ensures row { IfSome result (λ channels. (row_of (kind_of world.now end.node.0)).channels ≡ channels) }
+    ensures plain { IfSome result (λ _. (not end.writer ≡ false) ⊎ (is_delay_kind (kind_of world.now end.node.0) ≡ false)) }
+    ensures reader { result ≡ None → (is_delay_kind (kind_of world.now end.node.0) ≡ true) × (end.writer ≡ false) }
+{
+    let row = world.nodes.kind(end.node).row();
+    if row.keeps.is_written() && !end.writer {
+        None
+    } else {
+        Some(row.channels)
     }
 }

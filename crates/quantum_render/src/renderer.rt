@@ -10,13 +10,14 @@ ghost use Rattle.meaning.specs.Worlds.{IsRegular};
 ghost use Rattle.std.specs.List.{sum_by};
 ghost use Rattle.automation.specs.Ready.{looks_at};
 ghost use Rattle.quantum_render.specs.Plans.{IsPlanned, IsUnedited, AsCounted};
-ghost use Rattle.quantum_render.specs.Stands.{StandsFor, Shows, IsPrepared, IsCounted, IsGrown, IsFitted, IsSettled, HoldsLevels, plan_of};
+ghost use Rattle.quantum_render.specs.Stands.{StandsFor, Shows, IsPrepared, IsCounted, IsGrown, IsFitted, IsSettled, HoldsLevels, Rests, plan_of};
 
 use crate::bench::Bench;
 use crate::counting::{Census, are_counted, are_steady, count_channels};
 use crate::memory::Memory;
 use crate::pass::render_quantum;
 use crate::plan::Plan;
+use crate::rest::Rest;
 use crate::site::Quantum;
 use automation::Automation;
 use channel_mix::CHANNELS;
@@ -45,6 +46,7 @@ pub struct Renderer {
     memory: Memory,
     counts: Vec<u32>,
     blocks: Vec<Block>,
+    rest: Rest,
     bench: Bench,
     out: Vec<Fix>,
 }
@@ -68,6 +70,7 @@ impl Model for Renderer {
       memory = r.memory;
       counts = r.counts.items;
       blocks = r.blocks.items;
+      rest = r.rest;
       out = r.out.items;
     } };
 
@@ -100,6 +103,7 @@ impl Renderer {
             },
             counts: Vec::new(alloc),
             blocks: Vec::new(alloc),
+            rest: Rest::new(alloc),
             bench,
             out,
         })
@@ -172,7 +176,7 @@ impl Renderer {
             delays: &self.memory.delays,
             first,
         };
-        count_channels(self.counts.as_mut_slice(), self.plan.order(), census);
+        count_channels(self.counts.as_mut_slice(), self.plan.order(), &census);
     }
 
     /// Takes the memory for the blocks of all nodes, and for what they remember.
@@ -188,14 +192,15 @@ impl Renderer {
         ensures out { self.new.out ≡ self.old.out }
     {
         let counts = self.counts.as_slice();
+        self.rest.end(counts.len())?;
         fit_blocks(self.alloc, &mut self.blocks, world, counts)?;
         self.memory.causal.grow(counts)?;
         self.memory.delays.grow(counts)
     }
 
     /// Goes on to the next quantum of a world in which the renderer is settled, instead of `prepare`,
-    /// `counts` and `grow`, where no parameter was edited since the last one. Returns whether each end has
-    /// as many channels as before; where one has not, those have to be called. It takes no memory.
+    /// `counts` and `grow`, where no parameter and no source was edited since the last one. Returns whether
+    /// each end has as many channels as before; where one has not, those have to be called. It takes no memory.
     ///
     /// It looks at those ends alone whose channels hang on the time, at no connection of the graph, and
     /// in each timeline that goes on at no more events than their number has binary digits.
@@ -204,6 +209,7 @@ impl Renderer {
         requires spec { world.now.spec ≡ self.old.spec }
         requires settled { IsSettled self.old world.now }
         requires held { HoldsLevels self.old world.now }
+        requires rests { Rests self.old world.now }
         requires first { first ≡ quantum_of self.old.spec * self.old.quanta }
         requires time { first ≤ 2 ^ 62 }
         ensures grown { IsTrue result → IsGrown self.new world.now }
@@ -216,13 +222,14 @@ impl Renderer {
         ensures cost { (digits : a_param → ℕ) → ((p : a_param) → IsIn p world.now.params.items → length p.line.events < 2 ^ digits p)
             → steps.new ≤ steps.old + sum_by digits world.now.params.items }
     {
+        self.look(world, first);
         let same = self.keeps_counts(world, first);
         self.automation.again(world.params.as_slice(), first, steps);
         same
     }
 
-    /// The same where parameters were edited. It takes the memory for their levels. After `NoMemory` the
-    /// renderer stands for the same tapes.
+    /// The same where parameters or sources were edited. It takes the memory for the levels of all parameters, and
+    /// leaves no end out. After `NoMemory` the renderer stands for the same tapes.
     pub fn again_edited<L: Ledger>(
         &mut self,
         world: &World,
@@ -244,6 +251,7 @@ impl Renderer {
         ensures cost { (digits : a_param → ℕ) → ((p : a_param) → IsIn p world.now.params.items → length p.line.events < 2 ^ digits p)
             → steps.new ≤ steps.old + sum_by digits world.now.params.items }
     {
+        self.rest.wake();
         let same = self.keeps_counts(world, first);
         let nodes = world.nodes.len() as usize;
         self.automation
@@ -251,11 +259,43 @@ impl Renderer {
         Ok(same)
     }
 
+    // Looks which ends are idle in the quantum that begins at `first` and in those behind it, where that is not
+    // known.
+    fn look(&mut self, world: &World, first: u64)
+        requires valid { IsValid world.now }
+        requires spec { world.now.spec ≡ self.old.spec }
+        requires settled { IsSettled self.old world.now }
+        requires rests { Rests self.old world.now }
+        requires first { first ≡ quantum_of self.old.spec * self.old.quanta }
+        requires time { first ≤ 2 ^ 62 }
+        ensures rests { Rests self.new world.now }
+        ensures settled { IsSettled self.new world.now }
+        ensures stands { (tape : List a_world) → StandsFor self.old tape ↔ StandsFor self.new tape }
+        ensures kept { self.new ≡ record self.old { rest = self.new.rest } }
+    {
+        if self.rest.lasts(first + u64::from(self.spec.quantum)) {
+            return;
+        }
+        let census = Census {
+            world,
+            into: self.plan.sources(),
+            near: self.plan.near(),
+            cycles: self.plan.cycles(),
+            delays: &self.memory.delays,
+            first,
+        };
+        let counts = self.counts.as_slice();
+        let blocks = self.blocks.as_slice();
+        self.rest.look(self.plan.order(), counts, blocks, &census);
+    }
+
     // Whether each end whose channels hang on the time has in the next quantum as many as in the last one.
     fn keeps_counts(&self, world: &World, first: u64) -> bool
         requires valid { IsValid world.now }
         requires spec { world.now.spec ≡ self.now.spec }
         requires settled { IsSettled self.now world.now }
+        requires rests { Rests self.now world.now }
+        requires first { first ≡ quantum_of self.now.spec * self.now.quanta }
         requires time { first ≤ 2 ^ 62 }
         ensures { IsTrue result → (d : an_end) → IsIn d self.now.timed → AsCounted self.now.memory.delays world.now first self.now.counts d }
     {
@@ -267,7 +307,8 @@ impl Renderer {
             delays: &self.memory.delays,
             first,
         };
-        are_counted(self.counts.as_slice(), self.plan.timed(), census)
+        let idle = self.rest.marks(first + u64::from(self.spec.quantum));
+        are_counted(self.counts.as_slice(), self.plan.timed(), idle, &census)
     }
 
     /// Whether the renderer is settled in the world of the last quantum: whether its counts can change
@@ -293,6 +334,7 @@ impl Renderer {
         ensures spec { self.new.spec ≡ self.old.spec }
         ensures fitted { IsFitted self.new world.now }
         ensures held { HoldsLevels self.new world.now }
+        ensures rests { Rests self.new world.now }
         ensures counts { self.new.counts ≡ self.old.counts }
         ensures plan { plan_of self.new ≡ plan_of self.old }
         ensures quanta { self.new.quanta ≡ self.old.quanta + 1 }
@@ -306,6 +348,7 @@ impl Renderer {
             first,
             near: self.plan.near(),
             cycles: self.plan.cycles(),
+            idle: self.rest.marks(first + u64::from(self.spec.quantum)),
         };
         let blocks = self.blocks.as_mut_slice();
         render_quantum(

@@ -29,6 +29,8 @@ pub(crate) struct Quantum<'a> {
     pub near: &'a [usize],
     // For each node, whether it is a delay in a cycle.
     pub cycles: &'a [bool],
+    // A mark for each end that is idle, by its slot. There is none where that is not known.
+    pub idle: &'a [bool],
 }
 
 // An end of a node in a quantum, with the connections that lead to the node.

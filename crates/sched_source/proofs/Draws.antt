@@ -1,7 +1,8 @@
 -- Samples that are written one after another.
 use Rattle.std.proofs.Common.{ℕ, ℤ, pos, ◌≡◌, ◌≢◌, ◌+◌, ◌-◌, ◌<◌, ◌≤◌, max, true, List, ◌++◌, length, take, drop, get_or, set, get_or-set_other, get_or-set_same, ap, refl, sym, subst, ◌∙◌, arith, inl, inr, Option, Some, None}
 use Rattle.std.proofs.lemmas.Bool.Decides.{nat_tests}
-use Rattle.std.proofs.lemmas.List.{get_or_append_left, get_or-append_right, get_or-take, get_or-drop, length-take-le, length-drop}
+use Rattle.std.proofs.lemmas.List.{get_or_append_left, get_or-append_right, get_or-take, get_or-drop, length-take-le, length-drop, drop-drop}
+use borrow.Rule.Slice.PartMut.{put_mid}
 use Rattle.sched_source.specs.Drawing.{IsDrawn, index_of, end_index}
 use Rattle.sched_source.specs.Schedule.{is_between}
 use Rattle.sched_source.proofs.Rounds.{order}
@@ -71,19 +72,20 @@ drawn_copy old new samples from to value is ends fits e =
 pub part_at : (list : List ℤ) (low count k : ℕ) → k < count → get_or (take count (drop low list)) k (pos 0) ≡ get_or list (low + k) (pos 0)
 part_at list low count k within = get_or-take count (drop low list) k (pos 0) within ∙ get_or-drop low list k (pos 0)
 
--- a part of a channel that is copied to an index
-pub drawn_part : (old new channel : List ℤ) (from to low count : ℕ) (value : ℕ → ℤ)
-    → new ≡ take from old ++ (take (low + count - low) (drop low channel) ++ drop (from + length (take (low + count - low) (drop low channel))) old)
-    → low + count ≤ length channel → from + count ≡ to → to ≤ length old → ((k : ℕ) → k < count → get_or channel (low + k) (pos 0) ≡ value (from + k)) → IsDrawn old new from to value
-drawn_part old new channel from to low count value is inside ends fits e =
-    let part = take (low + count - low) (drop low channel) in
-    let rest : length (drop low channel) ≡ length channel - low = length-drop low channel in
-    let wide : low + count - low ≤ length (drop low channel) = omega (arith, rest) in
-    let long : length part ≡ low + count - low = length-take-le (low + count - low) (drop low channel) wide in
-    drawn_copy old new part from to value is (omega (arith, long)) fits (λ k l.
-    let below : k < low + count - low = omega (arith, long) in
-    let few : k < count = omega arith in
-    part_at channel low (low + count - low) k below ∙ e k few)
+-- a part of a channel that is read to an index
+pub drawn_read : (old part channel : List ℤ) (from to count low : ℕ) (value : ℕ → ℤ) → part ≡ take (length (take count (drop from old))) (drop low channel)
+    → from + count ≡ to → to ≤ length old → low + count ≤ length channel → ((k : ℕ) → k < count → get_or channel (low + k) (pos 0) ≡ value (from + k))
+    → IsDrawn old (put_mid from count old part) from to value
+drawn_read old part channel from to count low value is ends fits inside e =
+    let rest : length (drop from old) ≡ length old - from = length-drop from old in
+    let size : length (take count (drop from old)) ≡ count = length-take-le count (drop from old) (omega (arith, rest)) in
+    let all : length (drop low channel) ≡ length channel - low = length-drop low channel in
+    let same : part ≡ take count (drop low channel) = is ∙ ap (λ n. take n (drop low channel)) size in
+    let long : length part ≡ count = ap length same ∙ length-take-le count (drop low channel) (omega (arith, all)) in
+    drawn_copy old (put_mid from count old part) part from to value (ap (λ xs. take from old ++ (part ++ xs)) (drop-drop count from old ∙ ap (λ n. drop (from + n) old) (sym long))) (omega (arith, long)) fits
+    (λ k l.
+    let few : k < count = omega (arith, long) in
+    ap (λ xs. get_or xs k (pos 0)) same ∙ part_at channel low count k few ∙ e k few)
 
 -- ---- where a source sounds
 

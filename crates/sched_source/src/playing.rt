@@ -5,7 +5,7 @@ ghost use Rattle.sched_source.specs.Playback.{IsPlayable, position};
 ghost use Rattle.sched_source.specs.Schedule.{is_between};
 
 use crate::content::Content;
-use wa_base::Fix;
+use wa_base::{Channel, Fix};
 
 // The frames from which and before which a source sounds.
 #[derive(Clone, Copy)]
@@ -24,7 +24,13 @@ struct Round {
 }
 
 /// What a source plays of a channel of its buffer, from a frame on, and silence where it does not sound.
-pub(crate) fn play_span(out: &mut [Fix], channel: &[Fix], first: u64, span: Span, content: &Content)
+pub(crate) fn play_span(
+    out: &mut [Fix],
+    channel: &Channel<'_>,
+    first: u64,
+    span: Span,
+    content: &Content,
+)
     requires frames { length out.old ≤ 1024 }
     requires first { first ≤ 2 ^ 62 }
     requires content { IsPlayable content.now }
@@ -87,7 +93,14 @@ fn draw_silence(out: &mut [Fix], from: usize, to: usize)
 
 // Frames that are all played, of which the first comes so many after the start: straight on, and then
 // around the loop.
-fn draw_content(out: &mut [Fix], from: usize, to: usize, channel: &[Fix], content: &Content, n: u64)
+fn draw_content(
+    out: &mut [Fix],
+    from: usize,
+    to: usize,
+    channel: &Channel<'_>,
+    content: &Content,
+    n: u64,
+)
     requires ends { (from < to) × (to ≤ length out.old) }
     requires frames { length out.old ≤ 1024 }
     requires n { n ≤ 2 ^ 63 }
@@ -128,7 +141,14 @@ fn frames_before(at: usize, end: usize, rate: usize) -> usize
 }
 
 // The samples of a channel from a position on, each so many frames after the one before.
-fn draw_straight(out: &mut [Fix], from: usize, to: usize, channel: &[Fix], at: usize, rate: usize)
+fn draw_straight(
+    out: &mut [Fix],
+    from: usize,
+    to: usize,
+    channel: &Channel<'_>,
+    at: usize,
+    rate: usize,
+)
     requires ends { (from < to) × (to ≤ length out.old) }
     requires memory { length channel.now ≤ 2 ^ 62 }
     requires rate { rate < 2 ^ 32 }
@@ -136,26 +156,18 @@ fn draw_straight(out: &mut [Fix], from: usize, to: usize, channel: &[Fix], at: u
     ensures { IsDrawn out.old out.new from to (λ m. sample channel.now (at + (m - from) * rate)) }
 {
     if rate == 1 {
-        write_at(out, from, &channel[at..at + (to - from)]);
+        channel.read(at, &mut out[from..to]);
         return;
     }
     let mut next = at;
     for m in from..to {
-        out[m] = channel[next];
+        out[m] = channel.get(next);
         next += rate;
     }
 }
 
-// Writes samples from an index on, in one copy.
-fn write_at(out: &mut [Fix], from: usize, samples: &[Fix])
-    requires { from + length samples.now ≤ length out.old }
-    ensures { out.new ≡ take from out.old ++ (samples.now ++ drop (from + length samples.now) out.old) }
-{
-    out[from..from + samples.len()].copy_from_slice(samples);
-}
-
 // The samples of a loop, over and over.
-fn draw_around(out: &mut [Fix], from: usize, to: usize, channel: &[Fix], round: Round)
+fn draw_around(out: &mut [Fix], from: usize, to: usize, channel: &Channel<'_>, round: Round)
     requires ends { (from ≤ to) × (to ≤ length out.old) }
     requires memory { length channel.now ≤ 2 ^ 62 }
     requires inside { (round.start ≤ round.at) × (round.at < round.end) × (round.end ≤ length channel.now) }
@@ -170,7 +182,7 @@ fn draw_around(out: &mut [Fix], from: usize, to: usize, channel: &[Fix], round: 
 }
 
 // The same where the position moves by one: each round is one copy.
-fn draw_rounds(out: &mut [Fix], from: usize, to: usize, channel: &[Fix], round: Round)
+fn draw_rounds(out: &mut [Fix], from: usize, to: usize, channel: &Channel<'_>, round: Round)
     requires ends { (from ≤ to) × (to ≤ length out.old) }
     requires memory { length channel.now ≤ 2 ^ 62 }
     requires inside { (round.start ≤ round.at) × (round.at < round.end) × (round.end ≤ length channel.now) }
@@ -180,14 +192,14 @@ fn draw_rounds(out: &mut [Fix], from: usize, to: usize, channel: &[Fix], round: 
     let mut at = round.at;
     while m < to {
         let count = (round.end - at).min(to - m);
-        write_at(out, m, &channel[at..at + count]);
+        channel.read(at, &mut out[m..m + count]);
         m += count;
         at = round.start;
     }
 }
 
 // The same where it moves by other jumps: a frame takes an addition and a comparison.
-fn draw_jumps(out: &mut [Fix], from: usize, to: usize, channel: &[Fix], round: Round)
+fn draw_jumps(out: &mut [Fix], from: usize, to: usize, channel: &Channel<'_>, round: Round)
     requires ends { (from ≤ to) × (to ≤ length out.old) }
     requires memory { length channel.now ≤ 2 ^ 62 }
     requires inside { (round.start ≤ round.at) × (round.at < round.end) × (round.end ≤ length channel.now) }
@@ -196,7 +208,7 @@ fn draw_jumps(out: &mut [Fix], from: usize, to: usize, channel: &[Fix], round: R
 {
     let mut at = round.at;
     for m in from..to {
-        out[m] = channel[at];
+        out[m] = channel.get(at);
         at = moved(at, &round);
     }
 }

@@ -6,7 +6,7 @@ ghost use Rattle.sched_source.specs.Schedule as spec;
 use crate::content::{Content, Loop, begun, looped};
 use crate::playing::{Span, play_span, silence};
 use std::marker::Model;
-use wa_base::{Exc, Feature, Fix};
+use wa_base::{Channel, Exc, Feature, Fix};
 
 /// When a source is to start and to stop (AudioScheduledSourceNode), whether its event `ended` was
 /// fired, and what a buffer source plays (AudioBufferSourceNode). Frames are counted from the context's
@@ -230,7 +230,7 @@ impl Sched {
     /// are.
     ///
     /// `channel` has as many samples as the length says that `start` was given.
-    pub fn play(&self, out: &mut [Fix], channel: &[Fix], first: u64)
+    pub fn play(&self, out: &mut [Fix], channel: &Channel<'_>, first: u64)
         requires frames { (1 ≤ length out.old) × (length out.old ≤ 1024) }
         requires first { first ≤ 2 ^ 62 }
         requires channel { IfSome self.now.content (λ content. content.length ≡ length channel.now) }

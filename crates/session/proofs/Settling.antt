@@ -1,6 +1,9 @@
 -- A renderer stays settled in a world through what a quantum changes.
-use Rattle.std.proofs.Common.{ℕ, ◌≡◌, ◌<◌, ◌*◌, List, [], ◌∷◌, length, map, not, slice_index_or, inl, inr, refl, sym, arith, subst}
-use Rattle.std.specs.Prelude.{◌⊎◌, filter}
+use Rattle.std.proofs.Common.{ℕ, ◌≡◌, ◌+◌, ◌<◌, ◌*◌, List, [], ◌∷◌, length, map, slice_index_or, Bool, true, false, cond, Option, Some, None, inl, inr, refl, sym, ◌∙◌, ap, arith, subst}
+use Rattle.std.specs.Prelude.{◌⊎◌, option_map, option_and_then, slice_get, nat_lt, not, ◌==◌, if◌then◌else◌}
+use Rattle.std.specs.List.{position, position_or_len}
+use Rattle.std.specs.Option.{option_map_or}
+use Rattle.std.proofs.lemmas.Option.{slice_get-map}
 use Rattle.std.proofs.lemmas.List.{get_or-map, length-map}
 use Rattle.wa_base.specs.Contexts.{quantum_of}
 use Rattle.wa_base.specs.declared.graph_names.ParamId.{ParamId}
@@ -13,7 +16,13 @@ use Rattle.wa_base.specs.declared.graph_names.End.{End}
 use Rattle.node_table.specs.declared.rows.Channels.{Channels}
 use Rattle.node_table.specs.declared.rows.Channels.TheVariants.{Always, OfInput, OfBuffer}
 use Rattle.meaning.specs.declared.world.World.{World}
-use Rattle.meaning.specs.World.{plain}
+use Rattle.node_table.specs.declared.kinds.Kind.{Kind}
+use Rattle.node_table.specs.declared.kinds.Kind.TheVariants.{Destination, Constant, Buffer, Gain, Delay, Splitter, Merger, Shaper, Causal}
+use Rattle.sched_source.specs.Schedule.{plays_at}
+use Rattle.meaning.specs.Plays.{rescheduled}
+use Rattle.meaning.specs.declared.scheds.Play.{Play}
+use Rattle.meaning.specs.World.{plain, kind_of, find_play, sounds_at}
+use Rattle.quantum_render.specs.Idle.{IsQuiet}
 use Rattle.meaning.specs.declared.automation.ParamEdit.{ParamEdit}
 use Rattle.meaning.specs.declared.sources.SourceEdit.{SourceEdit}
 use Rattle.meaning.specs.declared.buffers.BufferEdit.{BufferEdit}
@@ -24,9 +33,9 @@ use Rattle.meaning.specs.Sources.{source_edited, with_store, buffers_edited}
 use Rattle.wa_base.specs.declared.graph_names.NodeId.{NodeId}
 use Rattle.control_msgs.specs.declared.message.Message.{Message}
 use Rattle.control_msgs.specs.declared.message.Message.TheVariants as message
-use Rattle.control_msgs.specs.Messages.{slots_set, ended_marked, after_message}
+use Rattle.control_msgs.specs.Messages.{ends_by, marked, slots_set, ended_marked, after_message}
 use Rattle.quantum_render.specs.Plans.{HasChannels, IsSteady, AreSteady}
-use Rattle.quantum_render.specs.Stands.{RendererView, IsSettled, HoldsLevels}
+use Rattle.quantum_render.specs.Stands.{RendererView, IsSettled, HoldsLevels, Rests}
 use Rattle.session.specs.declared.render_side.Standing.{Standing}
 use Rattle.session.specs.declared.render_side.Standing.TheVariants.{Changed, Unchanged, Edited, Settled}
 use Rattle.session.specs.View.{IsStanding}
@@ -50,9 +59,9 @@ held_moved ps from first a is =
       room = room_moved (λ (i : ParamId). (i.node.0 < length a.levels) × HasRoom a.quantum (level_of a.levels i.node.0)) first ps is.room;
       others = λ i d low.
           let there : i < length ps = omega (arith, low, long) in
-          subst (λ (x : Param). IsIn i (map param_of (filter (λ r. not r.keeps) a.running)) ⊎ Keeps a.quantum from (level_of a.levels x.id.node.0) x) (sym (get_or-map (slot_set first) ps i d d there))
+          subst (λ (x : Param). IsIn i (map param_of a.running) ⊎ Keeps a.quantum from (level_of a.levels x.id.node.0) x) (sym (get_or-map (slot_set first) ps i d d there))
           (elim (is.others i d there) [
-            | inl moves ↦ inl moves
+            | inl runs ↦ inl runs
             | inr keeps ↦ inr (keeps_moved a.quantum from first (level_of a.levels (slice_index_or ps i d).id.node.0) (slice_index_or ps i d) keeps)
           ]);
     }
@@ -98,43 +107,107 @@ settled_like r w other is = record {
   steady = all_steady w other r.counts r.order r.muted r.timed is.steady;
 }
 
-standing_like : (s : Standing) (r : RendererView) (w other : World) → (HoldsLevels r w → HoldsLevels r (like w other)) → IsStanding s r w → IsStanding s r (like w other)
-standing_like Changed r w other levels is = tt
-standing_like Unchanged r w other levels is = tt
-standing_like Edited r w other levels is = settled_like r w other is
-standing_like Settled r w other levels is = (settled_like r w other is.0, levels is.1)
+-- ---- idle ends hang on nodes, connections and sources alone
+
+module _ (w other : World) (sounds : (n frame : ℕ) → sounds_at w n frame ≡ false → sounds_at (like w other) n frame ≡ false) where
+  quiet_like : (counts : List ℕ) (from until : ℕ) (e : End) (kind : Kind) → IsQuiet w counts from until e kind → IsQuiet (like w other) counts from until e kind
+  quiet_like counts from until e Destination is = tt
+  quiet_like counts from until e (Constant offset) is = λ frame low high. sounds e.node.0 frame (is frame low high)
+  quiet_like counts from until e (Buffer rate) is = ((λ frame low high. sounds e.node.0 frame (is.0 frame low high)), is.1)
+  quiet_like counts from until e (Gain gain) is = tt
+  quiet_like counts from until e (Delay longest time capacity) is = absurd is
+  quiet_like counts from until e (Splitter ports) is = tt
+  quiet_like counts from until e (Merger ports) is = tt
+  quiet_like counts from until e (Shaper curve was) is = absurd is
+  quiet_like counts from until e (Causal equation) is = absurd is
+
+  rests_like : (r : RendererView) → Rests r w → Rests r (like w other)
+  rests_like r rests known e in_e marked =
+      let is = rests known e in_e marked in
+      record { quiet = quiet_like r.counts (quantum_of r.spec * r.quanta) r.rest.until e (kind_of w e.node.0) is.quiet; heard = is.heard; silent = is.silent }
+
+-- ---- a mark is not heard
+
+same_id : (next : ℕ) (p : Play) → (marked next p).id ≡ p.id
+same_id next p = by_test (ends_by next p.sched)
+  where
+    by_test : (b : Bool) → (if b then rescheduled p (record p.sched { ended = true }) else p).id ≡ p.id
+    by_test true = refl
+    by_test false = refl
+
+same_sound : (next frame : ℕ) (p : Play) → plays_at (marked next p).sched frame ≡ plays_at p.sched frame
+same_sound next frame p = by_test (ends_by next p.sched)
+  where
+    by_test : (b : Bool) → plays_at ((if b then rescheduled p (record p.sched { ended = true }) else p).sched) frame ≡ plays_at p.sched frame
+    by_test true = refl
+    by_test false = refl
+
+module _ (next node : ℕ) where
+  abbrev is_own : Play → Bool
+  is_own p = p.id.0 == node
+
+  as_far : (plays : List Play) → position_or_len is_own (map (marked next) plays) ≡ position_or_len is_own plays
+  as_far [] = refl
+  as_far (p ∷ ps) =
+      ap (λ (id : NodeId). cond (not (id.0 == node)) (1 + position_or_len is_own (map (marked next) ps)) 0) (same_id next p)
+      ∙ ap (λ k. cond (not (is_own p)) (1 + k) 0) (as_far ps)
+
+  same_place : (plays : List Play) → position is_own (map (marked next) plays) ≡ position is_own plays
+  same_place plays =
+      ap (λ k. cond (nat_lt k (length (map (marked next) plays))) (Some k) None) (as_far plays)
+      ∙ ap (λ n. cond (nat_lt (position_or_len is_own plays) n) (Some (position_or_len is_own plays)) None) (length-map plays (marked next))
+
+  found_marked : (plays : List Play) → find_play (map (marked next) plays) node ≡ option_map (marked next) (find_play plays node)
+  found_marked plays = ap (option_and_then (slice_get (map (marked next) plays))) (same_place plays) ∙ by_place (position is_own plays)
+    where
+      by_place : (o : Option ℕ) → option_and_then (slice_get (map (marked next) plays)) o ≡ option_map (marked next) (option_and_then (slice_get plays) o)
+      by_place None = refl
+      by_place (Some i) = slice_get-map (marked next) plays i
+
+marked_quiet : (w : World) (next n frame : ℕ) → sounds_at w n frame ≡ false → sounds_at (ended_marked next w) n frame ≡ false
+marked_quiet w next n frame none = ap (λ (o : Option Play). option_map_or (λ (p : Play). plays_at p.sched frame) o false) (found_marked next n w.scheds.items) ∙ by_play (find_play w.scheds.items n) ∙ none
+  where
+    by_play : (o : Option Play) → option_map_or (λ (p : Play). plays_at p.sched frame) (option_map (marked next) o) false ≡ option_map_or (λ (p : Play). plays_at p.sched frame) o false
+    by_play None = refl
+    by_play (Some p) = same_sound next frame p
+
+standing_like : (s : Standing) (r : RendererView) (w other : World) → (HoldsLevels r w → HoldsLevels r (like w other)) → ((n frame : ℕ) → sounds_at w n frame ≡ false → sounds_at (like w other) n frame ≡ false) → IsStanding s r w → IsStanding s r (like w other)
+standing_like Changed r w other levels sounds is = tt
+standing_like Unchanged r w other levels sounds is = tt
+standing_like Edited r w other levels sounds is = settled_like r w other is
+standing_like Settled r w other levels sounds is = (settled_like r w other is.0, levels is.1, rests_like w other sounds r is.2)
 
 -- in a world and in what a meaning sees of it
 pub standing_raw : (s : Standing) (r : RendererView) (w : World) → IsStanding s r (plain w) → IsStanding s r w
-standing_raw s r w is = standing_like s r (plain w) w (λ held. held) is
+standing_raw s r w is = standing_like s r (plain w) w (λ held. held) (λ n frame none. none) is
 
 pub standing_plain : (s : Standing) (r : RendererView) (w : World) → IsStanding s r w → IsStanding s r (plain w)
-standing_plain s r w is = standing_like s r w (plain w) (λ held. held) is
+standing_plain s r w is = standing_like s r w (plain w) (λ held. held) (λ n frame none. none) is
 
 -- after what a quantum changes
 pub standing_quiet : (s : Standing) (r : RendererView) (w : World) (m : Message) → ((first : ℕ) × (m ≡ message.Slots first)) ⊎ ((next : ℕ) × (m ≡ message.Ended next)) → IsStanding s r w → IsStanding s r (after_message w m)
 standing_quiet s r w m (inl slots) is =
-    subst (λ (x : Message). IsStanding s r (after_message w x)) (sym slots.1) (standing_like s r w (slots_set slots.0 w) (held_moved w.params.items (quantum_of r.spec * r.quanta) slots.0 r.automation) is)
-standing_quiet s r w m (inr ended) is = subst (λ (x : Message). IsStanding s r (after_message w x)) (sym ended.1) (standing_like s r w (ended_marked ended.0 w) (λ held. held) is)
+    subst (λ (x : Message). IsStanding s r (after_message w x)) (sym slots.1) (standing_like s r w (slots_set slots.0 w) (held_moved w.params.items (quantum_of r.spec * r.quanta) slots.0 r.automation) (λ n frame none. none) is)
+standing_quiet s r w m (inr ended) is = subst (λ (x : Message). IsStanding s r (after_message w x)) (sym ended.1) (standing_like s r w (ended_marked ended.0 w) (λ held. held) (marked_quiet w ended.0) is)
 
--- after an edit of a source or of buffers
-pub standing_apart : (s : Standing) (r : RendererView) (w : World) (now : ℕ) (e : Edit) → ((node : NodeId) × (of_source : SourceEdit) × (e ≡ edit.Source node of_source)) ⊎ ((of_buffers : BufferEdit) × (e ≡ edit.Buffers of_buffers))
-    → IsStanding s r w → IsStanding s r (edited w now e)
-standing_apart s r w now e (inl source) is =
-    subst (λ (x : Edit). IsStanding s r (edited w now x)) (sym source.2) (standing_like s r w (source_edited w now source.0.0 source.1) (λ held. held) is)
-standing_apart s r w now e (inr buffers) is =
-    subst (λ (x : Edit). IsStanding s r (edited w now x)) (sym buffers.1) (standing_like s r w (with_store w (buffers_edited w.store buffers.0)) (λ held. held) is)
+-- after an edit of buffers
+pub standing_apart : (s : Standing) (r : RendererView) (w : World) (now : ℕ) (e : Edit) (of_buffers : BufferEdit) → e ≡ edit.Buffers of_buffers → IsStanding s r w → IsStanding s r (edited w now e)
+standing_apart s r w now e of_buffers named is =
+    subst (λ (x : Edit). IsStanding s r (edited w now x)) (sym named) (standing_like s r w (with_store w (buffers_edited w.store of_buffers)) (λ held. held) (λ n frame none. none) is)
 
--- and of a parameter
-settled_param : (r : RendererView) (w : World) (now : ℕ) (id : ParamId) (e : ParamEdit) → IsSettled r w → IsSettled r (automated w now id e)
-settled_param r w now id e is = settled_like r w (automated w now id e) is
+-- and of a source or a parameter
+abbrev pub IsOfSourceOrParam : Edit → Type 0
+IsOfSourceOrParam e = ((node : NodeId) × (of_source : SourceEdit) × (e ≡ edit.Source node of_source)) ⊎ ((id : ParamId) × (of_param : ParamEdit) × (e ≡ edit.Param id of_param))
 
-module _ (s : Standing) (r : RendererView) (w : World) (now : ℕ) (id : ParamId) (of_param : ParamEdit) (e : Edit) (named : e ≡ edit.Param id of_param) (is : IsStanding s r w) where
+settled_edited : (r : RendererView) (w : World) (now : ℕ) (e : Edit) → IsOfSourceOrParam e → IsSettled r w → IsSettled r (edited w now e)
+settled_edited r w now e (inl source) is = subst (λ (x : Edit). IsSettled r (edited w now x)) (sym source.2) (settled_like r w (source_edited w now source.0.0 source.1) is)
+settled_edited r w now e (inr param) is = subst (λ (x : Edit). IsSettled r (edited w now x)) (sym param.2) (settled_like r w (automated w now param.0 param.1) is)
+
+module _ (s : Standing) (r : RendererView) (w : World) (now : ℕ) (e : Edit) (named : IsOfSourceOrParam e) (is : IsStanding s r w) where
   pub settled_before : s ≡ Settled → IsSettled r (edited w now e)
-  settled_before settled = subst (λ (x : Edit). IsSettled r (edited w now x)) (sym named) (settled_param r w now id of_param ((subst (λ x. IsStanding x r w) settled is).0))
+  settled_before settled = settled_edited r w now e named ((subst (λ x. IsStanding x r w) settled is).0)
 
   pub standing_before : (s ≡ Changed) ⊎ ((s ≡ Unchanged) ⊎ (s ≡ Edited)) → IsStanding s r (edited w now e)
   standing_before (inl changed) = subst (λ x. IsStanding x r (edited w now e)) (sym changed) tt
   standing_before (inr (inl unchanged)) = subst (λ x. IsStanding x r (edited w now e)) (sym unchanged) tt
-  standing_before (inr (inr own)) =
-      subst (λ x. IsStanding x r (edited w now e)) (sym own) (subst (λ (x : Edit). IsSettled r (edited w now x)) (sym named) (settled_param r w now id of_param (subst (λ x. IsStanding x r w) own is)))
+  standing_before (inr (inr own)) = subst (λ x. IsStanding x r (edited w now e)) (sym own) (settled_edited r w now e named (subst (λ x. IsStanding x r w) own is))

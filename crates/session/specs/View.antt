@@ -12,7 +12,7 @@ use Rattle.control_msgs.specs.Messages.{after_message, after_messages, AreAccept
 use Rattle.meaning.specs.Worlds.{IsRegular}
 use Rattle.conn_graph.specs.Walks.{GraphView}
 use Rattle.quantum_render.specs.Plans.{PlanView, IsPlanned, IsUnedited}
-use Rattle.quantum_render.specs.Stands.{RendererView, StandsFor, IsSettled, HoldsLevels, plan_of}
+use Rattle.quantum_render.specs.Stands.{RendererView, StandsFor, IsSettled, HoldsLevels, Rests, plan_of}
 use Rattle.script_ast.specs.declared.call_list.Call.{Call}
 use Rattle.io_edge.specs.Paths.{Paths}
 use Rattle.session.specs.Folders.{Folder, IsFolderOf, AgreeBetween}
@@ -53,7 +53,7 @@ abbrev pub IsStanding : Standing → RendererView → World → Type 0
 IsStanding Changed r w = Unit {0}
 IsStanding Unchanged r w = Unit {0}
 IsStanding Edited r w = IsSettled r w
-IsStanding Settled r w = IsSettled r w × HoldsLevels r w
+IsStanding Settled r w = IsSettled r w × HoldsLevels r w × Rests r w
 
 -- what holds of every such side, whose world has a graph that is edited on and on: its world can hear all messages, and its renderer planned for the graph, and stands as it says in the world that is sent
 pub record IsSide (side : SideView) (graph : GraphView) (standing : Standing) : Type 0 where

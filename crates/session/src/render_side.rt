@@ -7,7 +7,7 @@ ghost use Rattle.meaning.specs.World.{plain};
 ghost use Rattle.meaning.specs.Validity.{IsValid};
 ghost use Rattle.meaning.specs.Worlds.{IsRegular, first_world};
 ghost use Rattle.quantum_render.specs.Plans.{AreSteady};
-ghost use Rattle.quantum_render.specs.Stands.{RendererView as a_renderer, StandsFor, Shows, IsFitted, IsGrown, HoldsLevels, plan_of};
+ghost use Rattle.quantum_render.specs.Stands.{RendererView as a_renderer, StandsFor, Shows, IsFitted, IsGrown, HoldsLevels, Rests, plan_of};
 ghost use Rattle.session.specs.Frames.{WritesBelow};
 ghost use Rattle.session.specs.View.{IsAt, PlansFor, Renders, MakesRoom, Gets, GoesOn, Waits, IsStanding, sent};
 
@@ -38,7 +38,7 @@ enum Standing {
     Unchanged,
     // They did not since the renderer was found to be settled.
     Settled,
-    // The same, but a parameter was edited since the last quantum.
+    // The same, but a parameter or a source was edited since the last quantum.
     Edited,
 }
 
@@ -119,13 +119,13 @@ fn standing_with(before: Standing, message: &Message) -> Standing
     }
 }
 
-// And once its world was edited: sources and buffers have no part in what is kept.
+// And once its world was edited: buffers have no part in what is kept.
 fn standing_edited(before: Standing, edit: &Edit) -> Standing
     ensures { (r : a_renderer) (w : a_world) (now : ℕ) → IsStanding before r w → IsStanding result r (edited w now edit.now) }
 {
     match edit {
-        Edit::Source { .. } | Edit::Buffers { .. } => before,
-        Edit::Param { .. } => match before {
+        Edit::Buffers { .. } => before,
+        Edit::Source { .. } | Edit::Param { .. } => match before {
             Standing::Settled => Standing::Edited,
             Standing::Changed | Standing::Unchanged | Standing::Edited => before,
         },
@@ -205,6 +205,7 @@ fn standing_after(renderer: &Renderer, world: &World, before: Standing) -> Stand
     requires valid { IsValid world.now }
     requires fitted { IsFitted renderer.now world.now }
     requires held { HoldsLevels renderer.now world.now }
+    requires rests { Rests renderer.now world.now }
     ensures { IsStanding result renderer.now world.now }
 {
     match before {

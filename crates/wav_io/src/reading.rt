@@ -8,8 +8,9 @@ use crate::chunk_walk::{Chunk, HEAD_LEN, chunk_at};
 use crate::format_chunk::{Format, format_in};
 use crate::values::values_in;
 use crate::wav::{Head, WavErr};
-use buffer_store::{SharedSamples, Wav};
+use buffer_store::Wav;
 use std::alloc::Global;
+use wa_base::SharedSamples;
 
 const RIFF_LEN: usize = 12;
 

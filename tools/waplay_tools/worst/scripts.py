@@ -15,6 +15,8 @@ RATE = 16384
 LONGEST_DELAY = 2**28
 LONGEST = 2**18  # the frames of such a delay
 ASSET = 2**26 - 44  # the samples of the longest asset
+PAGE = 128  # samples that a buffer keeps beside each other where it was written
+LEFT = 2**27 - ASSET - 32 * 128 - 2**14 - 2  # samples that all at once has room for beside that
 CHECKED = ("--mode", "check", "out.wav")
 MIGRATED = ("--mode", "migrate", "out.json")
 DERIVED = ("derive", "12800", "0", "why.txt")
@@ -45,6 +47,20 @@ def filled(before: str, part: str, behind: str) -> str:
     return before + part * times + behind
 
 
+def extended(script: str, calls: Iterable[Call]) -> str:
+    """A script, and before rendering starts as many of the calls as there is room for."""
+    last = script.rindex('{"op":"startRendering"')
+    room = MOST - len(script)
+    parts = []
+    for call in calls:
+        part = json.dumps(call, separators=(",", ":")) + ","
+        room -= len(part)
+        if room < 0:
+            break
+        parts.append(part)
+    return script[:last] + "".join(parts) + script[last:]
+
+
 def member_of(part: str, last: str) -> Callable[[], str]:
     """A script with a list of parts in a member that nothing reads."""
     return lambda: filled(text_of([])[:-1] + ',"x":[', part, last + "]}")
@@ -67,6 +83,7 @@ def listed(call: Call, field: str, before: list[Call]) -> Callable[[], str]:
 GAIN: Call = {"op": "createGain", "as": "g"}
 OF_GAIN: Call = {"node": "g", "param": "gain"}
 START = {"op": "startRendering"}
+LARGEST: Call = {"op": "createBuffer", "as": "b", "channels": 32, "length": 2**22, "rate": RATE}
 
 
 def events(count: int, step: int) -> str:
@@ -170,6 +187,12 @@ def played_and_changed() -> str:
     return suspended(100, played, lambda number: [{**change, "value": number}])
 
 
+def written_at_suspensions() -> str:
+    """A sample that is written into the largest buffer at each of 100 suspensions."""
+    write: Call = {"op": "copyToChannel", "buffer": "b", "channel": 0, "samples": [1]}
+    return suspended(100, [LARGEST], lambda number: [{**write, "at": number}])
+
+
 def changed_beside_connections() -> str:
     """A gain that changes at each of 1,000 suspensions, beside all 8,192 connections."""
     change: Call = {"op": "setValue", "node": "g", "param": "gain"}
@@ -255,11 +278,11 @@ def rooms(count: int) -> list[Call]:
 
 def all_at_once() -> str:
     """The largest buffers, delays and rendering, and convolvers, which come to hear a quantum once
-    the delays are full. Then the asset is decoded again, for which no room is left, and the session
-    is stalled."""
-    left = 2**27 - ASSET - 32 * 128 - 2**14 - 2  # samples that the other buffers have not
-    rest = {"op": "createBuffer", "as": "r", "channels": 1, "length": left, "rate": RATE}
+    the delays are full. Two assets are decoded for the buffers, since one that is created takes no
+    memory. Then the first one is decoded again, for which no room is left, and the session is
+    stalled."""
     decoded = {"op": "decodeAudioData", "as": "w", "path": "long.wav"}
+    rest = {"op": "decodeAudioData", "as": "r", "path": "rest.wav"}
     made = rooms(1005)
     joined = [it for it in made if it["op"] == "connect"]
     calls = [decoded, rest, *delays(), *(it for it in made if it["op"] != "connect")]
@@ -269,11 +292,9 @@ def all_at_once() -> str:
 
 
 def all_at_once_in_full_length() -> str:
-    """All at once, and before rendering starts one connection again and again, as often as there is
-    room. No call is known that keeps more memory for its bytes."""
-    before, behind = all_at_once().rsplit('{"op":"startRendering"', 1)
-    part = '{"op":"connect","from":"s","to":"d0"},'
-    return filled(before, part, '{"op":"startRendering"' + behind)
+    """All at once, and before rendering starts writes into the decoded buffers, as many as there is
+    room for. No call is known that keeps more memory for its bytes."""
+    return extended(all_at_once(), writes("wr", 1, LEFT))
 
 
 def longest_programs() -> str:
@@ -315,15 +336,41 @@ def largest_blocks() -> str:
     return text_of([*calls, START], channels=32, length=1024, renderQuantum=1024)
 
 
-def largest_buffers() -> str:
-    """As many samples in buffers as there may be."""
-    shape = {"channels": 32, "length": 2**22, "rate": RATE}
-    return text_of([{"op": "createBuffer", "as": "b", **shape}, START])
+def writes(buffers: str, channels: int, frames: int) -> Iterator[Call]:
+    """Writes into all pages of buffers with names of one letter. Each is of two samples, the last
+    of a page and the first of the next one, so that it takes memory for both."""
+    for at in range(PAGE - 1, frames - 1, 2 * PAGE):
+        for name in buffers:
+            for channel in range(channels):
+                place = {"buffer": name, "channel": channel, "samples": [0, 0], "at": at}
+                yield {"op": "copyToChannel", **place}
+
+
+def created_and_written() -> str:
+    """As many samples in a created buffer as there may be, and as many writes into it as there is
+    room for."""
+    return extended(text_of([LARGEST, START]), writes("b", 32, 2**22))
+
+
+def decoded_and_written() -> str:
+    """The same with two buffers that are decoded."""
+    made = [{"op": "decodeAudioData", "as": name, "path": "long.wav"} for name in "ab"]
+    return extended(text_of([*made, START]), writes("ab", 1, ASSET))
+
+
+def recording(frames: int, rate: int) -> bytes:
+    """An asset of samples of 8 bits."""
+    return wav.file_of(wav.Form(1, rate, 8), bytes(frames))
 
 
 def long_asset(rate: int) -> Callable[[], dict[str, Asset]]:
-    """The longest asset, of samples of 8 bits."""
-    return lambda: {"long.wav": wav.file_of(wav.Form(1, rate, 8), bytes(ASSET))}
+    """The longest asset."""
+    return lambda: {"long.wav": recording(ASSET, rate)}
+
+
+def both_assets() -> dict[str, Asset]:
+    """The longest asset, and one of as many samples as all at once leaves room for."""
+    return {**long_asset(RATE)(), "rest.wav": recording(LEFT, RATE)}
 
 
 def decodes(count: int) -> str:
@@ -426,7 +473,13 @@ ROOM = [
         assets=long_asset(44100),
     ),
     Worst("10 decodings of a 64 MiB asset", lambda: decodes(10), assets=long_asset(RATE)),
-    Worst("the largest buffers", largest_buffers),
+    Worst("the largest buffers", lambda: text_of([LARGEST, START])),
+    Worst("the largest buffers, created, and 16 MiB of writes", created_and_written),
+    Worst(
+        "the largest buffers, decoded, and 16 MiB of writes",
+        decoded_and_written,
+        assets=long_asset(RATE),
+    ),
     Worst(
         "the largest delays, of 32 channels",
         lambda: text_of([*delays(), START], length=2 * LONGEST),
@@ -452,11 +505,11 @@ ROOM = [
     ],
     Worst("200,000 suspensions in falling order of time", scheduled, CHECKED),
     Worst("200,000 names", named),
-    Worst("all of a session at its limit at once", all_at_once, assets=long_asset(RATE)),
+    Worst("all of a session at its limit at once", all_at_once, assets=both_assets),
     Worst(
         "all of a session at its limit at once, in 16 MiB of calls",
         all_at_once_in_full_length,
-        assets=long_asset(RATE),
+        assets=both_assets,
     ),
 ]
 EXPLAINED = [
@@ -466,6 +519,12 @@ EXPLAINED = [
         DERIVED,
         long_asset(RATE),
         "waexplain",
+    ),
+    Worst(
+        "a sample after 100 writes into the largest buffer, derived",
+        written_at_suspensions,
+        DERIVED,
+        program="waexplain",
     ),
     Worst(
         "a sample after 1,000 changes beside 8,192 connections, derived",

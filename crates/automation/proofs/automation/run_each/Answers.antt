@@ -1,11 +1,10 @@
-use Rattle.std.proofs.Common.{ℕ, List, false, ◌≡◌, ◌+◌, ◌∷◌, ◌++◌, [], map, inl, inr, ap, sym, ◌∙◌, arith, subst}
+use Rattle.std.proofs.Common.{ℕ, List, ◌≡◌, ◌+◌, ◌∷◌, ◌++◌, [], map, inl, inr, ap, sym, ◌∙◌, arith, subst}
 use Rattle.std.proofs.lemmas.List.{map_push}
 use Rattle.std.proofs.lemmas.List.Sums.{sum_by_more, sum_by_more_le, sum_by-take-le}
 use Rattle.law_base.specs.Members.{IsIn}
 use Rattle.law_base.proofs.Members.{IsIn-append, IsIn-append_first, IsIn-append_second}
 use Rattle.meaning.specs.declared.params.Param.{Param}
-use Rattle.automation.specs.declared.automation.Running.{Running}
-use Rattle.automation.specs.Ready.{RiseWithin, Stands, param_of}
+use Rattle.automation.specs.Ready.{RiseWithin, RunningView, Stands, param_of}
 use Rattle.automation.proofs.Places.{before_or_here, in_list}
 use Rattle.automation.proofs.Stands.{stands_there}
 use Rattle.automation.proofs.Running.{rise_more}
@@ -27,7 +26,7 @@ loop-i-preserved g c =
     let inv = c.loop-i.invariant in
     let params = c.args.params.now in
     let p : Param = c.index-params-i.result in
-    let y : Running = record { param = i; cursor = c.reseek.new.self; keeps = false } in
+    let y : RunningView = record { param = i; cursor = c.reseek.new.self } in
     let items = c.loop-i.running.items in
     let new = c.in_ok-push.ensures.items in
     let places : map param_of c.push.new.self.items ≡ map param_of items ++ i ∷ [] = ap (map param_of) {y = items ++ y ∷ []} new ∙ map_push param_of items y in
@@ -37,7 +36,7 @@ loop-i-preserved g c =
         | inl before ↦ IsIn-append_first (map param_of items) (i ∷ []) j (inv.all j before)
         | inr same ↦ IsIn-append_second (map param_of items) (i ∷ []) j (inl same)
       ]);
-      stands = λ r is. elim (IsIn-append items (y ∷ []) r (subst (λ (rs : List Running). IsIn r rs) new is)) [
+      stands = λ r is. elim (IsIn-append items (y ∷ []) r (subst (λ (rs : List RunningView). IsIn r rs) new is)) [
         | inl old ↦ inv.stands r old
         | inr own ↦ elim own [
           | inl same ↦ subst (Stands params c.args.first) (sym same) (stands_there params c.args.first y p c.loop-i-test.true c.index-params-i.is c.reseek.ensures.stands)

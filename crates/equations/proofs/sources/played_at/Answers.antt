@@ -29,5 +29,5 @@ pub play-requires-clause-channel : goal.play-requires-clause-channel
 play-requires-clause-channel c =
     let found : find_play c.args.world.now.scheds.items c.args.node.0 ≡ Some c.at-play.result.now = sym c.in-Some.ensures.item ∙ c.at-play.ensures in
     let on : plays_at c.at-play.result.now.sched c.args.frame ≡ true = sym (sounds_by c.args.world.now c.args.node.0 c.args.frame c.at-play.result.now found) ∙ sym c.sounds.ensures ∙ c.if-not-sounds.false in
-    content_long c.args.world.now.store (row (kind_of c.args.world.now c.at-play.result.now.id.0)).plays c.at-play.result.now c.in-Some-buffer.buffer c.channel.result.now c.args.frame (c.requires.valid.scheds.kinds c.at-play.result.now (found_is_in c.args.world.now.scheds.items c.in-Some.place c.at-play.result.now c.at-play.ensures)) c.in-Some-buffer.is on
-    (samples_long c.args.world.now.store c.requires.valid.store c.in-Some-buffer.buffer c.args.channel c.shape.result c.channel.result.now c.shape.ensures.value c.if-channel-shape.false c.channel.ensures.value)
+    content_long c.args.world.now.store (row (kind_of c.args.world.now c.at-play.result.now.id.0)).plays c.at-play.result.now c.in-Some-buffer.buffer c.channel.result c.args.frame (c.requires.valid.scheds.kinds c.at-play.result.now (found_is_in c.args.world.now.scheds.items c.in-Some.place c.at-play.result.now c.at-play.ensures)) c.in-Some-buffer.is on
+    (samples_long c.args.world.now.store c.requires.valid.store c.in-Some-buffer.buffer c.args.channel c.shape.result c.channel.result c.shape.ensures.value c.if-channel-shape.false c.channel.ensures.value)

@@ -9,5 +9,6 @@ invariant-loop-end l = record {
   length : length l.blocks ≡ length l.initial.blocks;
   lanes : lanes_of l.blocks ≡ lanes_of l.initial.blocks;
   frames : frames_of l.blocks ≡ frames_of l.initial.blocks;
+  kept : (d : End) → IsSilent l.initial.blocks d → IsSilent l.blocks d;
   silent : (i : ℕ) (d : End) → i < l.end-index → IsSilent l.blocks (slice_index_or l.muted i d);
 }

@@ -28,13 +28,13 @@ mark_is w valid marks cycles n low delay d mark is =
 
 pub returns-then-census-node-clause-value : goal.returns-then-census-node-clause-value
 returns-then-census-node-clause-value c j earlier most =
-    let w : World = c.args.census.world.now in
+    let w : World = c.args.census.now.world.now in
     let n : ℕ = c.args.node.0 in
     let now : Counts = counts_in c.args.counts.now in
     let low = c.requires.node in
     let delay = the_delay (kind_of w n) c.requires.delay in
     let had = most n delay.longest delay.time delay.capacity low delay.is in
-    let cycle = mark_is w c.requires.valid c.args.census.cycles.now c.requires.cycles n low c.requires.delay _ true (sym c.if-census-node.true) in
+    let cycle = mark_is w c.requires.valid c.args.census.now.cycles.now c.requires.cycles n low c.requires.delay _ true (sym c.if-census-node.true) in
     c.most-most.ensures.most had.delay had.there
     ∙ had.most
     ∙ ap (λ b. if b then most_before (quantum_of w.spec) (sounding w) n j earlier now had.lived else max (most_before (quantum_of w.spec) (sounding w) n j earlier now had.lived) (now (writer_of n))) cycle
@@ -47,17 +47,17 @@ written c = ap (λ k. slice_index_or c.args.counts.now k 1) (c.slot.ensures ∙ 
 within : (c : goal.After-greater) → c.slot.result < length c.args.counts.now
 within c =
     let low = c.requires.node in
-    subst (λ m. c.slot.result < m) (sym c.requires.range.places) (subst (λ k. k < 2 * length c.args.census.world.now.nodes) (sym (c.slot.ensures ∙ ap slot c.writer.ensures)) (slot_low (writer_of c.args.node.0) (length c.args.census.world.now.nodes) low))
+    subst (λ m. c.slot.result < m) (sym c.requires.range.places) (subst (λ k. k < 2 * length c.args.census.now.world.now.nodes) (sym (c.slot.ensures ∙ ap slot c.writer.ensures)) (slot_low (writer_of c.args.node.0) (length c.args.census.now.world.now.nodes) low))
 
 pub returns-else-census-node-clause-value : goal.returns-else-census-node-clause-value
 returns-else-census-node-clause-value c j earlier most =
-    let w : World = c.args.census.world.now in
+    let w : World = c.args.census.now.world.now in
     let n : ℕ = c.args.node.0 in
     let now : Counts = counts_in c.args.counts.now in
     let low = c.requires.node in
     let delay = the_delay (kind_of w n) c.requires.delay in
     let had = most n delay.longest delay.time delay.capacity low delay.is in
-    let cycle = mark_is w c.requires.valid c.args.census.cycles.now c.requires.cycles n low c.requires.delay _ false (sym c.if-census-node.false) in
+    let cycle = mark_is w c.requires.valid c.args.census.now.cycles.now c.requires.cycles n low c.requires.delay _ false (sym c.if-census-node.false) in
     c.greater.ensures
     ∙ ap₂ max (c.most-most.ensures.most had.delay had.there ∙ had.most) (get_or_default c.args.counts.now c.slot.result _ 1 (within c) ∙ written c)
     ∙ ap (λ b. if b then most_before (quantum_of w.spec) (sounding w) n j earlier now had.lived else max (most_before (quantum_of w.spec) (sounding w) n j earlier now had.lived) (now (writer_of n))) cycle

@@ -1,4 +1,4 @@
-use Rattle.std.proofs.Common.{ℕ, ◌≡◌, ◌<◌, ◌≤◌, List, length, slice_index_or, Option, None, refl, sym, ◌∙◌, ap, subst}
+use Rattle.std.proofs.Common.{ℕ, ◌≡◌, ◌+◌, ◌<◌, ◌≤◌, List, false, arith, length, slice_index_or, Option, None, refl, sym, ◌∙◌, ap, subst}
 use Rattle.wa_base.specs.Contexts.{quantum_of}
 use Rattle.wa_base.specs.declared.graph_names.End.{End}
 use Rattle.law_base.specs.Members.{IsIn}
@@ -6,16 +6,22 @@ use Rattle.conn_graph.specs.Ends.{ends}
 use Rattle.meaning.proofs.Joined.{joined}
 use Rattle.filter_bank.specs.Banks.{heard_at, IsRestedIfThere}
 use Rattle.delay_bank.specs.Kept.{DelayView}
-use Rattle.quantum_blocks.specs.Blocks.{slot, IsSilent}
+use Rattle.quantum_blocks.specs.Blocks.{BlockView, slot, IsSilent, Writes}
+use Rattle.quantum_blocks.specs.Connections.{into}
 use Rattle.quantum_blocks.specs.Fits.{AreFit}
 use Rattle.quantum_render.specs.declared.site.Quantum.{Quantum}
-use Rattle.quantum_render.specs.Sites.{SiteView, site_in}
+use Rattle.quantum_render.specs.Sites.{SiteView, IsSite, site_in}
+use Rattle.quantum_render.specs.Benches.{BenchView}
+use Rattle.quantum_render.specs.Idle.{IsMarked}
+use Rattle.quantum_render.specs.declared.memory.Memory.{Memory}
 use Rattle.quantum_render.specs.Listening.{HasRooms}
 use Rattle.quantum_render.specs.Renders.{IsRendered}
 use Rattle.quantum_blocks.proofs.Orders.{no_end}
-use Rattle.quantum_render.proofs.Passing.{still_fit, passing_begins, next, passing_rendered, passing_ends, all_remembered, rested_rooms, mute_there}
+use Rattle.quantum_render.proofs.Idling.{idle_later, idle_rendered, still_idle}
+use Rattle.quantum_render.proofs.Passing.{Passing, still_fit, passing_begins, next, passing_rendered, passing_ends, all_remembered, rested_rooms, mute_there}
 use Rattle.quantum_render.proofs.Ports.{some_frames}
 use Rattle.quantum_render.proofs.pass.render_quantum.Goals as goal
+use Rattle.quantum_render.proofs.pass.render_quantum.Goals.{Joined-not-is_marked, then-not-is_marked, else-not-is_marked}
 
 pub hush-requires : goal.hush-requires
 hush-requires c =
@@ -27,6 +33,7 @@ hush-requires c =
 pub loop-end-init : goal.loop-end-init
 loop-end-init c = record {
   frames = refl;
+  silent = λ d in_d marked. c.hush.ensures.kept d ((c.requires.idle d in_d marked).silent);
   passing =
       let q : Quantum = c.args.quantum.now in
       let valid = c.requires.quantum.valid in
@@ -54,19 +61,70 @@ render-requires c =
     (sym c.site-site.ensures)
     (record { frames = c.loop-end.invariant.frames ∙ c.requires.frames; fit = passing.fit; rooms = passing.rooms })
 
+-- an end was rendered, or is idle
+module _ (c : Joined-not-is_marked) where
+  abbrev q : Quantum
+  q = c.args.quantum.now
+
+  abbrev x : End
+  x = slice_index_or c.args.plan.now.order c.loop-end.end-index no_end
+
+  within : c.loop-end.end-index < length c.args.plan.now.order
+  within = subst (λ (order : List End). c.loop-end.end-index < length order) c.order-end-items.ensures c.loop-end-test.true
+
+  mark : c.is_marked.result ≡ slice_index_or q.idle.now (slot x) false
+  mark = c.is_marked.ensures ∙ ap (λ (order : List End). slice_index_or q.idle.now (slot (slice_index_or order c.loop-end.end-index no_end)) false) c.order-end-items.ensures
+
+  site : IsSite q.world.now x (into q.world.now.graph.value x.node.0) q.counts.now q.levels.now q.first
+  site = record {
+    quantum = c.requires.quantum;
+    there = (next q.world.now c.requires.quantum.valid c.args.plan.now.order c.loop-end.end-index q.counts.now q.first c.args.memory.now c.loop-end.memory c.loop-end.blocks c.loop-end.invariant.passing within).0;
+    into = refl;
+  }
+
+  goes_on : (memory : Memory) (blocks : List BlockView) → IsRendered (site_in q x) c.loop-end.blocks blocks c.loop-end.memory memory
+      → Passing q.world.now c.args.plan.now.order (c.loop-end.end-index + 1) q.counts.now q.first c.args.memory.now memory blocks
+  goes_on memory blocks is =
+      passing_rendered q.world.now c.requires.quantum.valid c.args.plan.now.order c.loop-end.end-index q.counts.now q.first c.args.memory.now c.loop-end.memory memory c.loop-end.blocks blocks c.loop-end.invariant.passing within _ q.levels.now is
+
+  stays : IsMarked q.idle.now x → IsRendered (site_in q x) c.loop-end.blocks c.loop-end.blocks c.loop-end.memory c.loop-end.memory
+  stays marked =
+      let until : ℕ = q.first + quantum_of q.world.now.spec in
+      idle_rendered (site_in q x) site c.loop-end.blocks c.loop-end.invariant.passing.fit q.idle.now until
+      (idle_later q.world.now q.counts.now q.first q.first until until (omega arith) (omega arith) q.idle.now c.args.blocks.now c.loop-end.blocks c.requires.idle c.loop-end.invariant.silent)
+      (omega arith) marked c.loop-end.memory c.loop-end.invariant.passing.rooms
+
+  both : (memory : Memory) (blocks : List BlockView) (memory' : Memory) (blocks' : List BlockView) → memory ≡ memory' → blocks ≡ blocks'
+      → Passing q.world.now c.args.plan.now.order (c.loop-end.end-index + 1) q.counts.now q.first c.args.memory.now memory' blocks' → Passing q.world.now c.args.plan.now.order (c.loop-end.end-index + 1) q.counts.now q.first c.args.memory.now memory blocks
+  both memory blocks memory' blocks' same_memory same_blocks is =
+      subst (λ (m : Memory). Passing q.world.now c.args.plan.now.order (c.loop-end.end-index + 1) q.counts.now q.first c.args.memory.now m blocks) (sym same_memory)
+      (subst (Passing q.world.now c.args.plan.now.order (c.loop-end.end-index + 1) q.counts.now q.first c.args.memory.now memory') (sym same_blocks) is)
+
 pub loop-end-preserved : goal.loop-end-preserved
-loop-end-preserved c =
-    let q : Quantum = c.args.quantum.now in
-    let valid = c.requires.quantum.valid in
-    let place = c.order-end-items.ensures in
-    let here = c.site-site.ensures ∙ ap (λ (order : List End). site_in q (slice_index_or order c.loop-end.end-index no_end)) place in
-    record {
-      frames = c.render.ensures.frames ∙ c.loop-end.invariant.frames;
-      passing = passing_rendered q.world.now valid c.args.plan.now.order c.loop-end.end-index q.counts.now q.first c.args.memory.now c.loop-end.memory c.render.new.memory c.loop-end.blocks c.render.new.blocks c.loop-end.invariant.passing
-          (subst (λ (order : List End). c.loop-end.end-index < length order) place c.loop-end-test.true) _ q.levels.now
-          (subst (λ (x : SiteView). IsRendered x c.loop-end.blocks c.render.new.blocks c.loop-end.memory c.render.new.memory) here
-          (record { draws = c.render.ensures.draws; listens = c.render.ensures.listens; stores = c.render.ensures.stores; rooms = c.render.ensures.rooms }));
-    }
+loop-end-preserved c = record {
+  frames = elim c.if-not-is_marked.branch [
+    | then-not-is_marked b ↦ ap (λ (x : BenchView). x.frames) b.bench-is ∙ b.render.ensures.frames ∙ c.loop-end.invariant.frames
+    | else-not-is_marked b ↦ ap (λ (x : BenchView). x.frames) b.bench-is ∙ c.loop-end.invariant.frames
+  ];
+  silent = elim c.if-not-is_marked.branch [
+    | then-not-is_marked b ↦ λ d in_d marked.
+        let here = b.site-site.ensures ∙ ap (λ (order : List End). site_in c.args.quantum.now (slice_index_or order c.loop-end.end-index no_end)) c.order-end-items.ensures in
+        let writes = subst (λ (s : SiteView). Writes c.loop-end.blocks b.render.new.blocks s.end) here b.render.ensures.draws.writes in
+        subst (λ (bs : List BlockView). IsSilent bs d) (sym b.blocks-is)
+        (still_idle c.loop-end.blocks b.render.new.blocks c.args.quantum.now.idle.now (slice_index_or c.args.plan.now.order c.loop-end.end-index no_end) d writes (sym (mark c) ∙ b.if-not-is_marked.true) marked
+        (c.loop-end.invariant.silent d in_d marked))
+    | else-not-is_marked b ↦ λ d in_d marked. subst (λ (bs : List BlockView). IsSilent bs d) (sym b.blocks-is) (c.loop-end.invariant.silent d in_d marked)
+  ];
+  passing = elim c.if-not-is_marked.branch [
+    | then-not-is_marked b ↦
+        let here = b.site-site.ensures ∙ ap (λ (order : List End). site_in c.args.quantum.now (slice_index_or order c.loop-end.end-index no_end)) c.order-end-items.ensures in
+        let own = subst (λ (s : SiteView). IsRendered s c.loop-end.blocks b.render.new.blocks c.loop-end.memory b.render.new.memory) here
+        (record { draws = b.render.ensures.draws; listens = b.render.ensures.listens; stores = b.render.ensures.stores; rooms = b.render.ensures.rooms }) in
+        both c c.if-not-is_marked.memory c.if-not-is_marked.blocks b.render.new.memory b.render.new.blocks b.memory-is b.blocks-is (goes_on c b.render.new.memory b.render.new.blocks own)
+    | else-not-is_marked b ↦
+        both c c.if-not-is_marked.memory c.if-not-is_marked.blocks c.loop-end.memory c.loop-end.blocks b.memory-is b.blocks-is (goes_on c c.loop-end.memory c.loop-end.blocks (stays c (sym (mark c) ∙ b.if-not-is_marked.false)))
+  ];
+}
 
 pub returns : goal.returns
 returns c =
@@ -78,6 +136,7 @@ returns c =
       frames = c.loop-end.invariant.frames;
       quanta = (c.rest.ensures.quantum ∙ rooms.causal_quantum ∙ sym c.requires.rooms.causal_quantum, c.end_quantum.ensures.quantum ∙ rooms.delay_quantum ∙ sym c.requires.rooms.delay_quantum);
       fit = c.loop-end.invariant.passing.fit;
+      silent = c.loop-end.invariant.silent;
       values = passing_ends q.world.now valid c.args.plan.now.order c.loop-end.end-index q.counts.now q.first c.args.memory.now c.loop-end.memory c.loop-end.blocks c.loop-end.invariant.passing past;
       memory = λ tape begins counted timely ready. all_remembered q.world.now valid c.args.plan.now.order c.loop-end.end-index q.counts.now q.first c.args.memory.now c.loop-end.memory c.loop-end.blocks c.loop-end.invariant.passing past
           tape begins counted timely ready (record { causal = c.rest.new.self; delays = c.end_quantum.new.self })

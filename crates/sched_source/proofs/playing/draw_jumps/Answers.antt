@@ -22,11 +22,11 @@ loop-m-preserved c =
     let round = c.args.round in
     let m = c.loop-m.m in
     let inv = c.loop-m.invariant in
-    let fits : FitsSigned w32 (get_or c.args.channel.now c.loop-m.at (pos 0)) = search rules in
+    let fits : FitsSigned w32 c.get.result = search rules in
     let one : m - c.args.from + 1 ≡ m + 1 - c.args.from = omega arith in
     let within = around_within round.start round.end c.loop-m.at round.jump 1 (omega arith) in
     record {
-      drawn = drawn_more _ c.loop-m.out c.args.from m _ _ inv.drawn (omega arith) (omega arith) (to_z-of_z _ _ fits ∙ ap (λ k. get_or c.args.channel.now k (pos 0)) inv.next);
+      drawn = drawn_more _ c.loop-m.out c.args.from m _ _ inv.drawn (omega arith) (omega arith) (to_z-of_z _ _ fits ∙ c.get.ensures ∙ ap (λ k. get_or c.args.channel.now k (pos 0)) inv.next);
       next = c.moved-at.ensures ∙ around_next round.start round.end round.at round.jump (m - c.args.from) c.loop-m.at inv.next ∙ ap (around round.start round.end round.at round.jump) one;
       from = omega (arith, c.moved-at.ensures);
       within = omega (arith, c.moved-at.ensures, within);

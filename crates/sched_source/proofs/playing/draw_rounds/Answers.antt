@@ -1,7 +1,7 @@
-use Rattle.std.proofs.Common.{pos, ◌≡◌, ◌+◌, ◌-◌, get_or, ap, refl, sym, ◌∙◌, arith}
+use Rattle.std.proofs.Common.{pos, ◌≡◌, ◌+◌, ◌-◌, get_or, ap, sym, ◌∙◌, arith}
 use Rattle.sched_source.specs.Drawing.{around}
 use Rattle.sched_source.proofs.Rounds.{around_none, around_on, around_end}
-use Rattle.sched_source.proofs.Draws.{drawn_none, drawn_joined, drawn_part}
+use Rattle.sched_source.proofs.Draws.{drawn_none, drawn_joined, drawn_read}
 use Rattle.sched_source.proofs.playing.draw_rounds.Goals as goal
 
 pub loop-m-init : goal.loop-m-init
@@ -31,7 +31,7 @@ loop-m-preserved c =
     let within = inv.within in
     let order = inv.begun in
     let part =
-    drawn_part c.loop-m.out c.write_at.new.out c.args.channel.now m (m + count) at count _ c.write_at.ensures (omega (arith, c.requires.inside)) refl (omega (arith, c.requires.ends))
+    drawn_read c.loop-m.out c.read.new.out c.args.channel.now m (m + count) (m + count - m) at _ c.read.ensures (omega arith) (omega (arith, c.requires.ends)) (omega (arith, c.requires.inside))
     (λ k few.
     let on : around round.start round.end round.at 1 (m - from + k) ≡ at + k = around_on round.start round.end round.at (m - from) at k here (omega arith) in
     let e : m - from + k ≡ m + k - from = omega arith in

@@ -13,6 +13,7 @@ returns-then-same-clause-standing g c =
             (subst (λ (ns : List ℕ). AreSteady c.args.world.now ready.order ready.muted ready.timed ns) (sym c.pass.ensures.counts) (c.in_ok-same.ensures.steady c.if-same.true));
       },
       c.pass.ensures.held,
+      c.pass.ensures.rests,
     )
 
 pub returns-then-same-clause-planned : goal.returns-then-same-clause-planned

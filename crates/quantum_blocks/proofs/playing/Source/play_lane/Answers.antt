@@ -9,4 +9,4 @@ play-requires-clause-channel c =
     let s : SourceView = record { sched = c.self.inside.sched; store = c.self.inside.store.now; buffer = c.self.inside.buffer } in
     let few : c.args.lane < channels_in s.store (Some s.buffer) =
     subst (λ n. c.args.lane < n) (c.channels.ensures.value ∙ ap (λ (x : SourceView). channels_in x.store (Some x.buffer)) (sym c.self.view_is)) c.if-lane-channels.true in
-    plays_all s c.self.invariant c.args.lane c.channel.result.now few c.channel.ensures.value
+    plays_all s c.self.invariant c.args.lane c.channel.result few c.channel.ensures.value

@@ -1,4 +1,5 @@
-use Rattle.std.proofs.Common.{rules, ℕ, slice_index_or, List, ◌≡◌, ◌+◌, ◌-◌, ◌*◌, ◌<◌, ◌≤◌, ◌++◌, ◌∷◌, [], length, sym, ◌∙◌, ap, arith, subst, length-append}
+use Rattle.std.proofs.Common.{rules, ℕ, Bool, slice_index_or, List, ◌≡◌, ◌+◌, ◌-◌, ◌*◌, ◌<◌, ◌≤◌, ◌++◌, ◌∷◌, [], length, sym, ◌∙◌, ap, arith, subst, length-append}
+use Rattle.std.specs.Prelude.{if◌then◌else◌, nat_le}
 use Rattle.std.proofs.lemmas.List.{get_or_default}
 use Rattle.wa_base.specs.Contexts.{quantum_of}
 use Rattle.wa_base.specs.declared.contexts.ContextSpec.{ContextSpec}
@@ -19,6 +20,8 @@ use Rattle.automation.specs.Ready.{AreOfNodes, IsHeld}
 use Rattle.automation.specs.Levels.{LevelView, AreLevels}
 use Rattle.quantum_render.proofs.Automated.{of_nodes, held_later}
 use Rattle.quantum_render.specs.Listening.{IsMemory, HasRooms}
+use Rattle.quantum_render.specs.Idle.{AreIdle}
+use Rattle.quantum_render.proofs.Idling.{idle_now, idle_after}
 use Rattle.quantum_render.proofs.Kept.{whole, timely}
 use Rattle.quantum_render.proofs.Ports.{some_frames}
 use Rattle.quantum_render.proofs.Standing.{begins_now, regular_now, memory_now, causal_nodes, delay_nodes, stands_on}
@@ -152,3 +155,32 @@ returns-clause-held g c =
     let begun : c.args.first ≡ q * c.self.inside.quanta = c.requires.first ∙ ap (λ (x : RendererView). quantum_of x.spec * x.quanta) (sym c.self.view_is) in
     held_later c.args.world.now.params.items c.args.first (q * (c.self.inside.quanta + 1)) c.take.new.self (omega (arith, begun, next_quantum q c.self.inside.quanta))
     (subst (λ (ps : List Param). IsHeld ps c.args.first c.take.new.self) c.as_slice.ensures c.take.ensures.held)
+
+-- ---- idle ends
+
+pub render_quantum-requires-clause-idle : goal.render_quantum-requires-clause-idle
+render_quantum-requires-clause-idle g c =
+    let w : World = c.args.world.now in
+    let r : RendererView = c.args.self.now in
+    let next : c.args.first + c.from.result ≡ c.args.first + quantum_of r.spec = ap (λ n. c.args.first + n) (c.from.ensures ∙ ap (λ (x : RendererView). quantum_of x.spec) c.self.view_is) in
+    let marks = c.marks.ensures ∙ ap (λ (x : RendererView). if nat_le (c.args.first + c.from.result) x.rest.until then x.rest.marks else []) c.self.view_is
+    ∙ ap (λ f. if nat_le f r.rest.until then r.rest.marks else []) next in
+    let counts : c.as_slice-2.result.now ≡ r.counts = c.as_slice-2.ensures.value ∙ ap (λ (x : RendererView). x.counts) c.self.view_is in
+    let blocks : c.as_mut_slice-blocks.result.now ≡ r.blocks = c.as_mut_slice-blocks.ensures.value ∙ ap (λ (x : RendererView). x.blocks) c.self.view_is in
+    subst (λ (ms : List Bool). AreIdle w c.as_slice-2.result.now c.args.first (c.args.first + quantum_of w.spec) ms c.as_mut_slice-blocks.result.now) (sym marks)
+    (subst (λ ns. AreIdle w ns c.args.first (c.args.first + quantum_of w.spec) (if nat_le (c.args.first + quantum_of r.spec) r.rest.until then r.rest.marks else []) c.as_mut_slice-blocks.result.now) (sym counts)
+    (subst (λ (bs : List BlockView). AreIdle w r.counts c.args.first (c.args.first + quantum_of w.spec) (if nat_le (c.args.first + quantum_of r.spec) r.rest.until then r.rest.marks else []) bs) (sym blocks)
+    (idle_now r w (sym c.requires.spec) c.requires.grown.rests c.args.first c.requires.first)))
+
+pub returns-clause-rests : goal.returns-clause-rests
+returns-clause-rests g c known =
+    let w : World = c.args.world.now in
+    let r : RendererView = c.args.self.now in
+    let next : c.args.first + c.from.result ≡ c.args.first + quantum_of r.spec = ap (λ n. c.args.first + n) (c.from.ensures ∙ ap (λ (x : RendererView). quantum_of x.spec) c.self.view_is) in
+    let marks = c.marks.ensures ∙ ap (λ (x : RendererView). if nat_le (c.args.first + c.from.result) x.rest.until then x.rest.marks else []) c.self.view_is
+    ∙ ap (λ f. if nat_le f r.rest.until then r.rest.marks else []) next in
+    let later : quantum_of r.spec * (r.quanta + 1 + 1) ≤ r.rest.until = subst (λ (x : RendererView). quantum_of x.spec * (x.quanta + 1 + 1) ≤ x.rest.until) c.self.view_is known in
+    subst (λ (bs : List BlockView). AreIdle w c.self.inside.counts.items (quantum_of c.self.inside.spec * (c.self.inside.quanta + 1)) c.self.inside.rest.until c.self.inside.rest.marks bs)
+    (sym (rewritten _ c.render_quantum.new.blocks _ (c.render_quantum.auto.blocks ∙ c.as_mut_slice-blocks.ensures.len)))
+    (subst (λ (x : RendererView). AreIdle w x.counts (quantum_of x.spec * (x.quanta + 1)) x.rest.until x.rest.marks c.render_quantum.new.blocks) (sym c.self.view_is)
+    (idle_after r w (sym c.requires.spec) c.requires.grown.rests c.args.first c.requires.first c.marks.result.now marks c.render_quantum.new.blocks c.render_quantum.ensures.silent later))
